@@ -30,3 +30,5 @@ mod mix;
 mod reading;
 mod tables;
 mod tag;
+#[cfg(test)]
+mod tests;
