@@ -1,0 +1,4 @@
+pub mod Blocks
+pub mod Holding
+pub mod Starting
+pub mod Vectors

@@ -1,0 +1,55 @@
+-- What a hasher starts with: the parameter block, and the key's block.
+use Rattle.std.proofs.Common.{◌≡◌, ℕ, ◌+◌, ◌-◌, ◌*◌, ◌/◌, ◌≤◌, ◌<◌, List, [], ◌∷◌, ◌++◌, length, take, drop, replicate, refl, sym, ap, ◌∙◌, arith, zero-add, suc, true, false}
+use Rattle.std.specs.Prelude.{◌==◌}
+use Rattle.std.proofs.lemmas.Bool.Decides.{nat_tests}
+use Rattle.std.proofs.lemmas.List.{take-append-drop, drop-replicate, append-nil, replicate-append-replicate, take-replicate}
+use Rattle.words.specs.Mix.{Variant}
+use Rattle.words.specs.Words.{padded}
+use Rattle.blake2.specs.Blake2.{block_len, key_block, parameter_block, input, unsalted, word_len}
+
+-- bytes that were written over the first of n zeros
+pub padded_from : (n : ℕ) (b y : List ℕ) → take (0 + length y) b ≡ y → drop (0 + length y) b ≡ drop (0 + length y) (replicate {A = ℕ} n 0) → b ≡ padded n y
+padded_from n b y front rest =
+    let zeros : drop (0 + length y) (replicate {A = ℕ} n 0) ≡ replicate {A = ℕ} (n - length y) 0 =
+    drop-replicate {X = ℕ} (0 + length y) n 0 ∙ ap (λ (i : ℕ). replicate {A = ℕ} (n - i) 0) (zero-add (length y)) in
+    let cut : take (0 + length y) b ++ drop (0 + length y) b ≡ b = take-append-drop (0 + length y) b in
+    sym cut ∙ rw (front, rest, zeros) refl
+
+-- without a key, the empty message has no input
+pub input_unkeyed : (k : Variant) (key : List ℕ) → true ≡ (length key == 0) → [] ≡ input k key []
+unfolding key_block
+input_unkeyed k [] e = refl
+input_unkeyed k (x ∷ xs) e = absurd (grind (arith, nat_tests))
+
+-- under a key, it has the key's block
+pub input_keyed : (k : Variant) (key : List ℕ) (n : ℕ) → false ≡ (length key == 0) → n ≡ block_len k → padded n key ≡ input k key []
+unfolding key_block
+input_keyed k [] n e w = cc
+input_keyed k (x ∷ xs) n e w = rw (w, append-nil) refl
+
+-- half a block of bytes
+pub half_block : (k : Variant) (n : ℕ) → n ≡ block_len k → n / 2 ≡ 8 * word_len k
+unfolding block_len
+half_block k n e = omega arith
+
+-- four bytes, with zeros up to a block, begin with a parameter block without salt
+pub parameters_first : (k : Variant) (n d : ℕ) (key b : List ℕ) → n ≡ block_len k → 0 < n
+    → b ≡ padded n (d ∷ length key ∷ 1 ∷ 1 ∷ []) → take (n / 2) b ≡ parameter_block k (unsalted k d key)
+unfolding block_len
+parameters_first k n d key b en some eb =
+    let w : ℕ = word_len k in
+    let l : ℕ = length key in
+    let z : ℕ → List ℕ = λ i. replicate {A = ℕ} i 0 in
+    let all : n / 2 ≡ suc (suc (suc (suc (8 * w - 4)))) = omega arith in
+    let cut : take (8 * w - 4) (z (n - 4)) ≡ z (8 * w - 4) = take-replicate {X = ℕ} (8 * w - 4) (n - 4) 0 (omega arith) in
+    let sum : 4 * w - 4 + 2 * w + 2 * w ≡ 8 * w - 4 = omega arith in
+    let parts : (z (4 * w - 4) ++ z (2 * w)) ++ z (2 * w) ≡ z (8 * w - 4) =
+    ap (λ (t : List ℕ). t ++ z (2 * w)) (replicate-append-replicate {A = ℕ} (4 * w - 4) (2 * w) 0)
+    ∙ replicate-append-replicate {A = ℕ} (4 * w - 4 + 2 * w) (2 * w) 0 ∙ ap z sum in
+    ap (λ (t : List ℕ). take (n / 2) t) eb ∙ ap (λ (i : ℕ). take i (d ∷ l ∷ 1 ∷ 1 ∷ z (n - 4))) all
+    ∙ ap (λ (t : List ℕ). d ∷ l ∷ 1 ∷ 1 ∷ t) (cut ∙ sym parts)
+
+-- four bytes fit a block
+pub four_fit : (k : Variant) (n : ℕ) → n ≡ block_len k → 0 < n → 4 ≤ n
+unfolding block_len
+four_fit k n e some = omega arith

@@ -1,0 +1,99 @@
+-- BLAKE2 (RFC 7693, 3.3) as a function of the whole input, once for both variants, with the salt and
+-- the personalization of its parameter block (the BLAKE2 paper, 2.5 and 2.8).
+use Rattle.std.specs.Prelude.{ℕ, zero, suc, ◌+◌, ◌-◌, ◌*◌, ◌/◌, true, false, List, [], ◌∷◌, ◌++◌, length, take, drop, replicate, bit_xor, slice_index}
+use Rattle.std.specs.Int.{byte_len}
+use Rattle.words.specs.Blake2.{compress}
+use Rattle.words.specs.Mix.{Variant}
+use Rattle.words.specs.Words.{words, word_bytes, padded}
+
+-- what a digest is made under; salt and personalization have two words each
+pub record Parameters : Type 0 where
+  pub digest_length : ℕ
+  pub key : List ℕ
+  pub salt : List ℕ
+  pub personal : List ℕ
+
+-- the number of bytes of a word (2.1)
+abbrev pub word_len : Variant → ℕ
+word_len k = byte_len k.word
+
+-- the number of bytes of a block (2.1)
+unfoldable pub block_len : Variant → ℕ
+block_len k = 16 * word_len k
+
+-- the parameter block: digest length, key length, fanout 1, depth 1, zeros, salt, personalization (2.5)
+abbrev pub parameter_block : Variant → Parameters → List ℕ
+parameter_block k p =
+    padded (4 * word_len k) (p.digest_length ∷ length p.key ∷ 1 ∷ 1 ∷ []) ++ p.salt ++ p.personal
+
+-- eight words, xored one by one with eight others
+abbrev pub xor_words : List ℕ → List ℕ → List ℕ
+xor_words xs ys =
+    let at : ℕ → ℕ = λ i. bit_xor (slice_index xs i) (slice_index ys i) in
+    at 0 ∷ at 1 ∷ at 2 ∷ at 3 ∷ at 4 ∷ at 5 ∷ at 6 ∷ at 7 ∷ []
+
+-- the chaining value before the first block (3.3)
+unfoldable pub start : Variant → Parameters → List ℕ
+start k p = xor_words k.iv (words (word_len k) 8 (parameter_block k p))
+
+-- the key, padded to a block of its own; nothing for an empty key (3.3)
+unfoldable pub key_block : Variant → List ℕ → List ℕ
+key_block k [] = []
+key_block k (x ∷ xs) = padded (block_len k) (x ∷ xs)
+
+-- all that is compressed: the key's block and the message (3.3)
+abbrev pub input : Variant → List ℕ → List ℕ → List ℕ
+input k key m = key_block k key ++ m
+
+-- the words of block i of the input p, with zeros after the input's end (3.3)
+abbrev pub block_words : Variant → List ℕ → ℕ → List ℕ
+block_words k p i = words (word_len k) 16 (padded (block_len k) (take (block_len k) (drop (i * block_len k) p)))
+
+-- the number of blocks of an input of n bytes: one for none, else n over the block length, rounded up
+-- (3.3)
+unfoldable pub block_count : Variant → ℕ → ℕ
+block_count k zero = 1
+block_count k (suc n) = (suc n + (block_len k - 1)) / block_len k
+
+-- the chaining value after the first n blocks of p, none of them the last, from the value h (3.3)
+unfoldable pub chain : Variant → List ℕ → List ℕ → ℕ → List ℕ
+chain k h p zero = h
+chain k h p (suc n) = compress k (chain k h p n) (block_words k p n) ((n + 1) * block_len k) false
+
+-- the chaining value after all blocks of p, the last one marked (3.3)
+unfoldable pub final_value : Variant → List ℕ → List ℕ → List ℕ
+final_value k h p =
+    let n : ℕ = block_count k (length p) - 1 in
+    compress k (chain k h p n) (block_words k p n) (length p) true
+
+-- the digest of the message m under the parameters (3.3)
+unfoldable pub blake2 : Variant → Parameters → List ℕ → List ℕ
+blake2 k p m = take p.digest_length (word_bytes (word_len k) (final_value k (start k p) (input k p.key m)))
+
+-- the parameters without salt and personalization: both are zeros
+abbrev pub unsalted : Variant → ℕ → List ℕ → Parameters
+unsalted k digest_length key = record {
+  digest_length = digest_length;
+  key = key;
+  salt = replicate (2 * word_len k) 0;
+  personal = replicate (2 * word_len k) 0;
+}
+
+-- the parameters as one list
+abbrev pub listed : Parameters → List ℕ
+listed p = p.digest_length ∷ p.salt ++ p.personal ++ p.key
+
+-- the parameters that such a list stands for
+abbrev pub from_list : Variant → List ℕ → Parameters
+from_list k l = record {
+  digest_length = slice_index l 0;
+  salt = take (2 * word_len k) (drop 1 l);
+  personal = take (2 * word_len k) (drop (1 + 2 * word_len k) l);
+  key = drop (1 + 4 * word_len k) l;
+}
+
+-- the greatest length of a message under a key, where the input has at most `most` bytes: a key takes
+-- a block of the input
+abbrev pub message_limit : ℕ → ℕ → List ℕ → ℕ
+message_limit most block [] = most
+message_limit most block (x ∷ xs) = most - block

@@ -1,0 +1,6 @@
+pub mod Blake2
+pub mod Lengths
+pub mod Faults
+pub mod Held
+pub mod Hashers
+pub mod Rooms

@@ -1,0 +1,28 @@
+//! BLAKE2b and BLAKE2s (RFC 7693), with or without a key.
+//!
+//! ```rust
+//! use blake2::Blake2s;
+//! use words::Absorb;
+//!
+//! let mut hasher = Blake2s::new(32)?;
+//! hasher.update(b"ab")?;
+//! hasher.update(b"c")?;
+//! // 508c5e8c327c14e2e1a72ba34eeb452f37458b209ed63a294d999b4c86675982 (RFC 7693, appendix B)
+//! let digest = hasher.finish();
+//! ```
+#![tactic(auto, unfolding(crate::specs::Hashers::Holds2b, crate::specs::Hashers::Holds2s, crate::specs::Hashers::parameters_2b, crate::specs::Hashers::parameters_2s, crate::specs::Hashers::room_left_2b, crate::specs::Hashers::room_left_2s))]
+
+pub use blake2b::Blake2b;
+pub use blake2s::Blake2s;
+pub use fault::ParameterFault;
+
+mod blake2b;
+mod blake2s;
+mod chain;
+mod fault;
+mod hasher;
+#[cfg(test)]
+mod slow;
+mod stream;
+#[cfg(test)]
+mod tests;

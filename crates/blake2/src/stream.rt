@@ -1,0 +1,128 @@
+// The streaming state that both functions share, over the chaining value of either.
+
+ghost use Rattle.std.specs.Prelude.{◌≡◌, ◌≤◌, ◌+◌, ◌-◌, ◌*◌, ◌++◌, [], ℕ, List, length, take, drop};
+ghost use Rattle.std.specs.List.{concat};
+ghost use Rattle.words.specs.Words.{padded};
+ghost use Rattle.blake2.specs.Blake2.{final_value};
+ghost use Rattle.blake2.specs.Held.{IsChained, IsHeld};
+
+use crate::chain::Chain;
+
+// Writes `bytes` into the buffer from place `at` on.
+fn write_at<const N: usize>(buffer: &mut [u8; N], at: usize, bytes: &[u8])
+    requires { at + length bytes.now ≤ N }
+    ensures front { take (at + length bytes.now) buffer.new ≡ take at buffer.old ++ bytes.now }
+    ensures rest { drop (at + length bytes.now) buffer.new ≡ drop (at + length bytes.now) buffer.old }
+{
+    let buffer = &mut buffer[..];
+    buffer[at..at + bytes.len()].copy_from_slice(bytes);
+}
+
+/// `bytes`, with zeros after them up to a block.
+pub(crate) fn padded_block<const N: usize>(bytes: &[u8]) -> [u8; N]
+    requires { length bytes.now ≤ N }
+    ensures { result ≡ padded N bytes.now }
+{
+    let mut block = [0; N];
+    write_at(&mut block, 0, bytes);
+    block
+}
+
+// Moves `chain`, which has taken in `compressed` bytes, on by whole blocks, and counts them.
+fn chain_blocks<C: Chain<N>, const N: usize>(
+    chain: &mut C,
+    compressed: u128,
+    blocks: &[[u8; N]],
+) -> u128
+    requires { compressed + N * length blocks.now ≤ C.LIMIT }
+    ensures count { result ≡ compressed + N * length blocks.now }
+    ensures chained { (s p : List ℕ) (n : ℕ) → compressed ≡ N * n → IsChained C.variant s p (C.value chain.old) n
+        → IsChained C.variant s (p ++ concat blocks.now) (C.value chain.new) (n + length blocks.now) }
+{
+    let mut count = compressed;
+    'blocks: for block in blocks {
+        count += N as u128;
+        chain.compress(block, count, false);
+    }
+    count
+}
+
+/// A chaining value, and the bytes of the last block, which wait.
+#[derive(Drop)]
+pub(crate) struct Stream<C: Chain<N>, const N: usize> {
+    pub(crate) chain: C,
+    pub(crate) buffer: [u8; N],
+    pub(crate) used: usize,
+    pub(crate) compressed: u128,
+    ghost used_fits: { used ≤ N },
+    ghost counted: { compressed + used ≤ C.LIMIT },
+}
+
+impl<C: Chain<N>, const N: usize> Stream<C, N> {
+    /// The state before any input.
+    pub(crate) fn new(chain: C) -> Stream<C, N>
+        ensures held { IsHeld C.variant (C.value chain) []
+            (C.value result.chain) result.buffer result.used result.compressed }
+        ensures count { result.compressed + result.used ≡ 0 }
+    {
+        Stream {
+            chain,
+            buffer: [0; N],
+            used: 0,
+            compressed: 0,
+        }
+    }
+
+    /// How many more bytes may be counted.
+    pub(crate) fn room(&self) -> u128
+        ensures { result ≡ C.LIMIT - (self.now.compressed + self.now.used) }
+    {
+        C::LIMIT - (self.compressed + self.used as u128)
+    }
+
+    /// Takes `piece`.
+    pub(crate) fn update(&mut self, piece: &[u8])
+        requires { self.old.compressed + self.old.used + length piece.now ≤ C.LIMIT }
+        ensures count { self.new.compressed + self.new.used
+            ≡ self.old.compressed + self.old.used + length piece.now }
+        ensures held { (s p : List ℕ)
+            → IsHeld C.variant s p (C.value self.old.chain) self.old.buffer self.old.used self.old.compressed
+            → IsHeld C.variant s (p ++ piece.now) (C.value self.new.chain) self.new.buffer self.new.used self.new.compressed }
+    {
+        // A full buffer stays open: only more input shows that its block is not the last.
+        let space = N - self.used;
+        if piece.len() <= space {
+            write_at(&mut self.buffer, self.used, piece);
+            self.used += piece.len();
+            return;
+        }
+        let (head, rest) = piece.split_at(space);
+        let whole = (rest.len() - 1) / N * N;
+        let (body, tail) = rest.split_at(whole);
+        let (blocks, _) = body.as_chunks::<N>();
+        write_at(&mut self.buffer, self.used, head);
+        self.compressed += N as u128;
+        self.chain.compress(&self.buffer, self.compressed, false);
+        self.compressed = chain_blocks(&mut self.chain, self.compressed, blocks);
+        write_at(&mut self.buffer, 0, tail);
+        self.used = tail.len();
+    }
+
+    /// The chaining value after the last block.
+    pub(crate) fn finish(self) -> C
+        ensures { (s p : List ℕ)
+            → IsHeld C.variant s p (C.value self.chain) self.buffer self.used self.compressed
+            → C.value result ≡ final_value C.variant s p }
+    {
+        let Stream {
+            mut chain,
+            mut buffer,
+            used,
+            compressed,
+        } = self;
+        let unused = &mut buffer[..];
+        unused[used..].fill(0);
+        chain.compress(&buffer, compressed + used as u128, true);
+        chain
+    }
+}
