@@ -1,0 +1,11 @@
+pub mod Node
+pub mod Chunk
+pub mod Tree
+pub mod Bytes
+pub mod Modes
+pub mod Laws
+pub mod Subtrees
+pub mod Stack
+pub mod Hasher
+pub mod Rooms
+pub mod Output

@@ -1,0 +1,30 @@
+//! BLAKE3 (the BLAKE3 paper by O'Connor, Aumasson, Neves and Wilcox-O'Hearn): hash, keyed hash and
+//! key derivation of inputs of any length below 2^64 bytes, with output at any position.
+//!
+//! ```rust
+//! use b3::Blake3;
+//! use words::Absorb;
+//!
+//! let mut hasher = Blake3::new();
+//! assert!(rt; hasher.update(b"ab").is_ok());
+//! assert!(rt; hasher.update(b"c").is_ok());
+//! let mut digest = [0; 4];
+//! assert!(rt; hasher.output().fill(&mut digest).is_ok());
+//! assert_eq!(rt; digest, [0x64, 0x37, 0xb3, 0xac]);
+//! ```
+#![tactic(auto)]
+
+pub use hasher::Blake3;
+pub use laws::{output_laws, tree_laws};
+pub use output::{EndOfOutput, Output};
+
+mod absorb;
+mod chunk;
+mod hasher;
+mod laws;
+mod mode;
+mod node;
+mod output;
+mod stack;
+#[cfg(test)]
+mod tests;
