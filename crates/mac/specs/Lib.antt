@@ -1,0 +1,4 @@
+pub mod Hmac
+pub mod Streams
+pub mod Macs
+pub mod Unkeyed

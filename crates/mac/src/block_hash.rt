@@ -1,0 +1,79 @@
+// What HMAC and HKDF ask of a hash function, and how they feed one.
+
+ghost use Rattle.std.specs.Prelude.{◌≡◌, ◌<◌, ◌≤◌, ◌+◌, ◌-◌, ◌^◌, ◌++◌, ℕ, List, [], length};
+
+use words::{Absorb, Tag};
+
+/// A hash function that takes its input in blocks, as a hasher: what HMAC (RFC 2104) is built on.
+///
+/// A block has at most 128 bytes and a digest at most 64, no more than a block, and at least 1. An
+/// input of 2^61 - 1 bytes is accepted.
+pub trait BlockHash: Absorb {
+    // The three numbers below.
+    ghost BLOCK: { ℕ };
+
+    ghost OUT: { ℕ };
+
+    ghost LIMIT: { ℕ };
+
+    // The hash function.
+    ghost hash_of: { List ℕ → List ℕ };
+
+    /// The number of bytes in a block.
+    const BLOCK: usize;
+
+    /// The number of bytes in a digest.
+    const OUT: usize;
+
+    /// The number of bytes in the longest input.
+    const LIMIT: u128;
+
+    /// A hasher that has taken nothing.
+    fn new() -> Self
+        ensures empty { Self.holds result [] }
+        ensures room { Self.room_left result ≡ LIMIT };
+
+    /// The digest of all that was taken, of `OUT` bytes.
+    fn finish(self) -> Tag
+        ensures length { length result ≡ OUT }
+        ensures digest { (m : List ℕ) → Self.holds self m → result ≡ hash_of m };
+
+    ghost out_is_positive: { 0 < OUT };
+
+    ghost out_within_block: { OUT ≤ BLOCK };
+
+    ghost block_is_small: { BLOCK ≤ 128 };
+
+    ghost out_is_small: { OUT ≤ 64 };
+
+    ghost limit_is_large: { 2 ^ 61 - 1 ≤ LIMIT };
+
+    // A digest of an input within the limit has OUT bytes.
+    ghost digest_length: { (m : List ℕ) → length m ≤ LIMIT → length (hash_of m) ≡ OUT };
+
+    // The longest input has LIMIT bytes, whatever the hasher was made with.
+    ghost limit_is: { (s : Self) (m : List ℕ) → Self.holds s m
+        → Self.limit (Self.parameters s) ≡ LIMIT };
+}
+
+/// Takes a piece that fits.
+pub fn feed<A: Absorb>(hasher: &mut A, piece: &[u8])
+    requires { length piece.now ≤ A.room_left hasher.old }
+    ensures appended { (m : List ℕ) → A.holds hasher.old m → A.holds hasher.new (m ++ piece.now) }
+    ensures parameters { A.parameters hasher.new ≡ A.parameters hasher.old }
+    ensures room { A.room_left hasher.old ≡ A.room_left hasher.new + length piece.now }
+{
+    hasher.update(piece).unwrap();
+}
+
+/// The digest of two pieces, one after the other.
+pub fn hash_both<H: BlockHash>(first: &[u8], second: &[u8]) -> Tag
+    requires { length first.now + length second.now ≤ H.LIMIT }
+    ensures length { length result ≡ H.OUT }
+    ensures digest { result ≡ H.hash_of (first.now ++ second.now) }
+{
+    let mut hasher = H::new();
+    feed(&mut hasher, first);
+    feed(&mut hasher, second);
+    hasher.finish()
+}
