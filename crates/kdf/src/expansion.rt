@@ -1,0 +1,109 @@
+// HKDF-Expand: keying material of any length from a pseudorandom key.
+
+ghost use Rattle.std.specs.Prelude.{◌≡◌, ◌<◌, ◌≤◌, ◌+◌, ◌-◌, ◌*◌, ◌↔◌, ℕ, List, [], ◌∷◌, ◌++◌, length, min, take, IsOk, OnOk, OnErr, IsErrOf};
+ghost use Rattle.mac.specs.Hmac.{hmac};
+ghost use Rattle.kdf.specs.Hkdf as spec;
+
+use mac::{BlockHash, Hmac};
+use words::{Absorb, Tag};
+
+/// Why `expand` writes nothing.
+#[derive(Clone, Copy, Debug, PartialEq, Eq, Drop)]
+pub enum ExpandFault {
+    /// The pseudorandom key has fewer bytes than a digest.
+    PrkTooShort,
+    /// The pseudorandom key is longer than the longest input of the hash function.
+    KeyTooLong,
+    /// More output is wanted than 255 digests.
+    OutputTooLong,
+    /// The info is too long for HMAC to take it between a digest and the counter.
+    InfoTooLong,
+}
+
+/// HKDF-Expand (RFC 5869, section 2.3): fills `out` with keying material of the pseudorandom key
+/// `prk`, bound to `info`. The refusals are told in the order of `ExpandFault`, the first that
+/// stands, and each leaves `out` as it was. An empty `out` is no fault.
+pub fn expand<H: BlockHash>(prk: &[u8], info: &[u8], out: &mut [u8]) -> Result<(), ExpandFault>
+    ensures fits { IsOk result ↔ ((H.OUT ≤ length prk.now) × (length prk.now ≤ H.LIMIT)
+        × (length out.old ≤ 255 * H.OUT) × (H.BLOCK + H.OUT + length info.now + 1 ≤ H.LIMIT)) }
+    ensures filled { OnOk result
+        (out.new ≡ spec.expand H.hash_of H.BLOCK prk.now info.now (length out.old)) }
+
+    ensures short { IsErrOf result ExpandFault.PrkTooShort ↔ (length prk.now < H.OUT) }
+    ensures long { IsErrOf result ExpandFault.KeyTooLong ↔ (H.LIMIT < length prk.now) }
+    ensures output { IsErrOf result ExpandFault.OutputTooLong ↔ ((H.OUT ≤ length prk.now)
+        × (length prk.now ≤ H.LIMIT) × (255 * H.OUT < length out.old)) }
+    ensures info { IsErrOf result ExpandFault.InfoTooLong ↔ ((H.OUT ≤ length prk.now)
+        × (length prk.now ≤ H.LIMIT) × (length out.old ≤ 255 * H.OUT)
+        × (H.LIMIT < H.BLOCK + H.OUT + length info.now + 1)) }
+    ensures unchanged { OnErr result (out.new ≡ out.old) }
+{
+    if prk.len() < H::OUT {
+        return Err(ExpandFault::PrkTooShort);
+    }
+    if prk.len() as u128 > H::LIMIT {
+        return Err(ExpandFault::KeyTooLong);
+    }
+    if out.len() > 255 * H::OUT {
+        return Err(ExpandFault::OutputTooLong);
+    }
+    if info.len() as u128 > H::LIMIT - (H::BLOCK + H::OUT + 1) as u128 {
+        return Err(ExpandFault::InfoTooLong);
+    }
+    fill::<H>(prk, info, out);
+    Ok(())
+}
+
+// Fills `out` block by block, each block made once.
+fn fill<H: BlockHash>(prk: &[u8], info: &[u8], out: &mut [u8])
+    requires key { length prk.now ≤ H.LIMIT }
+    requires info { H.BLOCK + H.OUT + length info.now + 1 ≤ H.LIMIT }
+    requires output { length out.old ≤ 255 * H.OUT }
+    ensures { out.new ≡ spec.expand H.hash_of H.BLOCK prk.now info.now (length out.old) }
+{
+    let mut block = Tag::of(&[]).unwrap();
+    let mut counter = 0;
+    let mut filled = 0;
+    while filled < out.len() {
+        counter += 1;
+        block = next_block::<H>(prk, info, &block, counter);
+        filled += put(out, filled, block.bytes());
+    }
+}
+
+// T(counter) of the block before it.
+fn next_block<H: BlockHash>(prk: &[u8], info: &[u8], previous: &Tag, counter: u8) -> Tag
+    requires key { length prk.now ≤ H.LIMIT }
+    requires info { H.BLOCK + H.OUT + length info.now + 1 ≤ H.LIMIT }
+    requires previous { length previous.now ≤ H.OUT }
+    ensures length { length result ≡ H.OUT }
+    ensures block { result
+        ≡ hmac H.hash_of H.BLOCK prk.now (previous.now ++ info.now ++ counter ∷ []) }
+{
+    let mut mac = Hmac::<H>::new(prk).unwrap();
+    feed(&mut mac, previous.bytes());
+    feed(&mut mac, info);
+    feed(&mut mac, &[counter]);
+    mac.finish()
+}
+
+// Takes a piece that fits.
+fn feed<A: Absorb>(hasher: &mut A, piece: &[u8])
+    requires { length piece.now ≤ A.room_left hasher.old }
+    ensures appended { (m : List ℕ) → A.holds hasher.old m → A.holds hasher.new (m ++ piece.now) }
+    ensures parameters { A.parameters hasher.new ≡ A.parameters hasher.old }
+    ensures room { A.room_left hasher.old ≡ A.room_left hasher.new + length piece.now }
+{
+    hasher.update(piece).unwrap();
+}
+
+// Writes the beginning of `block` at a place, as much as there is room for, and tells how much.
+fn put(out: &mut [u8], at: usize, block: &[u8]) -> usize
+    requires { at ≤ length out.old }
+    ensures count { result ≡ min (length block.now) (length out.old - at) }
+    ensures written { take (at + result) out.new ≡ take at out.old ++ take result block.now }
+{
+    let count = block.len().min(out.len() - at);
+    out[at..at + count].copy_from_slice(&block[..count]);
+    count
+}
