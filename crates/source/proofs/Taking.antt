@@ -1,0 +1,24 @@
+-- A hasher that takes bytes piece by piece has taken all of them, and lost as much of its room.
+use Rattle.std.proofs.Common.{◌≡◌, ℕ, ◌+◌, List, [], ◌++◌, length, length-append, append_assoc, append-nil, arith, subst, sym}
+use Rattle.source.specs.Pumped.{Appended}
+
+-- between two moments, a hasher took these bytes
+pub record Takes {A : Type 0} (holds : A → List ℕ → Type 0) (room_left : A → ℕ) (old new : A) (bytes : List ℕ) : Type 0 where
+  pub appended : Appended holds old new bytes
+  pub room : room_left new + length bytes ≡ room_left old
+
+module _ {A : Type 0} (holds : A → List ℕ → Type 0) (room_left : A → ℕ) where
+  pub Takes-none : (a : A) → Takes holds room_left a a []
+  Takes-none a = record {
+    appended = λ m h. subst (holds a) (sym (append-nil m)) h;
+    room = omega arith;
+  }
+
+  -- one piece more
+  pub Takes-more : (a b c : A) (front piece : List ℕ) → Takes holds room_left a b front
+      → Appended holds b c piece → room_left b ≡ room_left c + length piece
+      → Takes holds room_left a c (front ++ piece)
+  Takes-more a b c front piece before more room = record {
+    appended = λ m h. subst (holds c) (append_assoc m front piece) (more _ (before.appended m h));
+    room = let sum = before.room in omega (arith, length-append front piece);
+  }

@@ -1,0 +1,11 @@
+pub mod Counts
+pub mod Written
+pub mod Pumped
+pub mod Faults
+pub mod Bytes
+pub mod FixedSink
+pub mod VecSink
+pub mod Device
+pub mod Digest
+pub mod AnyHash
+pub mod Rooms

@@ -1,0 +1,17 @@
+-- What goes from a feed into a hasher.
+use Rattle.std.specs.Prelude.{ℕ, ◌<◌, List, ◌++◌, length, Option, None, Some, ⊤}
+use Rattle.std.specs.Borrow.{Bor}
+use Rattle.std.specs.List.{flat_map}
+
+-- a hasher that had taken a list has then taken it followed by `bytes`
+abbrev pub Appended : {A : Type 0} → (A → List ℕ → Type 0) → A → A → List ℕ → Type 0
+Appended holds old new bytes = (m : List ℕ) → holds old m → holds new (m ++ bytes)
+
+-- the bytes, where they are told, are more than n
+abbrev pub IsLongerThan : Option (List ℕ) → ℕ → Type 0
+IsLongerThan None n = ⊤
+IsLongerThan (Some xs) n = n < length xs
+
+-- lent pieces, one after another
+abbrev pub joined : List (Bor (List ℕ)) → List ℕ
+joined pieces = flat_map (λ piece. piece.now) pieces

@@ -1,0 +1,75 @@
+// A slice as a sink.
+
+ghost use Rattle.std.specs.Prelude.{◌≡◌, ◌≤◌, ◌<◌, ◌+◌, ◌↔◌, [], Some, length, min, take, IsErr, IfOk, OnErr};
+ghost use Rattle.std.specs.Io.KnownBytes.{Appends};
+ghost use Rattle.source.specs.Counts.{CountsFailure};
+
+use crate::{Sink, WriteFailed};
+
+/// A lent slice that is filled from its front. A write takes as many bytes as fit, and fails where
+/// it has bytes and none fits.
+#[derive(Drop)]
+pub struct FixedSink<'a> {
+    buffer: &'a mut [u8],
+    len: usize,
+    failures: u64,
+    ghost within: { len ≤ length buffer.now },
+}
+
+impl<'a> FixedSink<'a> {
+    ghost use Rattle.source.specs.FixedSink.{fixed_room};
+
+    /// A sink with room for as many bytes as `buffer` has, and none written.
+    pub fn new(buffer: &'a mut [u8]) -> FixedSink<'a>
+        ensures empty { ⟦<FixedSink<'a> as Sink>⟧.contents result ≡ Some [] }
+        ensures fresh { ⟦<FixedSink<'a> as Sink>⟧.failure_count result ≡ 0 }
+        ensures room { fixed_room result ≡ length buffer.entry.now }
+    {
+        FixedSink {
+            buffer,
+            len: 0,
+            failures: 0,
+        }
+    }
+
+    /// The bytes written.
+    pub fn written(&self) -> &[u8]
+        ensures { Some result.now ≡ ⟦<FixedSink<'a> as Sink>⟧.contents self.now }
+    {
+        &self.buffer[..self.len]
+    }
+}
+
+impl<'a> Sink for FixedSink<'a> {
+    ghost use Rattle.source.specs.FixedSink.{fixed_failures, fixed_room, fixed_written};
+
+    ghost failure_count = { λ s. fixed_failures s };
+
+    ghost contents = { λ s. Some (fixed_written s) };
+
+    fn write(&mut self, bytes: &[u8]) -> Result<usize, WriteFailed>
+        ensures bound { IfOk result (λ n. n ≤ length bytes.now) }
+        ensures progress { IfOk result (λ n. 0 < length bytes.now → 0 < n) }
+        ensures appended { IfOk result (λ n. Appends (⟦<FixedSink<'a> as Sink>⟧.contents self.old)
+            (⟦<FixedSink<'a> as Sink>⟧.contents self.new) (take n bytes.now)) }
+        ensures kept { OnErr result (⟦<FixedSink<'a> as Sink>⟧.contents self.new
+            ≡ ⟦<FixedSink<'a> as Sink>⟧.contents self.old) }
+        ensures counted { CountsFailure result (⟦<FixedSink<'a> as Sink>⟧.failure_count self.old)
+            (⟦<FixedSink<'a> as Sink>⟧.failure_count self.new) }
+
+        // Where it fails, how much it takes, and what room is left.
+        ensures full { IsErr result ↔ ((fixed_room self.old ≡ 0) × (0 < length bytes.now)) }
+        ensures takes { IfOk result (λ n. n ≡ min (fixed_room self.old) (length bytes.now)) }
+        ensures room { IfOk result (λ n. fixed_room self.new + n ≡ fixed_room self.old) }
+        ensures room_kept { OnErr result (fixed_room self.new ≡ fixed_room self.old) }
+    {
+        let count = (self.buffer.len() - self.len).min(bytes.len());
+        if count == 0 && !bytes.is_empty() {
+            self.failures = self.failures.saturating_add(1);
+            return Err(WriteFailed);
+        }
+        self.buffer[self.len..self.len + count].copy_from_slice(&bytes[..count]);
+        self.len += count;
+        Ok(count)
+    }
+}

@@ -1,0 +1,36 @@
+//! Any hash over any feed: what bytes come from and what they go to, each of which may fail, and the
+//! digest of all that comes.
+//!
+//! ```rust
+//! use source::{Alg, AnyHash, Bytes, digest_of};
+//!
+//! let hasher = AnyHash::new(Alg::Blake2s(32))?;
+//! let mut feed = Bytes::new(b"abc", 2);
+//! let tag = digest_of(hasher, &mut feed)?;
+//! // 508c5e8c327c14e2e1a72ba34eeb452f37458b209ed63a294d999b4c86675982
+//! ```
+#![tactic(auto)]
+
+pub use alg::Alg;
+pub use any_hash::AnyHash;
+pub use bytes::Bytes;
+pub use device::Device;
+pub use digests::{digest_of, pieces};
+pub use feed::{Feed, ReadFailed};
+pub use fixed_sink::FixedSink;
+pub use pumping::{SourceFault, pump};
+pub use sink::{Sink, WriteFailed, write_all};
+pub use vec_sink::VecSink;
+
+mod alg;
+mod any_hash;
+mod bytes;
+mod device;
+mod digests;
+mod feed;
+mod fixed_sink;
+mod pumping;
+mod sink;
+#[cfg(test)]
+mod tests;
+mod vec_sink;

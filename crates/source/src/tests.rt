@@ -1,0 +1,2 @@
+mod digests;
+mod feeds_and_sinks;
