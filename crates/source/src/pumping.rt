@@ -1,7 +1,7 @@
 // From a feed into a hasher.
 
-ghost use Rattle.std.specs.Prelude.{◌≡◌, ◌+◌, length, OnOk, IfSome, IsErrOf};
-ghost use Rattle.std.specs.Io.KnownBytes.{IsAtEnd};
+ghost use Rattle.std.specs.Prelude.{◌≡◌, ◌+◌, ◌<◌, length, take, OnOk, IfOk, IfSome, IsErrOf};
+ghost use Rattle.std.specs.Io.KnownBytes.{Consumes, IsAtEnd};
 ghost use Rattle.source.specs.Faults.{PumpCounts};
 ghost use Rattle.source.specs.Pumped.{Appended, IsLongerThan};
 
@@ -20,6 +20,9 @@ pub enum SourceFault {
     TooLong,
 }
 
+// Most files end within so many bytes, and the larger buffer is not made for them.
+const SHORT: usize = 4096;
+
 // From 16 KiB on, longer reads of a file were measured to be no faster by the byte. BLAKE3 has the
 // more chunks to take together the longer a piece is.
 const PIECE: usize = 65536;
@@ -37,15 +40,57 @@ pub fn pump<A: Absorb, F: Feed>(hasher: &mut A, feed: &mut F) -> Result<(), Sour
         → IsLongerThan (F.remaining feed.old) (A.room_left hasher.old) }
     ensures count { PumpCounts result (F.failure_count feed.old) (F.failure_count feed.new) }
 {
+    let mut short = [0; SHORT];
+    if take_piece(hasher, feed, &mut short)? == 0 || take_piece(hasher, feed, &mut short)? == 0 {
+        return Ok(());
+    }
+    pump_pieces(hasher, feed)
+}
+
+// The same, in long pieces from the first.
+fn pump_pieces<A: Absorb, F: Feed>(hasher: &mut A, feed: &mut F) -> Result<(), SourceFault>
+    ensures appended { OnOk result
+        (IfSome (F.remaining feed.old) (Appended A.holds hasher.old hasher.new)) }
+    ensures end { OnOk result (IsAtEnd (F.remaining feed.new)) }
+    ensures room { OnOk result (IfSome (F.remaining feed.old)
+        (λ xs. A.room_left hasher.new + length xs ≡ A.room_left hasher.old)) }
+    ensures parameters { A.parameters hasher.new ≡ A.parameters hasher.old }
+    ensures too_long { IsErrOf result SourceFault.TooLong
+        → IsLongerThan (F.remaining feed.old) (A.room_left hasher.old) }
+    ensures count { PumpCounts result (F.failure_count feed.old) (F.failure_count feed.new) }
+{
     let mut buf = [0; PIECE];
     'pieces: loop {
-        match feed.read(&mut buf) {
-            Err(ReadFailed) => return Err(SourceFault::Read),
-            Ok(0) => return Ok(()),
-            Ok(count) => match hasher.update(&buf[..count]) {
-                Ok(()) => {}
-                Err(InputTooLong) => return Err(SourceFault::TooLong),
-            },
+        if take_piece(hasher, feed, &mut buf)? == 0 {
+            return Ok(());
         }
+    }
+}
+
+// Feeds the hasher what one read gives, and answers how many bytes that is: 0 at the end alone.
+fn take_piece<A: Absorb, F: Feed>(
+    hasher: &mut A,
+    feed: &mut F,
+    buf: &mut [u8],
+) -> Result<usize, SourceFault>
+    ensures given { IfOk result
+        (λ n. Consumes (F.remaining feed.old) (F.remaining feed.new) (take n buf.new)) }
+    ensures end { IfOk result
+        (λ n. n ≡ 0 → 0 < length buf.old → IsAtEnd (F.remaining feed.new)) }
+    ensures appended { IfOk result (λ n. Appended A.holds hasher.old hasher.new (take n buf.new)) }
+    ensures room { IfOk result
+        (λ n. A.room_left hasher.new + length (take n buf.new) ≡ A.room_left hasher.old) }
+    ensures length { IfOk result (λ n. length (take n buf.new) ≡ n) }
+    ensures parameters { A.parameters hasher.new ≡ A.parameters hasher.old }
+    ensures too_long { IsErrOf result SourceFault.TooLong
+        → IsLongerThan (F.remaining feed.old) (A.room_left hasher.old) }
+    ensures count { PumpCounts result (F.failure_count feed.old) (F.failure_count feed.new) }
+{
+    match feed.read(buf) {
+        Err(ReadFailed) => Err(SourceFault::Read),
+        Ok(count) => match hasher.update(&buf[..count]) {
+            Ok(()) => Ok(count),
+            Err(InputTooLong) => Err(SourceFault::TooLong),
+        },
     }
 }
