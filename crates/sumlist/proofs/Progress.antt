@@ -1,0 +1,136 @@
+-- The lines before the rest of a list have outcomes, whose report was appended; a line more is an outcome more.
+use Rattle.std.proofs.Common.{◌≡◌, ℕ, ◌+◌, List, [], ◌∷◌, ◌++◌, length, refl, sym, ap, ◌∙◌, append_assoc, append-nil, Option, Some, None, IfSome, Ok, Err, arith, rules, subst}
+use Rattle.std.specs.Io.KnownBytes.{Appends}
+use Rattle.std.proofs.KnownBytes.{Appends-nil, Appends-trans}
+use Rattle.source.specs.Counts.{count_after}
+use Rattle.source.specs.Written.{AppendsPrefix}
+use Rattle.sumlist.proofs.Pieces.{AppendsPrefix-after, AppendsPrefix-more, AppendsPrefix-none}
+use Rattle.sumlist.specs.declared.summary.Summary.{Summary}
+use Rattle.sumlist.specs.Tally.{IsCounted, IsSummary, lines_of, no_lines}
+use Rattle.sumlist.proofs.Tallying.{number_of-append, number_of-one, IsSummary-start, IsSummary-more, lines_of-summary}
+use Rattle.sumlist.specs.declared.summary.Mark.TheVariants.{Told}
+use Rattle.sumlist.specs.declared.verdict.Verdict.TheVariants.{Unreadable}
+use Rattle.sumlist.specs.Lines.{lines}
+use Rattle.sumlist.specs.Report.{Files, Outcome, AllAllowed, text, report_from, unreadable_part, unreadable_count, number_of}
+use Rattle.sumlist.specs.Checked.{LineChecked, ListChecked}
+use Rattle.sumlist.specs.declared.kind.Kind.{Kind}
+use Rattle.sumlist.specs.declared.summary.Mark.{Mark}
+use Rattle.sumlist.specs.declared.checking.CheckFault.{CheckFault}
+use Rattle.sumlist.proofs.Deciding.{all_settled}
+
+-- the lines before `rest` were checked, and counted in the summary
+pub record Progress (files : Files) (kind : Kind) (whole rest : List ℕ) (summary : Summary) (count_old count_new : ℕ) (old new : Option (List ℕ)) : Type 0 where
+  pub before : List (List ℕ)
+  pub outcomes : List Outcome
+  pub split : lines whole ≡ before ++ lines rest
+  pub allowed : AllAllowed files kind before outcomes
+  pub summed : IsSummary summary outcomes
+  pub counted : count_new ≡ count_after count_old (unreadable_count outcomes)
+  pub written : Appends old new (report_from 1 outcomes)
+
+pub AllAllowed-append : (files : Files) (kind : Kind) (xs ys : List (List ℕ)) (os ps : List Outcome) → AllAllowed files kind xs os → AllAllowed files kind ys ps → AllAllowed files kind (xs ++ ys) (os ++ ps)
+AllAllowed-append files kind [] ys [] ps p q = q
+AllAllowed-append files kind [] ys (o ∷ os) ps p q = absurd p
+AllAllowed-append files kind (x ∷ xs) ys [] ps p q = absurd p
+AllAllowed-append files kind (x ∷ xs) ys (o ∷ os) ps p q = (p.0, AllAllowed-append files kind xs ys os ps p.1 q)
+
+pub report_from-append : (n : ℕ) (os ps : List Outcome) → report_from n (os ++ ps) ≡ report_from n os ++ report_from (n + length os) ps
+unfolding report_from
+report_from-append n [] ps = ap (λ k. report_from k ps) (omega arith)
+report_from-append n (o ∷ os) ps =
+    let step : n + 1 + length os ≡ n + length (o ∷ os) = omega arith in
+    ap (λ l. text n o ++ l) (report_from-append (n + 1) os ps ∙ ap (λ k. report_from (n + 1) os ++ report_from k ps) step) ∙ sym (append_assoc (text n o) (report_from (n + 1) os) (report_from (n + length (o ∷ os)) ps))
+
+unreadable_count-append : (os ps : List Outcome) → unreadable_count (os ++ ps) ≡ unreadable_count os + unreadable_count ps
+unreadable_count-append os ps = number_of-append (Told Unreadable) os ps
+
+pub report_from-one : (n : ℕ) (o : Outcome) → report_from n (o ∷ []) ≡ text n o
+unfolding report_from
+report_from-one n o = append-nil (text n o)
+
+pub report_from-cons : (n : ℕ) (o : Outcome) (os : List Outcome) → report_from n (o ∷ os) ≡ text n o ++ report_from (n + 1) os
+unfolding report_from
+report_from-cons n o os = refl
+
+unreadable_count-one : (o : Outcome) → unreadable_count (o ∷ []) ≡ unreadable_part o
+unreadable_count-one o = number_of-one (Told Unreadable) o
+
+pub Progress-start : (files : Files) (kind : Kind) (whole : List ℕ) (count : ℕ) (old : Option (List ℕ)) → Progress files kind whole whole no_lines count count old old
+unfolding report_from number_of
+Progress-start files kind whole count old = record { before = []; outcomes = []; split = refl; allowed = tt; summed = IsSummary-start; counted = omega arith; written = Appends-nil old }
+
+pub Progress-line : (files : Files) (kind : Kind) (whole rest line after : List ℕ) (s t : Summary) (next : ℕ) (k m n : ℕ) (a b c : Option (List ℕ)) (mark : Mark)
+    → Progress files kind whole rest s k m a b → lines rest ≡ line ∷ lines after → next ≡ lines_of s + 1 → LineChecked {E = CheckFault} files kind line next (Ok mark) m n b c → IsCounted mark s t
+    → Progress files kind whole after t k n a c
+Progress-line files kind whole rest line after s t next k m n a b c mark p cut up l more =
+    let o = l.0 in
+    let count = unreadable_count-append p.outcomes (o ∷ []) in
+    let one = unreadable_count-one o in
+    let sum = lines_of-summary s p.outcomes p.summed in
+    let at : 1 + length p.outcomes ≡ next = omega (arith, sum, up) in
+    let text_is : report_from 1 (p.outcomes ++ o ∷ []) ≡ report_from 1 p.outcomes ++ text next o =
+    report_from-append 1 p.outcomes (o ∷ []) ∙ ap (λ j. report_from 1 p.outcomes ++ report_from j (o ∷ [])) at ∙ ap (λ t. report_from 1 p.outcomes ++ t) (report_from-one next o) in
+    record {
+      before = p.before ++ line ∷ [];
+      outcomes = p.outcomes ++ o ∷ [];
+      split = p.split ∙ ap (λ ls. p.before ++ ls) cut ∙ sym (append_assoc p.before (line ∷ []) (lines after));
+      allowed = AllAllowed-append files kind p.before (line ∷ []) p.outcomes (o ∷ []) p.allowed (l.1.allowed, tt);
+      summed = IsSummary-more s t p.outcomes o mark l.2.0 p.summed more;
+      counted = let before = p.counted in let now = l.1.counted in omega (arith, count, one);
+      written = subst (Appends a c) (sym text_is) (Appends-trans a b c _ _ p.written l.2.1);
+    }
+
+pub Progress-end : (files : Files) (kind : Kind) (whole : List ℕ) (s : Summary) (k n : ℕ) (a c : Option (List ℕ))
+    → Progress files kind whole [] s k n a c → ListChecked {E = CheckFault} files kind whole (Ok s) k n a c
+Progress-end files kind whole s k n a c p =
+    (p.outcomes, subst (λ ls. AllAllowed files kind ls p.outcomes) (sym (p.split ∙ append-nil p.before)) p.allowed, p.counted, (p.summed, p.written))
+
+pub Progress-stop : (files : Files) (kind : Kind) (whole rest line after : List ℕ) (s : Summary) (next : ℕ) (k m n : ℕ) (a b c : Option (List ℕ)) (fault : CheckFault)
+    → Progress files kind whole rest s k m a b → lines rest ≡ line ∷ lines after → next ≡ lines_of s + 1 → LineChecked files kind line next (Err fault) m n b c
+    → ListChecked files kind whole (Err fault) k n a c
+Progress-stop files kind whole rest line after s next k m n a b c fault p cut up l =
+    let o = l.0 in
+    let others = all_settled files kind (lines after) in
+    let count = unreadable_count-append p.outcomes (o ∷ others.0) in
+    let split_count = unreadable_count-append (o ∷ []) others.0 in
+    let one = unreadable_count-one o in
+    let none = others.2 in
+    let sum = lines_of-summary s p.outcomes p.summed in
+    let at : 1 + length p.outcomes ≡ next = omega (arith, sum, up) in
+    let text_is : report_from 1 (p.outcomes ++ o ∷ others.0) ≡ report_from 1 p.outcomes ++ (text next o ++ report_from (next + 1) others.0) =
+    report_from-append 1 p.outcomes (o ∷ others.0) ∙ ap (λ j. report_from 1 p.outcomes ++ report_from j (o ∷ others.0)) at ∙ ap (λ t. report_from 1 p.outcomes ++ t) (report_from-cons next o others.0) in (
+      p.outcomes ++ o ∷ others.0,
+      subst (λ ls. AllAllowed files kind ls (p.outcomes ++ o ∷ others.0)) (sym (p.split ∙ ap (λ ls. p.before ++ ls) cut))
+          (AllAllowed-append files kind p.before (line ∷ lines after) p.outcomes (o ∷ others.0) p.allowed (l.1.allowed, others.1)),
+      (let before = p.counted in let now = l.1.counted in omega (arith, count, split_count, one, none)),
+      subst (AppendsPrefix a c) (sym text_is) (AppendsPrefix-after a b c _ _ p.written (AppendsPrefix-more b c (text next o) _ l.2)),
+    )
+
+pub IfSome-all : {X : Type 0} (r : Option X) (P : X → Type 0) → ((x : X) → P x) → IfSome r P
+IfSome-all None P h = search rules
+IfSome-all (Some x) P h = h x
+
+-- a line that was checked, where the files may not be told
+pub IfSome-line : (r told : Option Files) (kind : Kind) (whole rest line after : List ℕ) (s t : Summary) (next : ℕ) (k m n : ℕ) (a b c : Option (List ℕ)) (mark : Mark)
+    → told ≡ r → IfSome r (λ files. Progress files kind whole rest s k m a b) → IfSome told (λ files. LineChecked {E = CheckFault} files kind line next (Ok mark) m n b c)
+    → lines rest ≡ line ∷ lines after → next ≡ lines_of s + 1 → IsCounted mark s t → IfSome r (λ files. Progress files kind whole after t k n a c)
+IfSome-line None told kind whole rest line after s t next k m n a b c mark same p l cut up more = search rules
+IfSome-line (Some files) told kind whole rest line after s t next k m n a b c mark same p l cut up more =
+    Progress-line files kind whole rest line after s t next k m n a b c mark p cut up
+    (subst (λ o. IfSome o (λ files. LineChecked {E = CheckFault} files kind line next (Ok mark) m n b c)) same l) more
+
+-- a line at which the check stopped
+pub IfSome-stop : (r told : Option Files) (kind : Kind) (whole rest line after : List ℕ) (s : Summary) (next : ℕ) (k m n : ℕ) (a b c : Option (List ℕ)) (fault : CheckFault)
+    → told ≡ r → IfSome r (λ files. Progress files kind whole rest s k m a b) → IfSome told (λ files. LineChecked files kind line next (Err fault) m n b c)
+    → lines rest ≡ line ∷ lines after → next ≡ lines_of s + 1 → IfSome r (λ files. ListChecked files kind whole (Err fault) k n a c)
+IfSome-stop None told kind whole rest line after s next k m n a b c fault same p l cut up = search rules
+IfSome-stop (Some files) told kind whole rest line after s next k m n a b c fault same p l cut up =
+    Progress-stop files kind whole rest line after s next k m n a b c fault p cut up
+    (subst (λ o. IfSome o (λ files. LineChecked files kind line next (Err fault) m n b c)) same l)
+
+-- nothing was written, and no line was checked
+pub ListChecked-none : (files : Files) (kind : Kind) (whole : List ℕ) (fault : CheckFault) (k : ℕ) (a : Option (List ℕ)) → ListChecked files kind whole (Err fault) k k a a
+ListChecked-none files kind whole fault k a =
+    let d = all_settled files kind (lines whole) in
+    let none = d.2 in
+    (d.0, d.1, omega (arith, none), AppendsPrefix-none a (report_from 1 d.0))

@@ -1,0 +1,28 @@
+-- How a text is cut as a line is read: at its first space, and behind a backslash.
+use Rattle.std.specs.Prelude.{◌⊎◌, ◌≡◌, ◌≢◌, ℕ, Bool, true, false, List, [], ◌∷◌, ◌++◌, slice_index, ◌==◌}
+use Rattle.std.specs.List.{All}
+use Rattle.source.specs.declared.alg.Alg.{Alg}
+use Rattle.sumlist.specs.declared.kind.Kind.{Kind}
+use Rattle.sumlist.specs.Line.{Parts}
+
+abbrev pub NotSpace : ℕ → Type 0
+NotSpace x = (x == 32) ≡ false
+
+-- no space
+abbrev pub HasNoSpace : List ℕ → Type 0
+HasNoSpace xs = All NotSpace xs
+
+-- what stands before the first space, and the rest, which is empty or begins with the space
+pub record IsCut (text digits rest : List ℕ) : Type 0 where
+  pub whole : text ≡ digits ++ rest
+  pub free : HasNoSpace digits
+  pub first : (rest ≡ []) ⊎ (slice_index rest 0 ≡ 32)
+
+-- whether a core begins with a backslash, and the text behind it, or else the core
+abbrev pub IsUnslashed : List ℕ → Bool → List ℕ → Type 0
+IsUnslashed core true text = core ≡ 92 ∷ text
+IsUnslashed core false text = (core ≡ text) × (slice_index core 0 ≢ 92)
+
+-- a text without digits, marks and body
+abbrev pub NoParts : List ℕ → Kind → Type 0
+NoParts text kind = (alg : Alg) (tag body : List ℕ) → Parts text kind alg tag body → ⊥

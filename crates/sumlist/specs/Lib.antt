@@ -1,0 +1,14 @@
+pub mod Escape
+pub mod Entry
+pub mod EntryView
+pub mod Kinds
+pub mod Line
+pub mod Cut
+pub mod Body
+pub mod Parsed
+pub mod Opening
+pub mod MemoryTree
+pub mod Lines
+pub mod Report
+pub mod Tally
+pub mod Checked

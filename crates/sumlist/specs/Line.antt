@@ -1,0 +1,58 @@
+-- What a line of a list means.
+use Rattle.std.specs.Prelude.{◌⊎◌, ◌≡◌, ℕ, ◌-◌, ◌≤◌, List, [], ◌∷◌, ◌++◌, length, take, slice_index, if◌then◌else◌, ◌==◌, Some, Ok, Contains}
+use Rattle.hex.specs.Hex.{decode_of}
+use Rattle.source.specs.declared.alg.Alg.{Alg}
+use Rattle.sumlist.specs.declared.kind.Kind.{Kind}
+use Rattle.sumlist.specs.Entry.{Listing, IsEntry}
+use Rattle.sumlist.specs.Escape.{SpellsName}
+use Rattle.sumlist.specs.Kinds.{alg_of}
+
+-- bytes that can be a line: no LF among them, and not too many
+pub record IsLine (line : List ℕ) : Type 0 where
+  pub one : Contains line 10 → ⊥
+  pub within : length line ≤ 65536
+
+-- a line without the one CR at its end, if it has one
+abbrev pub core : List ℕ → List ℕ
+core line = if slice_index line (length line - 1) == 13 then take (length line - 1) line else line
+
+-- nothing, or a comment, which begins with `#`
+abbrev pub IsBlank : List ℕ → Type 0
+IsBlank core = (core ≡ []) ⊎ (slice_index core 0 ≡ 35)
+
+-- a line that says nothing
+abbrev pub IsSkipped : List ℕ → Type 0
+IsSkipped line = IsLine line × IsBlank (core line)
+
+-- a space or `*`
+abbrev pub IsMark : ℕ → Type 0
+IsMark mark = (mark ≡ 32) ⊎ (mark ≡ 42)
+
+-- digits, a space, a space or `*`, and a body: the number of the digits names the algorithm, and they
+-- are the tag's, in either case
+pub record Parts (text : List ℕ) (kind : Kind) (alg : Alg) (tag body : List ℕ) : Type 0 where
+  pub digits : List ℕ
+  pub mark : ℕ
+  pub whole : text ≡ digits ++ 32 ∷ mark ∷ body
+  pub marked : IsMark mark
+  pub alg_is : alg_of kind (length digits) ≡ Some alg
+  pub tag_is : decode_of digits ≡ Ok tag
+
+-- a core whose body is the name itself, or which begins with a backslash and whose body spells the name
+abbrev pub Untagged : List ℕ → Kind → Listing → Type 0
+Untagged core kind e =
+    Parts core kind e.alg e.tag e.name
+    ⊎ ((text : List ℕ) × (body : List ℕ)
+    × (core ≡ 92 ∷ text) × Parts text kind e.alg e.tag body × SpellsName body e.name)
+
+-- a line spells an entry
+pub record Spells (line : List ℕ) (kind : Kind) (e : Listing) : Type 0 where
+  pub is_line : IsLine line
+  pub not_skipped : IsSkipped line → ⊥
+  pub is_entry : IsEntry e
+  pub form : Untagged (core line) kind e
+
+-- a line that is neither skipped nor spells an entry
+pub record IsMalformed (line : List ℕ) (kind : Kind) : Type 0 where
+  pub not_skipped : IsSkipped line → ⊥
+  pub spells_none : (e : Listing) → Spells line kind e → ⊥

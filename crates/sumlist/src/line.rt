@@ -1,0 +1,96 @@
+// Lines as they are read.
+
+ghost use Rattle.std.specs.Prelude.{◌≡◌, ◌<◌, ◌↔◌, length, IsTrue};
+ghost use Rattle.sumlist.specs.Cut.{IsUnslashed};
+ghost use Rattle.sumlist.specs.Line.{IsLine, IsBlank, core as core_of};
+ghost use Rattle.sumlist.specs.Parsed.{Answers};
+
+use crate::body::{build_name, is_name};
+use crate::fitting::LINE_LEN;
+use crate::lines::find_byte;
+use crate::parts::split_parts;
+use crate::{Entry, Kind};
+use std::alloc::Global;
+use thiserror::Error;
+
+/// What a line says.
+#[derive(Drop)]
+pub enum Line {
+    /// Nothing: the line is empty or a comment, which begins with `#`.
+    Skipped,
+    /// That a file has a digest.
+    Entry(Entry),
+}
+
+/// Why a line gives nothing.
+#[derive(Clone, Copy, Debug, PartialEq, Eq, Drop, Error)]
+pub enum LineFault {
+    /// The line is neither skipped nor spells an entry.
+    #[error("malformed line")]
+    Malformed,
+    /// A growth for the name was refused.
+    #[error("out of memory")]
+    OutOfMemory,
+}
+
+/// Reads one line of a list, which is handed in without its LF; one CR at its end is left out.
+///
+/// A line is the digits of a digest, a space, a space or `*`, and the name, of at most 65,536 bytes
+/// in all. Where it begins with a backslash, `\\`, `\n` and `\r` in its name stand for a backslash,
+/// LF and CR, and any other backslash is malformed. Only the name of an entry takes memory.
+pub fn parse_line(alloc: Global, line: &[u8], kind: Kind) -> Result<Line, LineFault>
+    ensures { Answers line.now kind result }
+{
+    if !is_line(line) {
+        return Err(LineFault::Malformed);
+    }
+    let core = without_cr(line);
+    if is_blank(core) {
+        return Ok(Line::Skipped);
+    }
+    let (is_escaped, text) = unslash(core);
+    let Some((alg, tag, body)) = split_parts(text, kind) else {
+        return Err(LineFault::Malformed);
+    };
+    if !is_name(body, is_escaped, 2 * tag.bytes().len()) {
+        return Err(LineFault::Malformed);
+    }
+    match build_name(alloc, body, is_escaped) {
+        Ok(name) => Ok(Line::Entry(Entry::from_parts(name, alg, tag))),
+        Err(_) => Err(LineFault::OutOfMemory),
+    }
+}
+
+fn is_line(line: &[u8]) -> bool
+    ensures { IsTrue result ↔ IsLine line.now }
+{
+    line.len() <= LINE_LEN && find_byte(line, b'\n') == line.len()
+}
+
+fn without_cr(line: &[u8]) -> &[u8]
+    ensures { result.now ≡ core_of line.now }
+{
+    match line.split_last() {
+        Some((b'\r', front)) => front,
+        _ => line,
+    }
+}
+
+fn is_blank(core: &[u8]) -> bool
+    ensures { IsTrue result ↔ IsBlank core.now }
+{
+    core.is_empty() || core[0] == b'#'
+}
+
+// Whether a core begins with the backslash of escaped lines, and the text without it.
+fn unslash(core: &[u8]) -> (bool, &[u8])
+    requires { 0 < length core.now }
+    ensures { IsUnslashed core.now result.0 result.1.now }
+{
+    let (first, rest) = core.split_at(1);
+    if first[0] == b'\\' {
+        (true, rest)
+    } else {
+        (false, core)
+    }
+}
