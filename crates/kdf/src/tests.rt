@@ -289,8 +289,8 @@ fn refusals(rt: HostRuntime) -> Result<(), Fail> {
     Ok(())
 }
 
-// BLAKE3's test_vectors.json, `derive_key` at input_len 0 and 1: 131 bytes, two blocks of output and
-// three bytes.
+// As `b3sum --derive-key CONTEXT -l 131` gives them, of no material and of the one byte 0: two blocks
+// of output and three bytes.
 #[test]
 fn keys_of_the_blake3_vectors(rt: HostRuntime) {
     let context = b"BLAKE3 2019-12-27 16:29:52 test vectors context";

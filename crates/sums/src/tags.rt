@@ -11,6 +11,7 @@ use mac::{Blake2b512, Blake2s256, BlockHash, Hmac, Sha256Stream, Sha512Stream};
 use source::{Feed, ReadFailed, Sink};
 use std::alloc::Global;
 use sumlist::{Tree, write_end, write_lead};
+use words::Absorb;
 
 // A key file has at most so many bytes.
 const KEY_LIMIT: usize = 65536;
@@ -61,8 +62,7 @@ fn hmac<'n, H: BlockHash, L: Feed, T: Tree, W: Sink>(
     let Ok(mut tag) = Hmac::<H>::new(key.as_slice()) else {
         return Err(Fault::KeyLength);
     };
-    named(2 * length, name)?;
-    absorb_file(&mut tag, name, input, tree)?;
+    absorb_line(&mut tag, 2 * length, name, input, tree)?;
     match tag.finish_left(length) {
         Ok(tag) => write_line(tag.bytes(), name, out),
         Err(_) => Err(Fault::OutOfRange("-l")),
@@ -78,15 +78,12 @@ fn keyed_blake2b<'n, L: Feed, T: Tree, W: Sink>(
     out: &mut W,
 ) -> Result<(), Fault<'n>> {
     let length = number("-l", request.length, 64, 1, 64)? as usize;
-    let key = key_of(alloc, request, tree)?;
-    match Blake2b::keyed(length, key.as_slice()) {
-        Ok(mut hasher) if !key.is_empty() => {
-            named(2 * length, name)?;
-            absorb_file(&mut hasher, name, input, tree)?;
-            write_line(hasher.finish().bytes(), name, out)
-        }
-        _ => Err(Fault::KeyLength),
-    }
+    let key = some_key(alloc, request, tree)?;
+    let Ok(mut hasher) = Blake2b::keyed(length, key.as_slice()) else {
+        return Err(Fault::KeyLength);
+    };
+    absorb_line(&mut hasher, 2 * length, name, input, tree)?;
+    write_line(hasher.finish().bytes(), name, out)
 }
 
 fn keyed_blake2s<'n, L: Feed, T: Tree, W: Sink>(
@@ -98,15 +95,12 @@ fn keyed_blake2s<'n, L: Feed, T: Tree, W: Sink>(
     out: &mut W,
 ) -> Result<(), Fault<'n>> {
     let length = number("-l", request.length, 32, 1, 32)? as usize;
-    let key = key_of(alloc, request, tree)?;
-    match Blake2s::keyed(length, key.as_slice()) {
-        Ok(mut hasher) if !key.is_empty() => {
-            named(2 * length, name)?;
-            absorb_file(&mut hasher, name, input, tree)?;
-            write_line(hasher.finish().bytes(), name, out)
-        }
-        _ => Err(Fault::KeyLength),
-    }
+    let key = some_key(alloc, request, tree)?;
+    let Ok(mut hasher) = Blake2s::keyed(length, key.as_slice()) else {
+        return Err(Fault::KeyLength);
+    };
+    absorb_line(&mut hasher, 2 * length, name, input, tree)?;
+    write_line(hasher.finish().bytes(), name, out)
 }
 
 fn keyed_blake3<'n, L: Feed, T: Tree, W: Sink>(
@@ -122,13 +116,37 @@ fn keyed_blake3<'n, L: Feed, T: Tree, W: Sink>(
     let Some((key, [])) = key.as_slice().split_first_chunk::<32>() else {
         return Err(Fault::KeyLength);
     };
-    named(64, name)?;
     let mut hasher = Blake3::keyed(key);
-    absorb_file(&mut hasher, name, input, tree)?;
+    absorb_line(&mut hasher, 64, name, input, tree)?;
     write_lead(name, out)?;
     write_output(hasher.output(), length, out)?;
     write_end(name, out)?;
     Ok(())
+}
+
+// Feeds the hasher the file of a line with so many digits: the name is judged before it is opened.
+fn absorb_line<'n, A: Absorb, L: Feed, T: Tree>(
+    hasher: &mut A,
+    digits: usize,
+    name: &'n str,
+    input: &mut L,
+    tree: &mut T,
+) -> Result<(), Fault<'n>> {
+    named(digits, name)?;
+    absorb_file(hasher, name, input, tree)
+}
+
+// A key that is not empty: under an empty one BLAKE2 is a hash.
+fn some_key<'n, T: Tree>(
+    alloc: Global,
+    request: &Request<'n>,
+    tree: &mut T,
+) -> Result<Vec<u8>, Fault<'n>> {
+    let key = key_of(alloc, request, tree)?;
+    if key.is_empty() {
+        return Err(Fault::KeyLength);
+    }
+    Ok(key)
 }
 
 // The key that was given in one of the two ways.
