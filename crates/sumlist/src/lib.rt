@@ -1,4 +1,15 @@
-//! Lists of digests: their lines, the files that they name, and reports on them.
+//! Lists of digests, as `sha256sum`, `sha512sum`, `b2sum` and `b3sum` write them: their lines, the
+//! files that they name, and reports on them.
+//!
+//! ```rust
+//! use sumlist::{Kind, Line, parse_line};
+//!
+//! let line = b"ba7816bf8f01cfea414140de5dae2223b00361a396177a9cb410ff61f20015ad  abc.txt";
+//! match parse_line(alloc, line, Kind::Sha256)? {
+//!     Line::Entry(entry) => assert_eq!(rt; entry.name(), "abc.txt"),
+//!     Line::Skipped => {}
+//! }
+//! ```
 #![tactic(auto)]
 
 pub use checking::{CheckFault, check};

@@ -4,6 +4,7 @@ use std::alloc::Global;
 use std::test::Fail;
 use words::Tag;
 
+mod calling;
 mod checking;
 mod files;
 mod reading;
