@@ -1,13 +1,16 @@
 // Which hash.
 
-/// A hash with its parameters, all without a key: SHA-256 and SHA-512 (FIPS 180-4), BLAKE2b and
-/// BLAKE2s with a digest of so many bytes (RFC 7693), 1 to 64 and 1 to 32 of them, and BLAKE3 with a
-/// digest of 32 bytes.
+/// A hash with its parameters, without a key.
 #[derive(Clone, Copy, Debug, PartialEq, Eq)]
 pub enum Alg {
+    /// SHA-256 (FIPS 180-4, section 6.2): digests of 32 bytes.
     Sha256,
+    /// SHA-512 (FIPS 180-4, section 6.4): digests of 64 bytes.
     Sha512,
+    /// BLAKE2b with digests of so many bytes, 1 to 64 (RFC 7693).
     Blake2b(usize),
+    /// BLAKE2s with digests of so many bytes, 1 to 32 (RFC 7693).
     Blake2s(usize),
+    /// BLAKE3 with digests of 32 bytes.
     Blake3,
 }

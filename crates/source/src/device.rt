@@ -1,13 +1,14 @@
 // A reader or a writer of std as a feed or a sink.
 
-ghost use Rattle.std.specs.Prelude.{◌≡◌, None};
-ghost use Rattle.source.specs.Counts.{next_count};
+ghost use Rattle.std.specs.Prelude.{◌≡◌, ◌<◌, ◌≤◌, None, length, take, IfOk, OnErr};
+ghost use Rattle.std.specs.Io.KnownBytes.{Appends, Consumes, IsAtEnd, ReadConsumes, WriteAppends};
+ghost use Rattle.source.specs.Counts.{CountsFailure, next_count};
 
 use crate::{Feed, ReadFailed, Sink, WriteFailed};
 use std::io::{Read, Write};
 
 /// A reader or a writer, as a file or a standard stream. It tells neither what is still to come nor
-/// what was written.
+/// what was written; what its reader or writer itself tells, each read and write keeps to.
 #[derive(Drop)]
 pub struct Device<R> {
     inner: R,
@@ -33,20 +34,35 @@ impl<R> Device<R> {
     }
 
     fn count_failure(&mut self)
-        ensures { device_failures self.new ≡ next_count (device_failures self.old) }
+        ensures counted { device_failures self.new ≡ next_count (device_failures self.old) }
+        ensures inner { device_inner self.new ≡ device_inner self.old }
     {
         self.failures = self.failures.saturating_add(1);
     }
 }
 
 impl<R: Read> Feed for Device<R> {
-    ghost use Rattle.source.specs.Device.{device_failures};
+    ghost use Rattle.source.specs.Device.{device_failures, device_inner};
 
     ghost failure_count = { λ s. device_failures s };
 
     ghost remaining = { λ _. None };
 
-    fn read(&mut self, buf: &mut [u8]) -> Result<usize, ReadFailed> {
+    fn read(&mut self, buf: &mut [u8]) -> Result<usize, ReadFailed>
+        ensures bound { IfOk result (λ n. n ≤ length buf.new) }
+        ensures given { IfOk result (λ n. Consumes (⟦<Device<R> as Feed>⟧.remaining self.old)
+            (⟦<Device<R> as Feed>⟧.remaining self.new) (take n buf.new)) }
+        ensures end { IfOk result (λ n. n ≡ 0 → 0 < length buf.new
+            → IsAtEnd (⟦<Device<R> as Feed>⟧.remaining self.new)) }
+        ensures kept { OnErr result (⟦<Device<R> as Feed>⟧.remaining self.new
+            ≡ ⟦<Device<R> as Feed>⟧.remaining self.old) }
+        ensures counted { CountsFailure result (⟦<Device<R> as Feed>⟧.failure_count self.old)
+            (⟦<Device<R> as Feed>⟧.failure_count self.new) }
+
+        // What the reader had to come, where it tells that, is what was read.
+        ensures reader { ReadConsumes (R.remaining (device_inner self.old))
+            (R.remaining (device_inner self.new)) result buf.new }
+    {
         match self.inner.read(buf) {
             Ok(count) => Ok(count),
             Err(_) => {
@@ -62,14 +78,27 @@ impl<R: Read> Feed for Device<R> {
 }
 
 impl<W: Write> Sink for Device<W> {
-    ghost use Rattle.source.specs.Device.{device_failures};
+    ghost use Rattle.source.specs.Device.{device_failures, device_inner};
 
     ghost failure_count = { λ s. device_failures s };
 
     ghost contents = { λ _. None };
 
     /// Writes a beginning of `bytes`. A writer that takes none of them has failed.
-    fn write(&mut self, bytes: &[u8]) -> Result<usize, WriteFailed> {
+    fn write(&mut self, bytes: &[u8]) -> Result<usize, WriteFailed>
+        ensures bound { IfOk result (λ n. n ≤ length bytes.now) }
+        ensures progress { IfOk result (λ n. 0 < length bytes.now → 0 < n) }
+        ensures appended { IfOk result (λ n. Appends (⟦<Device<W> as Sink>⟧.contents self.old)
+            (⟦<Device<W> as Sink>⟧.contents self.new) (take n bytes.now)) }
+        ensures kept { OnErr result (⟦<Device<W> as Sink>⟧.contents self.new
+            ≡ ⟦<Device<W> as Sink>⟧.contents self.old) }
+        ensures counted { CountsFailure result (⟦<Device<W> as Sink>⟧.failure_count self.old)
+            (⟦<Device<W> as Sink>⟧.failure_count self.new) }
+
+        // What the writer holds, where it tells that, grows by what was written.
+        ensures writer { WriteAppends (W.contents (device_inner self.old))
+            (W.contents (device_inner self.new)) result bytes.now }
+    {
         match self.inner.write(bytes) {
             Ok(count) if count > 0 || bytes.is_empty() => Ok(count),
             _ => {

@@ -79,7 +79,7 @@ fn take_piece<A: Absorb, F: Feed>(
         (λ n. n ≡ 0 → 0 < length buf.old → IsAtEnd (F.remaining feed.new)) }
     ensures appended { IfOk result (λ n. Appended A.holds hasher.old hasher.new (take n buf.new)) }
     ensures room { IfOk result
-        (λ n. A.room_left hasher.new + length (take n buf.new) ≡ A.room_left hasher.old) }
+        (λ n. A.room_left hasher.old ≡ A.room_left hasher.new + length (take n buf.new)) }
     ensures length { IfOk result (λ n. length (take n buf.new) ≡ n) }
     ensures parameters { A.parameters hasher.new ≡ A.parameters hasher.old }
     ensures too_long { IsErrOf result SourceFault.TooLong

@@ -1,2 +1,3 @@
+mod calling;
 mod digests;
 mod feeds_and_sinks;

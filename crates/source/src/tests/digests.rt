@@ -80,7 +80,7 @@ fn input() -> [u8; 1025] {
 }
 
 // Whether the digits, in lower case, spell the tag.
-fn is_spelled(tag: &Tag, digits: &str) -> bool {
+pub fn is_spelled(tag: &Tag, digits: &str) -> bool {
     let mut left = digits.as_bytes();
     for &byte in tag.bytes() {
         for nibble in [byte / 16, byte % 16] {

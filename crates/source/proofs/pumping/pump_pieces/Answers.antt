@@ -1,4 +1,4 @@
-use Rattle.std.proofs.Common.{sym, take, ◌++◌, ◌∙◌}
+use Rattle.std.proofs.Common.{take, ◌++◌, ◌∙◌}
 use Rattle.std.proofs.KnownBytes.{Consumes-trans}
 use Rattle.source.proofs.Taking.{Takes-more}
 use Rattle.source.proofs.pumping.pump_pieces.Goals as goal
@@ -9,7 +9,7 @@ pieces-preserved g c =
     let taken = c.in_ok-take_piece.ensures in
     record {
       front = before.front ++ take c.in_ok-take_piece.field-0 c.take_piece.new.buf;
-      takes = Takes-more g.A.Absorb.holds g.A.Absorb.room_left _ _ _ _ _ before.takes taken.appended (sym taken.room);
+      takes = Takes-more g.A.Absorb.holds g.A.Absorb.room_left _ _ _ _ _ before.takes taken.appended taken.room;
       consumes = Consumes-trans _ _ _ _ _ before.consumes taken.given;
       count = taken.count ∙ before.count;
       parameters = taken.parameters ∙ before.parameters;
