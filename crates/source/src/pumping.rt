@@ -20,7 +20,7 @@ pub enum SourceFault {
     TooLong,
 }
 
-// Most files end within so many bytes, and the larger buffer is not made for them.
+// For a file that ends within so many bytes the larger buffer is not made.
 const SHORT: usize = 4096;
 
 // From 16 KiB on, longer reads of a file were measured to be no faster by the byte. BLAKE3 has the
