@@ -1,12 +1,14 @@
 // The streaming state that both functions share, over the chaining value of either.
 
-ghost use Rattle.std.specs.Prelude.{◌≡◌, ◌≤◌, ◌+◌, ◌-◌, ◌*◌, ◌++◌, [], ℕ, List, length, take, drop};
+ghost use Rattle.std.specs.Prelude.{◌≡◌, ◌≤◌, ◌+◌, ◌-◌, ◌*◌, ◌++◌, ◌∷◌, [], ℕ, List, length, take, drop, true, false};
 ghost use Rattle.std.specs.List.{concat};
-ghost use Rattle.words.specs.Words.{padded};
-ghost use Rattle.blake2.specs.Blake2.{final_value};
+ghost use Rattle.words.specs.Blake2.{compress};
+ghost use Rattle.words.specs.Words.{padded, words};
+ghost use Rattle.blake2.specs.Blake2.{final_value, word_len};
 ghost use Rattle.blake2.specs.Held.{IsChained, IsHeld};
 
 use crate::chain::Chain;
+use std::slice::from_ref;
 
 // Writes `bytes` into the buffer from place `at` on.
 fn write_at<const N: usize>(buffer: &mut [u8; N], at: usize, bytes: &[u8])
@@ -28,21 +30,28 @@ pub(crate) fn padded_block<const N: usize>(bytes: &[u8]) -> [u8; N]
     block
 }
 
-// Moves `chain`, which has taken in `compressed` bytes, on by whole blocks, and counts them.
-fn chain_blocks<C: Chain<N>, const N: usize>(
+// Moves `chain` on by blocks, the count of bytes growing by `step` with each, and answers the count.
+// It is the one place that a compression is called from, so that the loop has it inline.
+fn compress_blocks<C: Chain<N>, const N: usize>(
     chain: &mut C,
-    compressed: u128,
     blocks: &[[u8; N]],
+    compressed: u128,
+    step: u128,
+    last: bool,
 ) -> u128
-    requires { compressed + N * length blocks.now ≤ C.LIMIT }
-    ensures count { result ≡ compressed + N * length blocks.now }
-    ensures chained { (s p : List ℕ) (n : ℕ) → compressed ≡ N * n → IsChained C.variant s p (C.value chain.old) n
+    requires { compressed + step * length blocks.now ≤ C.LIMIT }
+    ensures count { result ≡ compressed + step * length blocks.now }
+    ensures single { (b : List ℕ) → blocks.now ≡ b ∷ [] → (length b ≡ N)
+        × (C.value chain.new ≡ compress C.variant (C.value chain.old)
+        (words (word_len C.variant) 16 b) (compressed + step) last) }
+    ensures chained { (s p : List ℕ) (n : ℕ) → last ≡ false → step ≡ N → compressed ≡ N * n
+        → IsChained C.variant s p (C.value chain.old) n
         → IsChained C.variant s (p ++ concat blocks.now) (C.value chain.new) (n + length blocks.now) }
 {
     let mut count = compressed;
     'blocks: for block in blocks {
-        count += N as u128;
-        chain.compress(block, count, false);
+        count += step;
+        chain.compress(block, count, last);
     }
     count
 }
@@ -101,9 +110,10 @@ impl<C: Chain<N>, const N: usize> Stream<C, N> {
         let (body, tail) = rest.split_at(whole);
         let (blocks, _) = body.as_chunks::<N>();
         write_at(&mut self.buffer, self.used, head);
-        self.compressed += N as u128;
-        self.chain.compress(&self.buffer, self.compressed, false);
-        self.compressed = chain_blocks(&mut self.chain, self.compressed, blocks);
+        let step = N as u128;
+        let filled = from_ref(&self.buffer);
+        let count = compress_blocks(&mut self.chain, filled, self.compressed, step, false);
+        self.compressed = compress_blocks(&mut self.chain, blocks, count, step, false);
         write_at(&mut self.buffer, 0, tail);
         self.used = tail.len();
     }
@@ -122,7 +132,8 @@ impl<C: Chain<N>, const N: usize> Stream<C, N> {
         } = self;
         let unused = &mut buffer[..];
         unused[used..].fill(0);
-        chain.compress(&buffer, compressed + used as u128, true);
+        let block = from_ref(&buffer);
+        compress_blocks(&mut chain, block, compressed, used as u128, true);
         chain
     }
 }

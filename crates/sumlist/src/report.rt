@@ -6,7 +6,7 @@ ghost use Rattle.source.specs.Written.{Writes};
 ghost use Rattle.sumlist.specs.Escape.{escaped};
 ghost use Rattle.sumlist.specs.Report.{malformed_text, verdict_text as verdict_text_of};
 
-use crate::escaping::write_escaped;
+use crate::escaping::write_name;
 use crate::verdict::Verdict;
 use source::{Sink, WriteFailed, write_all};
 
@@ -19,8 +19,7 @@ pub(crate) fn write_verdict<W: Sink>(
     ensures { Writes result (W.failure_count out.old) (W.failure_count out.new)
         (W.contents out.old) (W.contents out.new) (escaped name.now ++ verdict_text_of verdict) }
 {
-    write_escaped(name.as_bytes(), out)?;
-    write_all(out, verdict_text(verdict).as_bytes())
+    write_name(b"", name.as_bytes(), verdict_text(verdict).as_bytes(), out)
 }
 
 fn verdict_text(verdict: Verdict) -> &'static str

@@ -10,7 +10,7 @@ ghost use Rattle.sumlist.specs.Line.{Spells};
 ghost use Rattle.sumlist.specs.declared.writing.WriteFault.TheVariants.{Write};
 
 use crate::Entry;
-use crate::escaping::{needs_escape, write_escaped};
+use crate::escaping::{needs_escape, write_name};
 use source::{Sink, WriteFailed, write_all};
 use thiserror::Error;
 use words::Tag;
@@ -60,9 +60,7 @@ pub fn write_end<W: Sink>(name: &str, out: &mut W) -> Result<(), WriteFault>
     ensures { Writes result (W.failure_count out.old) (W.failure_count out.new)
         (W.contents out.old) (W.contents out.new) (ending name.now) }
 {
-    write_all(out, b"  ")?;
-    write_escaped(name.as_bytes(), out)?;
-    write_all(out, b"\n")?;
+    write_name(b"  ", name.as_bytes(), b"\n", out)?;
     Ok(())
 }
 

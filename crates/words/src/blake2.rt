@@ -3,7 +3,7 @@
 ghost use Rattle.std.specs.Prelude.{◌≡◌};
 ghost use Rattle.words.specs.Blake2.{blake2b, blake2s, compress, rounds, working_words};
 
-use crate::mix::{round32, round64};
+use crate::rows::{round32, round64};
 use crate::tables::{IV32, IV64, SIGMA};
 
 // The chaining value and the initial value, with the count and the last block's mark worked in.

@@ -4,7 +4,7 @@ ghost use Rattle.std.specs.Prelude.{◌≡◌};
 ghost use Rattle.words.specs.Blake3.{compress3, permuted_words, rounds3, working_words3, words_in_order};
 ghost use Rattle.words.specs.Tables.{permutation};
 
-use crate::mix::round32;
+use crate::rows::round32;
 use crate::tables::{IV32, SIGMA};
 
 // The message words in the order of the next round.

@@ -28,6 +28,7 @@ mod blake2;
 mod blake3;
 mod mix;
 mod reading;
+mod rows;
 mod tables;
 mod tag;
 #[cfg(test)]
