@@ -4,12 +4,12 @@ ghost use Rattle.std.specs.Prelude.{◌≡◌, ℕ, ◌+◌, ◌-◌, ◌*◌, �
 ghost use Rattle.arrayvec.specs.ArrayVec.{array_vec_len};
 
 use crate::chunk::{CHUNK_LEN, Chunk};
-use crate::mode::{DERIVE_KEY_CONTEXT, DERIVE_KEY_MATERIAL, IV, KEYED_HASH, words_of_key};
+use crate::mode::{DERIVE_KEY_CONTEXT, DERIVE_KEY_MATERIAL, KEYED_HASH, words_of_key};
 use crate::node::Node;
 use crate::output::Output;
 use crate::stack::push_subtree;
 use arrayvec::ArrayVec;
-use words::Absorb;
+use words::{Absorb, IV32};
 
 /// A BLAKE3 hasher, in one of the three modes. It takes its input by `Absorb`, at most 2^64 - 1
 /// bytes in all, takes no memory, and holds at most 54 chaining values.
@@ -39,7 +39,7 @@ impl Blake3 {
         ensures room { hasher_room result ≡ 2 ^ 64 - 1 }
         ensures holds { Holds result [] }
     {
-        Blake3::under(IV, 0)
+        Blake3::under(IV32, 0)
     }
 
     /// A hasher of the empty input in the mode `keyed_hash`, under a key of 32 bytes (section 2.3).
@@ -67,7 +67,7 @@ impl Blake3 {
     fn context_key(context: &[u8]) -> [u8; 32]
         ensures { result ≡ slice (root_of context_parameters context.now) 0 32 }
     {
-        let mut hasher = Blake3::under(IV, DERIVE_KEY_CONTEXT);
+        let mut hasher = Blake3::under(IV32, DERIVE_KEY_CONTEXT);
         hasher.update(context).unwrap();
         let mut key = [0; 32];
         hasher.output().fill(&mut key).unwrap();

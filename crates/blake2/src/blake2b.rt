@@ -1,6 +1,6 @@
 // BLAKE2b.
 
-ghost use Rattle.std.specs.Prelude.{◌≡◌, ◌+◌, ◌-◌, ◌^◌, ◌∷◌, [], ℕ, List, length, Some, None, MatchResult};
+ghost use Rattle.std.specs.Prelude.{◌≡◌, ◌+◌, ◌-◌, ◌^◌, [], ℕ, List, length, Some, None, MatchResult};
 ghost use Rattle.words.specs.Blake2.{blake2b};
 ghost use Rattle.blake2.specs.Blake2.{blake2, from_list, listed, message_limit, unsalted};
 ghost use Rattle.blake2.specs.Faults.{parameter_fault};

@@ -9,7 +9,7 @@ ghost use Rattle.blake2.specs.Blake2.{block_len, word_len, xor_words};
 ghost use Rattle.blake2.specs.Lengths.{block_len_2b, block_len_2s};
 
 use byteorder::{ByteOrder, LittleEndian};
-use words::{Tag, compress_2b, compress_2s, words32, words64};
+use words::{IV32, IV64, Tag, compress_2b, compress_2s, words32, words64};
 
 /// A chaining value, with the compression function that moves it on by a block of `N` bytes.
 pub(crate) trait Chain<const N: usize>: Drop {
@@ -74,30 +74,6 @@ macro_rules! xored {
         ]
     };
 }
-
-/// The initial value of BLAKE2b (section 2.6).
-const IV64: [u64; 8] = [
-    0x6a09_e667_f3bc_c908,
-    0xbb67_ae85_84ca_a73b,
-    0x3c6e_f372_fe94_f82b,
-    0xa54f_f53a_5f1d_36f1,
-    0x510e_527f_ade6_82d1,
-    0x9b05_688c_2b3e_6c1f,
-    0x1f83_d9ab_fb41_bd6b,
-    0x5be0_cd19_137e_2179,
-];
-
-/// The initial value of BLAKE2s (section 2.6).
-const IV32: [u32; 8] = [
-    0x6a09_e667,
-    0xbb67_ae85,
-    0x3c6e_f372,
-    0xa54f_f53a,
-    0x510e_527f,
-    0x9b05_688c,
-    0x1f83_d9ab,
-    0x5be0_cd19,
-];
 
 /// The chaining value of BLAKE2b.
 #[derive(Drop)]

@@ -1,6 +1,6 @@
 // The rounds of BLAKE2 and BLAKE3 on the four rows of the state: G on four columns at a time.
 
-ghost use Rattle.std.specs.Prelude.{◌≡◌, ℕ, ◌-◌, ◌<◌, ◌∷◌, [], slice_index};
+ghost use Rattle.std.specs.Prelude.{◌≡◌, ℕ, ◌<◌, slice_index};
 ghost use Rattle.std.specs.Int.{rotate_right, w32, w64};
 ghost use Rattle.std.specs.Int.Bits.{bit_xor};
 ghost use Rattle.words.specs.Blake2.{blake2b, blake2s};
