@@ -1,6 +1,6 @@
 // HKDF-Expand: keying material of any length from a pseudorandom key.
 
-ghost use Rattle.std.specs.Prelude.{◌≡◌, ◌<◌, ◌≤◌, ◌+◌, ◌-◌, ◌*◌, ◌↔◌, ℕ, List, [], ◌∷◌, ◌++◌, length, min, take, IsOk, OnOk, OnErr, IsErrOf};
+ghost use Rattle.std.specs.Prelude.{◌≡◌, ◌<◌, ◌≤◌, ◌+◌, ◌-◌, ◌*◌, ◌↔◌, [], ◌∷◌, ◌++◌, length, min, take, IsOk, OnOk, OnErr, IsErrOf};
 ghost use Rattle.mac.specs.Hmac.{hmac};
 ghost use Rattle.kdf.specs.Hkdf as spec;
 
@@ -81,20 +81,10 @@ fn next_block<H: BlockHash>(prk: &[u8], info: &[u8], previous: &Tag, counter: u8
         ≡ hmac H.hash_of H.BLOCK prk.now (previous.now ++ info.now ++ counter ∷ []) }
 {
     let mut mac = Hmac::<H>::new(prk).unwrap();
-    feed(&mut mac, previous.bytes());
-    feed(&mut mac, info);
-    feed(&mut mac, &[counter]);
+    mac.update(previous.bytes()).unwrap();
+    mac.update(info).unwrap();
+    mac.update(&[counter]).unwrap();
     mac.finish()
-}
-
-// Takes a piece that fits.
-fn feed<A: Absorb>(hasher: &mut A, piece: &[u8])
-    requires { length piece.now ≤ A.room_left hasher.old }
-    ensures appended { (m : List ℕ) → A.holds hasher.old m → A.holds hasher.new (m ++ piece.now) }
-    ensures parameters { A.parameters hasher.new ≡ A.parameters hasher.old }
-    ensures room { A.room_left hasher.old ≡ A.room_left hasher.new + length piece.now }
-{
-    hasher.update(piece).unwrap();
 }
 
 // Writes the beginning of `block` at a place, as much as there is room for, and tells how much.

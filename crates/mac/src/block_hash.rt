@@ -1,4 +1,4 @@
-// What HMAC and HKDF ask of a hash function, and how they feed one.
+// What HMAC and HKDF ask of a hash function.
 
 ghost use Rattle.std.specs.Prelude.{◌≡◌, ◌<◌, ◌≤◌, ◌+◌, ◌-◌, ◌^◌, ◌++◌, ℕ, List, [], length};
 
@@ -56,16 +56,6 @@ pub trait BlockHash: Absorb {
         → Self.limit (Self.parameters s) ≡ LIMIT };
 }
 
-/// Takes a piece that fits.
-pub fn feed<A: Absorb>(hasher: &mut A, piece: &[u8])
-    requires { length piece.now ≤ A.room_left hasher.old }
-    ensures appended { (m : List ℕ) → A.holds hasher.old m → A.holds hasher.new (m ++ piece.now) }
-    ensures parameters { A.parameters hasher.new ≡ A.parameters hasher.old }
-    ensures room { A.room_left hasher.old ≡ A.room_left hasher.new + length piece.now }
-{
-    hasher.update(piece).unwrap();
-}
-
 /// The digest of two pieces, one after the other.
 pub fn hash_both<H: BlockHash>(first: &[u8], second: &[u8]) -> Tag
     requires { length first.now + length second.now ≤ H.LIMIT }
@@ -73,7 +63,7 @@ pub fn hash_both<H: BlockHash>(first: &[u8], second: &[u8]) -> Tag
     ensures digest { result ≡ H.hash_of (first.now ++ second.now) }
 {
     let mut hasher = H::new();
-    feed(&mut hasher, first);
-    feed(&mut hasher, second);
+    hasher.update(first).unwrap();
+    hasher.update(second).unwrap();
     hasher.finish()
 }

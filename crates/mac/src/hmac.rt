@@ -3,7 +3,7 @@
 ghost use Rattle.std.specs.Prelude.{◌≡◌, ◌≤◌, ◌+◌, ◌-◌, ◌/◌, ◌↔◌, ℕ, List, [], length, take, IsOk, IfOk, IfErr, IsTrue};
 ghost use Rattle.mac.specs.Hmac.{block_sized_key, hmac_of_block_key};
 
-use crate::block_hash::{BlockHash, feed, hash_both};
+use crate::block_hash::{BlockHash, hash_both};
 use crate::key::{self, KeyTooLong, xor_each};
 use words::{Absorb, InputTooLong, Tag, same};
 
@@ -57,7 +57,7 @@ impl<H: BlockHash> Hmac<H> {
     {
         let key = key::block_sized_key::<H>(key)?;
         let mut inner = H::new();
-        feed(&mut inner, &xor_each(&key, IPAD)[..H::BLOCK]);
+        inner.update(&xor_each(&key, IPAD)[..H::BLOCK]).unwrap();
         Ok(Hmac { inner, key })
     }
 
