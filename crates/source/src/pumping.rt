@@ -44,21 +44,6 @@ pub fn pump<A: Absorb, F: Feed>(hasher: &mut A, feed: &mut F) -> Result<(), Sour
     if take_piece(hasher, feed, &mut short)? == 0 || take_piece(hasher, feed, &mut short)? == 0 {
         return Ok(());
     }
-    pump_pieces(hasher, feed)
-}
-
-// The same, in long pieces from the first.
-fn pump_pieces<A: Absorb, F: Feed>(hasher: &mut A, feed: &mut F) -> Result<(), SourceFault>
-    ensures appended { OnOk result
-        (IfSome (F.remaining feed.old) (Appended A.holds hasher.old hasher.new)) }
-    ensures end { OnOk result (IsAtEnd (F.remaining feed.new)) }
-    ensures room { OnOk result (IfSome (F.remaining feed.old)
-        (λ xs. A.room_left hasher.new + length xs ≡ A.room_left hasher.old)) }
-    ensures parameters { A.parameters hasher.new ≡ A.parameters hasher.old }
-    ensures too_long { IsErrOf result SourceFault.TooLong
-        → IsLongerThan (F.remaining feed.old) (A.room_left hasher.old) }
-    ensures count { PumpCounts result (F.failure_count feed.old) (F.failure_count feed.new) }
-{
     let mut buf = [0; PIECE];
     'pieces: loop {
         if take_piece(hasher, feed, &mut buf)? == 0 {

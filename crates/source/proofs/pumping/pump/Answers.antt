@@ -1,17 +1,18 @@
 use Rattle.std.proofs.Common.{take, ◌++◌, ◌∙◌}
 use Rattle.std.proofs.KnownBytes.{Consumes-trans}
 use Rattle.source.proofs.Taking.{Takes-more}
-use Rattle.source.proofs.pumping.pump_pieces.Goals as goal
+use Rattle.source.proofs.pumping.pump.Goals as goal
 
 pub pieces-preserved : goal.pieces-preserved
 pieces-preserved g c =
     let before = c.pieces.invariant in
-    let taken = c.in_ok-take_piece.ensures in
+    let taken = c.in_ok-take_piece-3.ensures in
+    let piece = c.take_piece-in-pieces in
     record {
-      front = before.front ++ take c.in_ok-take_piece.field-0 c.take_piece.new.buf;
+      front = before.front ++ take c.in_ok-take_piece-3.field-0 piece.new.buf;
       takes = Takes-more g.A.Absorb.holds g.A.Absorb.room_left _ _ _ _ _ before.takes taken.appended taken.room;
       consumes = Consumes-trans _ _ _ _ _ before.consumes taken.given;
       count = taken.count ∙ before.count;
       parameters = taken.parameters ∙ before.parameters;
-      size = c.take_piece.auto.buf ∙ before.size;
+      size = piece.auto.buf ∙ before.size;
     }

@@ -1,7 +1,7 @@
 use Rattle.std.proofs.Common.{◌≡◌, ℕ, List, length}
 use Rattle.std.specs.Io.KnownBytes.{Consumes}
 use Rattle.source.proofs.Taking.{Takes}
-use Rattle.source.proofs.pumping.pump_pieces.Given as goal
+use Rattle.source.proofs.pumping.pump.Given as goal
 
 abbrev pub invariant-pieces : goal.invariant-pieces
 invariant-pieces g l = record {
