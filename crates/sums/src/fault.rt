@@ -1,5 +1,8 @@
 // What can go wrong in a run: the texts, and the statuses.
 
+ghost use Rattle.std.specs.Prelude.{◌≡◌};
+ghost use Rattle.sums.specs.declared.fault.Fault.TheVariants.{CannotWrite, OutOfMemory};
+
 use source::{Sink, SourceFault, WriteFailed, write_all};
 use std::alloc::AllocError;
 use std::fmt;
@@ -88,18 +91,24 @@ impl<'a> Display for Fault<'a> {
 }
 
 impl<'a> From<WriteFailed> for Fault<'a> {
+    ghost from_gives = { λ _ fault. fault ≡ CannotWrite };
+
     fn from(_fault: WriteFailed) -> Fault<'a> {
         Fault::CannotWrite
     }
 }
 
 impl<'a> From<WriteFault> for Fault<'a> {
+    ghost from_gives = { λ _ fault. fault ≡ CannotWrite };
+
     fn from(_fault: WriteFault) -> Fault<'a> {
         Fault::CannotWrite
     }
 }
 
 impl<'a> From<AllocError> for Fault<'a> {
+    ghost from_gives = { λ _ fault. fault ≡ OutOfMemory };
+
     fn from(_error: AllocError) -> Fault<'a> {
         Fault::OutOfMemory
     }

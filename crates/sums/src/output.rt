@@ -1,8 +1,6 @@
 // What a command prints: digits, and lines that end in a name.
 
-ghost use Rattle.std.specs.Prelude.{◌≡◌, ◌+◌, ◌-◌, ◌^◌, ◌≤◌};
-ghost use Rattle.hex.specs.Hex.{encode_lower};
-ghost use Rattle.source.specs.Written.{Writes};
+ghost use Rattle.std.specs.Prelude.{◌+◌, ◌-◌, ◌^◌, ◌≤◌};
 ghost use Rattle.b3.specs.Output.{output_position};
 
 use crate::fault::Fault;

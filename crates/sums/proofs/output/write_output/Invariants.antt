@@ -1,4 +1,4 @@
-use Rattle.std.specs.Prelude.{ℕ, ◌+◌, ◌-◌, ◌^◌, ◌≤◌}
+use Rattle.std.specs.Prelude.{◌+◌, ◌-◌, ◌^◌, ◌≤◌}
 use Rattle.b3.specs.Output.{output_position}
 use Rattle.sums.proofs.output.write_output.Given as goal
 

@@ -1,4 +1,4 @@
-use Rattle.std.specs.Prelude.{ℕ, ◌-◌, vec_len, ⊤}
+use Rattle.std.specs.Prelude.{◌-◌, vec_len, ⊤}
 use Rattle.sums.proofs.tags.read_key.Given as goal
 
 abbrev pub invariant-loop-piece : goal.invariant-loop-piece
