@@ -1,5 +1,6 @@
 -- The lines before the rest of a list have outcomes, whose report was appended; a line more is an outcome more.
-use Rattle.std.proofs.Common.{◌≡◌, ℕ, ◌+◌, List, [], ◌∷◌, ◌++◌, length, refl, sym, ap, ◌∙◌, append_assoc, append-nil, Option, Some, None, IfSome, Ok, Err, arith, rules, subst}
+use Rattle.std.proofs.Common.{◌≡◌, ℕ, ◌+◌, List, [], ◌∷◌, ◌++◌, length, refl, sym, ap, ◌∙◌, append_assoc, append-nil, Option, Some, None, IfSome, IsErr, Result, Ok, Err, arith, rules, subst}
+use Rattle.std.proofs.lemmas.Result.{MatchResult-from_err}
 use Rattle.std.specs.Io.KnownBytes.{Appends}
 use Rattle.std.proofs.KnownBytes.{Appends-nil, Appends-trans}
 use Rattle.source.specs.Counts.{count_after}
@@ -85,10 +86,10 @@ pub Progress-end : (files : Files) (kind : Kind) (whole : List ℕ) (s : Summary
 Progress-end files kind whole s k n a c p =
     (p.outcomes, subst (λ ls. AllAllowed files kind ls p.outcomes) (sym (p.split ∙ append-nil p.before)) p.allowed, p.counted, (p.summed, p.written))
 
-pub Progress-stop : (files : Files) (kind : Kind) (whole rest line after : List ℕ) (s : Summary) (next : ℕ) (k m n : ℕ) (a b c : Option (List ℕ)) (fault : CheckFault)
-    → Progress files kind whole rest s k m a b → lines rest ≡ line ∷ lines after → next ≡ lines_of s + 1 → LineChecked files kind line next (Err fault) m n b c
-    → ListChecked files kind whole (Err fault) k n a c
-Progress-stop files kind whole rest line after s next k m n a b c fault p cut up l =
+pub Progress-stop : (files : Files) (kind : Kind) (whole rest line after : List ℕ) (s : Summary) (next : ℕ) (k m n : ℕ) (a b c : Option (List ℕ)) (fault : CheckFault) (answer : Result Summary CheckFault)
+    → Progress files kind whole rest s k m a b → lines rest ≡ line ∷ lines after → next ≡ lines_of s + 1 → LineChecked files kind line next (Err fault) m n b c → IsErr answer
+    → ListChecked files kind whole answer k n a c
+Progress-stop files kind whole rest line after s next k m n a b c fault answer p cut up l stopped =
     let o = l.0 in
     let others = all_settled files kind (lines after) in
     let count = unreadable_count-append p.outcomes (o ∷ others.0) in
@@ -103,7 +104,7 @@ Progress-stop files kind whole rest line after s next k m n a b c fault p cut up
       subst (λ ls. AllAllowed files kind ls (p.outcomes ++ o ∷ others.0)) (sym (p.split ∙ ap (λ ls. p.before ++ ls) cut))
           (AllAllowed-append files kind p.before (line ∷ lines after) p.outcomes (o ∷ others.0) p.allowed (l.1.allowed, others.1)),
       (let before = p.counted in let now = l.1.counted in omega (arith, count, split_count, one, none)),
-      subst (AppendsPrefix a c) (sym text_is) (AppendsPrefix-after a b c _ _ p.written (AppendsPrefix-more b c (text next o) _ l.2)),
+      MatchResult-from_err answer _ _ stopped (λ _. subst (AppendsPrefix a c) (sym text_is) (AppendsPrefix-after a b c _ _ p.written (AppendsPrefix-more b c (text next o) _ l.2))),
     )
 
 pub IfSome-all : {X : Type 0} (r : Option X) (P : X → Type 0) → ((x : X) → P x) → IfSome r P
@@ -120,17 +121,17 @@ IfSome-line (Some files) told kind whole rest line after s t next k m n a b c ma
     (subst (λ o. IfSome o (λ files. LineChecked {E = CheckFault} files kind line next (Ok mark) m n b c)) same l) more
 
 -- a line at which the check stopped
-pub IfSome-stop : (r told : Option Files) (kind : Kind) (whole rest line after : List ℕ) (s : Summary) (next : ℕ) (k m n : ℕ) (a b c : Option (List ℕ)) (fault : CheckFault)
+pub IfSome-stop : (r told : Option Files) (kind : Kind) (whole rest line after : List ℕ) (s : Summary) (next : ℕ) (k m n : ℕ) (a b c : Option (List ℕ)) (fault : CheckFault) (answer : Result Summary CheckFault)
     → told ≡ r → IfSome r (λ files. Progress files kind whole rest s k m a b) → IfSome told (λ files. LineChecked files kind line next (Err fault) m n b c)
-    → lines rest ≡ line ∷ lines after → next ≡ lines_of s + 1 → IfSome r (λ files. ListChecked files kind whole (Err fault) k n a c)
-IfSome-stop None told kind whole rest line after s next k m n a b c fault same p l cut up = search rules
-IfSome-stop (Some files) told kind whole rest line after s next k m n a b c fault same p l cut up =
-    Progress-stop files kind whole rest line after s next k m n a b c fault p cut up
-    (subst (λ o. IfSome o (λ files. LineChecked files kind line next (Err fault) m n b c)) same l)
+    → lines rest ≡ line ∷ lines after → next ≡ lines_of s + 1 → IsErr answer → IfSome r (λ files. ListChecked files kind whole answer k n a c)
+IfSome-stop None told kind whole rest line after s next k m n a b c fault answer same p l cut up stopped = search rules
+IfSome-stop (Some files) told kind whole rest line after s next k m n a b c fault answer same p l cut up stopped =
+    Progress-stop files kind whole rest line after s next k m n a b c fault answer p cut up
+    (subst (λ o. IfSome o (λ files. LineChecked files kind line next (Err fault) m n b c)) same l) stopped
 
 -- nothing was written, and no line was checked
-pub ListChecked-none : (files : Files) (kind : Kind) (whole : List ℕ) (fault : CheckFault) (k : ℕ) (a : Option (List ℕ)) → ListChecked files kind whole (Err fault) k k a a
-ListChecked-none files kind whole fault k a =
+pub ListChecked-none : (files : Files) (kind : Kind) (whole : List ℕ) (answer : Result Summary CheckFault) (k : ℕ) (a : Option (List ℕ)) → IsErr answer → ListChecked files kind whole answer k k a a
+ListChecked-none files kind whole answer k a stopped =
     let d = all_settled files kind (lines whole) in
     let none = d.2 in
-    (d.0, d.1, omega (arith, none), AppendsPrefix-none a (report_from 1 d.0))
+    (d.0, d.1, omega (arith, none), MatchResult-from_err answer _ _ stopped (λ _. AppendsPrefix-none a (report_from 1 d.0)))

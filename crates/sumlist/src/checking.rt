@@ -5,14 +5,15 @@ ghost use Rattle.std.specs.Io.KnownBytes.{Consumes};
 ghost use Rattle.source.specs.Counts.{count_after};
 ghost use Rattle.sumlist.specs.Checked.{LineChecked, ListChecked, ListCounts, StepCounts, WriteCounts};
 ghost use Rattle.sumlist.specs.Report.{part};
+ghost use Rattle.sumlist.specs.declared.checking.CheckFault.TheVariants.{ListRead, OutOfMemory, Write};
 
 use crate::lines::split_line;
 use crate::report::{write_malformed, write_verdict};
 use crate::summary::Mark;
 use crate::verdict::{Verdict, check_entry};
 use crate::{Kind, Line, LineFault, Summary, Tree, parse_line};
-use source::{Feed, Sink};
-use std::alloc::Global;
+use source::{Feed, ReadFailed, Sink, WriteFailed};
+use std::alloc::{AllocError, Global};
 use thiserror::Error;
 
 /// Why a check ended before the end of its list. What was written is a beginning of the report.
@@ -30,6 +31,30 @@ pub enum CheckFault {
     /// The list gave more than 2^64 - 1 bytes.
     #[error("the list is too long")]
     ListTooLong,
+}
+
+impl From<ReadFailed> for CheckFault {
+    ghost from_gives = { λ _ fault. fault ≡ ListRead };
+
+    fn from(_failed: ReadFailed) -> CheckFault {
+        CheckFault::ListRead
+    }
+}
+
+impl From<WriteFailed> for CheckFault {
+    ghost from_gives = { λ _ fault. fault ≡ Write };
+
+    fn from(_failed: WriteFailed) -> CheckFault {
+        CheckFault::Write
+    }
+}
+
+impl From<AllocError> for CheckFault {
+    ghost from_gives = { λ _ fault. fault ≡ OutOfMemory };
+
+    fn from(_error: AllocError) -> CheckFault {
+        CheckFault::OutOfMemory
+    }
 }
 
 /// Checks a list: reads it to its end, compares the file of each entry with the entry's tag, and
@@ -59,10 +84,8 @@ pub fn check<L: Feed, T: Tree, W: Sink>(
         × Consumes (L.remaining list.old) (L.remaining list.new) given
         × (IsErrOf result CheckFault.ListTooLong ↔ (2 ^ 64 - 1 < length given))) }
 {
-    match read_list(alloc, list) {
-        Ok(bytes) => check_all(alloc, &bytes, kind, tree, out),
-        Err(fault) => Err(fault),
-    }
+    let bytes = read_list(alloc, list)?;
+    check_all(alloc, &bytes, kind, tree, out)
 }
 
 // All that a list gives.
@@ -79,20 +102,15 @@ fn read_list<L: Feed>(alloc: Global, list: &mut L) -> Result<Vec<u8>, CheckFault
     let mut total: u64 = 0;
     let mut buf = [0; 4096];
     loop {
-        match list.read(&mut buf) {
-            Err(_) => return Err(CheckFault::ListRead),
-            Ok(0) => return Ok(bytes),
-            Ok(count) => {
-                let Some(sum) = total.checked_add(count as u64) else {
-                    return Err(CheckFault::ListTooLong);
-                };
-                total = sum;
-                match bytes.extend_from_slice(&buf[..count]) {
-                    Ok(()) => {}
-                    Err(_) => return Err(CheckFault::OutOfMemory),
-                }
-            }
+        let count = list.read(&mut buf)?;
+        if count == 0 {
+            return Ok(bytes);
         }
+        let Some(sum) = total.checked_add(count as u64) else {
+            return Err(CheckFault::ListTooLong);
+        };
+        total = sum;
+        bytes.extend_from_slice(&buf[..count])?;
     }
 }
 
@@ -118,10 +136,8 @@ fn check_all<T: Tree, W: Sink>(
     while !rest.is_empty() {
         let (line, after) = split_line(rest);
         let number = summary.lines() + 1;
-        match check_line(alloc, line, number, kind, tree, out) {
-            Ok(mark) => summary.count(mark),
-            Err(fault) => return Err(fault),
-        }
+        let mark = check_line(alloc, line, number, kind, tree, out)?;
+        summary.count(mark);
         rest = after;
     }
     Ok(summary)
@@ -147,17 +163,15 @@ fn check_line<T: Tree, W: Sink>(
 {
     match parse_line(alloc, line, kind) {
         Ok(Line::Skipped) => Ok(Mark::Skipped),
-        Ok(Line::Entry(entry)) => match check_entry(&entry, tree) {
-            Ok(verdict) => match write_verdict(entry.name(), verdict, out) {
-                Ok(()) => Ok(Mark::Told(verdict)),
-                Err(_) => Err(CheckFault::Write),
-            },
-            Err(_) => Err(CheckFault::OutOfMemory),
-        },
-        Err(LineFault::Malformed) => match write_malformed(number, out) {
-            Ok(()) => Ok(Mark::Malformed),
-            Err(_) => Err(CheckFault::Write),
-        },
+        Ok(Line::Entry(entry)) => {
+            let verdict = check_entry(&entry, tree)?;
+            write_verdict(entry.name(), verdict, out)?;
+            Ok(Mark::Told(verdict))
+        }
+        Err(LineFault::Malformed) => {
+            write_malformed(number, out)?;
+            Ok(Mark::Malformed)
+        }
         Err(LineFault::OutOfMemory) => Err(CheckFault::OutOfMemory),
     }
 }

@@ -4,13 +4,14 @@ ghost use Rattle.std.specs.Prelude.{◌≡◌, ◌<◌, ◌↔◌, length, IsTru
 ghost use Rattle.sumlist.specs.Cut.{IsUnslashed};
 ghost use Rattle.sumlist.specs.Line.{IsLine, IsBlank, core as core_of};
 ghost use Rattle.sumlist.specs.Parsed.{Answers};
+ghost use Rattle.sumlist.specs.declared.line.LineFault.TheVariants.{OutOfMemory};
 
 use crate::body::{build_name, is_name};
 use crate::fitting::LINE_LEN;
 use crate::lines::find_byte;
 use crate::parts::split_parts;
 use crate::{Entry, Kind};
-use std::alloc::Global;
+use std::alloc::{AllocError, Global};
 use thiserror::Error;
 
 /// What a line says.
@@ -31,6 +32,14 @@ pub enum LineFault {
     /// A growth for the name was refused.
     #[error("out of memory")]
     OutOfMemory,
+}
+
+impl From<AllocError> for LineFault {
+    ghost from_gives = { λ _ fault. fault ≡ OutOfMemory };
+
+    fn from(_error: AllocError) -> LineFault {
+        LineFault::OutOfMemory
+    }
 }
 
 /// Reads one line of a list, which is handed in without its LF; one CR at its end is left out.
@@ -55,10 +64,8 @@ pub fn parse_line(alloc: Global, line: &[u8], kind: Kind) -> Result<Line, LineFa
     if !is_name(body, is_escaped, 2 * tag.bytes().len()) {
         return Err(LineFault::Malformed);
     }
-    match build_name(alloc, body, is_escaped) {
-        Ok(name) => Ok(Line::Entry(Entry::from_parts(name, alg, tag))),
-        Err(_) => Err(LineFault::OutOfMemory),
-    }
+    let name = build_name(alloc, body, is_escaped)?;
+    Ok(Line::Entry(Entry::from_parts(name, alg, tag)))
 }
 
 fn is_line(line: &[u8]) -> bool
