@@ -26,5 +26,3 @@ mod mode;
 mod node;
 mod output;
 mod stack;
-#[cfg(test)]
-mod tests;

@@ -21,8 +21,4 @@ mod blake2s;
 mod chain;
 mod fault;
 mod hasher;
-#[cfg(test)]
-mod slow;
 mod stream;
-#[cfg(test)]
-mod tests;

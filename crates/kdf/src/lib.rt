@@ -21,5 +21,3 @@ pub use extract::Extract;
 mod derive;
 mod expansion;
 mod extract;
-#[cfg(test)]
-mod tests;

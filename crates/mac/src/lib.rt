@@ -23,5 +23,3 @@ mod block_hash;
 mod hmac;
 mod key;
 mod sha2_stream;
-#[cfg(test)]
-mod tests;

@@ -31,6 +31,4 @@ mod feed;
 mod fixed_sink;
 mod pumping;
 mod sink;
-#[cfg(test)]
-mod tests;
 mod vec_sink;

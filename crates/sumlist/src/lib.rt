@@ -34,8 +34,6 @@ mod memory;
 mod parts;
 mod report;
 mod summary;
-#[cfg(test)]
-mod tests;
 mod tree;
 mod verdict;
 mod writing;

@@ -1,0 +1,385 @@
+use b3::{Blake3, EndOfOutput, Output, output_laws, tree_laws};
+use std::alloc::{AllocError, Global};
+use std::fmt::Write;
+use std::test::Fail;
+use words::{Absorb, compress_3, words32};
+
+const KEY: &[u8; 32] = b"whats the Elvish word for friend";
+
+const CONTEXT: &[u8] = b"BLAKE3 2019-12-27 16:29:52 test vectors context";
+
+const IV: [u32; 8] = [
+    0x6a09_e667,
+    0xbb67_ae85,
+    0x3c6e_f372,
+    0xa54f_f53a,
+    0x510e_527f,
+    0x9b05_688c,
+    0x1f83_d9ab,
+    0x5be0_cd19,
+];
+
+// The input of the official BLAKE3 test vectors: the bytes 0, 1, .., 250 over and over.
+fn counting(alloc: Global, length: usize) -> Result<Vec<u8>, AllocError> {
+    let mut bytes = Vec::new(alloc);
+    for i in 0..length {
+        bytes.push((i % 251) as u8)?;
+    }
+    Ok(bytes)
+}
+
+fn digits(alloc: Global, bytes: &[u8]) -> Result<String, AllocError> {
+    let mut text = String::new(alloc);
+    for byte in bytes {
+        write!(text, "{byte:02x}")?;
+    }
+    Ok(text)
+}
+
+// Feeds anything that takes its input piece by piece, as long as it takes the pieces.
+fn feed<A: Absorb>(hasher: &mut A, bytes: &[u8], piece: usize) -> bool {
+    for part in bytes.chunks(piece.max(1)) {
+        if hasher.update(part).is_err() {
+            return false;
+        }
+    }
+    true
+}
+
+fn read_at(hasher: &Blake3, position: u64, out: &mut [u8]) -> bool {
+    let mut output = hasher.output();
+    output.seek(position);
+    output.fill(out).is_ok()
+}
+
+// The definition over the whole input, by recursion from the top, as slow as it is.
+
+#[derive(Drop)]
+struct Root {
+    h: [u32; 8],
+    m: [u32; 16],
+    t: u64,
+    b: u32,
+    d: u32,
+}
+
+fn slow_value(root: &Root) -> [u32; 8] {
+    let words = compress_3(&root.h, &root.m, root.t, root.b, root.d);
+    let mut value = [0; 8];
+    value.copy_from_slice(&words[..8]);
+    value
+}
+
+fn slow_chunk(key: &[u32; 8], flags: u32, number: u64, bytes: &[u8]) -> Root {
+    let mut root = Root {
+        h: *key,
+        m: [0; 16],
+        t: number,
+        b: 0,
+        d: flags | 1,
+    };
+    let mut rest = bytes;
+    while let Some((block, after)) = rest.split_first_chunk::<64>()
+        && !after.is_empty()
+    {
+        root.m = words32(block);
+        root.b = 64;
+        root.h = slow_value(&root);
+        root.d = flags;
+        rest = after;
+    }
+    let mut last = [0; 64];
+    let used = rest.len().min(64);
+    last[0..used].copy_from_slice(&rest[..used]);
+    root.m = words32(&last);
+    root.b = used as u32;
+    root.d |= 2;
+    root
+}
+
+fn slow_tree(key: &[u32; 8], flags: u32, first: u64, bytes: &[u8]) -> Root {
+    if bytes.len() <= 1024 {
+        return slow_chunk(key, flags, first, bytes);
+    }
+    let mut left = 1024;
+    while left < bytes.len() - left {
+        left *= 2;
+    }
+    let second = first.wrapping_add((left / 1024) as u64);
+    let front = slow_value(&slow_tree(key, flags, first, &bytes[..left]));
+    let back = slow_value(&slow_tree(key, flags, second, &bytes[left..]));
+    let mut m = [0; 16];
+    m[0..8].copy_from_slice(&front);
+    m[8..16].copy_from_slice(&back);
+    Root {
+        h: *key,
+        m,
+        t: 0,
+        b: 64,
+        d: flags | 4,
+    }
+}
+
+fn slow_byte(root: &Root, position: u64) -> u8 {
+    let words = compress_3(&root.h, &root.m, position / 64, root.b, root.d | 8);
+    let place = (position % 64) as usize;
+    words[place / 4].to_le_bytes()[place % 4]
+}
+
+fn slow_bytes(root: &Root, out: &mut [u8]) {
+    for i in 0..out.len() {
+        out[i] = slow_byte(root, i as u64);
+    }
+}
+
+fn slow_key(bytes: &[u8; 32]) -> [u32; 8] {
+    let mut block = [0; 64];
+    block[0..32].copy_from_slice(bytes);
+    let words = words32(&block);
+    let mut key = [0; 8];
+    key.copy_from_slice(&words[..8]);
+    key
+}
+
+#[test]
+fn the_official_vectors_come_out(rt: HostRuntime) -> Result<(), Fail> {
+    // The official BLAKE3 test vectors; that of "abc" is what b3sum prints.
+    let nothing = Blake3::new();
+    let mut abc = Blake3::new();
+    assert!(rt; feed(&mut abc, b"abc", 3));
+    let mut one = Blake3::new();
+    assert!(rt; feed(&mut one, &[0], 1));
+    let mut chunk = Blake3::new();
+    assert!(rt; feed(&mut chunk, counting(rt.alloc(), 1024)?.as_slice(), 1024));
+    let mut two_chunks = Blake3::new();
+    assert!(rt;
+        feed(
+            &mut two_chunks,
+            counting(rt.alloc(), 1025)?.as_slice(),
+            1025
+        )
+    );
+    let keyed = Blake3::keyed(KEY);
+    let derived = Blake3::derive(CONTEXT);
+    let cases = [
+        (
+            &nothing,
+            0,
+            "af1349b9f5f9a1a6a0404dea36dcc9499bcb25c9adc112b7cc9a93cae41f3262",
+        ),
+        (
+            &nothing,
+            32,
+            "e00f03e7b69af26b7faaf09fcd333050338ddfe085b8cc869ca98b206c08243a",
+        ),
+        (
+            &nothing,
+            48,
+            "338ddfe085b8cc869ca98b206c08243a26f5487789e8f660afe6c99ef9e0c52b",
+        ),
+        (
+            &nothing,
+            64,
+            "26f5487789e8f660afe6c99ef9e0c52b92e7393024a80459cf91f476f9ffdbda",
+        ),
+        (
+            &abc,
+            0,
+            "6437b3ac38465133ffb63b75273a8db548c558465d79db03fd359c6cd5bd9d85",
+        ),
+        (
+            &one,
+            0,
+            "2d3adedff11b61f14c886e35afa036736dcd87a74d27b5c1510225d0f592e213",
+        ),
+        (
+            &chunk,
+            0,
+            "42214739f095a406f3fc83deb889744ac00df831c10daa55189b5d121c855af7",
+        ),
+        (
+            &two_chunks,
+            0,
+            "d00278ae47eb27b34faecf67b4fe263f82d5412916c1ffd97c8cb7fb814b8444",
+        ),
+        (
+            &keyed,
+            0,
+            "92b2b75604ed3c761f9d6f62392c8a9227ad0ea3f09573e783f1498a4ed60d26",
+        ),
+        (
+            &derived,
+            0,
+            "2cc39783c223154fea8dfb7c1b1660f2ac2dcbd1c1de8277b0b0dd39b7e50d7d",
+        ),
+    ];
+    for (hasher, position, expected) in cases {
+        let mut out = [0; 32];
+        assert!(rt; read_at(hasher, position, &mut out));
+        assert_eq!(rt; digits(rt.alloc(), &out)?.as_str(), expected);
+    }
+    Ok(())
+}
+
+#[test]
+fn the_slow_definition_agrees(rt: HostRuntime) -> Result<(), Fail> {
+    // One chunk and each number of chunks up to 17, which is above a power of two, a byte short of
+    // whole, whole, and a byte over, in each mode.
+    let context = slow_tree(&IV, 32, 0, CONTEXT);
+    let mut derived = [0; 32];
+    slow_bytes(&context, &mut derived);
+    for chunks in 1..=17usize {
+        for length in chunks * 1024 - 1..=chunks * 1024 + 1 {
+            let input = counting(rt.alloc(), length)?;
+            let cases = [
+                (Blake3::new(), IV, 0),
+                (Blake3::keyed(KEY), slow_key(KEY), 16),
+                (Blake3::derive(CONTEXT), slow_key(&derived), 64),
+            ];
+            for (hasher, key, flags) in cases {
+                let mut hasher = hasher;
+                assert!(rt; feed(&mut hasher, input.as_slice(), 1000));
+                let mut fast = [0; 70];
+                assert!(rt; read_at(&hasher, 0, &mut fast));
+                let mut slow = [0; 70];
+                slow_bytes(&slow_tree(&key, flags, 0, input.as_slice()), &mut slow);
+                assert_eq!(rt; fast, slow, "{length} bytes, flag {flags}");
+            }
+        }
+    }
+    Ok(())
+}
+
+#[test]
+fn as_many_values_are_held_as_the_closed_chunks_have_one_bits(rt: HostRuntime) -> Result<(), Fail> {
+    let table = [
+        (0, 0),
+        (1024, 0),
+        (1025, 1),
+        (2048, 1),
+        (2049, 1),
+        (3072, 1),
+        (3073, 2),
+        (4096, 2),
+        (4097, 1),
+        (8192, 3),
+        (8193, 1),
+        (102_400, 4),
+    ];
+    for (length, held) in table {
+        let input = counting(rt.alloc(), length)?;
+        let mut hasher = Blake3::new();
+        assert!(rt; feed(&mut hasher, input.as_slice(), 4096));
+        assert_eq!(rt; hasher.held(), held, "{length} bytes");
+        assert!(rt; hasher.held() <= 54);
+    }
+    Ok(())
+}
+
+#[test]
+fn how_the_input_is_cut_makes_no_difference(rt: HostRuntime) -> Result<(), Fail> {
+    // Pieces of one byte, around a block and a chunk, and the whole.
+    for length in [1025, 5000] {
+        let input = counting(rt.alloc(), length)?;
+        let mut whole = Blake3::new();
+        assert!(rt; feed(&mut whole, input.as_slice(), length));
+        let mut expected = [0; 32];
+        assert!(rt; read_at(&whole, 0, &mut expected));
+        for piece in [1, 2, 63, 64, 65, 1023, 1024, 1025, 2048] {
+            let mut hasher = Blake3::new();
+            assert!(rt; feed(&mut hasher, input.as_slice(), piece));
+            assert!(rt; hasher.update(b"").is_ok());
+            let mut out = [0; 32];
+            assert!(rt; read_at(&hasher, 0, &mut out));
+            assert_eq!(rt; out, expected, "{length} bytes in pieces of {piece}");
+        }
+    }
+    Ok(())
+}
+
+#[test]
+fn one_byte_and_a_chunk_are_two_chunks(rt: HostRuntime) -> Result<(), Fail> {
+    let input = counting(rt.alloc(), 1025)?;
+    let input = input.as_slice();
+    assert_eq!(rt; input.len(), 1025);
+    let mut hasher = Blake3::new();
+    assert!(rt; hasher.update(&input[..1]).is_ok());
+    assert!(rt; hasher.update(&input[1..]).is_ok());
+    let mut out = [0; 4];
+    assert!(rt; read_at(&hasher, 0, &mut out));
+    assert_eq!(rt; out, [0xd0, 0x02, 0x78, 0xae]);
+    Ok(())
+}
+
+#[test]
+fn every_slice_is_a_cut_of_one_output(rt: HostRuntime) -> Result<(), Fail> {
+    // Two blocks and a little more on either side.
+    let hasher = Blake3::new();
+    let mut whole = [0; 260];
+    assert!(rt; read_at(&hasher, 0, &mut whole));
+    for position in 0..=130usize {
+        for length in 0..=130usize {
+            let mut out = [0; 130];
+            assert!(rt; read_at(&hasher, position as u64, &mut out[..length]));
+            assert_eq!(rt; out[..length], whole[position..position + length]);
+        }
+    }
+    Ok(())
+}
+
+#[test]
+fn reading_goes_on_where_it_ended(rt: HostRuntime) {
+    let mut whole = [0; 260];
+    assert!(rt; read_at(&Blake3::new(), 0, &mut whole));
+    for size in 1..=130usize {
+        let mut output = Blake3::new().output();
+        for piece in whole.chunks(size) {
+            let mut out = [0; 130];
+            let part = &mut out[..piece.len().min(130)];
+            assert_eq!(rt; output.fill(part), Ok(()));
+            assert!(rt; &part[..] == piece, "pieces of {size} bytes");
+        }
+        assert_eq!(rt; output.position(), 260);
+    }
+}
+
+#[test]
+fn the_output_ends_at_its_last_position(rt: HostRuntime) {
+    let mut output: Output = Blake3::new().output();
+    output.seek(u64::MAX - 1);
+    let mut out = [0; 1];
+    assert_eq!(rt; output.fill(&mut out), Ok(()));
+    assert_eq!(rt; output.position(), u64::MAX);
+    let mut kept = [7; 1];
+    assert_eq!(rt; output.fill(&mut kept), Err(EndOfOutput));
+    assert_eq!(rt; kept, [7]);
+    assert_eq!(rt; output.fill(&mut []), Ok(()));
+    assert_eq!(rt; output.position(), u64::MAX);
+}
+
+#[test]
+fn room_and_count_follow_the_input(rt: HostRuntime) -> Result<(), Fail> {
+    let mut hasher = Blake3::new();
+    assert_eq!(rt; hasher.room(), 18_446_744_073_709_551_615);
+    assert!(rt; feed(&mut hasher, counting(rt.alloc(), 3000)?.as_slice(), 700));
+    assert_eq!(rt; hasher.count(), 3000);
+    assert_eq!(rt; hasher.room(), 18_446_744_073_709_548_615);
+    Ok(())
+}
+
+#[test]
+fn a_hasher_goes_on_after_its_output(rt: HostRuntime) {
+    let mut hasher = Blake3::new();
+    assert!(rt; hasher.update(b"ab").is_ok());
+    let _ = hasher.output();
+    assert!(rt; hasher.update(b"c").is_ok());
+    let mut out = [0; 4];
+    assert!(rt; read_at(&hasher, 0, &mut out));
+    assert_eq!(rt; out, [0x64, 0x37, 0xb3, 0xac]);
+}
+
+#[test]
+fn the_laws_can_be_cited() {
+    tree_laws();
+    output_laws();
+}

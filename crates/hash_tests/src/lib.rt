@@ -1,0 +1,15 @@
+//! Tests of the hashes, tags and keys, by values from outside.
+#![tactic(auto)]
+
+#[cfg(test)]
+mod b3_tests;
+#[cfg(test)]
+mod blake2_tests;
+#[cfg(test)]
+mod kdf_tests;
+#[cfg(test)]
+mod mac_tests;
+#[cfg(test)]
+mod slow;
+#[cfg(test)]
+mod words_tests;

@@ -1,0 +1,358 @@
+ghost use Rattle.std.specs.Prelude.{None};
+
+use super::{BLAKE2B_8_EMPTY, BLAKE2S_ABC, SHA256_ABC, entry_of, line_of};
+use source::{Alg, Bytes, FixedSink, VecSink};
+use std::alloc::Global;
+use std::collections::BTreeMap;
+use std::test::Fail;
+use sumlist::{CheckFault, Kind, MemoryTree, OpenFault, Summary, Tree, check};
+
+// SHA-256 of "" (`printf '' | sha256sum`).
+const SHA256_EMPTY: &str = "e3b0c44298fc1c149afbf4c8996fb92427ae41e4649b934ca495991b7852b855";
+
+const SHA256_ABC_UPPER: &str = "BA7816BF8F01CFEA414140DE5DAE2223B00361A396177A9CB410FF61F20015AD";
+
+// BLAKE3 of "abc" (`printf abc | b3sum`), and of the bytes 0, 1, .., 250 repeated to 1,025 bytes (its
+// official test vectors).
+const BLAKE3_ABC: &str = "6437b3ac38465133ffb63b75273a8db548c558465d79db03fd359c6cd5bd9d85";
+
+const BLAKE3_1025: &str = "d00278ae47eb27b34faecf67b4fe263f82d5412916c1ffd97c8cb7fb814b8444";
+
+type Files = BTreeMap<String, Vec<u8>>;
+
+fn add(alloc: Global, files: &mut Files, name: &str, content: &[u8]) -> Result<(), Fail> {
+    let name = String::from_str(alloc, name)?;
+    let _ = files
+        .insert(name, Vec::from_slice(alloc, content)?)
+        .map_err(|_| "memory")?;
+    Ok(())
+}
+
+fn files(alloc: Global) -> Result<Files, Fail> {
+    let mut files = BTreeMap::new(alloc);
+    add(alloc, &mut files, "abc.txt", b"abc")?;
+    add(alloc, &mut files, "a\\b", b"abc")?;
+    add(alloc, &mut files, "a\\b\n", b"abc")?;
+    add(alloc, &mut files, "empty", b"")?;
+    let mut long = Vec::new(alloc);
+    for i in 0..1025usize {
+        long.push((i % 251) as u8)?;
+    }
+    add(alloc, &mut files, "1025", &long)?;
+    Ok(files)
+}
+
+// The report on a list over these files, and the summary's numbers in the order of its fields.
+fn report_of(alloc: Global, kind: Kind, list: &str) -> Result<(String, [u64; 7]), Fail> {
+    let files = files(alloc)?;
+    let mut tree = MemoryTree::new(&files, 100);
+    let mut feed = Bytes::new(list.as_bytes(), 1000);
+    let mut out = VecSink::new(alloc);
+    let summary = check(alloc, &mut feed, kind, &mut tree, &mut out).map_err(|_| "refused")?;
+    Ok((
+        String::from_utf8_lossy(alloc, out.written())?,
+        numbers(summary),
+    ))
+}
+
+fn numbers(s: Summary) -> [u64; 7] {
+    [
+        s.ok,
+        s.failed,
+        s.missing,
+        s.unreadable,
+        s.too_long,
+        s.malformed,
+        s.skipped,
+    ]
+}
+
+#[test]
+fn a_line_in_any_of_its_forms_is_ok(rt: HostRuntime) -> Result<(), Fail> {
+    let alloc = rt.alloc();
+    let cases = [
+        (SHA256_ABC, "  abc.txt\n"),
+        (SHA256_ABC, " *abc.txt\n"),
+        (SHA256_ABC_UPPER, "  abc.txt\n"),
+        (SHA256_ABC, "  abc.txt\r\n"),
+        (SHA256_ABC, "  abc.txt"),
+        (SHA256_ABC, "  abc.txt\r"),
+    ];
+    for (digits, end) in cases {
+        let list = format!(in alloc; "{digits}{end}")?;
+        let (report, summary) = report_of(alloc, Kind::Sha256, list.as_str())?;
+        assert_eq!(rt; report.as_str(), "abc.txt: OK\n", "{end:?}");
+        assert_eq!(rt; summary, [1, 0, 0, 0, 0, 0, 0]);
+    }
+    Ok(())
+}
+
+#[test]
+fn each_line_has_its_verdict(rt: HostRuntime) -> Result<(), Fail> {
+    let alloc = rt.alloc();
+    let good = SHA256_ABC;
+    let other = "ba7816bf8f01cfea414140de5dae2223b00361a396177a9cb410ff61f20015ae";
+    let list = format!(in alloc;
+        "{good}  abc.txt\n{other}  abc.txt\n{good}  none.txt\n{}  abc.txt\n# end\n",
+        &good[1..]
+    )?;
+    let (report, summary) = report_of(alloc, Kind::Sha256, list.as_str())?;
+    assert_eq!(rt;
+        report.as_str(),
+        "abc.txt: OK\nabc.txt: FAILED\nnone.txt: MISSING\nline 4: MALFORMED\n"
+    );
+    assert_eq!(rt; summary, [1, 1, 1, 0, 0, 1, 1]);
+    Ok(())
+}
+
+#[test]
+fn names_are_reported_in_their_escaped_form(rt: HostRuntime) -> Result<(), Fail> {
+    let alloc = rt.alloc();
+    let digits = SHA256_ABC;
+    let cases = [
+        ("\\", "  a\\\\b\\n", "a\\\\b\\n: OK\n"),
+        ("\\", "  a\\\\b", "a\\\\b: OK\n"),
+        ("", "  a\\b", "a\\\\b: OK\n"),
+        ("\\", "  a\\x", "line 1: MALFORMED\n"),
+        ("", "  a\\n", "a\\\\n: MISSING\n"),
+    ];
+    for (lead, end, expected) in cases {
+        let list = format!(in alloc; "{lead}{digits}{end}\n")?;
+        let (report, _) = report_of(alloc, Kind::Sha256, list.as_str())?;
+        assert_eq!(rt; report.as_str(), expected, "{lead}{end}");
+    }
+    let entry = entry_of(alloc, Alg::Sha256, digits, "a\\b\n")?;
+    let (report, _) = report_of(alloc, Kind::Sha256, line_of(alloc, &entry)?.as_str())?;
+    assert_eq!(rt;
+        report.as_str(),
+        "a\\\\b\\n: OK\n",
+        "the line as it is written"
+    );
+    Ok(())
+}
+
+#[test]
+fn lists_of_each_kind(rt: HostRuntime) -> Result<(), Fail> {
+    let alloc = rt.alloc();
+    let cases = [
+        (Kind::Sha256, SHA256_EMPTY, "  empty\n", "empty: OK\n"),
+        (Kind::Blake2s, BLAKE2S_ABC, "  abc.txt\n", "abc.txt: OK\n"),
+        (Kind::Blake2b, BLAKE2B_8_EMPTY, "  empty\n", "empty: OK\n"),
+        // A shorter digest is another algorithm's, and no beginning of a longer one.
+        (Kind::Blake2s, "50", "  abc.txt\n", "abc.txt: FAILED\n"),
+        (Kind::Blake2s, "", "  abc.txt\n", "line 1: MALFORMED\n"),
+        (Kind::Blake3, BLAKE3_ABC, "  abc.txt\n", "abc.txt: OK\n"),
+        (Kind::Blake3, BLAKE3_1025, "  1025\n", "1025: OK\n"),
+        (Kind::Blake3, "6437", "  abc.txt\n", "line 1: MALFORMED\n"),
+        (
+            Kind::Sha512,
+            SHA256_ABC,
+            "  abc.txt\n",
+            "line 1: MALFORMED\n",
+        ),
+    ];
+    for (kind, digits, end, expected) in cases {
+        let list = format!(in alloc; "{digits}{end}{digits}{end}")?;
+        let (report, _) = report_of(alloc, kind, list.as_str())?;
+        assert!(rt; report.as_str().starts_with(expected), "{kind:?} {digits}");
+    }
+    Ok(())
+}
+
+#[test]
+fn lists_that_say_nothing_have_an_empty_report(rt: HostRuntime) -> Result<(), Fail> {
+    let alloc = rt.alloc();
+    let cases = [
+        ("", 0),
+        ("\n", 1),
+        ("\n\n", 2),
+        ("\r\n\r\n", 2),
+        ("# a\n\n#", 3),
+    ];
+    for (list, skipped) in cases {
+        let (report, summary) = report_of(alloc, Kind::Sha256, list)?;
+        assert_eq!(rt; report.as_str(), "", "{list:?}");
+        assert_eq!(rt; summary, [0, 0, 0, 0, 0, 0, skipped], "{list:?}");
+    }
+    Ok(())
+}
+
+#[test]
+fn malformed_lines_are_told_by_number(rt: HostRuntime) -> Result<(), Fail> {
+    let alloc = rt.alloc();
+    let (report, summary) = report_of(alloc, Kind::Sha256, "x\n\n#\nx\n\n\n\n\n\nx\nx")?;
+    let expected = "line 1: MALFORMED\nline 4: MALFORMED\nline 10: MALFORMED\nline 11: MALFORMED\n";
+    assert_eq!(rt; report.as_str(), expected);
+    assert_eq!(rt; summary, [0, 0, 0, 0, 0, 4, 7]);
+    let lines = "\n".repeat(alloc, 12_344)?;
+    let list = format!(in alloc; "{lines}x\n")?;
+    let (report, _) = report_of(alloc, Kind::Sha256, list.as_str())?;
+    assert_eq!(rt; report.as_str(), "line 12345: MALFORMED\n");
+    Ok(())
+}
+
+#[test]
+fn the_line_after_one_that_is_too_long_is_read(rt: HostRuntime) -> Result<(), Fail> {
+    let alloc = rt.alloc();
+    let digits = SHA256_ABC;
+    let name = "n".repeat(alloc, 65_470)?;
+    let list = format!(in alloc; "{digits}  {name}\n{digits}  {name}n\n{digits}  abc.txt\n")?;
+    let (report, summary) = report_of(alloc, Kind::Sha256, list.as_str())?;
+    let expected = format!(in alloc; "{name}: MISSING\nline 2: MALFORMED\nabc.txt: OK\n")?;
+    assert_eq!(rt; report, expected);
+    assert_eq!(rt; summary, [1, 0, 1, 0, 0, 1, 0]);
+    Ok(())
+}
+
+#[test]
+fn a_file_whose_read_fails_is_unreadable_and_the_next_is_checked(
+    rt: HostRuntime,
+) -> Result<(), Fail> {
+    let alloc = rt.alloc();
+    let files = files(alloc)?;
+    let list = format!(in alloc;
+        "{BLAKE3_1025}  1025\n{BLAKE3_ABC}  abc.txt\n{BLAKE3_1025}  1025\n"
+    )?;
+    // The failing place is before, in and after the content; a read that would begin at its end fails.
+    let cases = [
+        (0, "1025: UNREADABLE", 2),
+        (1000, "1025: UNREADABLE", 2),
+        (1025, "1025: UNREADABLE", 2),
+        (1026, "1025: OK", 0),
+    ];
+    for (place, line, unreadable) in cases {
+        let places = [("1025", place)];
+        let mut tree = MemoryTree::failing(&files, 64, &places);
+        let mut feed = Bytes::new(list.as_bytes(), 7);
+        let mut out = VecSink::new(alloc);
+        let summary = check(alloc, &mut feed, Kind::Blake3, &mut tree, &mut out).map_err(
+            |_| "refused",
+        )?;
+        let expected = format!(in alloc; "{line}\nabc.txt: OK\n{line}\n")?;
+        assert_eq!(rt; out.written(), expected.as_bytes(), "{place}");
+        assert_eq!(rt;
+            numbers(summary),
+            [3 - unreadable, 0, 0, unreadable, 0, 0, 0]
+        );
+    }
+    Ok(())
+}
+
+#[test]
+fn the_report_does_not_depend_on_the_reads(rt: HostRuntime) -> Result<(), Fail> {
+    let alloc = rt.alloc();
+    let files = files(alloc)?;
+    let list = format!(in alloc;
+        "{SHA256_ABC}  abc.txt\r\n\n{SHA256_EMPTY} *empty\nx\n\\{SHA256_ABC}  a\\\\b"
+    )?;
+    for most in [1, 2, 63, 64, 65, 4096, 5000] {
+        let mut tree = MemoryTree::new(&files, most);
+        let mut feed = Bytes::new(list.as_bytes(), most);
+        let mut out = VecSink::new(alloc);
+        let summary = check(alloc, &mut feed, Kind::Sha256, &mut tree, &mut out).map_err(
+            |_| "refused",
+        )?;
+        assert_eq!(rt;
+            out.written(),
+            b"abc.txt: OK\nempty: OK\nline 4: MALFORMED\na\\\\b: OK\n".as_slice(),
+            "{most}"
+        );
+        assert_eq!(rt; numbers(summary), [3, 0, 0, 0, 0, 1, 1]);
+    }
+    Ok(())
+}
+
+#[test]
+fn a_full_sink_holds_a_beginning_of_the_report(rt: HostRuntime) -> Result<(), Fail> {
+    let alloc = rt.alloc();
+    let files = files(alloc)?;
+    let list = format!(in alloc; "{SHA256_ABC}  a\\b\nx\n{SHA256_EMPTY}  abc.txt\n")?;
+    let report = b"a\\\\b: OK\nline 2: MALFORMED\nabc.txt: FAILED\n";
+    let mut storage = [0; 64];
+    for room in 0..report.len() {
+        let mut tree = MemoryTree::new(&files, 100);
+        let mut feed = Bytes::new(list.as_bytes(), 100);
+        let mut out = FixedSink::new(&mut storage[..room]);
+        let answer = check(alloc, &mut feed, Kind::Sha256, &mut tree, &mut out);
+        assert_eq!(rt; answer, Err(CheckFault::Write), "{room}");
+        assert_eq!(rt; out.written(), &report[..room]);
+    }
+    Ok(())
+}
+
+#[test]
+fn a_list_whose_read_fails_has_no_report(rt: HostRuntime) -> Result<(), Fail> {
+    let alloc = rt.alloc();
+    let files = files(alloc)?;
+    let list = format!(in alloc; "{SHA256_ABC}  abc.txt\n{SHA256_ABC}  abc.txt\n")?;
+    for place in [0, 10, 74, list.len()] {
+        let mut tree = MemoryTree::new(&files, 100);
+        let mut feed = Bytes::failing(list.as_bytes(), 20, place);
+        let mut out = VecSink::new(alloc);
+        let answer = check(alloc, &mut feed, Kind::Sha256, &mut tree, &mut out);
+        assert_eq!(rt; answer, Err(CheckFault::ListRead), "{place}");
+        assert_eq!(rt; out.written().len(), 0);
+    }
+    Ok(())
+}
+
+// A tree that answers every open alike.
+#[derive(Drop)]
+struct Refusing {
+    fault: OpenFault,
+    failures: u64,
+}
+
+impl Tree for Refusing {
+    type F = Bytes<'static>;
+
+    ghost failure_count = { λ t. t.failures };
+
+    ghost files = { λ _. None };
+
+    fn open(&mut self, _name: &str) -> Result<Bytes<'static>, OpenFault> {
+        if self.fault == OpenFault::Failed {
+            self.failures = self.failures.saturating_add(1);
+        }
+        Err(self.fault)
+    }
+
+    fn close(&mut self, feed: Bytes<'static>) {
+        self.failures = self.failures.saturating_add(source::Feed::failures(&feed));
+    }
+}
+
+#[test]
+fn opens_that_fail_are_told_and_counted(rt: HostRuntime) -> Result<(), Fail> {
+    let alloc = rt.alloc();
+    let list = format!(in alloc; "x\n{SHA256_ABC}  abc.txt\n{SHA256_ABC}  abc.txt\n")?;
+    let cases = [
+        (
+            OpenFault::Failed,
+            "line 1: MALFORMED\nabc.txt: UNREADABLE\nabc.txt: UNREADABLE\n",
+            2,
+        ),
+        (
+            OpenFault::Missing,
+            "line 1: MALFORMED\nabc.txt: MISSING\nabc.txt: MISSING\n",
+            0,
+        ),
+        (OpenFault::OutOfMemory, "line 1: MALFORMED\n", 0),
+    ];
+    for (fault, report, failures) in cases {
+        let mut tree = Refusing { fault, failures: 0 };
+        let mut feed = Bytes::new(list.as_bytes(), 100);
+        let mut out = VecSink::new(alloc);
+        let answer = check(alloc, &mut feed, Kind::Sha256, &mut tree, &mut out);
+        assert_eq!(rt;
+            answer.err(),
+            match fault {
+                OpenFault::OutOfMemory => Some(CheckFault::OutOfMemory),
+                _ => None,
+            }
+        );
+        assert_eq!(rt; out.written(), report.as_bytes());
+        assert_eq!(rt; tree.failures, failures);
+    }
+    Ok(())
+}
