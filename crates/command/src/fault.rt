@@ -1,0 +1,142 @@
+// What can go wrong in a run: the texts, and the statuses.
+
+ghost use Rattle.std.specs.Prelude.{◌≡◌};
+ghost use Rattle.command.specs.declared.fault.Fault.TheVariants.{CannotWrite, OutOfMemory};
+
+use source::{Sink, SourceFault, WriteFailed, write_all};
+use std::alloc::AllocError;
+use std::fmt;
+use std::fmt::{Display, Write};
+use sumlist::{OpenFault, WriteFault};
+
+/// Why a run ended, or passed a file over. A name is a file's or an option's.
+#[derive(Clone, Copy, Debug, PartialEq, Eq)]
+pub enum Fault<'a> {
+    /// The option says nothing to this algorithm.
+    NotForAlgorithm(&'static str),
+    /// The algorithm needs a context.
+    ContextNeeded,
+    /// The number is outside the option's range.
+    OutOfRange(&'static str),
+    /// The option's text is not made of pairs of hexadecimal digits.
+    NotHexadecimal(&'static str),
+    /// Both `--key` and `--key-file` were given, or none.
+    OneKey,
+    /// The key file has more bytes than are read of one.
+    KeyFileTooLong,
+    /// The key has a length that the algorithm does not take.
+    KeyLength,
+    /// The file could not be opened, or not be read to its end.
+    CannotRead(&'a str),
+    /// The file is longer than the algorithm takes.
+    TooLong(&'a str),
+    /// The name cannot stand in a list.
+    BadName(&'a str),
+    /// Standard output took not all.
+    CannotWrite,
+    /// Memory ran out.
+    OutOfMemory,
+}
+
+impl<'a> Fault<'a> {
+    /// The fault of a file that did not open.
+    pub(crate) fn of_open(fault: OpenFault, name: &'a str) -> Fault<'a> {
+        match fault {
+            OpenFault::Missing | OpenFault::Failed => Fault::CannotRead(name),
+            OpenFault::OutOfMemory => Fault::OutOfMemory,
+        }
+    }
+
+    /// The fault of a file that was not read to its end.
+    pub(crate) fn of_source(fault: SourceFault, name: &'a str) -> Fault<'a> {
+        match fault {
+            SourceFault::Read => Fault::CannotRead(name),
+            SourceFault::TooLong => Fault::TooLong(name),
+        }
+    }
+
+    /// The status of a run that ends with it.
+    pub(crate) fn status(&self) -> u8 {
+        match self {
+            Fault::CannotRead(_) | Fault::TooLong(_) | Fault::BadName(_) => 1,
+            Fault::NotForAlgorithm(_)
+            | Fault::ContextNeeded
+            | Fault::OutOfRange(_)
+            | Fault::NotHexadecimal(_)
+            | Fault::OneKey
+            | Fault::KeyFileTooLong
+            | Fault::KeyLength => 2,
+            Fault::CannotWrite | Fault::OutOfMemory => 3,
+        }
+    }
+}
+
+impl<'a> Display for Fault<'a> {
+    fn fmt<W: Write>(&self, f: &mut fmt::Formatter<W>) -> fmt::Result {
+        match self {
+            Fault::NotForAlgorithm(option) => write!(f, "{option}: not for this algorithm"),
+            Fault::ContextNeeded => write!(f, "--context: needed"),
+            Fault::OutOfRange(option) => write!(f, "{option}: out of range"),
+            Fault::NotHexadecimal(option) => write!(f, "{option}: not hexadecimal"),
+            Fault::OneKey => write!(f, "give one of --key and --key-file"),
+            Fault::KeyFileTooLong => write!(f, "--key-file: too long"),
+            Fault::KeyLength => write!(f, "key: wrong length"),
+            Fault::CannotRead(name) => write!(f, "{name}: cannot read"),
+            Fault::TooLong(name) => write!(f, "{name}: too long"),
+            Fault::BadName(name) => write!(f, "{name}: bad name"),
+            Fault::CannotWrite => write!(f, "cannot write"),
+            Fault::OutOfMemory => write!(f, "out of memory"),
+        }
+    }
+}
+
+impl<'a> From<WriteFailed> for Fault<'a> {
+    ghost from_gives = { λ _ fault. fault ≡ CannotWrite };
+
+    fn from(_fault: WriteFailed) -> Fault<'a> {
+        Fault::CannotWrite
+    }
+}
+
+impl<'a> From<WriteFault> for Fault<'a> {
+    ghost from_gives = { λ _ fault. fault ≡ CannotWrite };
+
+    fn from(_fault: WriteFault) -> Fault<'a> {
+        Fault::CannotWrite
+    }
+}
+
+impl<'a> From<AllocError> for Fault<'a> {
+    ghost from_gives = { λ _ fault. fault ≡ OutOfMemory };
+
+    fn from(_error: AllocError) -> Fault<'a> {
+        Fault::OutOfMemory
+    }
+}
+
+// Text to a sink, which takes no memory.
+#[derive(Drop)]
+struct SinkText<'s, W: Sink>(&'s mut W);
+
+impl<'s, W: Sink> Write for SinkText<'s, W> {
+    fn write_str(&mut self, text: &str) -> fmt::Result {
+        match write_all(self.0, text.as_bytes()) {
+            Ok(()) => Ok(()),
+            Err(WriteFailed) => Err(fmt::Error),
+        }
+    }
+}
+
+/// Writes the value's text.
+pub fn write_text<W: Sink, D: Display>(out: &mut W, value: &D) -> Result<(), WriteFailed> {
+    match write!(SinkText(out), "{value}") {
+        Ok(()) => Ok(()),
+        Err(_) => Err(WriteFailed),
+    }
+}
+
+/// Tells a fault on standard error, which may drop it, and answers its status.
+pub fn tell<E: Sink>(err: &mut E, fault: Fault<'_>) -> u8 {
+    let _ = write!(SinkText(err), "sums: {fault}\n");
+    fault.status()
+}
