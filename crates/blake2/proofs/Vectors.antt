@@ -1,6 +1,6 @@
 -- Digests by the definition, computed: a wrong table, count or step does not check. They are from RFC 7693,
 -- appendices A and B, and else from Python's hashlib.
-use Rattle.std.proofs.Common.{◌≡◌, ℕ, zero, suc, List, [], ◌∷◌, ◌++◌, refl, codes, replicate}
+use Rattle.std.proofs.Common.{◌≡◌, ℕ, zero, suc, List, [], ◌∷◌, ◌++◌, refl, codes, replicate, slice_index}
 use Rattle.words.specs.Blake2.{blake2b, blake2s, compress, rounds}
 use Rattle.words.specs.Mix.{g, g_at, round}
 use Rattle.words.specs.Words.{words, word_bytes}
@@ -81,3 +81,12 @@ pub salted_blake2b_of_nothing : blake2 blake2b (record { digest_length = 32; key
     0x9c ∷ 0x36 ∷ 0x43 ∷ 0xbc ∷ 0x26 ∷ 0x7f ∷ 0x66 ∷ 0xaa ∷ 0x58 ∷ 0x22 ∷ 0xd1 ∷ 0x6d ∷ 0xe6 ∷ 0x97 ∷ 0x08 ∷ 0xe3 ∷ []
 unfolding g g_at round rounds compress words word_bytes block_len block_count start key_block chain final_value blake2
 salted_blake2b_of_nothing = refl
+
+-- the first word of the start without a key: the IV's, with the parameter block's 0x01010000 and the length
+pub start_2b : slice_index (start blake2b (unsalted blake2b 64 [])) 0 ≡ 0x6a09e667f2bdc948
+unfolding words word_bytes start
+start_2b = refl
+
+pub start_2s : slice_index (start blake2s (unsalted blake2s 32 [])) 0 ≡ 0x6b08e647
+unfolding words word_bytes start
+start_2s = refl

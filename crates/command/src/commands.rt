@@ -1,8 +1,8 @@
 // The program's command, with a subcommand for each thing that it does.
 
-ghost use Rattle.std.specs.Prelude.{◌≡◌, IfOk};
+ghost use Rattle.std.specs.Prelude.{◌≡◌, [], ◌∷◌, codes, IfOk};
 ghost use Rattle.clap.specs.Words.{app_of, new_app};
-ghost use Rattle.command.specs.CommandLine.{check_app, hash_app, kdf_app, mac_app, sums_app};
+ghost use Rattle.command.specs.CommandLine.{check_app, hash_app, kdf_app, mac_app, sums_app, text_rule, with_rules};
 
 use crate::arguments::{
     algorithm_option, file_argument, files_argument, length_option, number_option, required,
@@ -67,8 +67,24 @@ fn hash_command<'a>(alloc: Global, names: &'a [&'a str]) -> Result<Command<'a>, 
 fn mac_command<'a>(alloc: Global, macs: &'a [&'a str]) -> Result<Command<'a>, AllocError>
     ensures { IfOk result (λ c. app_of c ≡ mac_app macs.entry) }
 {
-    described(alloc, "mac", "Prints the tag of a file under a key")
-        .arg(algorithm_option(alloc, "MAC", macs, "The keyed function"))?
+    let command = described(alloc, "mac", "Prints the tag of a file under a key").arg(
+        algorithm_option(alloc, "MAC", macs, "The keyed function"),
+    )?;
+    with_key_options(alloc, command)?
+        .arg(length_option(
+            alloc,
+            "The tag's length in bytes: an HMAC's half or more [default: the whole], \
+             blake2b 1 to 64 [default: 64], blake2s 1 to 32 [default: 32], blake3 at least 1 [default: 32]",
+        ))?
+        .arg(file_argument(alloc, "FILE", "The file, - standard input [default: -]"))
+}
+
+// The two ways to give a key.
+fn with_key_options<'a>(alloc: Global, command: Command<'a>) -> Result<Command<'a>, AllocError>
+    ensures { IfOk result (λ c. app_of c ≡ with_rules (app_of command)
+        (text_rule (codes "key") ∷ text_rule (codes "key-file") ∷ [])) }
+{
+    command
         .arg(text_option(
             alloc,
             "key",
@@ -80,19 +96,13 @@ fn mac_command<'a>(alloc: Global, macs: &'a [&'a str]) -> Result<Command<'a>, Al
             "key-file",
             "F",
             "The file whose bytes are the key, at most 65536 of them",
-        ))?
-        .arg(length_option(
-            alloc,
-            "The tag's length in bytes: an HMAC's half or more [default: the whole], \
-             blake2b 1 to 64 [default: 64], blake2s 1 to 32 [default: 32], blake3 at least 1 [default: 32]",
-        ))?
-        .arg(file_argument(alloc, "FILE", "The file, - standard input [default: -]"))
+        ))
 }
 
 fn kdf_command<'a>(alloc: Global, names: &'a [&'a str]) -> Result<Command<'a>, AllocError>
     ensures { IfOk result (λ c. app_of c ≡ kdf_app names.entry) }
 {
-    described(
+    let command = described(
         alloc,
         "kdf",
         "Prints a derived key: HKDF's, or for blake3 its own derivation",
@@ -103,29 +113,40 @@ fn kdf_command<'a>(alloc: Global, names: &'a [&'a str]) -> Result<Command<'a>, A
         "ikm-file",
         "F",
         "The file whose bytes are the key material",
-    )))?
-    .arg(text_option(
-        alloc,
-        "salt",
-        "HEX",
-        "The salt in hexadecimal digits, not for blake3 [default: none]",
-    ))?
-    .arg(text_option(
-        alloc,
-        "info",
-        "HEX",
-        "The info in hexadecimal digits, not for blake3 [default: empty]",
-    ))?
-    .arg(text_option(
-        alloc,
-        "context",
-        "TEXT",
-        "The context, for blake3 alone, which needs it",
-    ))?
-    .arg(required(length_option(
+    )))?;
+    with_derivation_options(alloc, command)?.arg(required(length_option(
         alloc,
         "The key's length in bytes: 1 to 255 times the hash's output, for blake3 at least 1",
     )))
+}
+
+// What a derived key depends on beside the key material.
+fn with_derivation_options<'a>(
+    alloc: Global,
+    command: Command<'a>,
+) -> Result<Command<'a>, AllocError>
+    ensures { IfOk result (λ c. app_of c ≡ with_rules (app_of command)
+        (text_rule (codes "salt") ∷ text_rule (codes "info") ∷ text_rule (codes "context") ∷ [])) }
+{
+    command
+        .arg(text_option(
+            alloc,
+            "salt",
+            "HEX",
+            "The salt in hexadecimal digits, not for blake3 [default: none]",
+        ))?
+        .arg(text_option(
+            alloc,
+            "info",
+            "HEX",
+            "The info in hexadecimal digits, not for blake3 [default: empty]",
+        ))?
+        .arg(text_option(
+            alloc,
+            "context",
+            "TEXT",
+            "The context, for blake3 alone, which needs it",
+        ))
 }
 
 fn check_command<'a>(alloc: Global, names: &'a [&'a str]) -> Result<Command<'a>, AllocError>

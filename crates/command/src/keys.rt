@@ -11,6 +11,7 @@ use mac::{Blake2b512, Blake2s256, BlockHash, Sha256Stream, Sha512Stream};
 use source::{Sink, write_all};
 use std::alloc::Global;
 use sumlist::Tree;
+use words::Tag;
 
 // The longest output of HKDF: 255 times 64 bytes.
 const OUTPUT_LIMIT: usize = 16320;
@@ -22,13 +23,14 @@ pub(crate) fn print_key<'n, T: Tree, W: Sink>(
     tree: &mut T,
     out: &mut W,
 ) -> Result<u8, Fault<'n>> {
-    match request.algorithm {
-        Some("sha256") => hkdf::<Sha256Stream, T, W>(alloc, request, tree, out)?,
-        Some("sha512") => hkdf::<Sha512Stream, T, W>(alloc, request, tree, out)?,
-        Some("blake2b") => hkdf::<Blake2b512, T, W>(alloc, request, tree, out)?,
-        Some("blake2s") => hkdf::<Blake2s256, T, W>(alloc, request, tree, out)?,
-        _ => derive(request, tree, out)?,
-    }
+    let printed = match request.algorithm {
+        Some("sha256") => hkdf::<Sha256Stream, T, W>(alloc, request, tree, out),
+        Some("sha512") => hkdf::<Sha512Stream, T, W>(alloc, request, tree, out),
+        Some("blake2b") => hkdf::<Blake2b512, T, W>(alloc, request, tree, out),
+        Some("blake2s") => hkdf::<Blake2s256, T, W>(alloc, request, tree, out),
+        _ => derive(request, tree, out),
+    };
+    printed?;
     write_all(out, b"\n")?;
     Ok(0)
 }
@@ -49,17 +51,26 @@ fn hkdf<'n, H: BlockHash, T: Tree, W: Sink>(
     } else {
         None
     };
-    let Ok(mut extract) = Extract::<H>::new(salt) else {
-        return Err(Fault::OutOfRange("--salt"));
-    };
-    absorb_named(&mut extract, request.ikm_file.unwrap_or(""), tree)?;
-    let prk = extract.finish();
+    let prk = extracted::<H, T>(salt, request.ikm_file.unwrap_or(""), tree)?;
     let mut key = [0; OUTPUT_LIMIT];
     let (key, _) = key.split_at_mut(length);
     match expand::<H>(prk.bytes(), info.as_slice(), key) {
         Ok(()) => Ok(write_digits(key, out)?),
         Err(_) => Err(Fault::OutOfRange("--info")),
     }
+}
+
+// The pseudorandom key of a file's bytes.
+fn extracted<'n, H: BlockHash, T: Tree>(
+    salt: Option<&[u8]>,
+    name: &'n str,
+    tree: &mut T,
+) -> Result<Tag, Fault<'n>> {
+    let Ok(mut extract) = Extract::<H>::new(salt) else {
+        return Err(Fault::OutOfRange("--salt"));
+    };
+    absorb_named(&mut extract, name, tree)?;
+    Ok(extract.finish())
 }
 
 // The bytes of an option, none where it was not given.

@@ -28,23 +28,20 @@ pub(crate) fn print_tag<'n, L: Feed, T: Tree, W: Sink>(
         [name, ..] => *name,
         [] => "-",
     };
-    match request.algorithm {
+    let printed = match request.algorithm {
         Some("hmac-sha256") => hmac::<Sha256Stream, L, T, W>(
             alloc, request, name, input, tree, out,
-        )?,
+        ),
         Some("hmac-sha512") => hmac::<Sha512Stream, L, T, W>(
             alloc, request, name, input, tree, out,
-        )?,
-        Some("hmac-blake2b") => hmac::<Blake2b512, L, T, W>(
-            alloc, request, name, input, tree, out,
-        )?,
-        Some("hmac-blake2s") => hmac::<Blake2s256, L, T, W>(
-            alloc, request, name, input, tree, out,
-        )?,
-        Some("blake2b") => keyed_blake2b(alloc, request, name, input, tree, out)?,
-        Some("blake2s") => keyed_blake2s(alloc, request, name, input, tree, out)?,
-        _ => keyed_blake3(alloc, request, name, input, tree, out)?,
-    }
+        ),
+        Some("hmac-blake2b") => hmac::<Blake2b512, L, T, W>(alloc, request, name, input, tree, out),
+        Some("hmac-blake2s") => hmac::<Blake2s256, L, T, W>(alloc, request, name, input, tree, out),
+        Some("blake2b") => keyed_blake2b(alloc, request, name, input, tree, out),
+        Some("blake2s") => keyed_blake2s(alloc, request, name, input, tree, out),
+        _ => keyed_blake3(alloc, request, name, input, tree, out),
+    };
+    printed?;
     Ok(0)
 }
 

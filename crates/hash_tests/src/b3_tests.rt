@@ -2,7 +2,7 @@ use b3::{Blake3, EndOfOutput, Output, output_laws, tree_laws};
 use std::alloc::{AllocError, Global};
 use std::fmt::Write;
 use std::test::Fail;
-use words::{Absorb, compress_3, words32};
+use words::{Absorb, InputTooLong, compress_3, words32};
 
 const KEY: &[u8; 32] = b"whats the Elvish word for friend";
 
@@ -141,84 +141,105 @@ fn slow_key(bytes: &[u8; 32]) -> [u32; 8] {
     key
 }
 
+// Whether these digits spell the 32 bytes of output at the position.
+fn spells(
+    alloc: Global,
+    hasher: &Blake3,
+    position: u64,
+    expected: &str,
+) -> Result<bool, AllocError> {
+    let mut out = [0; 32];
+    Ok(read_at(hasher, position, &mut out) && digits(alloc, &out)?.as_str() == expected)
+}
+
+// A hasher that took the bytes in pieces of so many, and an empty one.
+fn hashed(bytes: &[u8], piece: usize) -> Result<Blake3, InputTooLong> {
+    let mut hasher = Blake3::new();
+    for part in bytes.chunks(piece.max(1)) {
+        hasher.update(part)?;
+    }
+    hasher.update(b"")?;
+    Ok(hasher)
+}
+
 #[test]
 fn the_official_vectors_come_out(rt: HostRuntime) -> Result<(), Fail> {
-    // The official BLAKE3 test vectors; that of "abc" is what b3sum prints.
-    let nothing = Blake3::new();
-    let mut abc = Blake3::new();
-    assert!(rt; feed(&mut abc, b"abc", 3));
-    let mut one = Blake3::new();
-    assert!(rt; feed(&mut one, &[0], 1));
-    let mut chunk = Blake3::new();
-    assert!(rt; feed(&mut chunk, counting(rt.alloc(), 1024)?.as_slice(), 1024));
-    let mut two_chunks = Blake3::new();
-    assert!(rt;
-        feed(
-            &mut two_chunks,
-            counting(rt.alloc(), 1025)?.as_slice(),
-            1025
-        )
-    );
-    let keyed = Blake3::keyed(KEY);
-    let derived = Blake3::derive(CONTEXT);
-    let cases = [
+    // The official BLAKE3 test vectors of the empty input, and of 1, 1024 and 1025 bytes.
+    let of_nothing = [
         (
-            &nothing,
             0,
             "af1349b9f5f9a1a6a0404dea36dcc9499bcb25c9adc112b7cc9a93cae41f3262",
         ),
         (
-            &nothing,
             32,
             "e00f03e7b69af26b7faaf09fcd333050338ddfe085b8cc869ca98b206c08243a",
         ),
         (
-            &nothing,
             48,
             "338ddfe085b8cc869ca98b206c08243a26f5487789e8f660afe6c99ef9e0c52b",
         ),
         (
-            &nothing,
             64,
             "26f5487789e8f660afe6c99ef9e0c52b92e7393024a80459cf91f476f9ffdbda",
         ),
+    ];
+    for (position, expected) in of_nothing {
+        assert!(rt;
+            spells(rt.alloc(), &Blake3::new(), position, expected)?,
+            "{position}"
+        );
+    }
+    let of_lengths = [
         (
-            &abc,
-            0,
-            "6437b3ac38465133ffb63b75273a8db548c558465d79db03fd359c6cd5bd9d85",
-        ),
-        (
-            &one,
-            0,
+            1,
             "2d3adedff11b61f14c886e35afa036736dcd87a74d27b5c1510225d0f592e213",
         ),
         (
-            &chunk,
-            0,
+            1024,
             "42214739f095a406f3fc83deb889744ac00df831c10daa55189b5d121c855af7",
         ),
         (
-            &two_chunks,
-            0,
+            1025,
             "d00278ae47eb27b34faecf67b4fe263f82d5412916c1ffd97c8cb7fb814b8444",
         ),
+    ];
+    for (length, expected) in of_lengths {
+        let hasher = hashed(&counting(rt.alloc(), length)?, 1025)?;
+        assert!(rt; spells(rt.alloc(), &hasher, 0, expected)?, "{length} bytes");
+    }
+    Ok(())
+}
+
+#[test]
+fn the_other_modes_come_out(rt: HostRuntime) -> Result<(), Fail> {
+    // The official BLAKE3 test vectors under the key and the context; that of "abc" is what b3sum prints.
+    let cases = [
         (
-            &keyed,
-            0,
+            hashed(b"abc", 3)?,
+            "6437b3ac38465133ffb63b75273a8db548c558465d79db03fd359c6cd5bd9d85",
+        ),
+        (
+            Blake3::keyed(KEY),
             "92b2b75604ed3c761f9d6f62392c8a9227ad0ea3f09573e783f1498a4ed60d26",
         ),
         (
-            &derived,
-            0,
+            Blake3::derive(CONTEXT),
             "2cc39783c223154fea8dfb7c1b1660f2ac2dcbd1c1de8277b0b0dd39b7e50d7d",
         ),
     ];
-    for (hasher, position, expected) in cases {
-        let mut out = [0; 32];
-        assert!(rt; read_at(hasher, position, &mut out));
-        assert_eq!(rt; digits(rt.alloc(), &out)?.as_str(), expected);
+    for (hasher, expected) in &cases {
+        assert!(rt; spells(rt.alloc(), hasher, 0, expected)?, "{expected}");
     }
     Ok(())
+}
+
+// Whether a hasher of the key words and the flag gives the definition's first 70 bytes of output.
+fn gives_the_slow_output(hasher: Blake3, key: &[u32; 8], flags: u32, input: &[u8]) -> bool {
+    let mut hasher = hasher;
+    let mut fast = [0; 70];
+    let mut slow = [0; 70];
+    slow_bytes(&slow_tree(key, flags, 0, input), &mut slow);
+    feed(&mut hasher, input, 1000) && read_at(&hasher, 0, &mut fast) && fast == slow
 }
 
 #[test]
@@ -237,13 +258,8 @@ fn the_slow_definition_agrees(rt: HostRuntime) -> Result<(), Fail> {
                 (Blake3::derive(CONTEXT), slow_key(&derived), 64),
             ];
             for (hasher, key, flags) in cases {
-                let mut hasher = hasher;
-                assert!(rt; feed(&mut hasher, input.as_slice(), 1000));
-                let mut fast = [0; 70];
-                assert!(rt; read_at(&hasher, 0, &mut fast));
-                let mut slow = [0; 70];
-                slow_bytes(&slow_tree(&key, flags, 0, input.as_slice()), &mut slow);
-                assert_eq!(rt; fast, slow, "{length} bytes, flag {flags}");
+                let is_same = gives_the_slow_output(hasher, &key, flags, input.as_slice());
+                assert!(rt; is_same, "{length} bytes, flag {flags}");
             }
         }
     }
@@ -281,16 +297,11 @@ fn how_the_input_is_cut_makes_no_difference(rt: HostRuntime) -> Result<(), Fail>
     // Pieces of one byte, around a block and a chunk, and the whole.
     for length in [1025, 5000] {
         let input = counting(rt.alloc(), length)?;
-        let mut whole = Blake3::new();
-        assert!(rt; feed(&mut whole, input.as_slice(), length));
         let mut expected = [0; 32];
-        assert!(rt; read_at(&whole, 0, &mut expected));
+        assert!(rt; read_at(&hashed(input.as_slice(), length)?, 0, &mut expected));
         for piece in [1, 2, 63, 64, 65, 1023, 1024, 1025, 2048] {
-            let mut hasher = Blake3::new();
-            assert!(rt; feed(&mut hasher, input.as_slice(), piece));
-            assert!(rt; hasher.update(b"").is_ok());
             let mut out = [0; 32];
-            assert!(rt; read_at(&hasher, 0, &mut out));
+            assert!(rt; read_at(&hashed(input.as_slice(), piece)?, 0, &mut out));
             assert_eq!(rt; out, expected, "{length} bytes in pieces of {piece}");
         }
     }
@@ -327,18 +338,28 @@ fn every_slice_is_a_cut_of_one_output(rt: HostRuntime) -> Result<(), Fail> {
     Ok(())
 }
 
+// Whether the next bytes of the output, read in pieces of so many, are these.
+fn goes_on_with(output: &mut Output, bytes: &[u8], size: usize) -> bool {
+    for piece in bytes.chunks(size.max(1)) {
+        let mut out = [0; 130];
+        let part = &mut out[..piece.len().min(130)];
+        if output.fill(part).is_err() || &part[..] != piece {
+            return false;
+        }
+    }
+    true
+}
+
 #[test]
 fn reading_goes_on_where_it_ended(rt: HostRuntime) {
     let mut whole = [0; 260];
     assert!(rt; read_at(&Blake3::new(), 0, &mut whole));
     for size in 1..=130usize {
         let mut output = Blake3::new().output();
-        for piece in whole.chunks(size) {
-            let mut out = [0; 130];
-            let part = &mut out[..piece.len().min(130)];
-            assert_eq!(rt; output.fill(part), Ok(()));
-            assert!(rt; &part[..] == piece, "pieces of {size} bytes");
-        }
+        assert!(rt;
+            goes_on_with(&mut output, &whole, size),
+            "pieces of {size} bytes"
+        );
         assert_eq!(rt; output.position(), 260);
     }
 }

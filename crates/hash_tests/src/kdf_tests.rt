@@ -143,20 +143,35 @@ fn prk_of<H: BlockHash>(salt: Option<&[u8]>, material: &[u8]) -> Result<Tag, Fai
     Ok(extract.finish())
 }
 
+fn prk_of_bytes<H: BlockHash>(salt: &[u8], material: &[u8]) -> Result<Tag, Fail> {
+    let mut extract = Extract::<H>::new(Some(salt))?;
+    for byte in material {
+        extract.update(&[*byte])?;
+    }
+    Ok(extract.finish())
+}
+
+// Whether the digits spell the output of that length under the pseudorandom key.
+fn expands_to<H: BlockHash>(prk: &Tag, case: &Case, digits: &str) -> Result<bool, Fail> {
+    let mut out = [0; 82];
+    let Some(okm) = out.get_mut(..case.length) else {
+        return Ok(false);
+    };
+    expand::<H>(prk.bytes(), case.info.bytes(), okm)?;
+    Ok(is_spelled(okm, digits))
+}
+
 // The material in one piece and byte by byte.
 fn agrees<H: BlockHash>(rt: &impl Abort, case: &Case, derived: &Derived) -> Result<(), Fail> {
     let prk = prk_of::<H>(Some(case.salt.bytes()), case.material.bytes())?;
     assert!(rt; is_spelled(prk.bytes(), derived.prk), "{}", derived.prk);
-    let mut extract = Extract::<H>::new(Some(case.salt.bytes()))?;
-    for byte in case.material.bytes() {
-        extract.update(&[*byte])?;
-    }
-    let by_bytes = extract.finish();
+    let by_bytes = prk_of_bytes::<H>(case.salt.bytes(), case.material.bytes())?;
     assert_eq!(rt; by_bytes.bytes(), prk.bytes());
-    let mut out = [0; 82];
-    let okm = out.get_mut(..case.length).expect(rt, "at most 82 bytes");
-    expand::<H>(prk.bytes(), case.info.bytes(), okm)?;
-    assert!(rt; is_spelled(okm, derived.okm), "{}", derived.okm);
+    assert!(rt;
+        expands_to::<H>(&prk, case, derived.okm)?,
+        "{}",
+        derived.okm
+    );
     Ok(())
 }
 
@@ -179,6 +194,11 @@ fn absent_salt_is_zeros<H: BlockHash>(rt: &impl Abort) -> Result<(), Fail> {
         let given = prk_of::<H>(Some(salt), b"material")?;
         assert_eq!(rt; absent.bytes(), given.bytes());
     }
+    Ok(())
+}
+
+// The room under an absent salt is the hash's limit less a block, and less the bytes taken.
+fn absent_salt_has_room<H: BlockHash>(rt: &impl Abort) -> Result<(), Fail> {
     let limit = H::LIMIT;
     let mut extract = Extract::<H>::new(None)?;
     assert_eq!(rt; extract.room() + H::BLOCK as u128, limit);
@@ -196,18 +216,29 @@ fn absent_salts(rt: HostRuntime) -> Result<(), Fail> {
     Ok(())
 }
 
+#[test]
+fn rooms_under_absent_salts(rt: HostRuntime) -> Result<(), Fail> {
+    absent_salt_has_room::<Sha256Stream>(&rt)?;
+    absent_salt_has_room::<Sha512Stream>(&rt)?;
+    absent_salt_has_room::<Blake2b512>(&rt)?;
+    absent_salt_has_room::<Blake2s256>(&rt)?;
+    Ok(())
+}
+
+// A block of HKDF-Expand, by HMAC: of the block before it, the info and the counter.
+fn block_of<H: BlockHash>(prk: &[u8], previous: &[u8], counter: u8) -> Result<Tag, Fail> {
+    let mut mac = Hmac::<H>::new(prk)?;
+    mac.update(previous)?;
+    mac.update(b"info")?;
+    mac.update(&[counter])?;
+    Ok(mac.finish())
+}
+
 // A whole first block and one byte of the second, each by HMAC.
 fn spans_two_blocks<H: BlockHash>(rt: &impl Abort) -> Result<(), Fail> {
     let prk = [0x17; 64];
-    let mut first = Hmac::<H>::new(&prk)?;
-    first.update(b"info")?;
-    first.update(&[1])?;
-    let first = first.finish();
-    let mut second = Hmac::<H>::new(&prk)?;
-    second.update(first.bytes())?;
-    second.update(b"info")?;
-    second.update(&[2])?;
-    let second = second.finish();
+    let first = block_of::<H>(&prk, b"", 1)?;
+    let second = block_of::<H>(&prk, first.bytes(), 2)?;
     let mut out = [0; 65];
     let out = out.get_mut(..H::OUT + 1).expect(rt, "at most 65 bytes");
     expand::<H>(&prk, b"info", out)?;
@@ -256,26 +287,31 @@ fn hmac_by_hand(key: &[u8; 32], pieces: &[&[u8]], tag: &mut [u8; 32]) -> Result<
     Ok(())
 }
 
+// Whether so short a key is refused, before the length of the output is, and `out` left as it was.
+fn refuses_a_short_key<H: BlockHash>(out: &mut [u8]) -> bool {
+    let short = [1; 64];
+    let refused = expand::<H>(&short[..H::OUT - 1], b"", out);
+    matches!(refused, Err(ExpandFault::PrkTooShort)) && out.iter().all(|&byte| byte == 7)
+}
+
+// Whether so long an output is refused, and `out` left as it was.
+fn refuses_a_long_output<H: BlockHash>(out: &mut [u8]) -> bool {
+    let prk = [1; 64];
+    let refused = expand::<H>(&prk[..H::OUT], b"", out);
+    matches!(refused, Err(ExpandFault::OutputTooLong)) && out.iter().all(|&byte| byte == 7)
+}
+
 // The bounds of both lengths, the first refusal where two stand, and what a refusal leaves.
 fn refuses_in_order<H: BlockHash>(rt: &impl Abort) -> Result<(), Fail> {
     let prk = [1; 64];
-    let (short, prk) = (&prk[..H::OUT - 1], &prk[..H::OUT]);
     let mut out = [7; 255 * 64 + 1];
     let out = out
         .get_mut(..255 * H::OUT + 1)
         .expect(rt, "at most 255 digests and a byte");
-    assert!(rt; matches!(expand::<H>(short, b"", out), Err(ExpandFault::PrkTooShort)));
-    assert!(rt; out.iter().all(|&byte| byte == 7));
-    assert!(rt;
-        matches!(
-            expand::<H>(short, b"", &mut []),
-            Err(ExpandFault::PrkTooShort)
-        )
-    );
-    assert!(rt; matches!(expand::<H>(prk, b"", out), Err(ExpandFault::OutputTooLong)));
-    assert!(rt; out.iter().all(|&byte| byte == 7));
-    expand::<H>(prk, b"", &mut [])?;
-    expand::<H>(prk, b"", &mut out[1..])?;
+    assert!(rt; refuses_a_short_key::<H>(out) && refuses_a_short_key::<H>(&mut []));
+    assert!(rt; refuses_a_long_output::<H>(out));
+    expand::<H>(&prk[..H::OUT], b"", &mut [])?;
+    expand::<H>(&prk[..H::OUT], b"", &mut out[1..])?;
     assert_eq!(rt; out[0], 7);
     Ok(())
 }

@@ -175,26 +175,29 @@ fn keys_about_a_block(rt: HostRuntime) -> Result<(), Fail> {
     Ok(())
 }
 
-// Every length from 0 to one above a digest: exactly half a digest to a whole one is answered, with
-// the tag's first bytes, and the MAC that a refusal hands back gives the same tag.
+fn mac_of_text<H: BlockHash>() -> Result<Hmac<H>, Fail> {
+    let mut mac = Hmac::<H>::new(b"key")?;
+    mac.update(b"text")?;
+    Ok(mac)
+}
+
+// Whether exactly half a digest to a whole one is answered, with the tag's first bytes, and the MAC
+// that a refusal hands back gives the same tag.
+fn shortens_to<H: BlockHash>(whole: &Tag, n: usize) -> Result<bool, Fail> {
+    let is_within = H::OUT / 2 <= n && n <= H::OUT;
+    match mac_of_text::<H>()?.finish_left(n) {
+        Ok(tag) => Ok(
+            is_within && tag.bytes().len() == n && whole.bytes().starts_with(tag.bytes()),
+        ),
+        Err((mac, TagLength)) => Ok(!is_within && mac.verify(whole.bytes())),
+    }
+}
+
+// Every length from 0 to one above a digest.
 fn shortens<H: BlockHash>(rt: &impl Abort) -> Result<(), Fail> {
     let whole = tag_of::<H>(b"key", b"text")?;
     for n in 0..=H::OUT + 1 {
-        let mut mac = Hmac::<H>::new(b"key")?;
-        mac.update(b"text")?;
-        match mac.finish_left(n) {
-            Ok(tag) => {
-                assert!(rt; H::OUT / 2 <= n && n <= H::OUT, "{n}");
-                assert!(rt;
-                    tag.bytes().len() == n && whole.bytes().starts_with(tag.bytes()),
-                    "{n}"
-                );
-            }
-            Err((mac, TagLength)) => {
-                assert!(rt; n < H::OUT / 2 || n > H::OUT, "{n}");
-                assert!(rt; mac.verify(whole.bytes()), "{n}");
-            }
-        }
+        assert!(rt; shortens_to::<H>(&whole, n)?, "{n}");
     }
     Ok(())
 }
@@ -237,14 +240,11 @@ fn verifies<H: BlockHash>(rt: &impl Abort) -> Result<(), Fail> {
         (H::OUT, true),
         (H::OUT + 1, false),
     ] {
-        let mut mac = Hmac::<H>::new(b"key")?;
-        mac.update(b"text")?;
+        let mac = mac_of_text::<H>()?;
         assert_eq!(rt; mac.verify(&given[..length]), verified, "{length}");
     }
     given[H::OUT - 1] ^= 1;
-    let mut mac = Hmac::<H>::new(b"key")?;
-    mac.update(b"text")?;
-    assert!(rt; !mac.verify(&given[..H::OUT]));
+    assert!(rt; !mac_of_text::<H>()?.verify(&given[..H::OUT]));
     Ok(())
 }
 
