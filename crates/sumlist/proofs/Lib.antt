@@ -14,5 +14,6 @@ pub mod Tallying
 pub mod Deciding
 pub mod Steps
 pub mod Progress
+pub mod Holding
 pub mod Verdicts
 pub mod Decimals

@@ -3,31 +3,21 @@ use Rattle.std.proofs.Common.{◌≡◌, ℕ, ◌+◌, List, [], ◌∷◌, ◌+
 use Rattle.std.proofs.lemmas.Result.{MatchResult-from_err}
 use Rattle.std.specs.Io.KnownBytes.{Appends}
 use Rattle.std.proofs.KnownBytes.{Appends-nil, Appends-trans}
-use Rattle.source.specs.Counts.{count_after}
 use Rattle.source.specs.Written.{AppendsPrefix}
 use Rattle.sumlist.proofs.Pieces.{AppendsPrefix-after, AppendsPrefix-more, AppendsPrefix-none}
 use Rattle.sumlist.specs.declared.summary.Summary.{Summary}
-use Rattle.sumlist.specs.Tally.{IsCounted, IsSummary, lines_of, no_lines}
+use Rattle.sumlist.specs.Tally.{IsCounted, lines_of, no_lines}
 use Rattle.sumlist.proofs.Tallying.{number_of-append, number_of-one, IsSummary-start, IsSummary-more, lines_of-summary}
 use Rattle.sumlist.specs.declared.summary.Mark.TheVariants.{Told}
 use Rattle.sumlist.specs.declared.verdict.Verdict.TheVariants.{Unreadable}
 use Rattle.sumlist.specs.Lines.{lines}
+use Rattle.sumlist.specs.inside.Ahead.{Progress}
 use Rattle.sumlist.specs.Report.{Files, Outcome, AllAllowed, text, report_from, unreadable_part, unreadable_count, number_of}
 use Rattle.sumlist.specs.Checked.{LineChecked, ListChecked}
 use Rattle.sumlist.specs.declared.kind.Kind.{Kind}
 use Rattle.sumlist.specs.declared.summary.Mark.{Mark}
 use Rattle.sumlist.specs.declared.checking.CheckFault.{CheckFault}
 use Rattle.sumlist.proofs.Deciding.{all_settled}
-
--- the lines before `rest` were checked, and counted in the summary
-pub record Progress (files : Files) (kind : Kind) (whole rest : List ℕ) (summary : Summary) (count_old count_new : ℕ) (old new : Option (List ℕ)) : Type 0 where
-  pub before : List (List ℕ)
-  pub outcomes : List Outcome
-  pub split : lines whole ≡ before ++ lines rest
-  pub allowed : AllAllowed files kind before outcomes
-  pub summed : IsSummary summary outcomes
-  pub counted : count_new ≡ count_after count_old (unreadable_count outcomes)
-  pub written : Appends old new (report_from 1 outcomes)
 
 pub AllAllowed-append : (files : Files) (kind : Kind) (xs ys : List (List ℕ)) (os ps : List Outcome) → AllAllowed files kind xs os → AllAllowed files kind ys ps → AllAllowed files kind (xs ++ ys) (os ++ ps)
 AllAllowed-append files kind [] ys [] ps p q = q
@@ -111,23 +101,11 @@ pub IfSome-all : {X : Type 0} (r : Option X) (P : X → Type 0) → ((x : X) →
 IfSome-all None P h = search rules
 IfSome-all (Some x) P h = h x
 
--- a line that was checked, where the files may not be told
-pub IfSome-line : (r told : Option Files) (kind : Kind) (whole rest line after : List ℕ) (s t : Summary) (next : ℕ) (k m n : ℕ) (a b c : Option (List ℕ)) (mark : Mark)
-    → told ≡ r → IfSome r (λ files. Progress files kind whole rest s k m a b) → IfSome told (λ files. LineChecked {E = CheckFault} files kind line next (Ok mark) m n b c)
-    → lines rest ≡ line ∷ lines after → next ≡ lines_of s + 1 → IsCounted mark s t → IfSome r (λ files. Progress files kind whole after t k n a c)
-IfSome-line None told kind whole rest line after s t next k m n a b c mark same p l cut up more = search rules
-IfSome-line (Some files) told kind whole rest line after s t next k m n a b c mark same p l cut up more =
-    Progress-line files kind whole rest line after s t next k m n a b c mark p cut up
-    (subst (λ o. IfSome o (λ files. LineChecked {E = CheckFault} files kind line next (Ok mark) m n b c)) same l) more
-
--- a line at which the check stopped
-pub IfSome-stop : (r told : Option Files) (kind : Kind) (whole rest line after : List ℕ) (s : Summary) (next : ℕ) (k m n : ℕ) (a b c : Option (List ℕ)) (fault : CheckFault) (answer : Result Summary CheckFault)
-    → told ≡ r → IfSome r (λ files. Progress files kind whole rest s k m a b) → IfSome told (λ files. LineChecked files kind line next (Err fault) m n b c)
-    → lines rest ≡ line ∷ lines after → next ≡ lines_of s + 1 → IsErr answer → IfSome r (λ files. ListChecked files kind whole answer k n a c)
-IfSome-stop None told kind whole rest line after s next k m n a b c fault answer same p l cut up stopped = search rules
-IfSome-stop (Some files) told kind whole rest line after s next k m n a b c fault answer same p l cut up stopped =
-    Progress-stop files kind whole rest line after s next k m n a b c fault answer p cut up
-    (subst (λ o. IfSome o (λ files. LineChecked files kind line next (Err fault) m n b c)) same l) stopped
+-- what follows from two clauses on one value
+pub IfSome-two : {X : Type 0} (r s : Option X) (P Q R : X → Type 0) → s ≡ r → IfSome r P → IfSome s Q
+    → ((x : X) → P x → Q x → R x) → IfSome r R
+IfSome-two None s P Q R same p q h = search rules
+IfSome-two {X} (Some x) s P Q R same p q h = h x p (subst (λ o. IfSome o Q) same q)
 
 -- nothing was written, and no line was checked
 pub ListChecked-none : (files : Files) (kind : Kind) (whole : List ℕ) (answer : Result Summary CheckFault) (k : ℕ) (a : Option (List ℕ)) → IsErr answer → ListChecked files kind whole answer k k a a
@@ -135,3 +113,20 @@ ListChecked-none files kind whole answer k a stopped =
     let d = all_settled files kind (lines whole) in
     let none = d.2 in
     (d.0, d.1, omega (arith, none), MatchResult-from_err answer _ _ stopped (λ _. AppendsPrefix-none a (report_from 1 d.0)))
+
+-- the check stops before the next line
+pub Progress-halt : (files : Files) (kind : Kind) (whole rest : List ℕ) (s : Summary) (k n : ℕ) (a c : Option (List ℕ))
+    (answer : Result Summary CheckFault)
+    → Progress files kind whole rest s k n a c → IsErr answer → ListChecked files kind whole answer k n a c
+Progress-halt files kind whole rest s k n a c answer p stopped =
+    let others = all_settled files kind (lines rest) in
+    let count = unreadable_count-append p.outcomes others.0 in
+    let none = others.2 in (
+      p.outcomes ++ others.0,
+      subst (λ ls. AllAllowed files kind ls (p.outcomes ++ others.0)) (sym p.split)
+          (AllAllowed-append files kind p.before (lines rest) p.outcomes others.0 p.allowed others.1),
+      (let before = p.counted in omega (arith, count, none)),
+      MatchResult-from_err answer _ _ stopped
+          (λ _. subst (AppendsPrefix a c) (sym (report_from-append 1 p.outcomes others.0))
+          (AppendsPrefix-after a c c _ _ p.written (AppendsPrefix-none c _))),
+    )

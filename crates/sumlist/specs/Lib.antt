@@ -12,3 +12,4 @@ pub mod Lines
 pub mod Report
 pub mod Tally
 pub mod Checked
+pub mod inside

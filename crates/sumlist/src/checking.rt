@@ -1,13 +1,18 @@
 // Lists checked against the files that they name.
 
-ghost use Rattle.std.specs.Prelude.{◌≡◌, ◌-◌, ◌<◌, ◌^◌, ◌↔◌, ℕ, List, length, IfOk, IfSome, IsErrOf};
+ghost use Rattle.std.specs.Prelude.{◌≡◌, ◌+◌, ◌-◌, ◌<◌, ◌≤◌, ◌^◌, ◌↔◌, ℕ, List, [], Option, length};
+ghost use Rattle.std.specs.Prelude.{IfOk, IfSome, IsErrOf, MatchResult, OnOk};
 ghost use Rattle.std.specs.Io.KnownBytes.{Consumes};
 ghost use Rattle.source.specs.Counts.{count_after};
+ghost use Rattle.sumlist.specs.inside.Ahead.{Goes, Partway, Stops};
 ghost use Rattle.sumlist.specs.Checked.{LineChecked, ListChecked, ListCounts, StepCounts, WriteCounts};
+ghost use Rattle.sumlist.specs.inside.Held.{IsHeld, held_len};
 ghost use Rattle.sumlist.specs.Report.{part};
+ghost use Rattle.sumlist.specs.Tally.{lines_of};
 ghost use Rattle.sumlist.specs.declared.checking.CheckFault.TheVariants.{ListRead, OutOfMemory, Write};
 
-use crate::lines::split_line;
+use crate::line_buffer::LineBuffer;
+use crate::lines::find_byte;
 use crate::report::{write_malformed, write_verdict};
 use crate::summary::Mark;
 use crate::verdict::{Verdict, check_entry};
@@ -58,7 +63,9 @@ impl From<AllocError> for CheckFault {
 }
 
 /// Checks a list: reads it to its end, compares the file of each entry with the entry's tag, and
-/// writes the report, which has a line for each line that is not skipped. The list is kept in memory.
+/// writes the report, which has a line for each line that is not skipped. Each line whose LF was read
+/// is checked, and its report written, before the next read of the list. Of the list it keeps one read
+/// of 4,096 bytes and one line of at most 65,536; a longer line is malformed.
 ///
 /// `name: OK` is written only where the digest of the file's content is the tag, and `name:
 /// UNREADABLE` exactly as often as opening or reading a file failed, which ends nothing.
@@ -84,63 +91,126 @@ pub fn check<L: Feed, T: Tree, W: Sink>(
         × Consumes (L.remaining list.old) (L.remaining list.new) given
         × (IsErrOf result CheckFault.ListTooLong ↔ (2 ^ 64 - 1 < length given))) }
 {
-    let bytes = read_list(alloc, list)?;
-    check_all(alloc, &bytes, kind, tree, out)
-}
-
-// All that a list gives.
-fn read_list<L: Feed>(alloc: Global, list: &mut L) -> Result<Vec<u8>, CheckFault>
-    ensures bytes { IfOk result (λ v. IfSome (L.remaining list.old) (λ xs. v.items ≡ xs)) }
-    ensures few { IfOk result (λ v. length v.items < 2 ^ 64) }
-    ensures reads { ListCounts result (L.failure_count list.old) (L.failure_count list.new) }
-    ensures no_write { IsErrOf result CheckFault.Write → ⊥ }
-    ensures gave { IfSome (L.remaining list.old) (λ _. (given : List ℕ)
-        × Consumes (L.remaining list.old) (L.remaining list.new) given
-        × (IsErrOf result CheckFault.ListTooLong ↔ (2 ^ 64 - 1 < length given))) }
-{
-    let mut bytes = Vec::new(alloc);
+    let mut held = LineBuffer::new(alloc)?;
+    let mut summary = Summary::new();
     let mut total: u64 = 0;
-    let mut buf = [0; 4096];
+    let mut buffer = [0; 4096];
     loop {
-        let count = list.read(&mut buf)?;
+        let count = list.read(&mut buffer)?;
         if count == 0 {
-            return Ok(bytes);
+            return check_last(alloc, &held, summary, kind, tree, out);
         }
         let Some(sum) = total.checked_add(count as u64) else {
             return Err(CheckFault::ListTooLong);
         };
         total = sum;
-        bytes.extend_from_slice(&buf[..count])?;
+        check_piece(
+            alloc,
+            &buffer[..count],
+            &mut held,
+            &mut summary,
+            kind,
+            tree,
+            out,
+        )?;
     }
 }
 
-// Checks the lines of a list, one after another.
-fn check_all<T: Tree, W: Sink>(
+// Checks each line that ends in the piece, and keeps the beginning of the next one.
+fn check_piece<T: Tree, W: Sink>(
     alloc: Global,
-    list: &[u8],
+    piece: &[u8],
+    held: &mut LineBuffer,
+    summary: &mut Summary,
+    kind: Kind,
+    tree: &mut T,
+    out: &mut W,
+) -> Result<(), CheckFault>
+    requires few { lines_of summary.old + held_len held.old + length piece.now < 2 ^ 64 }
+    ensures few { OnOk result (lines_of summary.new + held_len held.new
+        ≤ lines_of summary.old + held_len held.old + length piece.now) }
+    ensures checked { IfSome (T.files tree.old) (λ files. MatchResult result
+        (λ _. Goes files kind
+        held.old piece.now summary.old (T.failure_count tree.old) (W.contents out.old)
+        held.new [] summary.new (T.failure_count tree.new) (W.contents out.new))
+        (λ _. Stops files kind
+        held.old piece.now summary.old (T.failure_count tree.old) (W.contents out.old)
+        (T.failure_count tree.new) (W.contents out.new))) }
+    ensures unreadable { OnOk result
+        ((k : ℕ) → T.failure_count tree.old ≡ count_after k summary.old.unreadable
+        → T.failure_count tree.new ≡ count_after k summary.new.unreadable) }
+    ensures kept { T.files tree.new ≡ T.files tree.old }
+    ensures writes { StepCounts result (W.failure_count out.old) (W.failure_count out.new) }
+{
+    let mut rest = piece;
+    loop {
+        let end = find_byte(rest, b'\n');
+        let (front, back) = rest.split_at(end);
+        held.append(front);
+        if back.is_empty() {
+            return Ok(());
+        }
+        let number = summary.lines() + 1;
+        let mark = check_held(alloc, held, number, kind, tree, out)?;
+        held.clear();
+        summary.count(mark);
+        let (_, after) = back.split_at(1);
+        rest = after;
+    }
+}
+
+// Checks a last line that has no LF, if there is one.
+fn check_last<T: Tree, W: Sink>(
+    alloc: Global,
+    held: &LineBuffer,
+    mut summary: Summary,
     kind: Kind,
     tree: &mut T,
     out: &mut W,
 ) -> Result<Summary, CheckFault>
+    requires few { lines_of summary + held_len held.now < 2 ^ 64 }
     ensures checked { IfSome (T.files tree.old) (λ files.
-        ListChecked files kind list.now result
-        (T.failure_count tree.old) (T.failure_count tree.new)
-        (W.contents out.old) (W.contents out.new)) }
-    ensures unreadable { IfOk result (λ s. T.failure_count tree.new
-        ≡ count_after (T.failure_count tree.old) s.unreadable) }
+        (whole : List ℕ) (k : ℕ) (a : Option (List ℕ))
+        → Partway files kind whole held.now [] summary k (T.failure_count tree.old) a (W.contents out.old)
+        → ListChecked files kind whole result k (T.failure_count tree.new) a (W.contents out.new)) }
+    ensures unreadable { IfOk result
+        (λ s. (k : ℕ) → T.failure_count tree.old ≡ count_after k summary.unreadable
+        → T.failure_count tree.new ≡ count_after k s.unreadable) }
     ensures kept { T.files tree.new ≡ T.files tree.old }
     ensures writes { StepCounts result (W.failure_count out.old) (W.failure_count out.new) }
 {
-    let mut rest = list;
-    let mut summary = Summary::new();
-    while !rest.is_empty() {
-        let (line, after) = split_line(rest);
-        let number = summary.lines() + 1;
-        let mark = check_line(alloc, line, number, kind, tree, out)?;
-        summary.count(mark);
-        rest = after;
+    if held.is_empty() {
+        return Ok(summary);
     }
+    let number = summary.lines() + 1;
+    let mark = check_held(alloc, held, number, kind, tree, out)?;
+    summary.count(mark);
     Ok(summary)
+}
+
+// Checks the line that is held, and writes its part of the report.
+fn check_held<T: Tree, W: Sink>(
+    alloc: Global,
+    held: &LineBuffer,
+    number: u64,
+    kind: Kind,
+    tree: &mut T,
+    out: &mut W,
+) -> Result<Mark, CheckFault>
+    ensures checked { IfSome (T.files tree.old) (λ files. (line : List ℕ) → IsHeld held.now line
+        → LineChecked files kind line number result
+        (T.failure_count tree.old) (T.failure_count tree.new)
+        (W.contents out.old) (W.contents out.new)) }
+    ensures unreadable { IfOk result (λ mark. T.failure_count tree.new
+        ≡ count_after (T.failure_count tree.old) (part (Mark.Told Verdict.Unreadable) mark)) }
+    ensures kept { T.files tree.new ≡ T.files tree.old }
+    ensures writes { StepCounts result (W.failure_count out.old) (W.failure_count out.new) }
+{
+    let Some(line) = held.line() else {
+        write_malformed(number, out)?;
+        return Ok(Mark::Malformed);
+    };
+    check_line(alloc, line, number, kind, tree, out)
 }
 
 // Checks the line of this number, and writes its part of the report.

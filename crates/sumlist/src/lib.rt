@@ -29,6 +29,7 @@ mod escaping;
 mod fitting;
 mod kind;
 mod line;
+mod line_buffer;
 mod lines;
 mod memory;
 mod parts;

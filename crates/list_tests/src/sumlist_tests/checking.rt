@@ -281,17 +281,54 @@ fn a_full_sink_holds_a_beginning_of_the_report(rt: HostRuntime) -> Result<(), Fa
 }
 
 #[test]
-fn a_list_whose_read_fails_has_no_report(rt: HostRuntime) -> Result<(), Fail> {
+fn lines_before_a_failed_read_are_reported(rt: HostRuntime) -> Result<(), Fail> {
     let alloc = rt.alloc();
     let files = files(alloc)?;
     let list = format!(in alloc; "{SHA256_ABC}  abc.txt\n{SHA256_ABC}  abc.txt\n")?;
-    for place in [0, 10, 74, list.len()] {
-        let mut tree = MemoryTree::new(&files, 100);
-        let mut feed = Bytes::failing(list.as_bytes(), 20, place);
-        let mut out = VecSink::new(alloc);
-        let answer = check(alloc, &mut feed, Kind::Sha256, &mut tree, &mut out);
-        assert_eq!(rt; answer, Err(CheckFault::ListRead), "{place}");
-        assert_eq!(rt; out.written().len(), 0);
+    let cases = [
+        (0, ""),
+        (10, ""),
+        (73, ""),
+        (74, "abc.txt: OK\n"),
+        (147, "abc.txt: OK\n"),
+        (148, "abc.txt: OK\nabc.txt: OK\n"),
+    ];
+    for most in [1, 20, 4096] {
+        for (place, report) in cases {
+            let mut tree = MemoryTree::new(&files, 100);
+            let mut feed = Bytes::failing(list.as_bytes(), most, place);
+            let mut out = VecSink::new(alloc);
+            let answer = check(alloc, &mut feed, Kind::Sha256, &mut tree, &mut out);
+            assert_eq!(rt; answer, Err(CheckFault::ListRead), "{most} {place}");
+            assert_eq!(rt; out.written(), report.as_bytes(), "{most} {place}");
+        }
+    }
+    Ok(())
+}
+
+#[test]
+fn a_line_of_a_mebibyte_is_malformed_and_the_next_is_read(rt: HostRuntime) -> Result<(), Fail> {
+    let alloc = rt.alloc();
+    let files = files(alloc)?;
+    let long = "a".repeat(alloc, 1_048_576)?;
+    let comment = "#".repeat(alloc, 1_048_576)?;
+    let cases = [
+        (
+            format!(in alloc; "{long}\n{SHA256_ABC}  abc.txt\n")?,
+            "line 1: MALFORMED\nabc.txt: OK\n",
+        ),
+        (comment, "line 1: MALFORMED\n"),
+    ];
+    for most in [1, 7, 4096] {
+        for (list, report) in cases.iter() {
+            let mut tree = MemoryTree::new(&files, 100);
+            let mut feed = Bytes::new(list.as_bytes(), most);
+            let mut out = VecSink::new(alloc);
+            let _ = check(alloc, &mut feed, Kind::Sha256, &mut tree, &mut out).map_err(
+                |_| "refused",
+            )?;
+            assert_eq!(rt; out.written(), report.as_bytes(), "{most}");
+        }
     }
     Ok(())
 }

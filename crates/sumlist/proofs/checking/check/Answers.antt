@@ -1,6 +1,121 @@
-use Rattle.sumlist.proofs.Progress.{ListChecked-none, IfSome-all}
+use Rattle.std.proofs.Common.{◌≡◌, ◌∙◌, ◌++◌, [], Err, refl, take, length, length-take-le, length-append, arith}
+use Rattle.std.specs.Bool.{⊤}
+use Rattle.std.proofs.KnownBytes.{Consumes-nil, Consumes-trans}
+use Rattle.std.proofs.lemmas.Result.{err_from_is_err_and}
+use Rattle.sumlist.specs.declared.checking.CheckFault.TheVariants.{ListTooLong}
+use Rattle.sumlist.proofs.Progress.{IfSome-all, ListChecked-none}
+use Rattle.sumlist.proofs.Holding.{no_too_long, Coming-start, Coming-piece, Coming-stop, Coming-halt}
 use Rattle.sumlist.proofs.checking.check.Goals as goal
 
-pub returns-in_err-bytes-clause-checked : goal.returns-in_err-bytes-clause-checked
-returns-in_err-bytes-clause-checked g c =
+pub returns-in_err-held-clause-checked : goal.returns-in_err-held-clause-checked
+returns-in_err-held-clause-checked g c =
     IfSome-all (g.L.Feed.remaining c.args.list.now) _ (λ bytes. IfSome-all (g.T.Tree.files c.args.tree.now) _ (λ files. ListChecked-none files c.args.kind bytes _ (g.T.Tree.failure_count c.args.tree.now) (g.W.Sink.contents c.args.out.now) c.from_residual.ensures.0))
+
+pub loop-held-init : goal.loop-held-init
+loop-held-init g c = record {
+  progress = rw (c.in_ok-held.ensures, c.new-summary.ensures)
+      (Coming-start (g.L.Feed.remaining c.args.list.now) (g.T.Tree.files c.args.tree.now) c.args.kind
+      (g.T.Tree.failure_count c.args.tree.now) (g.W.Sink.contents c.args.out.now));
+  consumed = ([], Consumes-nil (g.L.Feed.remaining c.args.list.now), refl);
+  reads = refl;
+  writes = refl;
+  kept = refl;
+  unreadable = rw c.new-summary.ensures (omega arith);
+  bound = rw (c.in_ok-held.ensures, c.new-summary.ensures) (omega arith);
+  range = omega arith;
+  size = omega arith;
+}
+
+pub returns-in_err-count-clause-checked : goal.returns-in_err-count-clause-checked
+returns-in_err-count-clause-checked g c =
+    Coming-halt (g.L.Feed.remaining c.args.list.now) (g.T.Tree.files c.args.tree.now) c.args.kind
+    (g.L.Feed.remaining c.loop-held.list) c.loop-held.held c.loop-held.summary
+    (g.T.Tree.failure_count c.args.tree.now) (g.T.Tree.failure_count c.loop-held.tree)
+    (g.W.Sink.contents c.args.out.now) (g.W.Sink.contents c.loop-held.out) _ c.loop-held.invariant.progress
+    c.from_residual-in_err-count.ensures.0
+
+pub returns-in_default-clause-checked : goal.returns-in_default-clause-checked
+returns-in_default-clause-checked g c =
+    Coming-halt (g.L.Feed.remaining c.args.list.now) (g.T.Tree.files c.args.tree.now) c.args.kind
+    (g.L.Feed.remaining c.loop-held.list) c.loop-held.held c.loop-held.summary
+    (g.T.Tree.failure_count c.args.tree.now) (g.T.Tree.failure_count c.loop-held.tree)
+    (g.W.Sink.contents c.args.out.now) (g.W.Sink.contents c.loop-held.out) (Err ListTooLong)
+    c.loop-held.invariant.progress refl
+
+pub returns-in_default-clause-gave : goal.returns-in_default-clause-gave
+returns-in_default-clause-gave g c =
+    let count = c.in_ok-count.count in
+    let piece = length-take-le count c.read.new.buf c.in_ok-count.ensures.bound in
+    let size = length-append c.loop-held.invariant.consumed.0 (take count c.read.new.buf) in
+    let sized = c.loop-held.invariant.consumed.2 in
+    let over = c.in_default.ensures in
+    IfSome-all (g.L.Feed.remaining c.args.list.now) _ (λ xs. (
+      c.loop-held.invariant.consumed.0 ++ take count c.read.new.buf,
+      Consumes-trans _ _ _ _ _ c.loop-held.invariant.consumed.1 c.in_ok-count.ensures.given,
+      ((λ is. omega (arith, piece, size, sized, over)), (λ long. refl)),
+    ))
+
+pub loop-held-preserved : goal.loop-held-preserved
+loop-held-preserved g c =
+    let piece = take c.in_ok-count.count c.read.new.buf in
+    let few = c.in_ok-check_piece.ensures.few in
+    let size : length piece ≡ c.in_ok-count.count =
+    length-take-le c.in_ok-count.count c.read.new.buf c.in_ok-count.ensures.bound in
+    let sum = c.in-Some.ensures in
+    record {
+      progress = Coming-piece (g.L.Feed.remaining c.args.list.now) (g.T.Tree.files c.args.tree.now)
+          (g.T.Tree.files c.loop-held.tree) c.args.kind (g.L.Feed.remaining c.loop-held.list)
+          (g.L.Feed.remaining c.read.new.self) c.loop-held.held c.check_piece.new.held piece c.loop-held.summary
+          c.check_piece.new.summary
+          (g.T.Tree.failure_count c.args.tree.now) (g.T.Tree.failure_count c.loop-held.tree)
+          (g.T.Tree.failure_count c.check_piece.new.tree) (g.W.Sink.contents c.args.out.now)
+          (g.W.Sink.contents c.loop-held.out) (g.W.Sink.contents c.check_piece.new.out)
+          c.loop-held.invariant.kept c.loop-held.invariant.progress c.in_ok-count.ensures.given
+          c.in_ok-check_piece.ensures.checked;
+      consumed = (
+        c.loop-held.invariant.consumed.0 ++ piece,
+        Consumes-trans (g.L.Feed.remaining c.args.list.now) (g.L.Feed.remaining c.loop-held.list)
+            (g.L.Feed.remaining c.read.new.self) c.loop-held.invariant.consumed.0 piece
+            c.loop-held.invariant.consumed.1 c.in_ok-count.ensures.given,
+        (let parts = length-append c.loop-held.invariant.consumed.0 piece in
+            omega (arith, parts, sum.1, size, c.loop-held.invariant.consumed.2)),
+      );
+      reads = c.in_ok-count.ensures.counted ∙ c.loop-held.invariant.reads;
+      writes = c.in_ok-check_piece.ensures.writes ∙ c.loop-held.invariant.writes;
+      kept = c.in_ok-check_piece.ensures.kept ∙ c.loop-held.invariant.kept;
+      unreadable = c.in_ok-check_piece.ensures.unreadable _ c.loop-held.invariant.unreadable;
+      bound = omega (arith, few, size, sum.1, c.loop-held.invariant.bound);
+      range = omega (arith, sum.0, sum.1);
+      size = c.read.auto.buf ∙ c.loop-held.invariant.size;
+    }
+
+pub returns-in_err-check_piece-clause-checked : goal.returns-in_err-check_piece-clause-checked
+returns-in_err-check_piece-clause-checked g c =
+    let piece = take c.in_ok-count.count c.read.new.buf in
+    Coming-stop (g.L.Feed.remaining c.args.list.now) (g.T.Tree.files c.args.tree.now) (g.T.Tree.files c.loop-held.tree)
+    c.args.kind (g.L.Feed.remaining c.loop-held.list) (g.L.Feed.remaining c.read.new.self) c.loop-held.held piece
+    c.loop-held.summary
+    (g.T.Tree.failure_count c.args.tree.now) (g.T.Tree.failure_count c.loop-held.tree)
+    (g.T.Tree.failure_count c.check_piece.new.tree) (g.W.Sink.contents c.args.out.now)
+    (g.W.Sink.contents c.loop-held.out) (g.W.Sink.contents c.check_piece.new.out) _
+    c.loop-held.invariant.kept c.loop-held.invariant.progress c.in_ok-count.ensures.given
+    c.in_err-check_piece.ensures.checked c.from_residual-in_err-check_piece.ensures.0
+
+pub returns-in_err-check_piece-clause-gave : goal.returns-in_err-check_piece-clause-gave
+returns-in_err-check_piece-clause-gave g c =
+    let count = c.in_ok-count.count in
+    let piece = length-take-le count c.read.new.buf c.in_ok-count.ensures.bound in
+    let size = length-append c.loop-held.invariant.consumed.0 (take count c.read.new.buf) in
+    let sized = c.loop-held.invariant.consumed.2 in
+    let sum = c.in-Some.ensures in
+    let exit = c.from_residual-in_err-check_piece in
+    let fault = err_from_is_err_and exit.result exit.ensures.1 in
+    rw (fault.1, fault.2) (IfSome-all (g.L.Feed.remaining c.args.list.now) _ (λ xs. (
+      c.loop-held.invariant.consumed.0 ++ take count c.read.new.buf,
+      Consumes-trans _ _ _ _ _ c.loop-held.invariant.consumed.1 c.in_ok-count.ensures.given,
+      (
+        (λ is. absurd (no_too_long ⊤ c.in_err-check_piece.field-0.0 _ _ (Err c.in_err-check_piece.field-0.0)
+            c.in_err-check_piece.ensures.writes refl is)),
+        (λ long. absurd (omega (arith, piece, size, sized, sum.0, sum.1, long))),
+      ),
+    )))

@@ -1,0 +1,28 @@
+use Rattle.std.proofs.Common.{◌≡◌, ◌+◌, ◌-◌, ◌^◌, ◌≤◌, ◌<◌, ℕ, List, length, IfSome, Some}
+use Rattle.std.specs.Io.KnownBytes.{Consumes}
+use Rattle.source.specs.Counts.{count_after}
+use Rattle.sumlist.specs.inside.Ahead.{Partway}
+use Rattle.sumlist.specs.inside.Held.{held_len}
+use Rattle.sumlist.specs.Tally.{lines_of}
+use Rattle.sumlist.proofs.checking.check.Given as goal
+
+abbrev pub invariant-loop-held : goal.invariant-loop-held
+invariant-loop-held g l = record {
+  progress : IfSome (g.L.Feed.remaining l.initial.list)
+      (λ bytes. IfSome (g.T.Tree.files l.initial.tree)
+      (λ files. (more : List ℕ) × (g.L.Feed.remaining l.list ≡ Some more)
+      × Partway files l.kind bytes l.held more l.summary (g.T.Tree.failure_count l.initial.tree)
+      (g.T.Tree.failure_count l.tree) (g.W.Sink.contents l.initial.out) (g.W.Sink.contents l.out)));
+  consumed : (taken : List ℕ) × Consumes (g.L.Feed.remaining l.initial.list) (g.L.Feed.remaining l.list) taken
+      × (l.total ≡ length taken);
+  reads : g.L.Feed.failure_count l.list ≡ g.L.Feed.failure_count l.initial.list;
+  writes : g.W.Sink.failure_count l.out ≡ g.W.Sink.failure_count l.initial.out;
+  kept : g.T.Tree.files l.tree ≡ g.T.Tree.files l.initial.tree;
+  unreadable : g.T.Tree.failure_count l.tree ≡ count_after (g.T.Tree.failure_count l.initial.tree) l.summary.unreadable;
+  bound : lines_of l.summary + held_len l.held ≤ l.total;
+  range : l.total < 2 ^ 64;
+  size : length l.buffer ≡ 4096;
+}
+
+abbrev pub decreases-loop-held : goal.decreases-loop-held
+decreases-loop-held g l = 2 ^ 64 - l.total

@@ -1,0 +1,4 @@
+-- What the clauses of private functions say, and how private types are seen: of use inside alone.
+pub mod Held
+pub mod BufferView
+pub mod Ahead
