@@ -8,6 +8,7 @@ mod calling;
 mod checking;
 mod files;
 mod reading;
+mod tagging;
 mod writing;
 
 // SHA-256 of "abc" (FIPS 180-4, the example of one block), BLAKE2s-256 of it (RFC 7693, appendix B),

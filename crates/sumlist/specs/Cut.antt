@@ -3,7 +3,8 @@ use Rattle.std.specs.Prelude.{◌⊎◌, ◌≡◌, ◌≢◌, ℕ, Bool, true, 
 use Rattle.std.specs.List.{All}
 use Rattle.source.specs.declared.alg.Alg.{Alg}
 use Rattle.sumlist.specs.declared.kind.Kind.{Kind}
-use Rattle.sumlist.specs.Line.{Parts}
+use Rattle.sumlist.specs.Line.{Parts, HasForm}
+use Rattle.sumlist.specs.Tagged.{Labelled}
 
 abbrev pub NotSpace : ℕ → Type 0
 NotSpace x = (x == 32) ≡ false
@@ -26,3 +27,11 @@ IsUnslashed core false text = (core ≡ text) × (slice_index core 0 ≢ 92)
 -- a text without digits, marks and body
 abbrev pub NoParts : List ℕ → Kind → Type 0
 NoParts text kind = (alg : Alg) (tag body : List ℕ) → Parts text kind alg tag body → ⊥
+
+-- a text without a label, a body in brackets and digits
+abbrev pub NoLabelled : List ℕ → Type 0
+NoLabelled text = (alg : Alg) (tag body : List ℕ) → Labelled text alg tag body → ⊥
+
+-- a text in neither form
+abbrev pub HasNoForm : List ℕ → Kind → Type 0
+HasNoForm text kind = (alg : Alg) (tag body : List ℕ) → HasForm text kind alg tag body → ⊥

@@ -2,6 +2,8 @@ pub mod Escape
 pub mod Entry
 pub mod EntryView
 pub mod Kinds
+pub mod Tagged
+pub mod TaggedFaults
 pub mod Line
 pub mod Cut
 pub mod Body

@@ -1,11 +1,13 @@
 -- What a line of a list means.
-use Rattle.std.specs.Prelude.{◌⊎◌, ◌≡◌, ℕ, ◌-◌, ◌≤◌, List, [], ◌∷◌, ◌++◌, length, take, slice_index, if◌then◌else◌, ◌==◌, Some, Ok, Contains}
+use Rattle.std.specs.Prelude.{◌⊎◌, ◌≡◌, ℕ, ◌-◌, ◌≤◌, List, [], ◌∷◌, ◌++◌, length, take, slice_index, if◌then◌else◌}
+use Rattle.std.specs.Prelude.{◌==◌, Some, Ok, Contains}
 use Rattle.hex.specs.Hex.{decode_of}
 use Rattle.source.specs.declared.alg.Alg.{Alg}
 use Rattle.sumlist.specs.declared.kind.Kind.{Kind}
 use Rattle.sumlist.specs.Entry.{Listing, IsEntry}
 use Rattle.sumlist.specs.Escape.{SpellsName}
 use Rattle.sumlist.specs.Kinds.{alg_of}
+use Rattle.sumlist.specs.Tagged.{Labelled}
 
 -- bytes that can be a line: no LF among them, and not too many
 pub record IsLine (line : List ℕ) : Type 0 where
@@ -38,19 +40,23 @@ pub record Parts (text : List ℕ) (kind : Kind) (alg : Alg) (tag body : List �
   pub alg_is : alg_of kind (length digits) ≡ Some alg
   pub tag_is : decode_of digits ≡ Ok tag
 
+-- a text without a name's escapes, in one of the two forms
+abbrev pub HasForm : List ℕ → Kind → Alg → List ℕ → List ℕ → Type 0
+HasForm text kind alg tag body = Parts text kind alg tag body ⊎ Labelled text alg tag body
+
 -- a core whose body is the name itself, or which begins with a backslash and whose body spells the name
-abbrev pub Untagged : List ℕ → Kind → Listing → Type 0
-Untagged core kind e =
-    Parts core kind e.alg e.tag e.name
+abbrev pub Stated : List ℕ → Kind → Listing → Type 0
+Stated core kind e =
+    HasForm core kind e.alg e.tag e.name
     ⊎ ((text : List ℕ) × (body : List ℕ)
-    × (core ≡ 92 ∷ text) × Parts text kind e.alg e.tag body × SpellsName body e.name)
+    × (core ≡ 92 ∷ text) × HasForm text kind e.alg e.tag body × SpellsName body e.name)
 
 -- a line spells an entry
 pub record Spells (line : List ℕ) (kind : Kind) (e : Listing) : Type 0 where
   pub is_line : IsLine line
   pub not_skipped : IsSkipped line → ⊥
   pub is_entry : IsEntry e
-  pub form : Untagged (core line) kind e
+  pub form : Stated (core line) kind e
 
 -- a line that is neither skipped nor spells an entry
 pub record IsMalformed (line : List ℕ) (kind : Kind) : Type 0 where

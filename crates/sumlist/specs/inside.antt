@@ -2,3 +2,4 @@
 pub mod Held
 pub mod BufferView
 pub mod Ahead
+pub mod Labels

@@ -14,11 +14,12 @@
 
 pub use checking::{CheckFault, check};
 pub use entry::{Entry, EntryFault};
-pub use fitting::fits;
+pub use fitting::{fits, tagged_fits};
 pub use kind::Kind;
 pub use line::{Line, LineFault, parse_line};
 pub use memory::MemoryTree;
 pub use summary::Summary;
+pub use tagging::{TaggedFault, write_tagged};
 pub use tree::{OpenFault, Tree};
 pub use writing::{WriteFault, write_end, write_entry, write_lead};
 
@@ -28,6 +29,7 @@ mod entry;
 mod escaping;
 mod fitting;
 mod kind;
+mod labels;
 mod line;
 mod line_buffer;
 mod lines;
@@ -35,6 +37,7 @@ mod memory;
 mod parts;
 mod report;
 mod summary;
+mod tagging;
 mod tree;
 mod verdict;
 mod writing;

@@ -1,18 +1,21 @@
 // Lines as they are read.
 
-ghost use Rattle.std.specs.Prelude.{◌≡◌, ◌<◌, ◌↔◌, length, IsTrue};
-ghost use Rattle.sumlist.specs.Cut.{IsUnslashed};
-ghost use Rattle.sumlist.specs.Line.{IsLine, IsBlank, core as core_of};
+ghost use Rattle.std.specs.Prelude.{◌≡◌, ◌<◌, ◌↔◌, length, IsTrue, MatchOption};
+ghost use Rattle.sumlist.specs.Cut.{IsUnslashed, HasNoForm};
+ghost use Rattle.sumlist.specs.Line.{IsLine, IsBlank, HasForm, core as core_of};
 ghost use Rattle.sumlist.specs.Parsed.{Answers};
 ghost use Rattle.sumlist.specs.declared.line.LineFault.TheVariants.{OutOfMemory};
 
 use crate::body::{build_name, is_name};
 use crate::fitting::LINE_LEN;
+use crate::labels::split_label;
 use crate::lines::find_byte;
 use crate::parts::split_parts;
 use crate::{Entry, Kind};
+use source::Alg;
 use std::alloc::{AllocError, Global};
 use thiserror::Error;
+use words::Tag;
 
 /// What a line says.
 #[derive(Drop)]
@@ -42,11 +45,15 @@ impl From<AllocError> for LineFault {
     }
 }
 
-/// Reads one line of a list, which is handed in without its LF; one CR at its end is left out.
+/// Reads one line of a list, which is handed in without its LF; one CR at its end is left out. It has at
+/// most 65,536 bytes, and one of two forms:
 ///
-/// A line is the digits of a digest, a space, a space or `*`, and the name, of at most 65,536 bytes
-/// in all. Where it begins with a backslash, `\\`, `\n` and `\r` in its name stand for a backslash,
-/// LF and CR, and any other backslash is malformed. Only the name of an entry takes memory.
+/// - the digits of a digest, a space, a space or `*`, and the name, where the number of digits and the
+///   kind name the algorithm;
+/// - `LABEL (name) = digits`, where the label names the algorithm, whatever the kind is.
+///
+/// Where it begins with a backslash, `\\`, `\n` and `\r` in its name stand for a backslash, LF and CR, and
+/// any other backslash is malformed. Only the name of an entry takes memory.
 pub fn parse_line(alloc: Global, line: &[u8], kind: Kind) -> Result<Line, LineFault>
     ensures { Answers line.now kind result }
 {
@@ -58,7 +65,7 @@ pub fn parse_line(alloc: Global, line: &[u8], kind: Kind) -> Result<Line, LineFa
         return Ok(Line::Skipped);
     }
     let (is_escaped, text) = unslash(core);
-    let Some((alg, tag, body)) = split_parts(text, kind) else {
+    let Some((alg, tag, body)) = split_text(text, kind) else {
         return Err(LineFault::Malformed);
     };
     if !is_name(body, is_escaped, 2 * tag.bytes().len()) {
@@ -99,5 +106,16 @@ fn unslash(core: &[u8]) -> (bool, &[u8])
         (true, rest)
     } else {
         (false, core)
+    }
+}
+
+// The algorithm, tag and body of a text in one of the two forms.
+fn split_text(text: &[u8], kind: Kind) -> Option<(Alg, Tag, &[u8])>
+    ensures { MatchOption result (HasNoForm text.now kind)
+        (λ p. HasForm text.now kind p.0 p.1 p.2.now) }
+{
+    match split_parts(text, kind) {
+        Some(parts) => Some(parts),
+        None => split_label(text),
     }
 }

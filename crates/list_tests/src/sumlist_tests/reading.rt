@@ -168,7 +168,7 @@ const ROWS: [(&str, &[u8], &[u8], Meaning); 35] = [
         "a tagged line",
         b"SHA256 (abc.txt) = ",
         b"",
-        Meaning::Malformed,
+        Meaning::Name("abc.txt"),
     ),
 ];
 

@@ -2,42 +2,57 @@ use Rattle.std.proofs.Common.{refl, string_bytes}
 use Rattle.std.proofs.lemmas.Bool.{false≢true}
 use Rattle.std.proofs.lemmas.Result.{err_from_is_err_and}
 use Rattle.sumlist.proofs.Parsing.{found, found_spells, found_named, line_none, line_unnamed, only_entry}
-use Rattle.sumlist.proofs.Untagging.{listing}
+use Rattle.sumlist.proofs.Stating.{listing}
 use Rattle.sumlist.proofs.line.parse_line.Goals as goal
 
 pub returns-in_default : goal.returns-in_default
 returns-in_default c =
-    line_none c.without_cr-core.result.now c.args.line.now c.args.kind c.unslash-is_escaped.result.0 c.unslash-is_escaped.result.1.now
-    c.without_cr-core.ensures (λ b. false≢true (c.if-is_blank.ensures.1 b)) c.unslash-is_escaped.ensures c.in_default.ensures
+    line_none c.without_cr-core.result.now c.args.line.now c.args.kind c.unslash-is_escaped.result.0
+    c.unslash-is_escaped.result.1.now
+    c.without_cr-core.ensures (λ b. false≢true (c.if-is_blank.ensures.1 b)) c.unslash-is_escaped.ensures
+    c.in_default.ensures
 
 pub returns-then-not-is_name : goal.returns-then-not-is_name
 returns-then-not-is_name c =
-    let line = found c.without_cr-core.result.now c.args.line.now c.args.kind c.unslash-is_escaped.result.0 c.unslash-is_escaped.result.1.now c.in-Some.alg c.in-Some.tag c.in-Some.body.now
-    c.without_cr-core.ensures (c.if-not-is_line.ensures.0 refl) (λ b. false≢true (c.if-is_blank.ensures.1 b)) c.unslash-is_escaped.ensures c.in-Some.ensures in
-    line_unnamed c.args.line.now c.args.kind c.unslash-is_escaped.result.0 c.in-Some.alg c.in-Some.tag c.in-Some.body.now line (rw c.bytes.ensures.value at c.if-not-is_name.ensures)
+    let line = found c.without_cr-core.result.now c.args.line.now c.args.kind c.unslash-is_escaped.result.0
+    c.unslash-is_escaped.result.1.now c.in-Some.alg c.in-Some.tag c.in-Some.body.now
+    c.without_cr-core.ensures (c.if-not-is_line.ensures.0 refl)
+    (λ b. false≢true (c.if-is_blank.ensures.1 b)) c.unslash-is_escaped.ensures c.in-Some.ensures in
+    line_unnamed c.args.line.now c.args.kind c.unslash-is_escaped.result.0 c.in-Some.alg c.in-Some.tag
+    c.in-Some.body.now line (rw c.bytes.ensures.value at c.if-not-is_name.ensures)
 
 pub from_parts-requires : goal.from_parts-requires
 from_parts-requires c =
-    let line = found c.without_cr-core.result.now c.args.line.now c.args.kind c.unslash-is_escaped.result.0 c.unslash-is_escaped.result.1.now c.in-Some.alg c.in-Some.tag c.in-Some.body.now
-    c.without_cr-core.ensures (c.if-not-is_line.ensures.0 refl) (λ b. false≢true (c.if-is_blank.ensures.1 b)) c.unslash-is_escaped.ensures c.in-Some.ensures in
+    let line = found c.without_cr-core.result.now c.args.line.now c.args.kind c.unslash-is_escaped.result.0
+    c.unslash-is_escaped.result.1.now c.in-Some.alg c.in-Some.tag c.in-Some.body.now
+    c.without_cr-core.ensures (c.if-not-is_line.ensures.0 refl)
+    (λ b. false≢true (c.if-is_blank.ensures.1 b)) c.unslash-is_escaped.ensures c.in-Some.ensures in
     let named = rw c.bytes.ensures.value at c.if-not-is_name.ensures in
-    (found_named c.args.line.now c.args.kind c.unslash-is_escaped.result.0 c.in-Some.alg c.in-Some.tag c.in-Some.body.now (string_bytes c.in_ok-name.name) line named c.in_ok-name.ensures).is_entry
+    (found_named c.args.line.now c.args.kind c.unslash-is_escaped.result.0 c.in-Some.alg c.in-Some.tag
+    c.in-Some.body.now (string_bytes c.in_ok-name.name) line named c.in_ok-name.ensures).is_entry
 
 pub returns : goal.returns
 returns c =
-    let line = found c.without_cr-core.result.now c.args.line.now c.args.kind c.unslash-is_escaped.result.0 c.unslash-is_escaped.result.1.now c.in-Some.alg c.in-Some.tag c.in-Some.body.now
-    c.without_cr-core.ensures (c.if-not-is_line.ensures.0 refl) (λ b. false≢true (c.if-is_blank.ensures.1 b)) c.unslash-is_escaped.ensures c.in-Some.ensures in
+    let line = found c.without_cr-core.result.now c.args.line.now c.args.kind c.unslash-is_escaped.result.0
+    c.unslash-is_escaped.result.1.now c.in-Some.alg c.in-Some.tag c.in-Some.body.now
+    c.without_cr-core.ensures (c.if-not-is_line.ensures.0 refl)
+    (λ b. false≢true (c.if-is_blank.ensures.1 b)) c.unslash-is_escaped.ensures c.in-Some.ensures in
     let named = rw c.bytes.ensures.value at c.if-not-is_name.ensures in
-    rw c.from_parts.ensures (only_entry c.args.line.now c.args.kind (listing (string_bytes c.in_ok-name.name) c.in-Some.alg c.in-Some.tag)
-    (found_named c.args.line.now c.args.kind c.unslash-is_escaped.result.0 c.in-Some.alg c.in-Some.tag c.in-Some.body.now (string_bytes c.in_ok-name.name) line named c.in_ok-name.ensures))
+    rw c.from_parts.ensures (only_entry c.args.line.now c.args.kind
+    (listing (string_bytes c.in_ok-name.name) c.in-Some.alg c.in-Some.tag)
+    (found_named c.args.line.now c.args.kind c.unslash-is_escaped.result.0 c.in-Some.alg c.in-Some.tag
+    c.in-Some.body.now (string_bytes c.in_ok-name.name) line named c.in_ok-name.ensures))
 
 pub returns-in_err-name : goal.returns-in_err-name
 returns-in_err-name c =
-    let line = found c.without_cr-core.result.now c.args.line.now c.args.kind c.unslash-is_escaped.result.0 c.unslash-is_escaped.result.1.now c.in-Some.alg c.in-Some.tag c.in-Some.body.now
-    c.without_cr-core.ensures (c.if-not-is_line.ensures.0 refl) (λ b. false≢true (c.if-is_blank.ensures.1 b)) c.unslash-is_escaped.ensures c.in-Some.ensures in
+    let line = found c.without_cr-core.result.now c.args.line.now c.args.kind c.unslash-is_escaped.result.0
+    c.unslash-is_escaped.result.1.now c.in-Some.alg c.in-Some.tag c.in-Some.body.now
+    c.without_cr-core.ensures (c.if-not-is_line.ensures.0 refl)
+    (λ b. false≢true (c.if-is_blank.ensures.1 b)) c.unslash-is_escaped.ensures c.in-Some.ensures in
     let named = rw c.bytes.ensures.value at c.if-not-is_name.ensures in
     let fault = err_from_is_err_and c.from_residual.result c.from_residual.ensures.1 in
     rw (fault.1, fault.2) (
       listing named.0 c.in-Some.alg c.in-Some.tag,
-      found_spells c.args.line.now c.args.kind c.unslash-is_escaped.result.0 c.in-Some.alg c.in-Some.tag c.in-Some.body.now named.0 line named.1 named.2 named.3,
+      found_spells c.args.line.now c.args.kind c.unslash-is_escaped.result.0 c.in-Some.alg c.in-Some.tag
+          c.in-Some.body.now named.0 line named.1 named.2 named.3,
     )

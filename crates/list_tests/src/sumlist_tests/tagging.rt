@@ -1,0 +1,125 @@
+use super::{BLAKE2B_8_EMPTY, BLAKE2S_ABC, NAMES, SHA256_ABC, entry_of, tag_of};
+use source::{Alg, FixedSink, VecSink};
+use std::test::Fail;
+use sumlist::{Kind, Line, TaggedFault, parse_line, tagged_fits, write_tagged};
+
+#[test]
+fn tagged_lines_mean_what_their_rows_tell(rt: HostRuntime) -> Result<(), Fail> {
+    let alloc = rt.alloc();
+    let d = SHA256_ABC;
+    let short = &SHA256_ABC[..2];
+    let rows = [
+        ("SHA256 (abc.txt) = ", d, Some("abc.txt")),
+        ("BLAKE2s (abc.txt) = ", BLAKE2S_ABC, Some("abc.txt")),
+        ("BLAKE2s-256 (abc.txt) = ", BLAKE2S_ABC, Some("abc.txt")),
+        ("BLAKE3 (abc.txt) = ", d, Some("abc.txt")),
+        ("BLAKE2b-8 (x) = ", short, Some("x")),
+        ("BLAKE2b-08 (x) = ", short, None),
+        ("BLAKE2b-12 (x) = ", short, None),
+        ("BLAKE2b-520 (x) = ", short, None),
+        ("sha256 (x) = ", d, None),
+        ("SHA256 () = ", d, None),
+        ("SHA256 (x) =", d, None),
+        ("SHA256 (a) = b) = ", d, Some("a) = b")),
+        ("\\SHA256 (a\\\\b\\n) = ", d, Some("a\\b\n")),
+        ("\\SHA256 (a\\x) = ", d, None),
+        ("SHA256(x) = ", d, None),
+        ("SHA256  (x) = ", d, None),
+        ("SHA256 (x) = ", short, None),
+        ("MD5 (x) = ", d, None),
+        (" SHA256 (x) = ", d, None),
+    ];
+    for (front, digits, name) in rows {
+        let line = format!(in alloc; "{front}{digits}")?;
+        for kind in [
+            Kind::Sha256,
+            Kind::Sha512,
+            Kind::Blake2b,
+            Kind::Blake2s,
+            Kind::Blake3,
+        ] {
+            match parse_line(alloc, line.as_bytes(), kind) {
+                Ok(Line::Entry(entry)) => {
+                    assert_eq!(rt; Some(entry.name()), name, "{front} {kind:?}");
+                    assert!(rt;
+                        words::same(entry.tag(), tag_of(digits)?.bytes()),
+                        "{front}"
+                    );
+                }
+                Ok(Line::Skipped) => assert!(rt; false, "{front} skipped"),
+                Err(_) => assert_eq!(rt; name, None, "{front} {kind:?}"),
+            }
+        }
+    }
+    Ok(())
+}
+
+#[test]
+fn entries_are_written_tagged_and_read_back(rt: HostRuntime) -> Result<(), Fail> {
+    let alloc = rt.alloc();
+    let cases = [
+        (Alg::Sha256, SHA256_ABC, "SHA256"),
+        (Alg::Blake2s(32), BLAKE2S_ABC, "BLAKE2s"),
+        (Alg::Blake2b(32), SHA256_ABC, "BLAKE2b-256"),
+        (Alg::Blake2b(1), BLAKE2B_8_EMPTY, "BLAKE2b-8"),
+        (Alg::Blake3, SHA256_ABC, "BLAKE3"),
+    ];
+    for (alg, digits, label) in cases {
+        for (name, lead, end) in NAMES {
+            let entry = entry_of(alloc, alg, digits, name)?;
+            let mut out = VecSink::new(alloc);
+            write_tagged(&entry, &mut out).map_err(|_| "write")?;
+            let body = &end[2..end.len() - 1];
+            let line = format!(in alloc; "{lead}{label} ({body}) = {digits}\n")?;
+            assert_eq!(rt; out.written(), line.as_bytes(), "{label} {name:?}");
+            let bytes = out.written();
+            match parse_line(alloc, &bytes[..bytes.len() - 1], Kind::Blake3) {
+                Ok(Line::Entry(read)) => {
+                    assert_eq!(rt; read.name(), name);
+                    assert_eq!(rt; read.alg(), alg);
+                }
+                _ => assert!(rt; false, "{label} {name:?}"),
+            }
+        }
+    }
+    Ok(())
+}
+
+#[test]
+fn a_tagged_line_has_at_most_65536_bytes(rt: HostRuntime) -> Result<(), Fail> {
+    let alloc = rt.alloc();
+    let most = 65_536 - 64 - 12;
+    for (len, is_short) in [(most, true), (most + 1, false)] {
+        let name = "n".repeat(alloc, len)?;
+        assert_eq!(rt; tagged_fits(Alg::Sha256, name.as_str()), is_short, "{len}");
+        let entry = entry_of(alloc, Alg::Sha256, SHA256_ABC, name.as_str())?;
+        let mut out = VecSink::new(alloc);
+        let answer = write_tagged(&entry, &mut out);
+        if is_short {
+            assert_eq!(rt; answer, Ok(()));
+            assert_eq!(rt; out.written().len(), 65_537);
+        } else {
+            assert_eq!(rt; answer, Err(TaggedFault::TooLong));
+            assert_eq!(rt; out.written().len(), 0);
+        }
+    }
+    Ok(())
+}
+
+#[test]
+fn a_full_sink_holds_a_beginning_of_the_tagged_line(rt: HostRuntime) -> Result<(), Fail> {
+    let alloc = rt.alloc();
+    let entry = entry_of(alloc, Alg::Blake2b(1), BLAKE2B_8_EMPTY, "a\\b")?;
+    let line = b"\\BLAKE2b-8 (a\\\\b) = 2e\n";
+    let mut storage = [0; 64];
+    for room in 0..line.len() {
+        let mut out = FixedSink::new(&mut storage[..room]);
+        assert_eq!(rt;
+            write_tagged(&entry, &mut out),
+            Err(TaggedFault::Write),
+            "{room}"
+        );
+        assert_eq!(rt; out.written(), &line[..room]);
+    }
+    Ok(())
+}

@@ -1,0 +1,55 @@
+-- Lines that name their algorithm: `LABEL (name) = digits`.
+use Rattle.std.specs.Prelude.{◌⊎◌, ◌≡◌, ℕ, ◌+◌, ◌*◌, List, [], ◌∷◌, ◌++◌, length, if◌then◌else◌, ◌==◌, Ok, codes}
+use Rattle.std.specs.Fmt.{decimal}
+use Rattle.hex.specs.Hex.{decode_of, encode_lower}
+use Rattle.source.specs.declared.alg.Alg.{Alg}
+use Rattle.source.specs.declared.alg.Alg.TheVariants.{Sha256, Sha512, Blake2b, Blake2s, Blake3}
+use Rattle.source.specs.Digest.{tag_len, IsInRange}
+use Rattle.sumlist.specs.Escape.{escaped, lead}
+use Rattle.sumlist.specs.Entry.{Listing}
+
+-- a label that names an algorithm; the number is that of the tag's bits, and may be left out at a whole tag
+abbrev pub IsLabel : List ℕ → Alg → Type 0
+IsLabel label Sha256 = label ≡ codes "SHA256"
+IsLabel label Sha512 = label ≡ codes "SHA512"
+IsLabel label (Blake2b n) = ((n ≡ 64) × (label ≡ codes "BLAKE2b")) ⊎ (label ≡ codes "BLAKE2b-" ++ decimal (8 * n))
+IsLabel label (Blake2s n) = ((n ≡ 32) × (label ≡ codes "BLAKE2s")) ⊎ (label ≡ codes "BLAKE2s-" ++ decimal (8 * n))
+IsLabel label Blake3 = label ≡ codes "BLAKE3"
+
+-- what stands before the name
+abbrev pub opening : List ℕ → List ℕ
+opening rest = 32 ∷ 40 ∷ rest
+
+-- what stands after the name, before the digits
+abbrev pub closing : List ℕ → List ℕ
+closing digits = 41 ∷ 32 ∷ 61 ∷ 32 ∷ digits
+
+-- a label, a body in brackets, and digits
+pub record Labelled (text : List ℕ) (alg : Alg) (tag body : List ℕ) : Type 0 where
+  pub label : List ℕ
+  pub digits : List ℕ
+  pub whole : text ≡ label ++ opening (body ++ closing digits)
+  pub range : IsInRange alg
+  pub names : IsLabel label alg
+  pub sized : length digits ≡ 2 * tag_len alg
+  pub tag_is : decode_of digits ≡ Ok tag
+
+-- the label that is written for an algorithm
+abbrev pub label_of : Alg → List ℕ
+label_of Sha256 = codes "SHA256"
+label_of Sha512 = codes "SHA512"
+label_of (Blake2b n) = if n == 64 then codes "BLAKE2b" else codes "BLAKE2b-" ++ decimal (8 * n)
+label_of (Blake2s n) = if n == 32 then codes "BLAKE2s" else codes "BLAKE2s-" ++ decimal (8 * n)
+label_of Blake3 = codes "BLAKE3"
+
+-- the tagged line of an entry, without its LF
+abbrev pub tagged_line : Listing → List ℕ
+tagged_line e = lead e.name ++ (label_of e.alg ++ opening (escaped e.name ++ closing (encode_lower e.tag)))
+
+-- the tagged line with its LF
+abbrev pub tagged : Listing → List ℕ
+tagged e = tagged_line e ++ 10 ∷ []
+
+-- how long the tagged line of an algorithm and a name is
+abbrev pub tagged_len : Alg → List ℕ → ℕ
+tagged_len alg name = length (lead name) + length (label_of alg) + 2 + length (escaped name) + 4 + 2 * tag_len alg
