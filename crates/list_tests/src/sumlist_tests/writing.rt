@@ -147,14 +147,11 @@ impl Sink for Counter {
 }
 
 #[test]
-fn a_line_takes_few_writes(rt: HostRuntime) -> Result<(), Fail> {
+fn a_name_is_cut_at_its_escapes_alone(rt: HostRuntime) -> Result<(), Fail> {
     let alloc = rt.alloc();
-    let slashes = "\\".repeat(alloc, 30_000)?;
-    for (name, writes) in [
-        ("a plain name of any length", 2),
-        ("one\nend", 3),
-        (slashes.as_str(), 3),
-    ] {
+    let long = "n".repeat(alloc, 60_000)?;
+    // The digits, two spaces, what stands before, between and behind the escapes, each escape, and LF.
+    for (name, writes) in [("a", 4), (long.as_str(), 4), ("one\nend", 7), ("\\\r", 6)] {
         let entry = entry_of(alloc, Alg::Sha256, SHA256_ABC, name)?;
         let mut out = Counter { writes: 0 };
         assert_eq!(rt; write_entry(&entry, &mut out), Ok(()));
