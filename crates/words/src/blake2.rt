@@ -5,6 +5,7 @@ ghost use Rattle.words.specs.Blake2.{blake2b, blake2s, compress, rounds, working
 
 use crate::rows::{round32, round64};
 use crate::tables::{IV32, IV64, SIGMA};
+use std::simd::{u32x4, u64x4};
 
 // The chaining value and the initial value, with the count and the last block's mark worked in.
 macro_rules! working {
@@ -33,19 +34,20 @@ macro_rules! ten_rounds {
     };
 }
 
-// The chaining value and the two halves of the state, xored word by word.
+// The eight words of two rows.
+macro_rules! joined {
+    ($low:ident, $high:ident) => {{
+        let [h0, h1, h2, h3] = $low.to_array();
+        let [h4, h5, h6, h7] = $high.to_array();
+        [h0, h1, h2, h3, h4, h5, h6, h7]
+    }};
+}
+
+// A row of the chaining value, with the rows of the state from two places on xored in.
 macro_rules! folded {
-    ($h:ident, $v:ident) => {
-        [
-            $h[0] ^ $v[0] ^ $v[8],
-            $h[1] ^ $v[1] ^ $v[9],
-            $h[2] ^ $v[2] ^ $v[10],
-            $h[3] ^ $v[3] ^ $v[11],
-            $h[4] ^ $v[4] ^ $v[12],
-            $h[5] ^ $v[5] ^ $v[13],
-            $h[6] ^ $v[6] ^ $v[14],
-            $h[7] ^ $v[7] ^ $v[15],
-        ]
+    ($row:ident, $h:ident, $v:ident, $i:literal, $j:literal) => {
+        $h ^ $row::from_array([$v[$i], $v[$i + 1], $v[$i + 2], $v[$i + 3]])
+            ^ $row::from_array([$v[$j], $v[$j + 1], $v[$j + 2], $v[$j + 3]])
     };
 }
 
@@ -91,9 +93,15 @@ fn rounds64(v: &mut [u64; 16], m: &[u64; 16])
 pub fn compress_2s(h: &mut [u32; 8], m: &[u32; 16], t: u64, last: bool)
     ensures { h.new ≡ compress blake2s h.old m.now t last }
 {
-    let mut v = working32(h, t, last);
+    // The chaining value is read and written by rows, so that it stays in registers from block to block.
+    let low = u32x4::from_slice(&h[..4]);
+    let high = u32x4::from_slice(&h[4..]);
+    let mut v = working32(&joined!(low, high), t, last);
     rounds32(&mut v, m);
-    *h = folded!(h, v);
+    let low = folded!(u32x4, low, v, 0, 8);
+    let high = folded!(u32x4, high, v, 4, 12);
+    low.copy_to_slice(&mut h[..4]);
+    high.copy_to_slice(&mut h[4..]);
 }
 
 /// F of BLAKE2b: takes the block `m` into the chaining value `h`, where `t` bytes have come with
@@ -102,7 +110,13 @@ pub fn compress_2s(h: &mut [u32; 8], m: &[u32; 16], t: u64, last: bool)
 pub fn compress_2b(h: &mut [u64; 8], m: &[u64; 16], t: u128, last: bool)
     ensures { h.new ≡ compress blake2b h.old m.now t last }
 {
-    let mut v = working64(h, t, last);
+    // The chaining value is read and written by rows, so that it stays in registers from block to block.
+    let low = u64x4::from_slice(&h[..4]);
+    let high = u64x4::from_slice(&h[4..]);
+    let mut v = working64(&joined!(low, high), t, last);
     rounds64(&mut v, m);
-    *h = folded!(h, v);
+    let low = folded!(u64x4, low, v, 0, 8);
+    let high = folded!(u64x4, high, v, 4, 12);
+    low.copy_to_slice(&mut h[..4]);
+    high.copy_to_slice(&mut h[4..]);
 }
