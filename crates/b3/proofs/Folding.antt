@@ -1,6 +1,6 @@
 -- The recursion of the tree from the top is a fold of its subtrees from the end: over k closed
 -- chunks and a last one, the left subtrees of the recursion are the trees of the one-bits of k.
-use Rattle.std.proofs.Common.{◌≡◌, ℕ, zero, suc, ◌+◌, ◌-◌, ◌*◌, ◌^◌, ◌<◌, ◌≤◌, List, [], ◌∷◌, ◌++◌, length, take, drop, refl, sym, ap, ◌∙◌, inl, inr, arith, add-zero, pow_pos, pow_mono, length-drop, length-take-le}
+use Rattle.std.proofs.Common.{◌≡◌, ℕ, zero, suc, ◌+◌, ◌-◌, ◌*◌, ◌^◌, ◌<◌, ◌≤◌, List, [], ◌∷◌, ◌++◌, length, take, drop, refl, sym, ap, ap₂, ◌∙◌, inl, inr, arith, add-zero, zero-add, pow_pos, pow_mono, length-drop, length-take-le}
 use Rattle.std.proofs.Math.Nat.{pow-succ'}
 use Rattle.std.proofs.lemmas.Bool.{cases_lt, le-leb, lt-leb}
 use Rattle.std.proofs.lemmas.List.{drop-drop, take-take, drop-take, take-append-le, drop-append-le}
@@ -9,6 +9,7 @@ use Rattle.b3.specs.Node.{Node, cv}
 use Rattle.b3.specs.Chunk.{chunk}
 use Rattle.b3.specs.Tree.{parent, tree_within, tree, chunk_count, IsGreatestPowerBelow}
 use Rattle.b3.specs.Stack.{subtree_cv}
+use Rattle.b3.specs.inside.Runs.{run_cv}
 use Rattle.b3.proofs.Subtrees.{subtrees_low, subtrees_high}
 
 n-lt-pow : (n : ℕ) → n < 2 ^ n
@@ -116,12 +117,14 @@ module _ (key : List ℕ) (flags : ℕ) (m : List ℕ) where
             ∙ ap (λ (xs : List (List ℕ)). root_over key flags xs (chunk key flags (i + k) (drop (1024 * (i + k)) m))) (sym (subtrees_high (subtree_cv key flags m) l i k ge))
       ]
 
+-- in a run of chunks
+module _ (key : List ℕ) (flags c : ℕ) (m : List ℕ) where
   -- two subtrees of one size side by side are a subtree
-  pub subtree_join : (l i : ℕ) → 1024 * (i + 2 ^ suc l) ≤ length m
-      → subtree_cv key flags m (suc l) i
-      ≡ cv (parent key flags (subtree_cv key flags m l i) (subtree_cv key flags m l (i + 2 ^ l)))
-  unfolding subtree_cv
-  subtree_join l i h =
+  pub run_join : (l i : ℕ) → 1024 * (i + 2 ^ suc l) ≤ length m
+      → run_cv key flags c m (suc l) i
+      ≡ cv (parent key flags (run_cv key flags c m l i) (run_cv key flags c m l (i + 2 ^ l)))
+  unfolding run_cv
+  run_join l i h =
       let p : ℕ = 2 ^ l in
       let double : 2 ^ suc l ≡ 2 * p = pow-succ' 2 l in
       let rest : List ℕ = drop (1024 * i) m in
@@ -134,29 +137,54 @@ module _ (key : List ℕ) (flags : ℕ) (m : List ℕ) where
       = take-take (1024 * p) (1024 * 2 ^ suc l) rest (omega arith) in
       let size : 1024 * 2 ^ suc l ≡ 1024 * p + 1024 * p = omega arith in
       let at : 1024 * i + 1024 * p ≡ 1024 * (i + p) = omega arith in
+      let place : c + i + p ≡ c + (i + p) = omega arith in
       let second : drop (1024 * p) whole ≡ take (1024 * p) (drop (1024 * (i + p)) m)
       = ap (λ (n : ℕ). drop (1024 * p) (take n rest)) size ∙ drop-take (1024 * p) (1024 * p) rest
       ∙ ap (λ (ys : List ℕ). take (1024 * p) ys) (drop-drop (1024 * p) (1024 * i) m ∙ ap (λ (n : ℕ). drop n m) at) in
-      ap cv (tree_split key flags i p whole cut ∙ rw (first, second) refl)
+      ap cv (tree_split key flags (c + i) p whole cut ∙ rw (first, second, place) refl)
 
   -- a whole chunk is the least subtree
-  pub subtree_chunk : (i : ℕ) → 1024 * (i + 1) ≤ length m
-      → subtree_cv key flags m 0 i ≡ cv (chunk key flags i (take 1024 (drop (1024 * i) m)))
-  unfolding subtree_cv
-  subtree_chunk i h =
+  pub run_chunk : (i : ℕ) → 1024 * (i + 1) ≤ length m
+      → run_cv key flags c m 0 i ≡ cv (chunk key flags (c + i) (take 1024 (drop (1024 * i) m)))
+  unfolding run_cv
+  run_chunk i h =
       let rest_len : length (drop (1024 * i) m) ≡ length m - 1024 * i = length-drop (1024 * i) m in
       let len : length (take 1024 (drop (1024 * i) m)) ≡ 1024
       = length-take-le 1024 (drop (1024 * i) m) (omega arith) in
-      ap cv (tree_one key flags i (take 1024 (drop (1024 * i) m)) (omega arith))
+      ap cv (tree_one key flags (c + i) (take 1024 (drop (1024 * i) m)) (omega arith))
 
--- bytes that come later change no whole subtree
+  -- bytes that come later change no whole subtree
+  pub run_append : (x : List ℕ) (l i : ℕ) → 1024 * (i + 2 ^ l) ≤ length m
+      → run_cv key flags c (m ++ x) l i ≡ run_cv key flags c m l i
+  unfolding run_cv
+  run_append x l i h =
+      let n : ℕ = 1024 * 2 ^ l in
+      let rest_len : length (drop (1024 * i) m) ≡ length m - 1024 * i = length-drop (1024 * i) m in
+      let start : drop (1024 * i) (m ++ x) ≡ drop (1024 * i) m ++ x = drop-append-le (1024 * i) m x (omega arith) in
+      let part : take n (drop (1024 * i) m ++ x) ≡ take n (drop (1024 * i) m)
+      = take-append-le n (drop (1024 * i) m) x (omega arith) in
+      ap (λ (ys : List ℕ). cv (tree key flags (c + i) ys)) (ap (λ (ys : List ℕ). take n ys) start ∙ part)
+
+-- a whole message is the run from chunk 0 on
+module _ (key : List ℕ) (flags : ℕ) (m : List ℕ) where
+  subtree_run : (l i : ℕ) → run_cv key flags 0 m l i ≡ subtree_cv key flags m l i
+  unfolding run_cv subtree_cv
+  subtree_run l i = ap (λ (n : ℕ). cv (tree key flags n (take (1024 * 2 ^ l) (drop (1024 * i) m)))) (zero-add i)
+
+  pub subtree_join : (l i : ℕ) → 1024 * (i + 2 ^ suc l) ≤ length m
+      → subtree_cv key flags m (suc l) i
+      ≡ cv (parent key flags (subtree_cv key flags m l i) (subtree_cv key flags m l (i + 2 ^ l)))
+  subtree_join l i h =
+      sym (subtree_run (suc l) i) ∙ run_join key flags 0 m l i h
+      ∙ ap₂ (λ (x y : List ℕ). cv (parent key flags x y)) (subtree_run l i) (subtree_run l (i + 2 ^ l))
+
+  pub subtree_chunk : (i : ℕ) → 1024 * (i + 1) ≤ length m
+      → subtree_cv key flags m 0 i ≡ cv (chunk key flags i (take 1024 (drop (1024 * i) m)))
+  subtree_chunk i h =
+      sym (subtree_run 0 i) ∙ run_chunk key flags 0 m i h
+      ∙ ap (λ (n : ℕ). cv (chunk key flags n (take 1024 (drop (1024 * i) m)))) (zero-add i)
+
 pub subtree_append : (key : List ℕ) (flags : ℕ) (m x : List ℕ) (l i : ℕ) → 1024 * (i + 2 ^ l) ≤ length m
     → subtree_cv key flags (m ++ x) l i ≡ subtree_cv key flags m l i
-unfolding subtree_cv
 subtree_append key flags m x l i h =
-    let n : ℕ = 1024 * 2 ^ l in
-    let rest_len : length (drop (1024 * i) m) ≡ length m - 1024 * i = length-drop (1024 * i) m in
-    let start : drop (1024 * i) (m ++ x) ≡ drop (1024 * i) m ++ x = drop-append-le (1024 * i) m x (omega arith) in
-    let part : take n (drop (1024 * i) m ++ x) ≡ take n (drop (1024 * i) m)
-    = take-append-le n (drop (1024 * i) m) x (omega arith) in
-    ap (λ (ys : List ℕ). cv (tree key flags i ys)) (ap (λ (ys : List ℕ). take n ys) start ∙ part)
+    sym (subtree_run key flags (m ++ x) l i) ∙ run_append key flags 0 m x l i h ∙ subtree_run key flags m l i

@@ -9,3 +9,4 @@ pub mod Stack
 pub mod Hasher
 pub mod Rooms
 pub mod Output
+pub mod inside

@@ -1,15 +1,80 @@
 // The hasher (the BLAKE3 paper, section 5.1).
 
-ghost use Rattle.std.specs.Prelude.{◌≡◌, ℕ, ◌+◌, ◌-◌, ◌*◌, ◌^◌, ◌<◌, ◌≤◌, List, [], ◌∷◌, ◌++◌, length, take, count_ones};
+ghost use Rattle.std.specs.Prelude.{◌≡◌, ℕ, ◌+◌, ◌-◌, ◌*◌, ◌%◌, ◌^◌, ◌<◌, ◌≤◌, List, [], ◌∷◌, ◌++◌, length, slice_index_or, take, count_ones};
 ghost use Rattle.arrayvec.specs.ArrayVec.{array_vec_len};
 
 use crate::chunk::{CHUNK_LEN, Chunk};
+use crate::lanes::{chunk_values, open_lefts, subtree_of};
 use crate::mode::{DERIVE_KEY_CONTEXT, DERIVE_KEY_MATERIAL, KEYED_HASH, words_of_key};
-use crate::node::Node;
+use crate::node::{BLOCK_LEN, Node};
 use crate::output::Output;
 use crate::stack::push_subtree;
 use arrayvec::ArrayVec;
 use words::{Absorb, IV32};
+
+// The bytes of eight chunks.
+const GROUP_LEN: usize = 8192;
+
+// The level of the longest run of 8 * 2 ^ level chunks, at most 1024 of them, that lies within `left` bytes and
+// begins at chunk `closed`, a multiple of its length.
+fn run_level(closed: u64, left: usize) -> u32
+    requires aligned { closed % 8 ≡ 0 }
+    requires some { 8192 ≤ left }
+    ensures aligned { closed % (8 * 2 ^ result) ≡ 0 }
+    ensures within { 8192 * 2 ^ result ≤ left }
+    ensures most { result ≤ 7 }
+{
+    if closed % 1024 == 0 && left >= 1048576 {
+        return 7;
+    }
+    if closed % 512 == 0 && left >= 524288 {
+        return 6;
+    }
+    if closed % 256 == 0 && left >= 262144 {
+        return 5;
+    }
+    if closed % 128 == 0 && left >= 131072 {
+        return 4;
+    }
+    if closed % 64 == 0 && left >= 65536 {
+        return 3;
+    }
+    if closed % 32 == 0 && left >= 32768 {
+        return 2;
+    }
+    if closed % 16 == 0 && left >= 16384 {
+        return 1;
+    }
+    0
+}
+
+// The bytes of a run of 8 * 2 ^ level chunks.
+fn run_len(level: u32) -> usize
+    requires { level ≤ 7 }
+    ensures { result ≡ 8192 * 2 ^ level }
+{
+    8192usize << level
+}
+
+// The chunks of a subtree of 2 ^ level chunks.
+fn subtree_chunks(level: u32) -> u64
+    requires { level ≤ 10 }
+    ensures { result ≡ 2 ^ level }
+{
+    1u64 << level
+}
+
+// The bytes of the chunks up to the next multiple of eight, without the one that the last of `left` bytes is in.
+fn whole_chunks(closed: u64, left: usize) -> usize
+    requires { 1024 < left }
+    ensures some { 0 < result }
+    ensures most { result ≤ 8192 }
+    ensures whole { result % 1024 ≡ 0 }
+    ensures within { result < left }
+{
+    let aligned = 8 - (closed % 8) as usize;
+    aligned.min((left - 1) / CHUNK_LEN) * CHUNK_LEN
+}
 
 /// A BLAKE3 hasher, in one of the three modes. It takes its input by `Absorb`, at most 2^64 - 1
 /// bytes in all, takes no memory, and holds at most 54 chaining values.
@@ -30,7 +95,10 @@ impl Blake3 {
     ghost use Rattle.b3.specs.Hasher.{Holds, IsSplit, hasher_count, hasher_room, hasher_parameters};
     ghost use Rattle.b3.specs.Output.{output_root, output_position};
     ghost use Rattle.b3.specs.Modes.{hash_parameters, keyed_parameters, derive_parameters, context_parameters, root_of};
-    ghost use Rattle.b3.specs.Tree.{chunk_count};
+    ghost use Rattle.b3.specs.Tree.{chunk_count, tree};
+    ghost use Rattle.b3.specs.Node.{cv};
+    ghost use Rattle.b3.specs.Chunk.{value_before};
+    ghost use Rattle.b3.specs.inside.Runs.{run_cv};
     ghost use Rattle.b3.specs.Bytes.{slice};
 
     /// A hasher of the empty input in the mode `hash` (section 2.3).
@@ -139,7 +207,142 @@ impl Blake3 {
         self.chunk = Chunk::new(&self.key);
     }
 
-    /// Takes the beginning of `rest` that the open chunk has room for, and answers its length.
+    // Adds a subtree of 2 ^ level chunks by its chaining value; more bytes follow it.
+    fn push_value(&mut self, level: u32, value: [u32; 8])
+        requires empty { self.old.chunk.len ≡ 0 }
+        requires most { level ≤ 10 }
+        requires aligned { self.old.closed % 2 ^ level ≡ 0 }
+        requires more { 1024 * self.old.closed + 1024 * 2 ^ level + 1 < 2 ^ 64 }
+        ensures key { self.new.key ≡ self.old.key }
+        ensures flags { self.new.flags ≡ self.old.flags }
+        ensures closed { self.new.closed ≡ self.old.closed + 2 ^ level }
+        ensures chunk { self.new.chunk.len ≡ 0 }
+        ensures split { (m y : List ℕ) → IsSplit self.old m → length y ≡ 1024 * 2 ^ level
+            → value ≡ cv (tree self.old.key self.old.flags self.old.closed y) → IsSplit self.new (m ++ y) }
+    {
+        let chunks = subtree_chunks(level);
+        self.closed += chunks;
+        push_subtree(
+            &mut self.stack,
+            &self.key,
+            self.flags,
+            value,
+            self.closed / chunks,
+        );
+    }
+
+    // Adds a run of 8 * 2 ^ level chunks; more bytes follow it.
+    fn push_run(&mut self, level: u32, bytes: &[u8])
+        requires empty { self.old.chunk.len ≡ 0 }
+        requires most { level ≤ 7 }
+        requires aligned { self.old.closed % (8 * 2 ^ level) ≡ 0 }
+        requires length { length bytes.now ≡ 8192 * 2 ^ level }
+        requires more { 1024 * self.old.closed + length bytes.now + 1 < 2 ^ 64 }
+        ensures key { self.new.key ≡ self.old.key }
+        ensures flags { self.new.flags ≡ self.old.flags }
+        ensures closed { 1024 * self.new.closed ≡ 1024 * self.old.closed + length bytes.now }
+        ensures chunk { self.new.chunk.len ≡ 0 }
+        ensures split { (m : List ℕ) → IsSplit self.old m → IsSplit self.new (m ++ bytes.now) }
+    {
+        let value = subtree_of(&self.key, self.flags, self.closed, level, bytes);
+        self.push_value(level + 3, value);
+    }
+
+    // Adds a run of 8 * 2 ^ level chunks, of which the last stays open.
+    fn open_run(&mut self, level: u32, bytes: &[u8])
+        requires empty { self.old.chunk.len ≡ 0 }
+        requires most { level ≤ 7 }
+        requires aligned { self.old.closed % (8 * 2 ^ level) ≡ 0 }
+        requires length { length bytes.now ≡ 8192 * 2 ^ level }
+        requires more { 1024 * self.old.closed + length bytes.now < 2 ^ 64 }
+        ensures key { self.new.key ≡ self.old.key }
+        ensures flags { self.new.flags ≡ self.old.flags }
+        ensures closed { 1024 * self.new.closed + 1024 ≡ 1024 * self.old.closed + length bytes.now }
+        ensures chunk { self.new.chunk.len ≡ 1024 }
+        ensures split { (m : List ℕ) → IsSplit self.old m → IsSplit self.new (m ++ bytes.now) }
+    {
+        let (lefts, before) = open_lefts(&self.key, self.flags, self.closed, level, bytes);
+        let mut left = level + 3;
+        'lefts: while left > 0 {
+            left -= 1;
+            self.push_value(left, lefts[left as usize]);
+        }
+        self.open_chunk(before, &bytes[bytes.len() - CHUNK_LEN..]);
+    }
+
+    // Adds the first `n` of at most eight whole chunks by their chaining values; more bytes follow them.
+    fn push_values(&mut self, values: &[[u32; 8]; 8], n: usize)
+        requires empty { self.old.chunk.len ≡ 0 }
+        requires most { n ≤ 8 }
+        requires more { 1024 * self.old.closed + 1024 * n + 1 < 2 ^ 64 }
+        ensures key { self.new.key ≡ self.old.key }
+        ensures flags { self.new.flags ≡ self.old.flags }
+        ensures closed { self.new.closed ≡ self.old.closed + n }
+        ensures chunk { self.new.chunk.len ≡ 0 }
+        ensures split { (m y : List ℕ) → IsSplit self.old m → length y ≡ 1024 * n
+            → ((i : ℕ) → i < n
+            → slice_index_or values.now i [] ≡ run_cv self.old.key self.old.flags self.old.closed y 0 i)
+            → IsSplit self.new (m ++ y) }
+    {
+        'chunks: for i in 0..n {
+            self.push_value(0, values[i]);
+        }
+    }
+
+    // Adds a whole chunk, which stays open, by the chaining value before its last block.
+    fn open_chunk(&mut self, before: [u32; 8], bytes: &[u8])
+        requires empty { self.old.chunk.len ≡ 0 }
+        requires whole { length bytes.now ≡ 1024 }
+        requires fits { 1024 * self.old.closed + 1024 < 2 ^ 64 }
+        ensures key { self.new.key ≡ self.old.key }
+        ensures flags { self.new.flags ≡ self.old.flags }
+        ensures closed { self.new.closed ≡ self.old.closed }
+        ensures chunk { self.new.chunk.len ≡ 1024 }
+        ensures split { (m : List ℕ) → IsSplit self.old m
+            → before ≡ value_before self.old.key self.old.flags self.old.closed bytes.now 15
+            → IsSplit self.new (m ++ bytes.now) }
+    {
+        self.chunk = Chunk::full(before, &bytes[CHUNK_LEN - BLOCK_LEN..]);
+    }
+
+    // Adds at most eight whole chunks; more bytes follow them.
+    fn push_chunks(&mut self, bytes: &[u8])
+        requires empty { self.old.chunk.len ≡ 0 }
+        requires some { 0 < length bytes.now }
+        requires whole { length bytes.now % 1024 ≡ 0 }
+        requires most { length bytes.now ≤ 8192 }
+        requires more { 1024 * self.old.closed + length bytes.now + 1 < 2 ^ 64 }
+        ensures key { self.new.key ≡ self.old.key }
+        ensures flags { self.new.flags ≡ self.old.flags }
+        ensures closed { 1024 * self.new.closed ≡ 1024 * self.old.closed + length bytes.now }
+        ensures chunk { self.new.chunk.len ≡ 0 }
+        ensures split { (m : List ℕ) → IsSplit self.old m → IsSplit self.new (m ++ bytes.now) }
+    {
+        let (values, _before) = chunk_values(&self.key, self.flags, self.closed, bytes);
+        self.push_values(&values, bytes.len() / CHUNK_LEN);
+    }
+
+    // Adds at most eight whole chunks, of which the last stays open.
+    fn open_chunks(&mut self, bytes: &[u8])
+        requires empty { self.old.chunk.len ≡ 0 }
+        requires some { 0 < length bytes.now }
+        requires whole { length bytes.now % 1024 ≡ 0 }
+        requires most { length bytes.now ≤ 8192 }
+        requires more { 1024 * self.old.closed + length bytes.now < 2 ^ 64 }
+        ensures key { self.new.key ≡ self.old.key }
+        ensures flags { self.new.flags ≡ self.old.flags }
+        ensures closed { 1024 * self.new.closed + 1024 ≡ 1024 * self.old.closed + length bytes.now }
+        ensures chunk { self.new.chunk.len ≡ 1024 }
+        ensures split { (m : List ℕ) → IsSplit self.old m → IsSplit self.new (m ++ bytes.now) }
+    {
+        let (values, before) = chunk_values(&self.key, self.flags, self.closed, bytes);
+        let last = bytes.len() / CHUNK_LEN - 1;
+        self.push_values(&values, last);
+        self.open_chunk(before[last], &bytes[CHUNK_LEN * last..]);
+    }
+
+    /// Takes a beginning of `rest`, and answers its length: whole chunks, where no chunk is begun and
+    /// three or more have come, or what the open chunk has room for.
     pub(crate) fn take_some(&mut self, rest: &[u8]) -> usize
         requires some { 0 < length rest.now }
         requires room { self.old.chunk.len < 1024 }
@@ -152,6 +355,27 @@ impl Blake3 {
             → IsSplit self.new (m ++ take result rest.now) }
         ensures last { result ≡ length rest.now → 0 < self.new.chunk.len }
     {
+        if self.chunk.len() == 0 && rest.len() >= 3 * CHUNK_LEN {
+            if self.closed % 8 == 0 && rest.len() >= GROUP_LEN {
+                let level = run_level(self.closed, rest.len());
+                let n = run_len(level);
+                if n == rest.len() {
+                    self.open_run(level, rest);
+                    return n;
+                }
+                self.push_run(level, &rest[..n]);
+                return n;
+            }
+            if rest.len() <= GROUP_LEN && rest.len() % CHUNK_LEN == 0 {
+                self.open_chunks(rest);
+                return rest.len();
+            }
+            let n = whole_chunks(self.closed, rest.len());
+            if n >= 3 * CHUNK_LEN {
+                self.push_chunks(&rest[..n]);
+                return n;
+            }
+        }
         let n = (CHUNK_LEN - self.chunk.len()).min(rest.len());
         self.chunk.update(self.closed, self.flags, &rest[..n]);
         n

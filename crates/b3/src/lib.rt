@@ -21,6 +21,7 @@ pub use output::{EndOfOutput, Output};
 mod absorb;
 mod chunk;
 mod hasher;
+mod lanes;
 mod laws;
 mod mode;
 mod node;

@@ -292,6 +292,58 @@ fn as_many_values_are_held_as_the_closed_chunks_have_one_bits(rt: HostRuntime) -
     Ok(())
 }
 
+// The lengths at which groups of eight chunks, and runs of such groups, begin and end: on a border, before it
+// and behind it, each cut once, with the last chunk open.
+#[test]
+fn eight_chunks_at_once_are_eight_chunks(rt: HostRuntime) -> Result<(), Fail> {
+    // A length, where it is cut, and how many chaining values are held.
+    let table = [
+        (8192, 8192, 3),
+        (8193, 8193, 1),
+        (8193, 8192, 1),
+        (8193, 1, 1),
+        (16384, 16384, 4),
+        (16384, 8191, 4),
+        (16385, 16385, 1),
+        (16385, 1, 1),
+        (16385, 16384, 1),
+        (3072, 3072, 1),
+        (7168, 7168, 2),
+        (17408, 1024, 1),
+        (16384, 3072, 4),
+        (32768, 32768, 5),
+        (32768, 24576, 5),
+        (65536, 65536, 6),
+        (65537, 65537, 1),
+        (65536, 32768, 6),
+    ];
+    let context = slow_tree(&IV, 32, 0, CONTEXT);
+    let mut derived = [0; 32];
+    slow_bytes(&context, &mut derived);
+    for (length, first, held) in table {
+        let input = counting(rt.alloc(), length)?;
+        let input = input.as_slice();
+        let cut = input.len().min(first);
+        let cases = [
+            (Blake3::new(), IV, 0),
+            (Blake3::keyed(KEY), slow_key(KEY), 16),
+            (Blake3::derive(CONTEXT), slow_key(&derived), 64),
+        ];
+        for (hasher, key, flags) in cases {
+            let mut hasher = hasher;
+            assert!(rt; hasher.update(&input[..cut]).is_ok());
+            assert!(rt; hasher.update(&input[cut..]).is_ok());
+            assert_eq!(rt; hasher.held(), held, "{length} bytes, cut at {first}");
+            let mut fast = [0; 70];
+            assert!(rt; read_at(&hasher, 0, &mut fast));
+            let mut slow = [0; 70];
+            slow_bytes(&slow_tree(&key, flags, 0, input), &mut slow);
+            assert_eq!(rt; fast, slow, "{length} bytes, cut at {first}, flag {flags}");
+        }
+    }
+    Ok(())
+}
+
 #[test]
 fn how_the_input_is_cut_makes_no_difference(rt: HostRuntime) -> Result<(), Fail> {
     // Pieces of one byte, around a block and a chunk, and the whole.

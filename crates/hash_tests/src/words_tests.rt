@@ -1,4 +1,6 @@
-use words::{Tag, compress_2b, compress_2s, compress_3, g32, g64, same, words32, words64};
+use words::{
+    Tag, compress_2b, compress_2s, compress_3, compress_3x8, g32, g64, same, words32, words64,
+};
 
 // The chaining value before the first block and the words of "abc", as in RFC 7693, appendices A
 // and B: unkeyed, with the longest digest.
@@ -101,6 +103,31 @@ fn blake3_compresses_nothing(rt: HostRuntime) {
         0x3a24_086c,
     ];
     assert_eq!(rt; compress_3(&iv, &[0; 16], 0, 0, 11), output);
+}
+
+// Eight different inputs, whose counters run from 2^32 - 4 to 2^32 + 3.
+#[test]
+fn each_lane_is_one_compression(rt: HostRuntime) {
+    let mut h = [[0; 8]; 8];
+    let mut m = [[0; 16]; 8];
+    let mut t = [0; 8];
+    let mut word = 1u32;
+    for i in 0..8usize {
+        for j in 0..8usize {
+            word = word.wrapping_mul(1_664_525).wrapping_add(1_013_904_223);
+            h[i][j] = word;
+        }
+        for j in 0..16usize {
+            word = word.wrapping_mul(1_664_525).wrapping_add(1_013_904_223);
+            m[i][j] = word;
+        }
+        t[i] = 0xffff_fffc + i as u64;
+    }
+    let lanes = compress_3x8(&h, &m, &t, 61, 0x7b);
+    for i in 0..8usize {
+        let alone = compress_3(&h[i], &m[i], t[i], 61, 0x7b);
+        assert_eq!(rt; lanes[i][..], alone[..8], "lane {i}");
+    }
 }
 
 #[test]

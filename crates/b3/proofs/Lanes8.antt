@@ -1,0 +1,90 @@
+-- Blocks of eight chunks that lie one after the other.
+use Rattle.std.proofs.Common.{◌≡◌, ℕ, zero, suc, ◌+◌, ◌-◌, ◌*◌, ◌<◌, ◌≤◌, List, [], ◌++◌, length, take, drop, refl, sym, ap, ◌∙◌, arith, append-nil, length-drop, length-take-le, add-one}
+use Rattle.std.proofs.lemmas.List.{take-take, drop-take, drop-drop}
+use Rattle.words.specs.Blake3.{compress3}
+use Rattle.words.specs.Words.{words}
+use Rattle.b3.specs.Node.{cv}
+use Rattle.b3.specs.Chunk.{chunk, value_before, block, block_words, last_block, start_flag}
+
+-- a block of a chunk within the bytes
+pub block_at : (x : List ℕ) (i j : ℕ) → j < 16
+    → block (take 1024 (drop (1024 * i) x)) j ≡ take 64 (drop (1024 * i + 64 * j) x)
+block_at x i j h =
+    let size : 1024 ≡ 64 * j + (1024 - 64 * j) = omega arith in
+    let d : List ℕ = drop (1024 * i) x in
+    let tail : drop (64 * j) (take 1024 d) ≡ take (1024 - 64 * j) (drop (64 * j) d)
+    = ap (λ (n : ℕ). drop (64 * j) (take n d)) size ∙ drop-take (64 * j) (1024 - 64 * j) d in
+    ap (λ (ys : List ℕ). take 64 ys) tail ∙ take-take 64 (1024 - 64 * j) (drop (64 * j) d) (omega arith)
+    ∙ ap (λ (ys : List ℕ). take 64 ys) (drop-drop (64 * j) (1024 * i) x)
+
+pub block_words_full : (x : List ℕ) → length x ≡ 64 → block_words x ≡ words 4 16 x
+unfolding block_words
+block_words_full x h =
+    let padded : x ++ [] ≡ x = append-nil x in
+    rw (h, padded) refl
+
+-- the words that a lane reads
+pub lane_block : (x b : List ℕ) (i j : ℕ) → 1024 * i + 1024 ≤ length x → j < 16
+    → b ≡ take 64 (drop (1024 * i + 64 * j) x)
+    → words 4 16 b ≡ block_words (block (take 1024 (drop (1024 * i) x)) j)
+lane_block x b i j w hj e =
+    let here : b ≡ block (take 1024 (drop (1024 * i) x)) j = e ∙ sym (block_at x i j hj) in
+    let size : length (take 64 (drop (1024 * i + 64 * j) x)) ≡ 64
+    = length-take-le 64 (drop (1024 * i + 64 * j) x) (omega (arith, length-drop (1024 * i + 64 * j) x)) in
+    sym (ap block_words (sym here) ∙ block_words_full b (ap length e ∙ size))
+
+-- what holds of each number below four
+pub below_four : (P : ℕ → Type 0) → P 0 → P 1 → P 2 → P 3 → (i : ℕ) → i < 4 → P i
+below_four P p0 p1 p2 p3 zero h = p0
+below_four P p0 p1 p2 p3 (suc zero) h = p1
+below_four P p0 p1 p2 p3 (suc (suc zero)) h = p2
+below_four P p0 p1 p2 p3 (suc (suc (suc zero))) h = p3
+below_four P p0 p1 p2 p3 (suc (suc (suc (suc n)))) h = absurd (omega arith)
+
+-- what holds of each of the eight lanes
+pub below_eight : (P : ℕ → Type 0) → P 0 → P 1 → P 2 → P 3 → P 4 → P 5 → P 6 → P 7 → (i : ℕ) → i < 8 → P i
+below_eight P p0 p1 p2 p3 p4 p5 p6 p7 zero h = p0
+below_eight P p0 p1 p2 p3 p4 p5 p6 p7 (suc zero) h = p1
+below_eight P p0 p1 p2 p3 p4 p5 p6 p7 (suc (suc zero)) h = p2
+below_eight P p0 p1 p2 p3 p4 p5 p6 p7 (suc (suc (suc zero))) h = p3
+below_eight P p0 p1 p2 p3 p4 p5 p6 p7 (suc (suc (suc (suc zero)))) h = p4
+below_eight P p0 p1 p2 p3 p4 p5 p6 p7 (suc (suc (suc (suc (suc zero))))) h = p5
+below_eight P p0 p1 p2 p3 p4 p5 p6 p7 (suc (suc (suc (suc (suc (suc zero)))))) h = p6
+below_eight P p0 p1 p2 p3 p4 p5 p6 p7 (suc (suc (suc (suc (suc (suc (suc zero))))))) h = p7
+below_eight P p0 p1 p2 p3 p4 p5 p6 p7 (suc (suc (suc (suc (suc (suc (suc (suc n)))))))) h = absurd (omega arith)
+
+-- the same, of a lane that begins at its own chunk
+pub lane_read : (x r : List ℕ) (start i j : ℕ) → r ≡ words 4 16 (take 64 (drop (start + 64 * j) x))
+    → (1024 * i ≤ length x - 1024 → start ≡ 1024 * i)
+    → j < 16 → 1024 * i + 1024 ≤ length x → r ≡ block_words (block (take 1024 (drop (1024 * i) x)) j)
+lane_read x r start i j e own h w =
+    let here : start ≡ 1024 * i = own (omega arith) in
+    e ∙ lane_block x (take 64 (drop (start + 64 * j) x)) i j w h (ap (λ (a : ℕ). take 64 (drop (a + 64 * j) x)) here)
+
+-- the flags of a block that is not the last of sixteen
+pub flag_more : (flags j d : ℕ) → (j ≡ 0 → d ≡ flags + 1) → (0 < j → j < 15 → d ≡ flags) → j < 15
+    → d ≡ flags + start_flag j
+flag_more flags zero d first later h = first refl
+flag_more flags (suc j) d first later h =
+    let none : flags + 0 ≡ flags = omega arith in
+    later (omega arith) h ∙ sym none
+
+-- one block more of a chunk of 1024 bytes
+pub value_more : (key : List ℕ) (flags c d : ℕ) (x : List ℕ) (j : ℕ) → length x ≡ 1024 → j < 15
+    → d ≡ flags + start_flag j
+    → take 8 (compress3 (value_before key flags c x j) (block_words (block x j)) c 64 d) ≡ value_before key flags c x
+    (j + 1)
+unfolding value_before cv
+value_more key flags c d x j len h e =
+    let size : length (block x j) ≡ 64 = length-take-le 64 (drop (64 * j) x) (omega (arith, length-drop (64 * j) x)) in
+    rw (add-one, size, e) refl
+
+-- the last block of a chunk of 1024 bytes
+pub value_last : (key : List ℕ) (flags c d : ℕ) (x : List ℕ) → length x ≡ 1024 → d ≡ flags + 2
+    → take 8 (compress3 (value_before key flags c x 15) (block_words (block x 15)) c 64 d) ≡ cv (chunk key flags c x)
+unfolding chunk cv
+value_last key flags c d x len e =
+    let last : last_block x ≡ 15 = omega arith in
+    let size : length (block x 15) ≡ 64 = length-take-le 64 (drop 960 x) (omega (arith, length-drop 960 x)) in
+    let none : flags + 0 ≡ flags = omega arith in
+    rw (last, size, e, none) refl

@@ -1,0 +1,32 @@
+use Rattle.std.proofs.Common.{◌≡◌, ℕ, ◌+◌, ◌*◌, List, ◌++◌, length, take, drop, ◌∙◌, arith, length-take-le, length-drop}
+use Rattle.std.proofs.lemmas.List.{take_all}
+use Rattle.b3.proofs.Pieces.{take_further}
+use Rattle.b3.proofs.Runs.{run_at}
+use Rattle.b3.proofs.hasher.Blake3.push_values.Goals as goal
+
+pub chunks-preserved : goal.chunks-preserved
+chunks-preserved c =
+    let i : ℕ = c.chunks.i in
+    let step : 1024 * (i + 1) ≡ 1024 * i + 1024 = omega arith in
+    record {
+      key = c.push_value.ensures.key ∙ c.chunks.invariant.key;
+      flags = c.push_value.ensures.flags ∙ c.chunks.invariant.flags;
+      closed = omega arith;
+      empty = c.push_value.ensures.chunk;
+      split = λ m y held size values.
+          let chunk : List ℕ = take 1024 (drop (1024 * i) y) in
+          let whole : length chunk ≡ 1024
+          = length-take-le 1024 (drop (1024 * i) y) (omega (arith, length-drop (1024 * i) y)) in
+          let value = values i (omega arith)
+          ∙ run_at c.args.self.now.key c.args.self.now.flags c.args.self.now.closed y 0 i c.chunks.self.closed
+          c.chunks.invariant.closed in
+          rw (step, take_further m y (1024 * i) 1024)
+          (c.push_value.ensures.split (m ++ take (1024 * i) y) chunk
+          (c.chunks.invariant.split m y held size values) whole
+          (rw (c.chunks.invariant.key, c.chunks.invariant.flags) value));
+    }
+
+pub returns-clause-split : goal.returns-clause-split
+returns-clause-split c = λ m y held size values.
+    let done : c.chunks.i ≡ c.args.n = omega arith in
+    rw (take_all (1024 * c.chunks.i) y (omega arith)) at (c.chunks.invariant.split m y held size values)

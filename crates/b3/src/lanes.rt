@@ -1,0 +1,260 @@
+// Eight chunks at once, and the subtrees over them (the BLAKE3 paper, section 5.3).
+
+ghost use Rattle.std.specs.Prelude.{◌≡◌, ℕ, ◌+◌, ◌-◌, ◌*◌, ◌<◌, ◌≤◌, ◌^◌, [], length, slice_index, slice_index_or};
+ghost use Rattle.b3.specs.Stack.{joined_cv};
+ghost use Rattle.b3.specs.inside.Runs.{run_cv, value_before_last};
+ghost use Rattle.words.specs.inside.Lanes.{lane8};
+
+use crate::chunk::CHUNK_LEN;
+use crate::node::{BLOCK_LEN, CHUNK_END, CHUNK_START, Node, PARENT, pair};
+use std::simd::prelude::*;
+use words::compress_3x8;
+use words::lanes::{Turns, lane_rows, message_lanes, next_lanes, pair_lanes, same_lanes};
+
+// Where lane `i` begins to read: at its own chunk, or at the last one, which begins at `last`.
+#[inline(always)]
+fn lane_start(i: usize, last: usize) -> usize
+    requires { i < 8 }
+    ensures own { 1024 * i ≤ last → result ≡ 1024 * i }
+    ensures within { result ≤ last }
+{
+    if 1024 * i <= last { 1024 * i } else { last }
+}
+
+// Where each lane begins to read.
+#[inline(always)]
+fn lane_starts(last: usize) -> [usize; 8]
+    ensures own { (i : ℕ) → i < 8 → 1024 * i ≤ last → slice_index result i ≡ 1024 * i }
+    ensures within { (i : ℕ) → i < 8 → slice_index result i ≤ last }
+{
+    [
+        lane_start(0, last),
+        lane_start(1, last),
+        lane_start(2, last),
+        lane_start(3, last),
+        lane_start(4, last),
+        lane_start(5, last),
+        lane_start(6, last),
+        lane_start(7, last),
+    ]
+}
+
+// The flags of block `j` of a whole chunk.
+#[inline(always)]
+fn block_flags(flags: u8, j: usize) -> u32
+    requires { j < 16 }
+    ensures first { j ≡ 0 → result ≡ flags + 1 }
+    ensures later { 0 < j → j < 15 → result ≡ flags }
+    ensures last { j ≡ 15 → result ≡ flags + 2 }
+{
+    let start = if j == 0 { CHUNK_START } else { 0 };
+    let end = if j == 15 { CHUNK_END } else { 0 };
+    u32::from(flags) + u32::from(start) + u32::from(end)
+}
+
+// The numbers of eight chunks.
+fn numbers(first: u64) -> [u64; 8]
+    requires { first + 8 < 2 ^ 64 }
+    ensures { (i : ℕ) → i < 8 → slice_index result i ≡ first + i }
+{
+    [
+        first,
+        first + 1,
+        first + 2,
+        first + 3,
+        first + 4,
+        first + 5,
+        first + 6,
+        first + 7,
+    ]
+}
+
+// The chaining values of at most eight whole chunks, by lanes; `before` takes those before the last block of
+// each. Lanes beyond the last chunk read it again.
+fn chunk_lanes(
+    key: &[u32; 8],
+    flags: u8,
+    first: u64,
+    bytes: &[u8],
+    before: &mut [u32x8; 8],
+) -> [u32x8; 8]
+    requires some { 1024 ≤ length bytes.now }
+    requires numbers { first + 8 < 2 ^ 64 }
+    ensures values { (i : ℕ) → i < 8 → 1024 * i + 1024 ≤ length bytes.now
+        → lane8 i result ≡ run_cv key.now flags first bytes.now 0 i }
+    ensures before { (i : ℕ) → i < 8 → 1024 * i + 1024 ≤ length bytes.now
+        → lane8 i before.new ≡ value_before_last key.now flags first bytes.now i }
+{
+    let counters = numbers(first);
+    let starts = lane_starts(bytes.len() - CHUNK_LEN);
+    let turns = Turns::new();
+    let mut values = same_lanes(key);
+    'each_block: for j in 0..16 {
+        let message = message_lanes(bytes, &starts, BLOCK_LEN * j);
+        let next = next_lanes::<0>(turns, values, message, &counters, 64, block_flags(flags, j));
+        *before = values;
+        values = next;
+    }
+    values
+}
+
+/// The chaining values of at most eight whole chunks, and those before the last block of each.
+pub(crate) fn chunk_values(
+    key: &[u32; 8],
+    flags: u8,
+    first: u64,
+    bytes: &[u8],
+) -> ([[u32; 8]; 8], [[u32; 8]; 8])
+    requires some { 1024 ≤ length bytes.now }
+    requires numbers { first + 8 < 2 ^ 64 }
+    ensures values { (i : ℕ) → i < 8 → 1024 * i + 1024 ≤ length bytes.now
+        → slice_index_or result.0 i [] ≡ run_cv key.now flags first bytes.now 0 i }
+    ensures before { (i : ℕ) → i < 8 → 1024 * i + 1024 ≤ length bytes.now
+        → slice_index_or result.1 i [] ≡ value_before_last key.now flags first bytes.now i }
+{
+    let mut before = same_lanes(key);
+    let values = chunk_lanes(key, flags, first, bytes, &mut before);
+    (lane_rows(values), lane_rows(before))
+}
+
+// The chaining value over two.
+fn join(key: &[u32; 8], flags: u8, left: &[u32; 8], right: &[u32; 8]) -> [u32; 8]
+    ensures { result ≡ joined_cv key.now flags left.now right.now }
+{
+    Node::parent(key, flags, left, right).chaining_value()
+}
+
+// The chaining values over the neighbours among eight.
+fn parents(key: &[u32; 8], flags: u8, values: &[[u32; 8]; 8]) -> [[u32; 8]; 4]
+    ensures { (i : ℕ) → i < 4 → slice_index_or result i []
+        ≡ joined_cv key.now flags (slice_index_or values.now (2 * i) []) (slice_index_or values.now (2 * i + 1) []) }
+{
+    let blocks = [
+        pair(&values[0], &values[1]),
+        pair(&values[2], &values[3]),
+        pair(&values[4], &values[5]),
+        pair(&values[6], &values[7]),
+        [0; 16],
+        [0; 16],
+        [0; 16],
+        [0; 16],
+    ];
+    let d = u32::from(flags) + u32::from(PARENT);
+    let [first, second, third, fourth, _, _, _, _] = compress_3x8(
+        &[*key; 8], &blocks, &[0; 8], 64, d,
+    );
+    [first, second, third, fourth]
+}
+
+// The chaining values over the neighbours in two times eight lanes.
+fn parent_lanes(key: &[u32; 8], flags: u8, left: [u32x8; 8], right: [u32x8; 8]) -> [u32x8; 8]
+    ensures left { (i : ℕ) → i < 4
+        → lane8 i result ≡ joined_cv key.now flags (lane8 (2 * i) left) (lane8 (2 * i + 1) left) }
+    ensures right { (i : ℕ) → i < 4
+        → lane8 (4 + i) result ≡ joined_cv key.now flags (lane8 (2 * i) right) (lane8 (2 * i + 1) right) }
+{
+    let d = u32::from(flags) + u32::from(PARENT);
+    next_lanes::<1>(
+        Turns::new(),
+        same_lanes(key),
+        pair_lanes(left, right),
+        &[0; 8],
+        64,
+        d,
+    )
+}
+
+// The chaining values of eight subtrees of 2 ^ level chunks, one after the other, by lanes.
+fn subtree_lanes(key: &[u32; 8], flags: u8, first: u64, level: u32, bytes: &[u8]) -> [u32x8; 8]
+    requires length { length bytes.now ≡ 8192 * 2 ^ level }
+    requires numbers { first + 8 * 2 ^ level < 2 ^ 64 }
+    ensures { (i : ℕ) → i < 8 → lane8 i result ≡ run_cv key.now flags first bytes.now level (2 ^ level * i) }
+{
+    if level == 0 {
+        let mut before = same_lanes(key);
+        return chunk_lanes(key, flags, first, bytes, &mut before);
+    }
+    let half = bytes.len() / 2;
+    let middle = first + (half / 1024) as u64;
+    let left = subtree_lanes(key, flags, first, level - 1, &bytes[..half]);
+    let right = subtree_lanes(key, flags, middle, level - 1, &bytes[half..]);
+    parent_lanes(key, flags, left, right)
+}
+
+/// The chaining value of a subtree of 8 * 2 ^ level chunks.
+pub(crate) fn subtree_of(
+    key: &[u32; 8],
+    flags: u8,
+    first: u64,
+    level: u32,
+    bytes: &[u8],
+) -> [u32; 8]
+    requires length { length bytes.now ≡ 8192 * 2 ^ level }
+    requires numbers { first + 8 * 2 ^ level < 2 ^ 64 }
+    ensures { result ≡ run_cv key.now flags first bytes.now (level + 3) 0 }
+{
+    let values = lane_rows(subtree_lanes(key, flags, first, level, bytes));
+    let over = parents(key, flags, &values);
+    let left = join(key, flags, &over[0], &over[1]);
+    let right = join(key, flags, &over[2], &over[3]);
+    join(key, flags, &left, &right)
+}
+
+// The chaining values of eight subtrees of 2 ^ level chunks, by lanes, where the last chunk may be the last
+// of the message. `lefts` takes those of the left subtrees between the last of the eight and the last chunk,
+// the smallest first, and the last lane of `before` the value before the last block of that chunk.
+fn open_lanes(
+    key: &[u32; 8],
+    flags: u8,
+    first: u64,
+    level: u32,
+    bytes: &[u8],
+    lefts: &mut [[u32; 8]; 10],
+    before: &mut [u32x8; 8],
+) -> [u32x8; 8]
+    requires length { length bytes.now ≡ 8192 * 2 ^ level }
+    requires numbers { first + 8 * 2 ^ level < 2 ^ 64 }
+    requires most { level ≤ 7 }
+    ensures values { (i : ℕ) → i < 8
+        → lane8 i result ≡ run_cv key.now flags first bytes.now level (2 ^ level * i) }
+    ensures lefts { (j : ℕ) → j < level
+        → slice_index_or lefts.new j [] ≡ run_cv key.now flags first bytes.now j (8 * 2 ^ level - 2 * 2 ^ j) }
+    ensures before { lane8 7 before.new ≡ value_before_last key.now flags first bytes.now (8 * 2 ^ level - 1) }
+{
+    if level == 0 {
+        return chunk_lanes(key, flags, first, bytes, before);
+    }
+    let half = bytes.len() / 2;
+    let middle = first + (half / 1024) as u64;
+    let left = subtree_lanes(key, flags, first, level - 1, &bytes[..half]);
+    let right = open_lanes(key, flags, middle, level - 1, &bytes[half..], lefts, before);
+    lefts[(level - 1) as usize] = lane_rows(right)[6];
+    parent_lanes(key, flags, left, right)
+}
+
+/// Of a run of 8 * 2 ^ level chunks, the last of which may be the last of the message: the chaining values
+/// of the left subtrees above the last chunk, the smallest first, and the value before its last block.
+pub(crate) fn open_lefts(
+    key: &[u32; 8],
+    flags: u8,
+    first: u64,
+    level: u32,
+    bytes: &[u8],
+) -> ([[u32; 8]; 10], [u32; 8])
+    requires length { length bytes.now ≡ 8192 * 2 ^ level }
+    requires numbers { first + 8 * 2 ^ level < 2 ^ 64 }
+    requires most { level ≤ 7 }
+    ensures lefts { (j : ℕ) → j < level + 3
+        → slice_index_or result.0 j [] ≡ run_cv key.now flags first bytes.now j (8 * 2 ^ level - 2 * 2 ^ j) }
+    ensures before { result.1 ≡ value_before_last key.now flags first bytes.now (8 * 2 ^ level - 1) }
+{
+    let mut lefts = [[0; 8]; 10];
+    let mut before = same_lanes(key);
+    let values = lane_rows(open_lanes(key, flags, first, level, bytes, &mut lefts, &mut before));
+    let over = parents(key, flags, &values);
+    let at = level as usize;
+    lefts[at] = values[6];
+    lefts[at + 1] = over[2];
+    lefts[at + 2] = join(key, flags, &over[0], &over[1]);
+    (lefts, lane_rows(before)[7])
+}

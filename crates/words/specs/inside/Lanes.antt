@@ -1,0 +1,62 @@
+-- Eight compressions side by side: each word is a vector, with one lane for each of them.
+use Rattle.std.specs.Prelude.{ℕ, drop, suc, ◌+◌, ◌*◌, ◌/◌, List, [], ◌∷◌, slice_index, slice_index_or}
+use Rattle.byteorder.specs.Endian.{little_number}
+
+-- lane i of vector k
+abbrev pub lane_at : List (List ℕ) → ℕ → ℕ → ℕ
+lane_at x k i = slice_index (slice_index_or x k []) i
+
+-- the words in lane i of 4, of 8 and of 16 vectors
+abbrev pub lane4 : ℕ → List (List ℕ) → List ℕ
+lane4 i x =
+    lane_at x 0 i ∷ lane_at x 1 i ∷ lane_at x 2 i ∷ lane_at x 3 i ∷ []
+
+abbrev pub lane8 : ℕ → List (List ℕ) → List ℕ
+lane8 i x =
+    lane_at x 0 i ∷ lane_at x 1 i ∷ lane_at x 2 i ∷ lane_at x 3 i ∷
+    lane_at x 4 i ∷ lane_at x 5 i ∷ lane_at x 6 i ∷ lane_at x 7 i ∷ []
+
+unfoldable pub lane : ℕ → List (List ℕ) → List ℕ
+lane i x =
+    lane_at x 0 i ∷ lane_at x 1 i ∷ lane_at x 2 i ∷ lane_at x 3 i ∷
+    lane_at x 4 i ∷ lane_at x 5 i ∷ lane_at x 6 i ∷ lane_at x 7 i ∷
+    lane_at x 8 i ∷ lane_at x 9 i ∷ lane_at x 10 i ∷ lane_at x 11 i ∷
+    lane_at x 12 i ∷ lane_at x 13 i ∷ lane_at x 14 i ∷ lane_at x 15 i ∷ []
+
+-- eight rows of eight for their columns
+abbrev pub transposed8 : List (List ℕ) → List (List ℕ)
+transposed8 x =
+    lane8 0 x ∷
+    lane8 1 x ∷
+    lane8 2 x ∷
+    lane8 3 x ∷
+    lane8 4 x ∷
+    lane8 5 x ∷
+    lane8 6 x ∷
+    lane8 7 x ∷ []
+
+-- where each byte of eight words comes from when they turn right by 16 and by 8: places in its block of 16
+abbrev pub places_16 : List ℕ
+places_16 = 2 ∷ 3 ∷ 0 ∷ 1 ∷ 6 ∷ 7 ∷ 4 ∷ 5 ∷ 10 ∷ 11 ∷ 8 ∷ 9 ∷ 14 ∷ 15 ∷ 12 ∷ 13 ∷ 2 ∷ 3 ∷ 0 ∷ 1 ∷ 6 ∷ 7 ∷ 4 ∷ 5 ∷ 10
+    ∷ 11 ∷ 8 ∷ 9 ∷ 14 ∷ 15 ∷ 12 ∷ 13 ∷ []
+
+abbrev pub places_8 : List ℕ
+places_8 = 1 ∷ 2 ∷ 3 ∷ 0 ∷ 5 ∷ 6 ∷ 7 ∷ 4 ∷ 9 ∷ 10 ∷ 11 ∷ 8 ∷ 13 ∷ 14 ∷ 15 ∷ 12 ∷ 1 ∷ 2 ∷ 3 ∷ 0 ∷ 5 ∷ 6 ∷ 7 ∷ 4 ∷ 9 ∷ 10
+    ∷ 11 ∷ 8 ∷ 13 ∷ 14 ∷ 15 ∷ 12 ∷ []
+
+-- the numbers at places in a list, each in the block of 16 in which it stands
+abbrev pub moved_from : ℕ → List ℕ → List ℕ → List ℕ
+moved_from i [] x = []
+moved_from i (p ∷ ps) x = slice_index x (16 * (i / 16) + p) ∷ moved_from (suc i) ps x
+
+abbrev pub moved : List ℕ → List ℕ → List ℕ
+moved ps x = moved_from 0 ps x
+
+-- the words in lane i of vectors p, p + 4, p + 8 and p + 12
+abbrev pub lane_column : ℕ → ℕ → List (List ℕ) → List ℕ
+lane_column p i x =
+    lane_at x p i ∷ lane_at x (p + 4) i ∷ lane_at x (p + 8) i ∷ lane_at x (p + 12) i ∷ []
+
+-- the word at byte i
+abbrev pub word_at : List ℕ → ℕ → ℕ
+word_at x i = little_number 4 (drop i x)

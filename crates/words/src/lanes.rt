@@ -1,0 +1,734 @@
+// The compression function of BLAKE3 on eight inputs side by side: vectors of eight words, one lane each.
+
+ghost use Rattle.std.specs.Prelude.{◌≡◌, ℕ, ◌<◌, ◌+◌, ◌*◌, ◌/◌, ◌%◌, ◌^◌, slice_index, slice_index_or, [], ◌∷◌, List, take, drop, length, bit_xor, ◌≤◌, ◌++◌};
+ghost use Rattle.words.specs.Blake3.{words_in_order, working_words3, rounds3, folded_halves3, compress3};
+ghost use Rattle.words.specs.Mix.{word_sum, rotated_xor, g, round};
+ghost use Rattle.words.specs.Tables.{permutation};
+ghost use Rattle.words.specs.Blake2.{schedule, blake2s};
+ghost use Rattle.std.specs.Simd.Lanes.{number_l, chunk};
+ghost use Rattle.words.specs.inside.Lanes.{lane, lane4, lane8, transposed8, places_16, places_8, word_at, lane_column, lane_at, moved};
+ghost use Rattle.words.specs.Words.{words};
+
+use crate::tables::IV32;
+use std::simd::prelude::*;
+
+/// Where the bytes of eight words come from when they turn by 16 and by 8.
+#[derive(Clone, Copy)]
+pub struct Turns {
+    by_16: u8x32,
+    by_8: u8x32,
+    ghost sixteen: { by_16 ≡ places_16 },
+    ghost eight: { by_8 ≡ places_8 },
+}
+
+impl Turns {
+    /// The places. A call, so that the compiler does not know them and leaves each turn as one shuffle.
+    #[inline(never)]
+    pub fn new() -> Turns {
+        Turns {
+            by_16: u8x32::from_array([
+                2, 3, 0, 1, 6, 7, 4, 5, 10, 11, 8, 9, 14, 15, 12, 13, 2, 3, 0, 1, 6, 7, 4, 5, 10,
+                11, 8, 9, 14, 15, 12, 13,
+            ]),
+            by_8: u8x32::from_array([
+                1, 2, 3, 0, 5, 6, 7, 4, 9, 10, 11, 8, 13, 14, 15, 12, 1, 2, 3, 0, 5, 6, 7, 4, 9,
+                10, 11, 8, 13, 14, 15, 12,
+            ]),
+        }
+    }
+}
+
+#[inline(always)]
+fn xor(x: u32x8, y: u32x8) -> u32x8
+    ensures lanes { (i : ℕ) → i < 8 → slice_index result i ≡ bit_xor (slice_index x i) (slice_index y i) }
+    ensures fit { (i : ℕ) → i < 8 → slice_index result i < 2 ^ 32 }
+{
+    x ^ y
+}
+
+// The sum of words.
+#[inline(always)]
+fn add(x: u32x8, y: u32x8) -> u32x8
+    ensures { (i : ℕ) → i < 8 → slice_index result i ≡ word_sum blake2s (slice_index x i) (slice_index y i) }
+{
+    x + y
+}
+
+// The bytes of eight words.
+#[inline(always)]
+fn bytes(x: u32x8) -> u8x32
+    ensures { (i j : ℕ) → i < 8 → j < 4 → slice_index result (4 * i + j) ≡ slice_index x i / 256 ^ j % 256 }
+{
+    x.to_le_bytes()
+}
+
+// The words of bytes.
+#[inline(always)]
+fn words_of(x: u8x32) -> u32x8
+    ensures { (i : ℕ) → i < 8 → slice_index result i ≡ number_l 256 (chunk (4 * i) 4 x) }
+{
+    u32x8::from_le_bytes(x)
+}
+
+// The bytes of words that turn by 16.
+#[inline(always)]
+fn move16(turns: Turns, x: u8x32) -> u8x32
+    ensures { result ≡ moved places_16 x }
+{
+    x.swizzle_dyn_within::<16>(turns.by_16)
+}
+
+// The bytes of words that turn by 8.
+#[inline(always)]
+fn move8(turns: Turns, x: u8x32) -> u8x32
+    ensures { result ≡ moved places_8 x }
+{
+    x.swizzle_dyn_within::<16>(turns.by_8)
+}
+
+// x xor y, rotated right by 16.
+#[inline(always)]
+fn turn16(turns: Turns, x: u32x8, y: u32x8) -> u32x8
+    ensures { (i : ℕ) → i < 8 → slice_index result i ≡ rotated_xor blake2s 0 (slice_index x i) (slice_index y i) }
+{
+    words_of(move16(turns, bytes(xor(x, y))))
+}
+
+// x xor y, rotated right by 12.
+#[inline(always)]
+fn turn12(x: u32x8, y: u32x8) -> u32x8
+    ensures { (i : ℕ) → i < 8 → slice_index result i ≡ rotated_xor blake2s 1 (slice_index x i) (slice_index y i) }
+{
+    let z = x ^ y;
+    (z >> u32x8::splat(12)) | (z << u32x8::splat(20))
+}
+
+// x xor y, rotated right by 8.
+#[inline(always)]
+fn turn8(turns: Turns, x: u32x8, y: u32x8) -> u32x8
+    ensures { (i : ℕ) → i < 8 → slice_index result i ≡ rotated_xor blake2s 2 (slice_index x i) (slice_index y i) }
+{
+    words_of(move8(turns, bytes(xor(x, y))))
+}
+
+// x xor y, rotated right by 7.
+#[inline(always)]
+fn turn7(x: u32x8, y: u32x8) -> u32x8
+    ensures { (i : ℕ) → i < 8 → slice_index result i ≡ rotated_xor blake2s 3 (slice_index x i) (slice_index y i) }
+{
+    let z = x ^ y;
+    (z >> u32x8::splat(7)) | (z << u32x8::splat(25))
+}
+
+// G on the four columns of sixteen words, side by side.
+#[inline(always)]
+fn four_g(turns: Turns, v: [u32x8; 16], m: [u32x8; 8]) -> [u32x8; 16]
+    ensures first { (i : ℕ) → i < 8
+        → lane_column 0 i result ≡ g blake2s (lane_column 0 i v) (lane_at m 0 i) (lane_at m 1 i) }
+    ensures second { (i : ℕ) → i < 8
+        → lane_column 1 i result ≡ g blake2s (lane_column 1 i v) (lane_at m 2 i) (lane_at m 3 i) }
+    ensures third { (i : ℕ) → i < 8
+        → lane_column 2 i result ≡ g blake2s (lane_column 2 i v) (lane_at m 4 i) (lane_at m 5 i) }
+    ensures fourth { (i : ℕ) → i < 8
+        → lane_column 3 i result ≡ g blake2s (lane_column 3 i v) (lane_at m 6 i) (lane_at m 7 i) }
+{
+    let [
+        a0,
+        a1,
+        a2,
+        a3,
+        b0,
+        b1,
+        b2,
+        b3,
+        c0,
+        c1,
+        c2,
+        c3,
+        d0,
+        d1,
+        d2,
+        d3,
+    ] = v;
+    let p0 = add(add(a0, b0), m[0]);
+    let p1 = add(add(a1, b1), m[2]);
+    let p2 = add(add(a2, b2), m[4]);
+    let p3 = add(add(a3, b3), m[6]);
+    let s0 = turn16(turns, d0, p0);
+    let s1 = turn16(turns, d1, p1);
+    let s2 = turn16(turns, d2, p2);
+    let s3 = turn16(turns, d3, p3);
+    let r0 = add(c0, s0);
+    let r1 = add(c1, s1);
+    let r2 = add(c2, s2);
+    let r3 = add(c3, s3);
+    let q0 = turn12(b0, r0);
+    let q1 = turn12(b1, r1);
+    let q2 = turn12(b2, r2);
+    let q3 = turn12(b3, r3);
+    let e0 = add(add(p0, q0), m[1]);
+    let e1 = add(add(p1, q1), m[3]);
+    let e2 = add(add(p2, q2), m[5]);
+    let e3 = add(add(p3, q3), m[7]);
+    let h0 = turn8(turns, s0, e0);
+    let h1 = turn8(turns, s1, e1);
+    let h2 = turn8(turns, s2, e2);
+    let h3 = turn8(turns, s3, e3);
+    let g0 = add(r0, h0);
+    let g1 = add(r1, h1);
+    let g2 = add(r2, h2);
+    let g3 = add(r3, h3);
+    let f0 = turn7(q0, g0);
+    let f1 = turn7(q1, g1);
+    let f2 = turn7(q2, g2);
+    let f3 = turn7(q3, g3);
+    [
+        e0, e1, e2, e3, f0, f1, f2, f3, g0, g1, g2, g3, h0, h1, h2, h3,
+    ]
+}
+
+// One round.
+#[inline(always)]
+fn round_lanes(turns: Turns, v: [u32x8; 16], m: [u32x8; 16]) -> [u32x8; 16]
+    ensures { (i : ℕ) → i < 8 → lane i result ≡ round blake2s (lane i v) (lane i m) (schedule 0) }
+{
+    let [
+        a0,
+        a1,
+        a2,
+        a3,
+        b0,
+        b1,
+        b2,
+        b3,
+        c0,
+        c1,
+        c2,
+        c3,
+        d0,
+        d1,
+        d2,
+        d3,
+    ] = four_g(turns, v, [m[0], m[1], m[2], m[3], m[4], m[5], m[6], m[7]]);
+    let [
+        a0,
+        a1,
+        a2,
+        a3,
+        b1,
+        b2,
+        b3,
+        b0,
+        c2,
+        c3,
+        c0,
+        c1,
+        d3,
+        d0,
+        d1,
+        d2,
+    ] = four_g(
+        turns,
+        [
+            a0, a1, a2, a3, b1, b2, b3, b0, c2, c3, c0, c1, d3, d0, d1, d2,
+        ],
+        [m[8], m[9], m[10], m[11], m[12], m[13], m[14], m[15]],
+    );
+    [
+        a0, a1, a2, a3, b0, b1, b2, b3, c0, c1, c2, c3, d0, d1, d2, d3,
+    ]
+}
+
+// The message words in the order of the next round.
+#[inline(always)]
+#[tactic(auto, unfolding(crate::specs::inside::Lanes::lane))]
+fn permute_lanes(m: [u32x8; 16]) -> [u32x8; 16]
+    ensures { (i : ℕ) → i < 8 → lane i result ≡ words_in_order (lane i m) permutation }
+{
+    [
+        m[2], m[6], m[3], m[10], m[7], m[0], m[4], m[13], m[1], m[11], m[12], m[5], m[9], m[14],
+        m[15], m[8],
+    ]
+}
+
+// The seven rounds.
+#[inline(always)]
+#[tactic(auto, unfolding(crate::specs::Blake3::rounds3, crate::specs::Blake3::permuted_words))]
+fn rounds_lanes<const USE: usize>(turns: Turns, v: [u32x8; 16], m: [u32x8; 16]) -> [u32x8; 16]
+    ensures { (i : ℕ) → i < 8 → lane i result ≡ rounds3 (lane i v) (lane i m) 7 }
+{
+    let m1 = permute_lanes(m);
+    let m2 = permute_lanes(m1);
+    let m3 = permute_lanes(m2);
+    let m4 = permute_lanes(m3);
+    let m5 = permute_lanes(m4);
+    let m6 = permute_lanes(m5);
+    let v = round_lanes(turns, v, m);
+    let v = round_lanes(turns, v, m1);
+    let v = round_lanes(turns, v, m2);
+    let v = round_lanes(turns, v, m3);
+    let v = round_lanes(turns, v, m4);
+    let v = round_lanes(turns, v, m5);
+    round_lanes(turns, v, m6)
+}
+
+#[inline(always)]
+fn unpack_low(a: u32x8, b: u32x8) -> u32x8
+    ensures { result ≡ slice_index a 0 ∷ slice_index b 0 ∷ slice_index a 1 ∷ slice_index b 1 ∷ slice_index a 4
+        ∷ slice_index b 4 ∷ slice_index a 5 ∷ slice_index b 5 ∷ [] }
+{
+    a.shuffle(b, [0, 8, 1, 9, 4, 12, 5, 13])
+}
+
+#[inline(always)]
+fn unpack_high(a: u32x8, b: u32x8) -> u32x8
+    ensures { result ≡ slice_index a 2 ∷ slice_index b 2 ∷ slice_index a 3 ∷ slice_index b 3 ∷ slice_index a 6
+        ∷ slice_index b 6 ∷ slice_index a 7 ∷ slice_index b 7 ∷ [] }
+{
+    a.shuffle(b, [2, 10, 3, 11, 6, 14, 7, 15])
+}
+
+#[inline(always)]
+fn pairs_low(a: u32x8, b: u32x8) -> u32x8
+    ensures { result ≡ slice_index a 0 ∷ slice_index a 1 ∷ slice_index b 0 ∷ slice_index b 1 ∷ slice_index a 4
+        ∷ slice_index a 5 ∷ slice_index b 4 ∷ slice_index b 5 ∷ [] }
+{
+    a.shuffle(b, [0, 1, 8, 9, 4, 5, 12, 13])
+}
+
+#[inline(always)]
+fn pairs_high(a: u32x8, b: u32x8) -> u32x8
+    ensures { result ≡ slice_index a 2 ∷ slice_index a 3 ∷ slice_index b 2 ∷ slice_index b 3 ∷ slice_index a 6
+        ∷ slice_index a 7 ∷ slice_index b 6 ∷ slice_index b 7 ∷ [] }
+{
+    a.shuffle(b, [2, 3, 10, 11, 6, 7, 14, 15])
+}
+
+#[inline(always)]
+fn halves_low(a: u32x8, b: u32x8) -> u32x8
+    ensures { result ≡ slice_index a 0 ∷ slice_index a 1 ∷ slice_index a 2 ∷ slice_index a 3 ∷ slice_index b 0
+        ∷ slice_index b 1 ∷ slice_index b 2 ∷ slice_index b 3 ∷ [] }
+{
+    a.shuffle(b, [0, 1, 2, 3, 8, 9, 10, 11])
+}
+
+#[inline(always)]
+fn halves_high(a: u32x8, b: u32x8) -> u32x8
+    ensures { result ≡ slice_index a 4 ∷ slice_index a 5 ∷ slice_index a 6 ∷ slice_index a 7 ∷ slice_index b 4
+        ∷ slice_index b 5 ∷ slice_index b 6 ∷ slice_index b 7 ∷ [] }
+{
+    a.shuffle(b, [4, 5, 6, 7, 12, 13, 14, 15])
+}
+
+// Rows for columns.
+#[inline(always)]
+fn transpose(r: [u32x8; 8]) -> [u32x8; 8]
+    ensures { result ≡ transposed8 r }
+{
+    let [r0, r1, r2, r3, r4, r5, r6, r7] = r;
+    let ab_0145 = unpack_low(r0, r1);
+    let ab_2367 = unpack_high(r0, r1);
+    let cd_0145 = unpack_low(r2, r3);
+    let cd_2367 = unpack_high(r2, r3);
+    let ef_0145 = unpack_low(r4, r5);
+    let ef_2367 = unpack_high(r4, r5);
+    let gh_0145 = unpack_low(r6, r7);
+    let gh_2367 = unpack_high(r6, r7);
+    let abcd_04 = pairs_low(ab_0145, cd_0145);
+    let abcd_15 = pairs_high(ab_0145, cd_0145);
+    let abcd_26 = pairs_low(ab_2367, cd_2367);
+    let abcd_37 = pairs_high(ab_2367, cd_2367);
+    let efgh_04 = pairs_low(ef_0145, gh_0145);
+    let efgh_15 = pairs_high(ef_0145, gh_0145);
+    let efgh_26 = pairs_low(ef_2367, gh_2367);
+    let efgh_37 = pairs_high(ef_2367, gh_2367);
+    [
+        halves_low(abcd_04, efgh_04),
+        halves_low(abcd_15, efgh_15),
+        halves_low(abcd_26, efgh_26),
+        halves_low(abcd_37, efgh_37),
+        halves_high(abcd_04, efgh_04),
+        halves_high(abcd_15, efgh_15),
+        halves_high(abcd_26, efgh_26),
+        halves_high(abcd_37, efgh_37),
+    ]
+}
+
+// The sixteen bytes at `at`.
+#[inline(always)]
+fn load(bytes: &[u8], at: usize) -> u8x16
+    requires { at + 16 ≤ length bytes.now }
+    ensures { (n : ℕ) → n < 16 → slice_index result n ≡ slice_index bytes.now (at + n) }
+{
+    u8x16::from_slice(&bytes[at..at + 16])
+}
+
+// Bytes, one after the other.
+#[inline(always)]
+fn beside(x: u8x16, y: u8x16) -> u8x32
+    ensures { result ≡ slice_index x 0 ∷ slice_index x 1 ∷ slice_index x 2 ∷ slice_index x 3 ∷ slice_index x 4
+        ∷ slice_index x 5 ∷ slice_index x 6 ∷ slice_index x 7 ∷ slice_index x 8 ∷ slice_index x 9 ∷ slice_index x 10
+        ∷ slice_index x 11 ∷ slice_index x 12 ∷ slice_index x 13 ∷ slice_index x 14 ∷ slice_index x 15 ∷ slice_index y 0
+        ∷ slice_index y 1 ∷ slice_index y 2 ∷ slice_index y 3 ∷ slice_index y 4 ∷ slice_index y 5 ∷ slice_index y 6
+        ∷ slice_index y 7 ∷ slice_index y 8 ∷ slice_index y 9 ∷ slice_index y 10 ∷ slice_index y 11 ∷ slice_index y 12
+        ∷ slice_index y 13 ∷ slice_index y 14 ∷ slice_index y 15 ∷ [] }
+{
+    x.shuffle(
+        y,
+        [
+            0, 1, 2, 3, 4, 5, 6, 7, 8, 9, 10, 11, 12, 13, 14, 15, 16, 17, 18, 19, 20, 21, 22, 23,
+            24, 25, 26, 27, 28, 29, 30, 31,
+        ],
+    )
+}
+
+// Four words of one block and four of another, from byte `at` on.
+#[inline(always)]
+fn quad(x: &[u8], y: &[u8], at: usize) -> u32x8
+    requires first { at + 16 ≤ length x.now }
+    requires second { at + 16 ≤ length y.now }
+    ensures low { (n : ℕ) → n < 4 → slice_index result n ≡ word_at x.now (at + 4 * n) }
+    ensures high { (n : ℕ) → n < 4 → slice_index result (4 + n) ≡ word_at y.now (at + 4 * n) }
+{
+    words_of(beside(load(x, at), load(y, at)))
+}
+
+// Four message words, of the quads of the lanes 0 and 4, 1 and 5, 2 and 6, 3 and 7.
+#[inline(always)]
+fn quads(a: u32x8, b: u32x8, c: u32x8, d: u32x8) -> [u32x8; 4]
+    ensures { result ≡ (slice_index a 0 ∷ slice_index b 0 ∷ slice_index c 0 ∷ slice_index d 0 ∷ slice_index a 4
+        ∷ slice_index b 4 ∷ slice_index c 4 ∷ slice_index d 4 ∷ []) ∷
+        (slice_index a 1 ∷ slice_index b 1 ∷ slice_index c 1 ∷ slice_index d 1 ∷ slice_index a 5 ∷ slice_index b 5
+        ∷ slice_index c 5 ∷ slice_index d 5 ∷ []) ∷
+        (slice_index a 2 ∷ slice_index b 2 ∷ slice_index c 2 ∷ slice_index d 2 ∷ slice_index a 6 ∷ slice_index b 6
+        ∷ slice_index c 6 ∷ slice_index d 6 ∷ []) ∷
+        (slice_index a 3 ∷ slice_index b 3 ∷ slice_index c 3 ∷ slice_index d 3 ∷ slice_index a 7 ∷ slice_index b 7
+        ∷ slice_index c 7 ∷ slice_index d 7 ∷ []) ∷ [] }
+{
+    let x = unpack_low(a, b);
+    let y = unpack_high(a, b);
+    let z = unpack_low(c, d);
+    let w = unpack_high(c, d);
+    [
+        pairs_low(x, z),
+        pairs_high(x, z),
+        pairs_low(y, w),
+        pairs_high(y, w),
+    ]
+}
+
+// The block at `at`.
+#[inline(always)]
+fn block_at(bytes: &[u8], at: usize) -> &[u8]
+    requires { at + 64 ≤ length bytes.now }
+    ensures block { result.now ≡ take 64 (drop at bytes.now) }
+    ensures whole { length result.now ≡ 64 }
+{
+    &bytes[at..at + 64]
+}
+
+/// The words of eight blocks, by lanes: lane i has those of the block that begins `at` bytes after its start.
+#[inline(always)]
+#[tactic(auto, unfolding(crate::specs::inside::Lanes::lane))]
+pub fn message_lanes(bytes: &[u8], starts: &[usize; 8], at: usize) -> [u32x8; 16]
+    requires { (i : ℕ) → i < 8 → slice_index starts.now i + at + 64 ≤ length bytes.now }
+    ensures { (i : ℕ) → i < 8 → lane i result ≡ words 4 16 (take 64 (drop (slice_index starts.now i + at) bytes.now)) }
+{
+    let b0 = block_at(bytes, starts[0] + at);
+    let b1 = block_at(bytes, starts[1] + at);
+    let b2 = block_at(bytes, starts[2] + at);
+    let b3 = block_at(bytes, starts[3] + at);
+    let b4 = block_at(bytes, starts[4] + at);
+    let b5 = block_at(bytes, starts[5] + at);
+    let b6 = block_at(bytes, starts[6] + at);
+    let b7 = block_at(bytes, starts[7] + at);
+    let [m0, m1, m2, m3] = quads(
+        quad(b0, b4, 0),
+        quad(b1, b5, 0),
+        quad(b2, b6, 0),
+        quad(b3, b7, 0),
+    );
+    let [m4, m5, m6, m7] = quads(
+        quad(b0, b4, 16),
+        quad(b1, b5, 16),
+        quad(b2, b6, 16),
+        quad(b3, b7, 16),
+    );
+    let [m8, m9, m10, m11] = quads(
+        quad(b0, b4, 32),
+        quad(b1, b5, 32),
+        quad(b2, b6, 32),
+        quad(b3, b7, 32),
+    );
+    let [m12, m13, m14, m15] = quads(
+        quad(b0, b4, 48),
+        quad(b1, b5, 48),
+        quad(b2, b6, 48),
+        quad(b3, b7, 48),
+    );
+    [
+        m0, m1, m2, m3, m4, m5, m6, m7, m8, m9, m10, m11, m12, m13, m14, m15,
+    ]
+}
+
+// A row of eight words.
+#[inline(always)]
+fn row(r: &[u32; 8]) -> u32x8
+    ensures words { result ≡ r.now }
+    ensures whole { length r.now ≡ 8 }
+{
+    u32x8::from_array(*r)
+}
+
+// The first half of a row of sixteen words.
+#[inline(always)]
+fn first_half(r: &[u32; 16]) -> u32x8
+    ensures words { result ≡ slice_index r.now 0 ∷ slice_index r.now 1 ∷ slice_index r.now 2 ∷ slice_index r.now 3
+        ∷ slice_index r.now 4 ∷ slice_index r.now 5 ∷ slice_index r.now 6 ∷ slice_index r.now 7 ∷ [] }
+    ensures whole { length r.now ≡ 16 }
+{
+    u32x8::from_array([r[0], r[1], r[2], r[3], r[4], r[5], r[6], r[7]])
+}
+
+// The second half.
+#[inline(always)]
+fn second_half(r: &[u32; 16]) -> u32x8
+    ensures { result ≡ slice_index r.now 8 ∷ slice_index r.now 9 ∷ slice_index r.now 10 ∷ slice_index r.now 11
+        ∷ slice_index r.now 12 ∷ slice_index r.now 13 ∷ slice_index r.now 14 ∷ slice_index r.now 15 ∷ [] }
+{
+    u32x8::from_array([r[8], r[9], r[10], r[11], r[12], r[13], r[14], r[15]])
+}
+
+// The lanes of eight rows.
+#[inline(always)]
+fn value_lanes(h: &[[u32; 8]; 8]) -> [u32x8; 8]
+    ensures { (i : ℕ) → i < 8 → lane8 i result ≡ slice_index_or h.now i [] }
+{
+    transpose([
+        row(&h[0]),
+        row(&h[1]),
+        row(&h[2]),
+        row(&h[3]),
+        row(&h[4]),
+        row(&h[5]),
+        row(&h[6]),
+        row(&h[7]),
+    ])
+}
+
+// The lanes of rows of sixteen words.
+#[inline(always)]
+#[tactic(auto, unfolding(crate::specs::inside::Lanes::lane))]
+fn row_lanes(m: &[[u32; 16]; 8]) -> [u32x8; 16]
+    ensures { (i : ℕ) → i < 8 → lane i result ≡ slice_index_or m.now i [] }
+{
+    let [m0, m1, m2, m3, m4, m5, m6, m7] = transpose([
+        first_half(&m[0]),
+        first_half(&m[1]),
+        first_half(&m[2]),
+        first_half(&m[3]),
+        first_half(&m[4]),
+        first_half(&m[5]),
+        first_half(&m[6]),
+        first_half(&m[7]),
+    ]);
+    let [m8, m9, m10, m11, m12, m13, m14, m15] = transpose([
+        second_half(&m[0]),
+        second_half(&m[1]),
+        second_half(&m[2]),
+        second_half(&m[3]),
+        second_half(&m[4]),
+        second_half(&m[5]),
+        second_half(&m[6]),
+        second_half(&m[7]),
+    ]);
+    [
+        m0, m1, m2, m3, m4, m5, m6, m7, m8, m9, m10, m11, m12, m13, m14, m15,
+    ]
+}
+
+#[inline(always)]
+fn low(x: u64) -> u32
+    ensures { result ≡ x % 2 ^ 32 }
+{
+    (x % 0x1_0000_0000) as u32
+}
+
+#[inline(always)]
+fn high(x: u64) -> u32
+    ensures { result ≡ x / 2 ^ 32 }
+{
+    (x >> 32) as u32
+}
+
+// The working words before the first round.
+#[inline(always)]
+#[tactic(auto, unfolding(crate::specs::inside::Lanes::lane))]
+fn working_lanes(h: [u32x8; 8], t: &[u64; 8], b: u32, d: u32) -> [u32x8; 16]
+    ensures { (i : ℕ) → i < 8 → lane i result ≡ working_words3 (lane8 i h) (slice_index t.now i) b d }
+{
+    [
+        h[0],
+        h[1],
+        h[2],
+        h[3],
+        h[4],
+        h[5],
+        h[6],
+        h[7],
+        u32x8::splat(IV32[0]),
+        u32x8::splat(IV32[1]),
+        u32x8::splat(IV32[2]),
+        u32x8::splat(IV32[3]),
+        u32x8::from_array([
+            low(t[0]),
+            low(t[1]),
+            low(t[2]),
+            low(t[3]),
+            low(t[4]),
+            low(t[5]),
+            low(t[6]),
+            low(t[7]),
+        ]),
+        u32x8::from_array([
+            high(t[0]),
+            high(t[1]),
+            high(t[2]),
+            high(t[3]),
+            high(t[4]),
+            high(t[5]),
+            high(t[6]),
+            high(t[7]),
+        ]),
+        u32x8::splat(b),
+        u32x8::splat(d),
+    ]
+}
+
+// The first eight words of output.
+#[inline(always)]
+fn fold_lanes(v: [u32x8; 16]) -> [u32x8; 8]
+    ensures { (i : ℕ) → i < 8 → lane8 i result ≡ take 8 (folded_halves3 [] (lane i v)) }
+{
+    [
+        xor(v[0], v[8]),
+        xor(v[1], v[9]),
+        xor(v[2], v[10]),
+        xor(v[3], v[11]),
+        xor(v[4], v[12]),
+        xor(v[5], v[13]),
+        xor(v[6], v[14]),
+        xor(v[7], v[15]),
+    ]
+}
+
+/// The first eight words of `compress_3` in each of eight lanes.
+#[inline(always)]
+#[tactic(auto, unfolding(crate::specs::Blake3::compress3))]
+pub fn next_lanes<const USE: usize>(
+    turns: Turns,
+    h: [u32x8; 8],
+    m: [u32x8; 16],
+    t: &[u64; 8],
+    b: u32,
+    d: u32,
+) -> [u32x8; 8]
+    ensures { (i : ℕ) → i < 8 → lane8 i result ≡ take 8 (compress3 (lane8 i h) (lane i m) (slice_index t.now i) b d) }
+{
+    fold_lanes(rounds_lanes::<USE>(turns, working_lanes(h, t, b, d), m))
+}
+
+/// The same words in each lane.
+#[inline(always)]
+pub fn same_lanes(h: &[u32; 8]) -> [u32x8; 8]
+    ensures { (i : ℕ) → i < 8 → lane8 i result ≡ h.now }
+{
+    [
+        u32x8::splat(h[0]),
+        u32x8::splat(h[1]),
+        u32x8::splat(h[2]),
+        u32x8::splat(h[3]),
+        u32x8::splat(h[4]),
+        u32x8::splat(h[5]),
+        u32x8::splat(h[6]),
+        u32x8::splat(h[7]),
+    ]
+}
+
+/// The words in each lane, as a row.
+#[inline(always)]
+pub fn lane_rows(h: [u32x8; 8]) -> [[u32; 8]; 8]
+    ensures { (i : ℕ) → i < 8 → slice_index_or result i [] ≡ lane8 i h }
+{
+    let [r0, r1, r2, r3, r4, r5, r6, r7] = transpose(h);
+    [
+        r0.to_array(),
+        r1.to_array(),
+        r2.to_array(),
+        r3.to_array(),
+        r4.to_array(),
+        r5.to_array(),
+        r6.to_array(),
+        r7.to_array(),
+    ]
+}
+
+#[inline(always)]
+fn even(a: u32x8, b: u32x8) -> u32x8
+    ensures { result ≡ slice_index a 0 ∷ slice_index a 2 ∷ slice_index a 4 ∷ slice_index a 6 ∷ slice_index b 0
+        ∷ slice_index b 2 ∷ slice_index b 4 ∷ slice_index b 6 ∷ [] }
+{
+    a.shuffle(b, [0, 2, 4, 6, 8, 10, 12, 14])
+}
+
+#[inline(always)]
+fn odd(a: u32x8, b: u32x8) -> u32x8
+    ensures { result ≡ slice_index a 1 ∷ slice_index a 3 ∷ slice_index a 5 ∷ slice_index a 7 ∷ slice_index b 1
+        ∷ slice_index b 3 ∷ slice_index b 5 ∷ slice_index b 7 ∷ [] }
+{
+    a.shuffle(b, [1, 3, 5, 7, 9, 11, 13, 15])
+}
+
+/// The words of neighbours one after the other: in the first four lanes those of `left`, in the others
+/// those of `right`.
+#[inline(always)]
+#[tactic(auto, unfolding(crate::specs::inside::Lanes::lane))]
+pub fn pair_lanes(left: [u32x8; 8], right: [u32x8; 8]) -> [u32x8; 16]
+    ensures left { (i : ℕ) → i < 4 → lane i result ≡ lane8 (2 * i) left ++ lane8 (2 * i + 1) left }
+    ensures right { (i : ℕ) → i < 4 → lane (4 + i) result ≡ lane8 (2 * i) right ++ lane8 (2 * i + 1) right }
+{
+    let [l0, l1, l2, l3, l4, l5, l6, l7] = left;
+    let [r0, r1, r2, r3, r4, r5, r6, r7] = right;
+    [
+        even(l0, r0),
+        even(l1, r1),
+        even(l2, r2),
+        even(l3, r3),
+        even(l4, r4),
+        even(l5, r5),
+        even(l6, r6),
+        even(l7, r7),
+        odd(l0, r0),
+        odd(l1, r1),
+        odd(l2, r2),
+        odd(l3, r3),
+        odd(l4, r4),
+        odd(l5, r5),
+        odd(l6, r6),
+        odd(l7, r7),
+    ]
+}
+
+/// The first eight words of `compress_3` on each of eight rows.
+pub fn compress_3x8(
+    h: &[[u32; 8]; 8],
+    m: &[[u32; 16]; 8],
+    t: &[u64; 8],
+    b: u32,
+    d: u32,
+) -> [[u32; 8]; 8]
+    ensures { (i : ℕ) → i < 8 → slice_index_or result i []
+        ≡ take 8 (compress3 (slice_index_or h.now i []) (slice_index_or m.now i []) (slice_index t.now i) b d) }
+{
+    lane_rows(next_lanes::<1>(Turns::new(), value_lanes(h), row_lanes(m), t, b, d))
+}
