@@ -1,7 +1,7 @@
 // A reader or a writer of std as a feed or a sink.
 
-ghost use Rattle.std.specs.Prelude.{◌≡◌, ◌<◌, ◌≤◌, None, length, take, IfOk, OnErr};
-ghost use Rattle.std.specs.Io.KnownBytes.{Appends, Consumes, IsAtEnd, ReadConsumes, WriteAppends};
+ghost use Rattle.std.specs.Prelude.{◌≡◌, ◌<◌, ◌≤◌, None, length, take, IfOk, OnErr, OnOk};
+ghost use Rattle.std.specs.Io.KnownBytes.{Appends, Consumes, IsAtEnd, ReadConsumes};
 ghost use Rattle.source.specs.Counts.{CountsFailure, next_count};
 
 use crate::{Feed, ReadFailed, Sink, WriteFailed};
@@ -84,7 +84,9 @@ impl<W: Write> Sink for Device<W> {
 
     ghost contents = { λ _. None };
 
-    /// Writes a beginning of `bytes`. A writer that takes none of them has failed.
+    /// Hands the whole of `bytes` to the writer's `write_all`, so that a writer that gathers lines
+    /// sends each in one write: an `Ok` is their length. After an `Err` the writer may have taken a
+    /// beginning of them, of which std's `write_all` says nothing.
     fn write(&mut self, bytes: &[u8]) -> Result<usize, WriteFailed>
         ensures bound { IfOk result (λ n. n ≤ length bytes.now) }
         ensures progress { IfOk result (λ n. 0 < length bytes.now → 0 < n) }
@@ -95,13 +97,14 @@ impl<W: Write> Sink for Device<W> {
         ensures counted { CountsFailure result (⟦<Device<W> as Sink>⟧.failure_count self.old)
             (⟦<Device<W> as Sink>⟧.failure_count self.new) }
 
-        // What the writer holds, where it tells that, grows by what was written.
-        ensures writer { WriteAppends (W.contents (device_inner self.old))
-            (W.contents (device_inner self.new)) result bytes.now }
+        // All of it is written, and what the writer holds, where it tells that, grows by it.
+        ensures whole { IfOk result (λ n. n ≡ length bytes.now) }
+        ensures writer { OnOk result (Appends (W.contents (device_inner self.old))
+            (W.contents (device_inner self.new)) bytes.now) }
     {
-        match self.inner.write(bytes) {
-            Ok(count) if count > 0 || bytes.is_empty() => Ok(count),
-            _ => {
+        match self.inner.write_all(bytes) {
+            Ok(()) => Ok(bytes.len()),
+            Err(_) => {
                 self.count_failure();
                 Err(WriteFailed)
             }

@@ -1,6 +1,6 @@
 use source::{Bytes, Device, Feed, FixedSink, ReadFailed, Sink, VecSink, WriteFailed, write_all};
 use std::io;
-use std::io::{ErrorKind, Read, Write};
+use std::io::{ErrorKind, LineWriter, Read, Write};
 use std::test::Fail;
 
 // What a feed still gives, until its end or its second failure, and how often it has failed.
@@ -162,7 +162,7 @@ impl Write for Narrow {
 #[test]
 fn a_device_that_takes_nothing_has_failed(rt: HostRuntime) -> Result<(), Fail> {
     let mut sink = Device::new(Narrow(0));
-    assert_eq!(rt; sink.write(b"ab"), Ok(1));
+    assert_eq!(rt; sink.write(b"ab"), Ok(2));
     assert_eq!(rt; sink.write(b""), Ok(0));
     assert_eq!(rt; sink.write(b"b"), Err(WriteFailed));
     assert_eq!(rt; sink.write(b"b"), Err(WriteFailed));
@@ -172,5 +172,53 @@ fn a_device_that_takes_nothing_has_failed(rt: HostRuntime) -> Result<(), Fail> {
     let mut whole = Device::new(Vec::new(rt.alloc()));
     write_all(&mut whole, b"0123456789")?;
     assert_eq!(rt; whole.into_inner().as_slice(), b"0123456789".as_slice());
+    Ok(())
+}
+
+// Counts its writes, and the LFs that end one.
+#[derive(Drop)]
+struct Counting {
+    writes: u64,
+    lines: u64,
+}
+
+impl Write for Counting {
+    fn write(&mut self, bytes: &[u8]) -> io::Result<usize> {
+        self.writes = self.writes.wrapping_add(1);
+        if bytes.last() == Some(&b'\n') {
+            self.lines = self.lines.wrapping_add(1);
+        }
+        Ok(bytes.len())
+    }
+
+    fn flush(&mut self) -> io::Result<()> {
+        Ok(())
+    }
+}
+
+#[test]
+fn a_device_over_a_line_writer_writes_a_line_at_once(rt: HostRuntime) -> Result<(), Fail> {
+    let counting = Counting {
+        writes: 0,
+        lines: 0,
+    };
+    let mut sink = Device::new(LineWriter::with_capacity(rt.alloc(), 16, counting)?);
+    for piece in [
+        "sums: ",
+        "a name",
+        ":",
+        "\n",
+        "one piece\n",
+        "",
+        "to\n",
+        "two",
+    ] {
+        write_all(&mut sink, piece.as_bytes())?;
+    }
+    let mut writer = sink.into_inner();
+    assert_eq!(rt; writer.get_ref().writes, 3);
+    assert_eq!(rt; writer.get_ref().lines, 3);
+    writer.flush()?;
+    assert_eq!(rt; writer.get_ref().writes, 4);
     Ok(())
 }
