@@ -5,21 +5,46 @@
 mod tests;
 
 use command::{Fault, FileTree, run, tell, write_text};
-use source::{Device, Sink};
+use source::{Device, FixedSink, Sink, write_all};
 use std::alloc::{AllocError, Global};
 use std::io;
-use std::io::{ErrorKind, Write};
+use std::io::{ErrorKind, LineWriter, Write};
 use std::process::ExitCode;
 
+// No line of a list or a report is longer, and no fault that tells of a word: Linux takes none of
+// more than 131,072 bytes.
+const LINE_ROOM: usize = 131_200;
+
 fn main(rt: HostRuntime) -> ExitCode {
-    let mut out = Device::new(rt.stdout());
-    let mut err = Device::new(rt.stderr());
-    let status = run_words(&rt, &mut out, &mut err);
+    match run_lines(&rt) {
+        Ok(status) => ExitCode::from(status),
+        Err(_) => ExitCode::from(tell_without_memory(&rt)),
+    }
+}
+
+// Runs with a buffer of a line before each of the two streams: whole lines go out, each in one
+// write. Both are made before anything is read.
+fn run_lines(rt: &HostRuntime) -> io::Result<u8> {
+    let out = LineWriter::with_capacity(rt.alloc(), LINE_ROOM, rt.stdout())?;
+    let err = LineWriter::with_capacity(rt.alloc(), LINE_ROOM, rt.stderr())?;
+    let mut out = Device::new(out);
+    let mut err = Device::new(err);
+    let status = run_words(rt, &mut out, &mut err);
     let status = match out.into_inner().flush() {
         Err(_) if status != 3 => tell(&mut err, Fault::CannotWrite),
         _ => status,
     };
-    ExitCode::from(status)
+    let _ = err.into_inner().flush();
+    Ok(status)
+}
+
+// Tells that memory ran out, in one write too, and answers the status.
+fn tell_without_memory(rt: &HostRuntime) -> u8 {
+    let mut buffer = [0; 64];
+    let mut line = FixedSink::new(&mut buffer);
+    let status = tell(&mut line, Fault::OutOfMemory);
+    let _ = write_all(&mut Device::new(rt.stderr()), line.written());
+    status
 }
 
 // Runs on the process's own words, standard input and files.
