@@ -81,7 +81,7 @@ fn mac_command<'a>(alloc: Global, macs: &'a [&'a str]) -> Result<Command<'a>, Al
 
 // The two ways to give a key.
 fn with_key_options<'a>(alloc: Global, command: Command<'a>) -> Result<Command<'a>, AllocError>
-    ensures { IfOk result (λ c. app_of c ≡ with_rules (app_of command)
+    ensures { IfOk result (λ c. app_of c ≡ with_rules (app_of command.entry)
         (text_rule (codes "key") ∷ text_rule (codes "key-file") ∷ [])) }
 {
     command
@@ -125,7 +125,7 @@ fn with_derivation_options<'a>(
     alloc: Global,
     command: Command<'a>,
 ) -> Result<Command<'a>, AllocError>
-    ensures { IfOk result (λ c. app_of c ≡ with_rules (app_of command)
+    ensures { IfOk result (λ c. app_of c ≡ with_rules (app_of command.entry)
         (text_rule (codes "salt") ∷ text_rule (codes "info") ∷ text_rule (codes "context") ∷ [])) }
 {
     command
