@@ -4,7 +4,7 @@ ghost use Rattle.std.specs.Prelude.{◌≡◌};
 ghost use Rattle.words.specs.Blake3.{compress3, permuted_words, rounds3, working_words3, words_in_order};
 ghost use Rattle.words.specs.Tables.{permutation};
 
-use crate::rows::round32;
+use crate::rows::{round32, word32};
 use crate::tables::{IV32, SIGMA};
 
 // The message words in the order of the next round.
@@ -13,8 +13,22 @@ fn permute(m: [u32; 16]) -> [u32; 16]
     ensures { result ≡ words_in_order m permutation }
 {
     [
-        m[2], m[6], m[3], m[10], m[7], m[0], m[4], m[13], m[1], m[11], m[12], m[5], m[9], m[14],
-        m[15], m[8],
+        word32(&m, 2),
+        word32(&m, 6),
+        word32(&m, 3),
+        word32(&m, 10),
+        word32(&m, 7),
+        word32(&m, 0),
+        word32(&m, 4),
+        word32(&m, 13),
+        word32(&m, 1),
+        word32(&m, 11),
+        word32(&m, 12),
+        word32(&m, 5),
+        word32(&m, 9),
+        word32(&m, 14),
+        word32(&m, 15),
+        word32(&m, 8),
     ]
 }
 

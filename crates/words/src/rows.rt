@@ -79,6 +79,17 @@ fn rotated_xor32(x: u32x4, y: u32x4, r: u32) -> u32x4
     (z >> u32x4::splat(r)) | (z << u32x4::splat(32 - r))
 }
 
+// A word of m, taken out of its row of four: so the compiler makes picked words by shuffles of rows. Taken alone
+// each would be inserted alone, for which many processors have one unit.
+#[inline(always)]
+pub(crate) fn word32(m: &[u32; 16], i: usize) -> u32
+    requires { i < 16 }
+    ensures { result ≡ slice_index m.now i }
+{
+    let first = i / 4 * 4;
+    u32x4::from_slice(&m[first..first + 4])[i % 4]
+}
+
 // The words of m at four places of the schedule `s`.
 #[inline(always)]
 fn picked32(m: &[u32; 16], s: &[usize; 16], places: [usize; 4]) -> u32x4
@@ -87,7 +98,12 @@ fn picked32(m: &[u32; 16], s: &[usize; 16], places: [usize; 4]) -> u32x4
     ensures { result ≡ picked_words m.now s.now places }
 {
     let [i, j, k, l] = places;
-    u32x4::from_array([m[s[i]], m[s[j]], m[s[k]], m[s[l]]])
+    u32x4::from_array([
+        word32(m, s[i]),
+        word32(m, s[j]),
+        word32(m, s[k]),
+        word32(m, s[l]),
+    ])
 }
 
 #[inline(always)]
@@ -125,6 +141,17 @@ fn rotated_xor64(x: u64x4, y: u64x4, r: u64) -> u64x4
     (z >> u64x4::splat(r)) | (z << u64x4::splat(64 - r))
 }
 
+// A word of m, taken out of its row of four: so the compiler makes picked words by shuffles of rows. Taken alone
+// each would be inserted alone, for which many processors have one unit.
+#[inline(always)]
+fn word64(m: &[u64; 16], i: usize) -> u64
+    requires { i < 16 }
+    ensures { result ≡ slice_index m.now i }
+{
+    let first = i / 4 * 4;
+    u64x4::from_slice(&m[first..first + 4])[i % 4]
+}
+
 // The words of m at four places of the schedule `s`.
 #[inline(always)]
 fn picked64(m: &[u64; 16], s: &[usize; 16], places: [usize; 4]) -> u64x4
@@ -133,7 +160,12 @@ fn picked64(m: &[u64; 16], s: &[usize; 16], places: [usize; 4]) -> u64x4
     ensures { result ≡ picked_words m.now s.now places }
 {
     let [i, j, k, l] = places;
-    u64x4::from_array([m[s[i]], m[s[j]], m[s[k]], m[s[l]]])
+    u64x4::from_array([
+        word64(m, s[i]),
+        word64(m, s[j]),
+        word64(m, s[k]),
+        word64(m, s[l]),
+    ])
 }
 
 #[inline(always)]
