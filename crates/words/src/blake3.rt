@@ -1,36 +1,10 @@
 // The compression function of BLAKE3 (the BLAKE3 paper, section 2.2).
 
 ghost use Rattle.std.specs.Prelude.{◌≡◌};
-ghost use Rattle.words.specs.Blake3.{compress3, permuted_words, rounds3, working_words3, words_in_order};
-ghost use Rattle.words.specs.Tables.{permutation};
+ghost use Rattle.words.specs.Blake3.{compress3, permuted_words, rounds3, working_words3};
 
-use crate::rows::{round32, word32};
-use crate::tables::{IV32, SIGMA};
-
-// The message words in the order of the next round.
-#[inline(always)]
-fn permute(m: [u32; 16]) -> [u32; 16]
-    ensures { result ≡ words_in_order m permutation }
-{
-    [
-        word32(&m, 2),
-        word32(&m, 6),
-        word32(&m, 3),
-        word32(&m, 10),
-        word32(&m, 7),
-        word32(&m, 0),
-        word32(&m, 4),
-        word32(&m, 13),
-        word32(&m, 1),
-        word32(&m, 11),
-        word32(&m, 12),
-        word32(&m, 5),
-        word32(&m, 9),
-        word32(&m, 14),
-        word32(&m, 15),
-        word32(&m, 8),
-    ]
-}
+use crate::rows::round32;
+use crate::tables::{IV32, PERMUTED};
 
 #[inline(always)]
 fn working(h: &[u32; 8], t: u64, b: u32, d: u32) -> [u32; 16]
@@ -45,23 +19,17 @@ fn working(h: &[u32; 8], t: u64, b: u32, d: u32) -> [u32; 16]
 }
 
 #[inline(always)]
-#[tactic(auto, unfolding(crate::specs::Blake3::rounds3, crate::specs::Blake3::permuted_words))]
+#[tactic(auto, unfolding(crate::specs::Blake3::rounds3, crate::specs::Blake3::permuted_words, crate::specs::Mix::round))]
 fn rounds(v: &mut [u32; 16], m: &[u32; 16])
     ensures { v.new ≡ rounds3 v.old m.now 7 }
 {
-    let m1 = permute(*m);
-    let m2 = permute(m1);
-    let m3 = permute(m2);
-    let m4 = permute(m3);
-    let m5 = permute(m4);
-    let m6 = permute(m5);
-    round32(v, m, &SIGMA[0]);
-    round32(v, &m1, &SIGMA[0]);
-    round32(v, &m2, &SIGMA[0]);
-    round32(v, &m3, &SIGMA[0]);
-    round32(v, &m4, &SIGMA[0]);
-    round32(v, &m5, &SIGMA[0]);
-    round32(v, &m6, &SIGMA[0]);
+    round32(v, m, &PERMUTED[0]);
+    round32(v, m, &PERMUTED[1]);
+    round32(v, m, &PERMUTED[2]);
+    round32(v, m, &PERMUTED[3]);
+    round32(v, m, &PERMUTED[4]);
+    round32(v, m, &PERMUTED[5]);
+    round32(v, m, &PERMUTED[6]);
 }
 
 /// The compression function of BLAKE3, all sixteen words of it: of the chaining value `h`, the

@@ -82,7 +82,7 @@ fn rotated_xor32(x: u32x4, y: u32x4, r: u32) -> u32x4
 // A word of m, taken out of its row of four: so the compiler makes picked words by shuffles of rows. Taken alone
 // each would be inserted alone, for which many processors have one unit.
 #[inline(always)]
-pub(crate) fn word32(m: &[u32; 16], i: usize) -> u32
+fn word32(m: &[u32; 16], i: usize) -> u32
     requires { i < 16 }
     ensures { result ≡ slice_index m.now i }
 {
