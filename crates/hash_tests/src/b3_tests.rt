@@ -52,6 +52,20 @@ fn read_at(hasher: &Blake3, position: u64, out: &mut [u8]) -> bool {
     output.fill(out).is_ok()
 }
 
+// The digest of the digests of inputs of these lengths, each taken in pieces.
+fn digest_of_digests(input: &[u8], lengths: &[usize], piece: usize) -> [u8; 32] {
+    let mut all = Blake3::new();
+    let mut digest = [0; 32];
+    for length in lengths {
+        let mut hasher = Blake3::new();
+        feed(&mut hasher, &input[..input.len().min(*length)], piece);
+        read_at(&hasher, 0, &mut digest);
+        feed(&mut all, &digest, 32);
+    }
+    read_at(&all, 0, &mut digest);
+    digest
+}
+
 // The definition over the whole input, by recursion from the top, as slow as it is.
 
 #[derive(Drop)]
@@ -356,6 +370,44 @@ fn how_the_input_is_cut_makes_no_difference(rt: HostRuntime) -> Result<(), Fail>
             assert!(rt; read_at(&hashed(input.as_slice(), piece)?, 0, &mut out));
             assert_eq!(rt; out, expected, "{length} bytes in pieces of {piece}");
         }
+    }
+    Ok(())
+}
+
+// Up to 20,000 bytes: whole chunks, a byte more, a block more, and a byte less, in pieces of each kind. Both
+// expected values, here and below, are b3sum's.
+#[test]
+fn short_inputs_in_pieces_have_the_digests_of_b3sum(rt: HostRuntime) -> Result<(), Fail> {
+    let input = counting(rt.alloc(), 20_000)?;
+    let mut lengths = [0; 80];
+    for i in 0..80usize {
+        lengths[i] = (1024 * (i / 4) + [0, 1, 64, 1023][i % 4]).min(20_000);
+    }
+    for piece in [1, 63, 64, 1023, 1024, 1025, 4096, 8192, 8193, 65_536] {
+        let digest = digest_of_digests(input.as_slice(), &lengths, piece);
+        assert_eq!(rt;
+            digits(rt.alloc(), &digest)?.as_str(),
+            "4fddeaf0b5761dbe8ec427a8ee31e6ae57c3b3594e82e9a65344fe75742a360b",
+            "pieces of {piece}"
+        );
+    }
+    Ok(())
+}
+
+#[test]
+fn long_inputs_in_pieces_have_the_digests_of_b3sum(rt: HostRuntime) -> Result<(), Fail> {
+    let input = counting(rt.alloc(), 1_100_000)?;
+    let lengths = [
+        32_768, 65_537, 102_400, 131_072, 200_000, 262_145, 524_288, 1_048_576, 1_048_577,
+        1_100_000,
+    ];
+    for piece in [4096, 16_384, 65_536, 131_072, 262_144, 1_100_000] {
+        let digest = digest_of_digests(input.as_slice(), &lengths, piece);
+        assert_eq!(rt;
+            digits(rt.alloc(), &digest)?.as_str(),
+            "dcd0b36a350b2f93302fba7abe1aeb758e51857d11718a723a06aeb31005047e",
+            "pieces of {piece}"
+        );
     }
     Ok(())
 }
