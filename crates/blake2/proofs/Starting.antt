@@ -2,10 +2,10 @@
 use Rattle.std.proofs.Common.{◌≡◌, ℕ, ◌+◌, ◌-◌, ◌*◌, ◌/◌, ◌≤◌, ◌<◌, List, [], ◌∷◌, ◌++◌, length, take, drop, replicate, refl, sym, ap, ◌∙◌, arith, zero-add, suc, true, false}
 use Rattle.std.specs.Prelude.{◌==◌}
 use Rattle.std.proofs.lemmas.Bool.Decides.{nat_tests}
-use Rattle.std.proofs.lemmas.List.{take-append-drop, drop-replicate, append-nil, replicate-append-replicate, take-replicate}
+use Rattle.std.proofs.lemmas.List.{take-append-drop, drop-replicate, append-nil, take-replicate}
 use Rattle.words.specs.Mix.{Variant}
 use Rattle.words.specs.Words.{padded}
-use Rattle.blake2.specs.Blake2.{block_len, key_block, parameter_block, input, unsalted, word_len}
+use Rattle.blake2.specs.Blake2.{block_len, key_block, parameter_block, input, salted, word_len}
 
 -- bytes that were written over the first of n zeros
 pub padded_from : (n : ℕ) (b y : List ℕ) → take (0 + length y) b ≡ y → drop (0 + length y) b ≡ drop (0 + length y) (replicate {A = ℕ} n 0) → b ≡ padded n y
@@ -32,22 +32,35 @@ pub half_block : (k : Variant) (n : ℕ) → n ≡ block_len k → n / 2 ≡ 8 *
 unfolding block_len
 half_block k n e = omega arith
 
--- four bytes, with zeros up to a block, begin with a parameter block without salt
-pub parameters_first : (k : Variant) (n d : ℕ) (key b : List ℕ) → n ≡ block_len k → 0 < n
-    → b ≡ padded n (d ∷ length key ∷ 1 ∷ 1 ∷ []) → take (n / 2) b ≡ parameter_block k (unsalted k d key)
+-- four bytes with zeros up to a block, over which salt and personalization are written, begin with the
+-- parameter block
+pub parameters_first : (k : Variant) (n d : ℕ) (key salt personal b b1 b2 : List ℕ) → n ≡ block_len k → 0 < n
+    → length salt ≡ 2 * word_len k → length personal ≡ 2 * word_len k
+    → b ≡ padded n (d ∷ length key ∷ 1 ∷ 1 ∷ [])
+    → take (n / 4 + length salt) b1 ≡ take (n / 4) b ++ salt
+    → take (n / 4 + n / 8 + length personal) b2 ≡ take (n / 4 + n / 8) b1 ++ personal
+    → take (n / 2) b2 ≡ parameter_block k (salted d key salt personal)
 unfolding block_len
-parameters_first k n d key b en some eb =
+parameters_first k n d key salt personal b b1 b2 en some es ep eb e1 e2 =
     let w : ℕ = word_len k in
     let l : ℕ = length key in
     let z : ℕ → List ℕ = λ i. replicate {A = ℕ} i 0 in
-    let all : n / 2 ≡ suc (suc (suc (suc (8 * w - 4)))) = omega arith in
-    let cut : take (8 * w - 4) (z (n - 4)) ≡ z (8 * w - 4) = take-replicate {X = ℕ} (8 * w - 4) (n - 4) 0 (omega arith) in
-    let sum : 4 * w - 4 + 2 * w + 2 * w ≡ 8 * w - 4 = omega arith in
-    let parts : (z (4 * w - 4) ++ z (2 * w)) ++ z (2 * w) ≡ z (8 * w - 4) =
-    ap (λ (t : List ℕ). t ++ z (2 * w)) (replicate-append-replicate {A = ℕ} (4 * w - 4) (2 * w) 0)
-    ∙ replicate-append-replicate {A = ℕ} (4 * w - 4 + 2 * w) (2 * w) 0 ∙ ap z sum in
-    ap (λ (t : List ℕ). take (n / 2) t) eb ∙ ap (λ (i : ℕ). take i (d ∷ l ∷ 1 ∷ 1 ∷ z (n - 4))) all
-    ∙ ap (λ (t : List ℕ). d ∷ l ∷ 1 ∷ 1 ∷ t) (cut ∙ sym parts)
+    let all : n / 4 ≡ suc (suc (suc (suc (4 * w - 4)))) = omega arith in
+    let cut : take (4 * w - 4) (z (n - 4)) ≡ z (4 * w - 4) = take-replicate {X = ℕ} (4 * w - 4) (n - 4) 0 (omega arith) in
+    let first : take (n / 4) b ≡ d ∷ l ∷ 1 ∷ 1 ∷ z (4 * w - 4) =
+    ap (λ (t : List ℕ). take (n / 4) t) eb ∙ ap (λ (i : ℕ). take i (d ∷ l ∷ 1 ∷ 1 ∷ z (n - 4))) all
+    ∙ ap (λ (t : List ℕ). d ∷ l ∷ 1 ∷ 1 ∷ t) cut in
+    let salt_end : n / 4 + n / 8 ≡ n / 4 + length salt = omega arith in
+    let end : n / 2 ≡ n / 4 + n / 8 + length personal = omega arith in
+    let with_salt : take (n / 4 + n / 8) b1 ≡ (d ∷ l ∷ 1 ∷ 1 ∷ z (4 * w - 4)) ++ salt =
+    ap (λ (i : ℕ). take i b1) salt_end ∙ e1 ∙ ap (λ (t : List ℕ). t ++ salt) first in
+    ap (λ (i : ℕ). take i b2) end ∙ e2 ∙ ap (λ (t : List ℕ). t ++ personal) with_salt
+
+-- two words end within a block, after its quarter, and after an eighth more
+pub two_words_fit : (k : Variant) (n m : ℕ) → n ≡ block_len k → m ≡ 2 * word_len k
+    → (n / 4 + m ≤ n) × (n / 4 + n / 8 + m ≤ n)
+unfolding block_len
+two_words_fit k n m en em = (omega arith, omega arith)
 
 -- four bytes fit a block
 pub four_fit : (k : Variant) (n : ℕ) → n ≡ block_len k → 0 < n → 4 ≤ n

@@ -1,10 +1,11 @@
 -- Digests by the definition, computed: a wrong table, count or step does not check. They are from RFC 7693,
 -- appendices A and B, and else from Python's hashlib.
-use Rattle.std.proofs.Common.{◌≡◌, ℕ, zero, suc, List, [], ◌∷◌, ◌++◌, refl, codes, replicate, slice_index}
+use Rattle.std.proofs.Common.{◌≡◌, ℕ, zero, suc, List, [], ◌∷◌, ◌++◌, refl, codes, drop, replicate, slice_index}
 use Rattle.words.specs.Blake2.{blake2b, blake2s, compress, rounds}
 use Rattle.words.specs.Mix.{g, g_at, round}
+use Rattle.words.specs.Tables.{iv64}
 use Rattle.words.specs.Words.{words, word_bytes}
-use Rattle.blake2.specs.Blake2.{block_len, block_count, start, key_block, chain, final_value, blake2, unsalted}
+use Rattle.blake2.specs.Blake2.{block_len, block_count, start, key_block, chain, final_value, blake2, salted, unsalted}
 
 -- the numbers from 0 to n - 1
 abbrev counted : ℕ → List ℕ
@@ -69,14 +70,30 @@ pub keyed_blake2s_of_a_full_block : blake2 blake2s (unsalted blake2s 20 (1 ∷ 2
 unfolding g g_at round rounds compress words word_bytes block_len block_count start key_block chain final_value blake2
 keyed_blake2s_of_a_full_block = refl
 
+-- the chaining value before the first block, under a salt and a personalization
+pub salted_start_2s : slice_index (start blake2s (salted 32 [] (counted 8) (drop 8 (counted 16)))) 0 ≡ 0x6b08e647
+unfolding words start
+salted_start_2s = refl
+
+pub salted_start_2s_end : drop 4 (start blake2s (salted 32 [] (counted 8) (drop 8 (counted 16)))) ≡
+    0x520c537f ∷ 0x9c036d88 ∷ 0x1489d0a3 ∷ 0x54eec015 ∷ []
+unfolding words start
+salted_start_2s_end = refl
+
+-- under a salt alone: the last two words are those of the initial value
+pub salted_start_2b : drop 4 (start blake2b (salted 32 [] (counted 16) (replicate 16 0))) ≡
+    0x5608577baee483d1 ∷ 0x940b658020346517 ∷ drop 6 iv64
+unfolding words start
+salted_start_2b = refl
+
 -- a salt and a personalization
-pub salted_blake2s_of_nothing : blake2 blake2s (record { digest_length = 32; key = []; salt = 0 ∷ 1 ∷ 2 ∷ 3 ∷ 4 ∷ 5 ∷ 6 ∷ 7 ∷ []; personal = 8 ∷ 9 ∷ 10 ∷ 11 ∷ 12 ∷ 13 ∷ 14 ∷ 15 ∷ [] }) ([]) ≡
+pub salted_blake2s_of_nothing : blake2 blake2s (salted 32 [] (counted 8) (drop 8 (counted 16))) ([]) ≡
     0xe6 ∷ 0xb3 ∷ 0xd6 ∷ 0x91 ∷ 0xf9 ∷ 0xb4 ∷ 0x20 ∷ 0xe9 ∷ 0xe5 ∷ 0xe4 ∷ 0xb7 ∷ 0xe8 ∷ 0x57 ∷ 0xb0 ∷ 0xda ∷ 0xb9 ∷
     0xf8 ∷ 0x98 ∷ 0xe7 ∷ 0x94 ∷ 0xa3 ∷ 0xb3 ∷ 0x4f ∷ 0x8e ∷ 0xc0 ∷ 0xaf ∷ 0x12 ∷ 0x21 ∷ 0xf6 ∷ 0xc2 ∷ 0xcf ∷ 0x4d ∷ []
 unfolding g g_at round rounds compress words word_bytes block_len block_count start key_block chain final_value blake2
 salted_blake2s_of_nothing = refl
 
-pub salted_blake2b_of_nothing : blake2 blake2b (record { digest_length = 32; key = []; salt = counted 16; personal = replicate 16 7 }) ([]) ≡
+pub salted_blake2b_of_nothing : blake2 blake2b (salted 32 [] (counted 16) (replicate 16 7)) ([]) ≡
     0x28 ∷ 0x82 ∷ 0xfc ∷ 0x91 ∷ 0xbb ∷ 0xd3 ∷ 0x41 ∷ 0x53 ∷ 0xb5 ∷ 0xe2 ∷ 0x56 ∷ 0x87 ∷ 0x70 ∷ 0x92 ∷ 0x5c ∷ 0x7f ∷
     0x9c ∷ 0x36 ∷ 0x43 ∷ 0xbc ∷ 0x26 ∷ 0x7f ∷ 0x66 ∷ 0xaa ∷ 0x58 ∷ 0x22 ∷ 0xd1 ∷ 0x6d ∷ 0xe6 ∷ 0x97 ∷ 0x08 ∷ 0xe3 ∷ []
 unfolding g g_at round rounds compress words word_bytes block_len block_count start key_block chain final_value blake2

@@ -1,6 +1,6 @@
 -- BLAKE2 (RFC 7693, 3.3) as a function of the whole input, once for both variants, with the salt and
 -- the personalization of its parameter block (the BLAKE2 paper, 2.5 and 2.8).
-use Rattle.std.specs.Prelude.{ℕ, zero, suc, ◌+◌, ◌-◌, ◌*◌, ◌/◌, true, false, List, [], ◌∷◌, ◌++◌, length, take, drop, replicate, bit_xor, slice_index}
+use Rattle.std.specs.Prelude.{◌≡◌, ◌≤◌, ℕ, zero, suc, ◌+◌, ◌-◌, ◌*◌, ◌/◌, true, false, List, [], ◌∷◌, ◌++◌, length, take, drop, replicate, bit_xor, slice_index}
 use Rattle.std.specs.Int.{byte_len}
 use Rattle.words.specs.Blake2.{compress}
 use Rattle.words.specs.Mix.{Variant}
@@ -70,14 +70,22 @@ final_value k h p =
 unfoldable pub blake2 : Variant → Parameters → List ℕ → List ℕ
 blake2 k p m = take p.digest_length (word_bytes (word_len k) (final_value k (start k p) (input k p.key m)))
 
--- the parameters without salt and personalization: both are zeros
+-- the parameters that the function has: a digest and a key of up to eight words, salt and
+-- personalization of two (2.1; the BLAKE2 paper, 2.5)
+abbrev pub IsParameters : Variant → Parameters → Type 0
+IsParameters k p = (1 ≤ p.digest_length) × (p.digest_length ≤ 8 * word_len k)
+    × (length p.key ≤ 8 * word_len k)
+    × (length p.salt ≡ 2 * word_len k) × (length p.personal ≡ 2 * word_len k)
+
+-- the parameters with a salt and a personalization
+abbrev pub salted : ℕ → List ℕ → List ℕ → List ℕ → Parameters
+salted digest_length key salt personal =
+    record { digest_length = digest_length; key = key; salt = salt; personal = personal }
+
+-- the parameters without: both are zeros
 abbrev pub unsalted : Variant → ℕ → List ℕ → Parameters
-unsalted k digest_length key = record {
-  digest_length = digest_length;
-  key = key;
-  salt = replicate (2 * word_len k) 0;
-  personal = replicate (2 * word_len k) 0;
-}
+unsalted k digest_length key =
+    salted digest_length key (replicate (2 * word_len k) 0) (replicate (2 * word_len k) 0)
 
 -- the parameters as one list
 abbrev pub listed : Parameters → List ℕ

@@ -1,12 +1,13 @@
 -- A hasher's room is what its message leaves of the limit.
 use Rattle.std.specs.Prelude.{◌≡◌, ℕ, ◌+◌, ◌-◌, ◌^◌, ◌≤◌, List, [], ◌∷◌, length, refl, replicate}
-use Rattle.std.proofs.Common.{arith, length-append}
+use Rattle.std.proofs.Common.{arith, ap, sym, ◌∙◌, length-append}
 use Rattle.std.proofs.lemmas.List.{length-replicate}
 use Rattle.words.specs.Blake2.{blake2b, blake2s}
 use Rattle.words.specs.Mix.{Variant}
-use Rattle.blake2.specs.Blake2.{Parameters, block_len, from_list, key_block, message_limit, unsalted}
+use Rattle.blake2.specs.Blake2.{Parameters, block_len, from_list, key_block, listed, message_limit}
 use Rattle.blake2.specs.Held.{HoldsMessage, IsHeld}
-use Rattle.blake2.specs.Hashers.{Holds2b, Holds2s, parameters_2b, parameters_2s, room_left_2b, room_left_2s}
+use Rattle.blake2.specs.Hashers.{Holds2b, Holds2s, hasher_parameters, parameters_2b, parameters_2s, room_left_2b, room_left_2s}
+use Rattle.blake2.specs.Listed.{read_back}
 use Rattle.blake2.specs.declared.blake2b.Blake2b.{Blake2b}
 use Rattle.blake2.specs.declared.blake2s.Blake2s.{Blake2s}
 
@@ -32,8 +33,11 @@ pub room_is_2b : (s : Blake2b) (m : List ℕ) → Holds2b s m
 unfolding Holds2b parameters_2b room_left_2b block_len
 room_is_2b s m held =
     let h = s.hasher in
-    room_of blake2b (unsalted blake2b h.digest_length h.key) h.stream.chain.h h.stream.buffer h.stream.used h.stream.compressed
+    let p : Parameters = hasher_parameters h in
+    let same : p ≡ from_list blake2b (listed p) = sym (read_back blake2b p h.salt_whole h.personal_whole) in
+    room_of blake2b p h.stream.chain.h h.stream.buffer h.stream.used h.stream.compressed
     (2 ^ 128 - 1) 128 m refl (omega (arith, h.key_fits)) h.stream.counted held
+    ∙ ap (λ (q : Parameters). message_limit (2 ^ 128 - 1) 128 q.key) same
 
 -- the law of BLAKE2s's room
 pub room_is_2s : (s : Blake2s) (m : List ℕ) → Holds2s s m
@@ -41,5 +45,8 @@ pub room_is_2s : (s : Blake2s) (m : List ℕ) → Holds2s s m
 unfolding Holds2s parameters_2s room_left_2s block_len
 room_is_2s s m held =
     let h = s.hasher in
-    room_of blake2s (unsalted blake2s h.digest_length h.key) h.stream.chain.h h.stream.buffer h.stream.used h.stream.compressed
+    let p : Parameters = hasher_parameters h in
+    let same : p ≡ from_list blake2s (listed p) = sym (read_back blake2s p h.salt_whole h.personal_whole) in
+    room_of blake2s p h.stream.chain.h h.stream.buffer h.stream.used h.stream.compressed
     (2 ^ 64 - 1) 64 m refl (omega (arith, h.key_fits)) h.stream.counted held
+    ∙ ap (λ (q : Parameters). message_limit (2 ^ 64 - 1) 64 q.key) same

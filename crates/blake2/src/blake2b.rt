@@ -2,7 +2,7 @@
 
 ghost use Rattle.std.specs.Prelude.{◌≡◌, ◌+◌, ◌-◌, ◌^◌, [], ℕ, List, length, Some, None, MatchResult};
 ghost use Rattle.words.specs.Blake2.{blake2b};
-ghost use Rattle.blake2.specs.Blake2.{blake2, from_list, listed, message_limit, unsalted};
+ghost use Rattle.blake2.specs.Blake2.{blake2, from_list, listed, message_limit, salted, unsalted};
 ghost use Rattle.blake2.specs.Faults.{parameter_fault};
 
 use crate::ParameterFault;
@@ -15,7 +15,7 @@ use words::{Absorb, InputTooLong, Tag};
 /// key's block among them, never wraps.
 #[derive(Drop)]
 pub struct Blake2b {
-    hasher: Hasher<Chain2b, 128>,
+    hasher: Hasher<Chain2b, 128, 16>,
 }
 
 impl Blake2b {
@@ -43,8 +43,28 @@ impl Blake2b {
             × ⟦<Blake2b as Absorb>⟧.holds h [])
             (λ e. parameter_fault 64 digest_length (length key.now) ≡ Some e) }
     {
+        Blake2b::with_parameters(digest_length, key, &[0; 16], &[0; 16])
+    }
+
+    /// A hasher of the empty message under `key`, with a salt and a personalization of 16 bytes each,
+    /// for digests of `digest_length` bytes. It is refused as `keyed` is, which is its case of zeros
+    /// (RFC 7693, section 2.5; the BLAKE2 paper, sections 2.5 and 2.8).
+    pub fn with_parameters(
+        digest_length: usize,
+        key: &[u8],
+        salt: &[u8; 16],
+        personal: &[u8; 16],
+    ) -> Result<Blake2b, ParameterFault>
+        ensures { MatchResult result
+            (λ h. (parameter_fault 64 digest_length (length key.now) ≡ None)
+            × (⟦<Blake2b as Absorb>⟧.parameters h
+            ≡ listed (salted digest_length key.now salt.now personal.now))
+            × (⟦<Blake2b as Absorb>⟧.room_left h ≡ message_limit (2 ^ 128 - 1) 128 key.now)
+            × ⟦<Blake2b as Absorb>⟧.holds h [])
+            (λ e. parameter_fault 64 digest_length (length key.now) ≡ Some e) }
+    {
         Ok(Blake2b {
-            hasher: Hasher::keyed(digest_length, key)?,
+            hasher: Hasher::with_parameters(digest_length, key, salt, personal)?,
         })
     }
 

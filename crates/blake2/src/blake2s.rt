@@ -2,7 +2,7 @@
 
 ghost use Rattle.std.specs.Prelude.{◌≡◌, ◌+◌, ◌-◌, ◌^◌, [], ℕ, List, length, Some, None, MatchResult};
 ghost use Rattle.words.specs.Blake2.{blake2s};
-ghost use Rattle.blake2.specs.Blake2.{blake2, from_list, listed, message_limit, unsalted};
+ghost use Rattle.blake2.specs.Blake2.{blake2, from_list, listed, message_limit, salted, unsalted};
 ghost use Rattle.blake2.specs.Faults.{parameter_fault};
 
 use crate::ParameterFault;
@@ -15,7 +15,7 @@ use words::{Absorb, InputTooLong, Tag};
 /// key's block among them, never wraps.
 #[derive(Drop)]
 pub struct Blake2s {
-    hasher: Hasher<Chain2s, 64>,
+    hasher: Hasher<Chain2s, 64, 8>,
 }
 
 impl Blake2s {
@@ -43,8 +43,28 @@ impl Blake2s {
             × ⟦<Blake2s as Absorb>⟧.holds h [])
             (λ e. parameter_fault 32 digest_length (length key.now) ≡ Some e) }
     {
+        Blake2s::with_parameters(digest_length, key, &[0; 8], &[0; 8])
+    }
+
+    /// A hasher of the empty message under `key`, with a salt and a personalization of 8 bytes each,
+    /// for digests of `digest_length` bytes. It is refused as `keyed` is, which is its case of zeros
+    /// (RFC 7693, section 2.5; the BLAKE2 paper, sections 2.5 and 2.8).
+    pub fn with_parameters(
+        digest_length: usize,
+        key: &[u8],
+        salt: &[u8; 8],
+        personal: &[u8; 8],
+    ) -> Result<Blake2s, ParameterFault>
+        ensures { MatchResult result
+            (λ h. (parameter_fault 32 digest_length (length key.now) ≡ None)
+            × (⟦<Blake2s as Absorb>⟧.parameters h
+            ≡ listed (salted digest_length key.now salt.now personal.now))
+            × (⟦<Blake2s as Absorb>⟧.room_left h ≡ message_limit (2 ^ 64 - 1) 64 key.now)
+            × ⟦<Blake2s as Absorb>⟧.holds h [])
+            (λ e. parameter_fault 32 digest_length (length key.now) ≡ Some e) }
+    {
         Ok(Blake2s {
-            hasher: Hasher::keyed(digest_length, key)?,
+            hasher: Hasher::with_parameters(digest_length, key, salt, personal)?,
         })
     }
 

@@ -1,37 +1,55 @@
-// A hasher under a digest length and a key, over the chaining value of either function.
+// A hasher under its parameters, over the chaining value of either function.
 
-ghost use Rattle.std.specs.Prelude.{◌≡◌, ◌≤◌, ◌+◌, ◌-◌, ◌++◌, ◌↔◌, [], ℕ, List, length, Some, None, MatchResult, IsOk, OnOk, OnErr};
-ghost use Rattle.blake2.specs.Blake2.{Parameters, blake2, start, unsalted};
+ghost use Rattle.std.specs.Prelude.{◌≡◌, ◌≤◌, ◌+◌, ◌-◌, ◌*◌, ◌++◌, ◌↔◌, [], ℕ, List, length, Some, None, MatchResult, IsOk, OnOk, OnErr};
+ghost use Rattle.blake2.specs.Blake2.{Parameters, blake2, salted, start, word_len};
 ghost use Rattle.blake2.specs.Faults.{parameter_fault};
 ghost use Rattle.blake2.specs.Held.{HoldsMessage, IsHeld};
 
 use crate::ParameterFault;
 use crate::chain::Chain;
-use crate::stream::{Stream, padded_block};
+use crate::stream::{Stream, padded_block, write_at};
 use words::{InputTooLong, Tag};
 
 // The state before any input.
-fn empty_stream<C: Chain<N>, const N: usize>(digest_length: usize, key: &[u8]) -> Stream<C, N>
+fn empty_stream<C: Chain<N>, const N: usize>(
+    digest_length: usize,
+    key: &[u8],
+    salt: &[u8],
+    personal: &[u8],
+) -> Stream<C, N>
     requires digest { digest_length ≤ C.OUT }
     requires key { length key.now ≤ C.OUT }
-    ensures held { IsHeld C.variant (start C.variant (unsalted C.variant digest_length key.now)) []
+    requires salt { length salt.now ≡ 2 * word_len C.variant }
+    requires personal { length personal.now ≡ 2 * word_len C.variant }
+    ensures held { IsHeld C.variant
+        (start C.variant (salted digest_length key.now salt.now personal.now)) []
         (C.value result.chain) result.buffer result.used result.compressed }
     ensures count { result.compressed + result.used ≡ 0 }
 {
-    // Digest length, key length, fanout and depth begin the parameter block; the rest is zeros.
-    let block: [u8; N] = padded_block(&[digest_length as u8, key.len() as u8, 1, 1]);
+    // The parameter block is half a block: digest length, key length, fanout, depth, zeros up to half
+    // of it, then salt and personalization.
+    let mut block: [u8; N] = padded_block(&[digest_length as u8, key.len() as u8, 1, 1]);
+    write_at(&mut block, N / 4, salt);
+    write_at(&mut block, N / 4 + N / 8, personal);
     let block = &block[..];
     Stream::new(C::start(&block[..N / 2]))
 }
 
 // The state before a message: the key's block is taken, if there is a key.
-fn start_stream<C: Chain<N>, const N: usize>(digest_length: usize, key: &[u8]) -> Stream<C, N>
+fn start_stream<C: Chain<N>, const N: usize>(
+    digest_length: usize,
+    key: &[u8],
+    salt: &[u8],
+    personal: &[u8],
+) -> Stream<C, N>
     requires digest { digest_length ≤ C.OUT }
     requires key { length key.now ≤ C.OUT }
-    ensures { HoldsMessage C.variant (unsalted C.variant digest_length key.now)
+    requires salt { length salt.now ≡ 2 * word_len C.variant }
+    requires personal { length personal.now ≡ 2 * word_len C.variant }
+    ensures { HoldsMessage C.variant (salted digest_length key.now salt.now personal.now)
         (C.value result.chain) result.buffer result.used result.compressed [] }
 {
-    let mut stream = empty_stream(digest_length, key);
+    let mut stream = empty_stream(digest_length, key, salt, personal);
     if key.is_empty() {
         return stream;
     }
@@ -40,22 +58,34 @@ fn start_stream<C: Chain<N>, const N: usize>(digest_length: usize, key: &[u8]) -
     stream
 }
 
+// `S` is the number of bytes of the salt, and of the personalization.
 #[derive(Drop)]
-pub(crate) struct Hasher<C: Chain<N>, const N: usize> {
+pub(crate) struct Hasher<C: Chain<N>, const N: usize, const S: usize> {
     pub(crate) stream: Stream<C, N>,
     pub(crate) digest_length: usize,
     pub(crate) key: Tag,
+    pub(crate) salt: [u8; S],
+    pub(crate) personal: [u8; S],
     ghost digest_fits: { digest_length ≤ C.OUT },
     ghost key_fits: { length key ≤ C.OUT },
+    ghost salt_whole: { length salt ≡ 2 * word_len C.variant },
+    ghost personal_whole: { length personal ≡ 2 * word_len C.variant },
 }
 
-impl<C: Chain<N>, const N: usize> Hasher<C, N> {
-    pub(crate) fn keyed(digest_length: usize, key: &[u8]) -> Result<Hasher<C, N>, ParameterFault>
+impl<C: Chain<N>, const N: usize, const S: usize> Hasher<C, N, S> {
+    ghost use Rattle.blake2.specs.Hashers.{hasher_parameters};
+
+    pub(crate) fn with_parameters(
+        digest_length: usize,
+        key: &[u8],
+        salt: &[u8; S],
+        personal: &[u8; S],
+    ) -> Result<Hasher<C, N, S>, ParameterFault>
+        requires { S ≡ 2 * word_len C.variant }
         ensures { MatchResult result
             (λ h. (parameter_fault C.OUT digest_length (length key.now) ≡ None)
-            × (h.digest_length ≡ digest_length)
-            × (h.key ≡ key.now)
-            × HoldsMessage C.variant (unsalted C.variant h.digest_length h.key)
+            × (hasher_parameters h ≡ salted digest_length key.now salt.now personal.now)
+            × HoldsMessage C.variant (hasher_parameters h)
             (C.value h.stream.chain) h.stream.buffer h.stream.used h.stream.compressed [])
             (λ e. parameter_fault C.OUT digest_length (length key.now) ≡ Some e) }
     {
@@ -66,9 +96,11 @@ impl<C: Chain<N>, const N: usize> Hasher<C, N> {
             return Err(ParameterFault::KeyLength);
         }
         Ok(Hasher {
-            stream: start_stream(digest_length, key),
+            stream: start_stream(digest_length, key, salt, personal),
             digest_length,
             key: Tag::of(key).unwrap(),
+            salt: *salt,
+            personal: *personal,
         })
     }
 
@@ -82,8 +114,7 @@ impl<C: Chain<N>, const N: usize> Hasher<C, N> {
             self.old.stream.buffer self.old.stream.used self.old.stream.compressed m
             → HoldsMessage C.variant p (C.value self.new.stream.chain)
             self.new.stream.buffer self.new.stream.used self.new.stream.compressed (m ++ piece.now)) }
-        ensures digest_length { self.new.digest_length ≡ self.old.digest_length }
-        ensures key { self.new.key ≡ self.old.key }
+        ensures parameters { hasher_parameters self.new ≡ hasher_parameters self.old }
         ensures refused { OnErr result (self.new ≡ self.old) }
     {
         if piece.len() as u128 > self.stream.room() {

@@ -1,4 +1,4 @@
-//! BLAKE2b and BLAKE2s (RFC 7693), with or without a key.
+//! BLAKE2b and BLAKE2s (RFC 7693), with or without a key, a salt and a personalization.
 //!
 //! ```rust
 //! use blake2::Blake2s;

@@ -10,8 +10,8 @@ ghost use Rattle.blake2.specs.Held.{IsChained, IsHeld};
 use crate::chain::Chain;
 use std::slice::from_ref;
 
-// Writes `bytes` into the buffer from place `at` on.
-fn write_at<const N: usize>(buffer: &mut [u8; N], at: usize, bytes: &[u8])
+/// Writes `bytes` into the buffer from place `at` on.
+pub(crate) fn write_at<const N: usize>(buffer: &mut [u8; N], at: usize, bytes: &[u8])
     requires { at + length bytes.now ≤ N }
     ensures front { take (at + length bytes.now) buffer.new ≡ take at buffer.old ++ bytes.now }
     ensures rest { drop (at + length bytes.now) buffer.new ≡ drop (at + length bytes.now) buffer.old }

@@ -1,0 +1,17 @@
+use Rattle.std.proofs.Common.{◌≡◌, ◌-◌, ◌^◌, ℕ, List, [], ap, sym, ◌∙◌, add-zero}
+use Rattle.words.specs.Blake2.{blake2b}
+use Rattle.blake2.specs.Blake2.{Parameters, from_list, listed, message_limit}
+use Rattle.blake2.specs.Hashers.{Holds2b, hasher_parameters, parameters_2b}
+use Rattle.blake2.specs.Listed.{read_back}
+use Rattle.blake2.specs.Rooms.{room_is_2b}
+use Rattle.blake2.proofs.blake2b.Blake2b.with_parameters.Goals as goal
+
+pub returns : goal.returns
+unfolding Holds2b parameters_2b
+returns c =
+    let e = c.in_ok-with_parameters.ensures in
+    let h = c.in_ok-with_parameters.field-0 in
+    let room = room_is_2b (record { hasher = h }) [] e.2 in
+    let key : (from_list blake2b (listed (hasher_parameters h))).key ≡ c.args.key.now =
+    ap (λ (q : Parameters). q.key) (read_back blake2b (hasher_parameters h) h.salt_whole h.personal_whole ∙ e.1) in
+    (e.0, ap listed e.1, sym (add-zero _) ∙ room ∙ ap (λ (k : List ℕ). message_limit (2 ^ 128 - 1) 128 k) key, e.2)
