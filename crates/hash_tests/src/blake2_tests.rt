@@ -7,6 +7,12 @@ use words::{Absorb, Tag, same};
 trait Blake2: Absorb {
     fn keyed(digest_length: u8, key: &[u8]) -> Result<Self, Fail>;
 
+    // With the salt and the personalization of zeros.
+    fn of_zeros(digest_length: u8, key: &[u8]) -> Result<Self, Fail>;
+
+    // With a salt and a personalization whose bytes count up from these.
+    fn salted(digest_length: u8, key: &[u8], salt: u8, personal: u8) -> Result<Self, Fail>;
+
     fn finish(self) -> Tag;
 
     // Whether the tag is the digest of the message by the definition.
@@ -17,6 +23,25 @@ impl Blake2 for Blake2b {
     fn keyed(digest_length: u8, key: &[u8]) -> Result<Blake2b, Fail> {
         Ok(
             Blake2b::keyed(digest_length as usize, key)
+                .ok()
+                .ok_or("refused")?,
+        )
+    }
+
+    fn of_zeros(digest_length: u8, key: &[u8]) -> Result<Blake2b, Fail> {
+        Ok(
+            Blake2b::with_parameters(digest_length as usize, key, &[0; 16], &[0; 16])
+                .ok()
+                .ok_or("refused")?,
+        )
+    }
+
+    fn salted(digest_length: u8, key: &[u8], salt: u8, personal: u8) -> Result<Blake2b, Fail> {
+        let (mut salt_bytes, mut personal_bytes) = ([0; 16], [0; 16]);
+        count_up(&mut salt_bytes, salt);
+        count_up(&mut personal_bytes, personal);
+        Ok(
+            Blake2b::with_parameters(digest_length as usize, key, &salt_bytes, &personal_bytes)
                 .ok()
                 .ok_or("refused")?,
         )
@@ -44,6 +69,25 @@ impl Blake2 for Blake2s {
         )
     }
 
+    fn of_zeros(digest_length: u8, key: &[u8]) -> Result<Blake2s, Fail> {
+        Ok(
+            Blake2s::with_parameters(digest_length as usize, key, &[0; 8], &[0; 8])
+                .ok()
+                .ok_or("refused")?,
+        )
+    }
+
+    fn salted(digest_length: u8, key: &[u8], salt: u8, personal: u8) -> Result<Blake2s, Fail> {
+        let (mut salt_bytes, mut personal_bytes) = ([0; 8], [0; 8]);
+        count_up(&mut salt_bytes, salt);
+        count_up(&mut personal_bytes, personal);
+        Ok(
+            Blake2s::with_parameters(digest_length as usize, key, &salt_bytes, &personal_bytes)
+                .ok()
+                .ok_or("refused")?,
+        )
+    }
+
     fn finish(self) -> Tag {
         Blake2s::finish(self)
     }
@@ -65,10 +109,27 @@ fn absorb<A: Absorb>(hasher: &mut A, pieces: &[&[u8]]) -> Result<(), Fail> {
     Ok(())
 }
 
-fn digest<H: Blake2>(digest_length: u8, key: &[u8], pieces: &[&[u8]]) -> Result<Tag, Fail> {
-    let mut hasher = H::keyed(digest_length, key)?;
+fn absorbed<H: Blake2>(mut hasher: H, pieces: &[&[u8]]) -> Result<Tag, Fail> {
     absorb(&mut hasher, pieces)?;
     Ok(hasher.finish())
+}
+
+// The digest without a salt and a personalization, which is that of zeros too.
+fn digest<H: Blake2>(digest_length: u8, key: &[u8], pieces: &[&[u8]]) -> Result<Tag, Fail> {
+    let tag = absorbed(H::keyed(digest_length, key)?, pieces)?;
+    let of_zeros = absorbed(H::of_zeros(digest_length, key)?, pieces)?;
+    if !same(&tag, of_zeros.bytes()) {
+        Err("zeros give another digest")?;
+    }
+    Ok(tag)
+}
+
+fn count_up(bytes: &mut [u8], first: u8) {
+    let mut next = first;
+    for byte in bytes.iter_mut() {
+        *byte = next;
+        next = next.wrapping_add(1);
+    }
 }
 
 fn digit(n: u8) -> u8 {
@@ -210,6 +271,277 @@ fn each_length_agrees_with_the_definition(rt: HostRuntime) -> Result<(), Fail> {
     Ok(())
 }
 
+/// Digests of a message whose bytes count up from 0, under a key whose bytes count up from 1.
+#[derive(Clone, Copy)]
+struct Salted {
+    // BLAKE2s has a digest and a key of so many bytes, BLAKE2b of twice as many.
+    digest_length: u8,
+    key_length: usize,
+    // The first bytes; the others count up.
+    salt: u8,
+    personal: u8,
+    message_length: usize,
+    large: &'static str,
+    small: &'static str,
+}
+
+// By Python's hashlib; those with a key also by OpenSSL's BLAKE2BMAC and BLAKE2SMAC.
+const SALTED: [Salted; 20] = [
+    Salted {
+        digest_length: 32,
+        key_length: 0,
+        salt: 0,
+        personal: 8,
+        message_length: 0,
+        large: "dfa853736873f3824bcab6a3e2e4217f051b34ccb7df69cfcb2ef8bb2df4fd83\
+    94aacf64ce7b3887865b239a11fe1d4b772dcd94b6234404bf3ba7f540af3003",
+        small: "e6b3d691f9b420e9e5e4b7e857b0dab9f898e794a3b34f8ec0af1221f6c2cf4d",
+    },
+    Salted {
+        digest_length: 32,
+        key_length: 0,
+        salt: 0,
+        personal: 128,
+        message_length: 3,
+        large: "a4afb6ec329c3b58f9e54bcc3f75c8f37f3094ac0c48b27e5b0810a1bb79d889\
+    8aa3e636905adcc57781625f4c442bac39bf08b62fbf42b99422e5998ecc712e",
+        small: "975c662dd74956a15be67e1de1dff5e1b4e13d66375a43ca526bcbcc89d71ead",
+    },
+    Salted {
+        digest_length: 16,
+        key_length: 0,
+        salt: 1,
+        personal: 200,
+        message_length: 64,
+        large: "9a12062bd320cb58521b5a095a58078b9ac663e708eeca395b8df8da50c775ba",
+        small: "f45d4e06f09a279e6a5c58c3635f1fa4",
+    },
+    Salted {
+        digest_length: 20,
+        key_length: 0,
+        salt: 9,
+        personal: 90,
+        message_length: 65,
+        large: "683d37f5e3f1a4a4f232fffdb903852224e4f6c91b28f83aafca1da9b9f0b727\
+    57ac795ec6e97deb",
+        small: "7df2cd6a27edf47f0329ad44fe72df5952a3a083",
+    },
+    Salted {
+        digest_length: 32,
+        key_length: 32,
+        salt: 16,
+        personal: 32,
+        message_length: 0,
+        large: "0a5b418975ac9ebab31cba847b4f7314e581f982a823959572cd8e1a7b95b844\
+    a852988d93ffc82a598b499f53ee47ee094c396d8409cbba41d8f8cc6b90911c",
+        small: "c419ba69a2faa2f4718d30d8b2f4b03de141e77bb6fd92350795bfe492b21a8f",
+    },
+    Salted {
+        digest_length: 32,
+        key_length: 32,
+        salt: 16,
+        personal: 32,
+        message_length: 1,
+        large: "5cb4edb28d07b5262dac3ca3f6f2032e8773d95d44661cbc327db025932ad528\
+    26fff021f7964b948c7442881c1a187f35ecb719add984d81cfe4f73def751a4",
+        small: "51a3f33d19506faafe9ad3262dd3534d60952d2eea06587b6b0f27225b39406d",
+    },
+    Salted {
+        digest_length: 1,
+        key_length: 1,
+        salt: 255,
+        personal: 254,
+        message_length: 10,
+        large: "36e7",
+        small: "67",
+    },
+    Salted {
+        digest_length: 32,
+        key_length: 5,
+        salt: 7,
+        personal: 77,
+        message_length: 128,
+        large: "75b92cf264c3e67ce5ce9b6f6ea6d41924637af0cb5895b12cb2a1abb715019a\
+    ddafb7554ab9593d192011123c09d1abb2fcd9508da096085d19a9c165e7117a",
+        small: "65cedefc7b4f51e7e026187827a1041ff79f2cc506bf2a454f28475283ab140d",
+    },
+    Salted {
+        digest_length: 28,
+        key_length: 31,
+        salt: 100,
+        personal: 1,
+        message_length: 129,
+        large: "594e958c0e36a5460f7159d0a3a98819e10d597fc2e772e73f79a095ad54fb03\
+    75e297f757634b87d239893735818439d37db631832ea0d0",
+        small: "553419828d03cb5cdcef9acb04b9937845cd659f8fef02a70d06219a",
+    },
+    Salted {
+        digest_length: 32,
+        key_length: 16,
+        salt: 3,
+        personal: 33,
+        message_length: 255,
+        large: "5ffb92ab96024f1b0efa20579c2231240896d96edd2c06784001922bad387350\
+    46c901f2a792589e8fe73f284efe695ae74a2c9056c15e3954a8a69dc5e14ccc",
+        small: "0d0d4453d5cd31ddd79d7d1c0956fa9d54a4c4f2772cc19879052fde4336dc01",
+    },
+    Salted {
+        digest_length: 24,
+        key_length: 0,
+        salt: 250,
+        personal: 251,
+        message_length: 256,
+        large: "44d1ee504c7e282a28c722357723e8c42eb85c7f5b3f092974b841c4a5d1f80d\
+    dde5519616d69bcbdfcbf25e7c99ddd4",
+        small: "83ea0538e05d10865006b91ea502eecbce2767846584cbba",
+    },
+    Salted {
+        digest_length: 32,
+        key_length: 32,
+        salt: 128,
+        personal: 64,
+        message_length: 257,
+        large: "313b0421c4ee21995309dbd42051ecce32c891c6ca7a2127c299ec89090a1684\
+    0776f9bffc5c9b78081546b89b05246ec8c7b9d4964861026a4a404604efe055",
+        small: "e02b7d61dbf560d26c76503080b1a61564453b48a2a4d51a0fe08ae24dc4f743",
+    },
+    Salted {
+        digest_length: 10,
+        key_length: 3,
+        salt: 44,
+        personal: 55,
+        message_length: 1000,
+        large: "58ed83be6d1eab8a26376d3d291867df4a29fdcb",
+        small: "258f75bbf8c4bd598840",
+    },
+    Salted {
+        digest_length: 31,
+        key_length: 0,
+        salt: 60,
+        personal: 61,
+        message_length: 1024,
+        large: "2c1f3a17941ada99ddb64114d65fe7b9566430fbc78796bb4bd5fda42abd682e\
+    7a8815d5a3f58e2d8cac80b3fabc16df99da2698a789b9fefd322b0ce760",
+        small: "c1b7a1f360be70f27d74c5aa129f1b8b95cd38122f23b39bd9d6dcc6e7dfc4",
+    },
+    Salted {
+        digest_length: 32,
+        key_length: 8,
+        salt: 0,
+        personal: 255,
+        message_length: 63,
+        large: "a6b9d1a5f87589c84260e639902069f18b29b918272e1782f43221d7001bc3c9\
+    a80ebe84dc80ff81313d8ab220c3d44ae6babc90bef65467d65a7de8d08c1304",
+        small: "b1d0113db81b64e3044f7b75db50a8bc5d84bed4ee4a34222efd13455774a14c",
+    },
+    Salted {
+        digest_length: 16,
+        key_length: 16,
+        salt: 17,
+        personal: 19,
+        message_length: 127,
+        large: "3ba341dcf0fb85652fbc0122fb404a07d5386f1fd85b99505827ba6752068090",
+        small: "e3514bfb9fe2ab557d8241b47f970d2b",
+    },
+    Salted {
+        digest_length: 2,
+        key_length: 32,
+        salt: 5,
+        personal: 6,
+        message_length: 130,
+        large: "db8673e4",
+        small: "c2f4",
+    },
+    Salted {
+        digest_length: 32,
+        key_length: 1,
+        salt: 222,
+        personal: 111,
+        message_length: 191,
+        large: "5c3d4bff990c4502cc041bfd19f852848686765f0e6640c1ac1b6765d3a0f881\
+    9347ba22aa28d1fa80891c38ab4357e1877502b52b7909491eaa402832acdcd5",
+        small: "4d4945e0f0ceefe89afc7f262568e15895465114db4f0784ff60113cb951226a",
+    },
+    Salted {
+        digest_length: 32,
+        key_length: 0,
+        salt: 64,
+        personal: 64,
+        message_length: 192,
+        large: "1771ffe1da58f2d6ddda3d73e9388cddcd3b932dd2037285c51702b7ce5b0bd5\
+    9dbdc8956fc16cc1877bee727700b705d494be37e6987cb230507df2c079d9eb",
+        small: "5c1e74b940de99b2fe35eac1ddcbf231883976f1881f450c145d7f322fddbe92",
+    },
+    Salted {
+        digest_length: 12,
+        key_length: 24,
+        salt: 32,
+        personal: 31,
+        message_length: 384,
+        large: "abd6c50265826925d94daca81d90251e9dd88e6f69a1849e",
+        small: "a0839285b30708c62399dacc",
+    },
+];
+
+// Whether the digest is the text, in one piece and in pieces of 50 bytes.
+fn gives<H: Blake2>(row: &Salted, digest_length: u8, key: &[u8], text: &str) -> Result<bool, Fail> {
+    let mut message = [0; 1024];
+    count_up(&mut message, 0);
+    let message = message.get(..row.message_length).ok_or("too long a row")?;
+    let whole = absorbed(
+        H::salted(digest_length, key, row.salt, row.personal)?,
+        &[message],
+    )?;
+    let mut hasher = H::salted(digest_length, key, row.salt, row.personal)?;
+    for piece in message.chunks(50) {
+        absorb(&mut hasher, &[piece])?;
+    }
+    Ok(spells(text, &whole) && spells(text, &hasher.finish()))
+}
+
+#[test]
+fn salted_and_personalized_digests(rt: HostRuntime) -> Result<(), Fail> {
+    let mut key = [0; 64];
+    count_up(&mut key, 1);
+    for (i, row) in SALTED.iter().enumerate() {
+        let small = key.get(..row.key_length).ok_or("too long a row")?;
+        assert!(rt;
+            gives::<Blake2s>(row, row.digest_length, small, row.small)?,
+            "BLAKE2s, row {i}"
+        );
+        let large = key
+            .get(..row.key_length.wrapping_mul(2))
+            .ok_or("too long a row")?;
+        assert!(rt;
+            gives::<Blake2b>(row, row.digest_length.wrapping_mul(2), large, row.large)?,
+            "BLAKE2b, row {i}"
+        );
+    }
+    Ok(())
+}
+
+// From the documentation of Python's hashlib, "Personalization".
+#[test]
+fn the_personalized_digests_of_hashlib(rt: HostRuntime) -> Result<(), Fail> {
+    for (personal, expected) in [
+        (
+            b"MyApp Files Hash",
+            "20d9cd024d4fb086aae819a1432dd2466de12947831b75c5a30cf2676095d3b4",
+        ),
+        (
+            b"MyApp Block Hash",
+            "cf68fb5761b9c44e7878bfb2c4c9aea52264a80b75005e65619778de59f383a3",
+        ),
+    ] {
+        let hasher = Blake2b::with_parameters(32, b"", &[0; 16], personal)
+            .ok()
+            .ok_or("refused")?;
+        let tag = absorbed(hasher, &[b"the same content"])?;
+        assert!(rt; spells(expected, &tag));
+    }
+    Ok(())
+}
+
 fn fault<H: Drop>(made: Result<H, ParameterFault>) -> Option<ParameterFault> {
     made.err()
 }
@@ -247,6 +579,16 @@ fn refused_parameters(rt: HostRuntime) -> Result<(), Fail> {
             small,
             "{digest_length} {key_length}"
         );
+        assert_eq!(rt;
+            fault(Blake2b::with_parameters(digest_length, key, &[0; 16], &[0; 16])),
+            large,
+            "{digest_length} {key_length}"
+        );
+        assert_eq!(rt;
+            fault(Blake2s::with_parameters(digest_length, key, &[0; 8], &[0; 8])),
+            small,
+            "{digest_length} {key_length}"
+        );
         if key_length == 0 {
             assert_eq!(rt;
                 fault(Blake2b::new(digest_length)),
@@ -274,6 +616,10 @@ fn rooms(rt: HostRuntime) -> Result<(), Fail> {
     assert_eq!(rt; hasher.room(), 18446744073709551551);
     let hasher = Blake2s::keyed(32, b"").ok().ok_or("refused")?;
     assert_eq!(rt; hasher.room(), 18446744073709551615);
+    let hasher = Blake2s::with_parameters(32, b"k", &[1; 8], &[2; 8])
+        .ok()
+        .ok_or("refused")?;
+    assert_eq!(rt; hasher.room(), 18446744073709551551);
     let hasher = Blake2b::new(64).ok().ok_or("refused")?;
     assert_eq!(rt; hasher.room(), u128::MAX);
     let hasher = Blake2b::keyed(64, b"k").ok().ok_or("refused")?;
