@@ -16,10 +16,12 @@ pub use blake2_hash::{Blake2b512, Blake2s256};
 pub use block_hash::BlockHash;
 pub use hmac::{Hmac, TagLength};
 pub use key::KeyTooLong;
+pub use laws::hash_laws;
 pub use sha2_stream::{Sha256Stream, Sha512Stream};
 
 mod blake2_hash;
 mod block_hash;
 mod hmac;
 mod key;
+mod laws;
 mod sha2_stream;
