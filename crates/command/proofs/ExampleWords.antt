@@ -14,6 +14,10 @@ kdf_words = codes "sums" ∷ codes "kdf" ∷ codes "-a" ∷ codes "sha256" ∷ c
 abbrev hash_words : List Text
 hash_words = codes "sums" ∷ codes "hash" ∷ codes "-ablake2s" ∷ codes "x" ∷ codes "y" ∷ []
 
+-- sums hash --tag -asha512
+abbrev tagged_words : List Text
+tagged_words = codes "sums" ∷ codes "hash" ∷ codes "--tag" ∷ codes "-asha512" ∷ []
+
 -- the text of an option, where the words name a command
 abbrev of : Text → Option (Text × List Row) → Option (Option Text)
 of id = option_map (λ s. first_of id s.1)
@@ -45,6 +49,16 @@ algorithm names macs = refl
 files : (names macs : NameList) → option_map (λ s. all_of (codes "file") s.1) (subcommand_of (sums_app names macs) hash_words) ≡ Some (Some (codes "x" ∷ codes "y" ∷ []))
 unfolding clap_on_literals
 files names macs = refl
+
+tag : (names macs : NameList)
+    → of (codes "tag") (subcommand_of (sums_app names macs) tagged_words) ≡ Some (Some (codes "true"))
+unfolding clap_on_literals
+tag names macs = refl
+
+no_tag : (names macs : NameList)
+    → of (codes "tag") (subcommand_of (sums_app names macs) hash_words) ≡ Some (Some (codes "false"))
+unfolding clap_on_literals
+no_tag names macs = refl
 
 missing : (names macs : NameList) → fault_of (sums_app names macs) (codes "sums" ∷ codes "hash" ∷ []) ≡ kind.MissingRequiredArgument ∷ []
 unfolding clap_on_literals

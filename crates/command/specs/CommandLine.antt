@@ -1,10 +1,11 @@
 -- The command line of the program, as what a parse by `clap` reads of it.
-use Rattle.std.specs.Prelude.{◌≡◌, true, List, [], ◌∷◌, Some, codes, map, option_map, IsSomeAnd, unwrap_or, fold}
+use Rattle.std.specs.Prelude.{◌≡◌, ◌↔◌, true, List, [], ◌∷◌, Some, codes, map, option_map, IsSomeAnd, IsTrue}
+use Rattle.std.specs.Prelude.{unwrap_or, fold}
 use Rattle.std.specs.Borrow.{Bor}
 use Rattle.clap.specs.Words.{App, Row, Rule, Text, first_of, all_of, new_app, new_rule, subcommand_of, with_rule, with_subcommand}
 use Rattle.command.specs.declared.request.Request.{Request}
 use Rattle.clap.specs.declared.builder.value_parser.ValueParser.TheVariants as vp
-use Rattle.clap.specs.declared.builder.action.ArgAction.TheVariants.{Append}
+use Rattle.clap.specs.declared.builder.action.ArgAction.TheVariants.{Append, SetTrue}
 
 -- the names that `-a` takes
 abbrev pub NameList : Type 0
@@ -55,6 +56,10 @@ text_rule name = record (new_rule name) { long = Some name; value_names = 1 }
 abbrev pub required_rule : Rule → Rule
 required_rule a = record a { required = true }
 
+-- a flag `--name`, which takes no value
+abbrev pub flag_rule : Text → Rule
+flag_rule name = record (new_rule name) { long = Some name; action = Some SetTrue }
+
 -- one FILE or LIST
 abbrev pub file_rule : Rule
 file_rule = record (new_rule (codes "file")) { value_names = 1 }
@@ -67,10 +72,11 @@ files_rule = record file_rule { action = Some Append }
 abbrev pub with_rules : App → List Rule → App
 with_rules = fold with_rule
 
--- `hash -a ALG [-l N] [--seek N] [FILE]..`
+-- `hash -a ALG [-l N] [--seek N] [--tag] [FILE]..`
 abbrev pub hash_app : NameList → App
 hash_app names = with_rules (new_app (codes "hash"))
-    (algorithm_rule names ∷ length_rule ∷ number_rule (codes "seek") ∷ files_rule ∷ [])
+    (algorithm_rule names ∷ length_rule ∷ number_rule (codes "seek") ∷ flag_rule (codes "tag")
+    ∷ files_rule ∷ [])
 
 -- `mac -a MAC [--key HEX] [--key-file F] [-l N] [FILE]`
 abbrev pub mac_app : NameList → App
@@ -95,13 +101,18 @@ sums_app names macs = with_subcommand (with_subcommand (with_subcommand (with_su
       top = record (new_app (codes "sums")).top { subcommand_required = true; has_version = true };
     }) (hash_app names).top) (mac_app macs).top) (kdf_app names).top) (check_app names).top
 
--- the words name the subcommand s.0 with the matches s.1, and r has its name and the first value
--- of each option
+-- a flag was given: its value is then the word `true`
+abbrev pub IsGiven : Text → List Row → Type 0
+IsGiven id rows = first_of id rows ≡ Some (codes "true")
+
+-- the words name the subcommand s.0 with the matches s.1, and r has its name, the first value of
+-- each option, and whether the flag was given
 pub record IsRequestOf (s : Text × List Row) (r : Request) : Type 0 where
   pub command : r.command.now ≡ s.0
   pub algorithm : option_map (λ t. t.now) r.algorithm ≡ first_of (codes "algorithm") s.1
   pub length : option_map (λ t. t.now) r.length ≡ first_of (codes "length") s.1
   pub seek : option_map (λ t. t.now) r.seek ≡ first_of (codes "seek") s.1
+  pub tag : IsTrue r.tag ↔ IsGiven (codes "tag") s.1
   pub key : option_map (λ t. t.now) r.key ≡ first_of (codes "key") s.1
   pub key_file : option_map (λ t. t.now) r.key_file ≡ first_of (codes "key-file") s.1
   pub ikm_file : option_map (λ t. t.now) r.ikm_file ≡ first_of (codes "ikm-file") s.1

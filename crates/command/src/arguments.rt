@@ -2,7 +2,8 @@
 
 ghost use Rattle.std.specs.Prelude.{◌≡◌, false};
 ghost use Rattle.clap.specs.Words.{rule_of};
-ghost use Rattle.command.specs.CommandLine.{algorithm_rule, file_rule, files_rule, length_rule, number_rule, required_rule, text_rule};
+ghost use Rattle.command.specs.CommandLine.{algorithm_rule, file_rule, files_rule, flag_rule, length_rule};
+ghost use Rattle.command.specs.CommandLine.{number_rule, required_rule, text_rule};
 
 use clap::{Arg, ArgAction, value_parser};
 use std::alloc::Global;
@@ -63,6 +64,17 @@ pub(crate) fn text_option<'a>(
         .long(name)
         .value_name(value)
         .help(help)
+}
+
+/// `--name`, which takes no value.
+pub(crate) fn flag_option<'a>(alloc: Global, name: &'a str, help: &'a str) -> Arg<'a>
+    ensures rule { rule_of result ≡ flag_rule name.entry.now }
+    ensures local { result.global ≡ false }
+{
+    Arg::new(alloc, name)
+        .long(name)
+        .help(help)
+        .action(ArgAction::SetTrue)
 }
 
 /// One file or list.

@@ -5,8 +5,8 @@ ghost use Rattle.clap.specs.Words.{app_of, new_app};
 ghost use Rattle.command.specs.CommandLine.{check_app, hash_app, kdf_app, mac_app, sums_app, text_rule, with_rules};
 
 use crate::arguments::{
-    algorithm_option, file_argument, files_argument, length_option, number_option, required,
-    text_option,
+    algorithm_option, file_argument, files_argument, flag_option, length_option, number_option,
+    required, text_option,
 };
 use clap::Command;
 use std::alloc::{AllocError, Global};
@@ -60,6 +60,11 @@ fn hash_command<'a>(alloc: Global, names: &'a [&'a str]) -> Result<Command<'a>, 
         alloc,
         "seek",
         "The first byte of the output that is printed, for blake3 alone [default: 0]",
+    ))?
+    .arg(flag_option(
+        alloc,
+        "tag",
+        "Prints lines that name their algorithm, as SHA256 (FILE) = DIGITS; of blake3 32 bytes",
     ))?
     .arg(files_argument(alloc, "The files, each - standard input [default: -]"))
 }

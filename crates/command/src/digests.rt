@@ -1,34 +1,24 @@
 // The command `hash`: the digest of each file, as a line of a list.
 
-ghost use Rattle.std.specs.Prelude.{◌+◌, ◌-◌, ◌^◌, ◌≤◌, IfSome, OnOk};
+ghost use Rattle.std.specs.Prelude.{◌≡◌, ◌≤◌, IfOk, IfSome, MatchResult, OnOk, true};
 ghost use Rattle.std.specs.Io.KnownBytes.{Appends};
-ghost use Rattle.source.specs.Digest.{digest};
-ghost use Rattle.sumlist.specs.Entry.{written};
+ghost use Rattle.source.specs.Digest.{IsInRange, digest, tag_len};
+ghost use Rattle.command.specs.Lines.{IsListable, line_text};
+ghost use Rattle.command.specs.inside.Asked.{HasDigest, names_algorithm};
+ghost use Rattle.command.specs.declared.fault.Fault.TheVariants.{BadName};
 
 use crate::fault::{Fault, tell};
 use crate::files::{absorb_file, opened};
 use crate::output::{named, write_output};
 use crate::parameters::{number, refused};
 use crate::request::Request;
+use crate::requested::{Form, Requested, Stretch};
 use b3::Blake3;
 use source::{Alg, AnyHash, Feed, Sink, digest_of};
 use std::alloc::Global;
-use sumlist::{Entry, Tree, write_end, write_entry, write_lead};
-
-/// What is printed of a file: a digest, or bytes of BLAKE3's output.
-#[derive(Clone, Copy)]
-enum Digest {
-    Whole(Alg),
-    Output(Stretch),
-}
-
-/// Bytes of an output, from a position on.
-#[derive(Clone, Copy)]
-struct Stretch {
-    position: u64,
-    length: u64,
-    ghost ends: { position + length ≤ 2 ^ 64 - 1 },
-}
+use sumlist::{
+    Entry, TaggedFault, Tree, fits, tagged_fits, write_end, write_entry, write_lead, write_tagged,
+};
 
 /// Prints the line of each file, and goes on with the next after a file that can't be read or
 /// named. Answers the status.
@@ -40,14 +30,14 @@ pub(crate) fn print_digests<'n, L: Feed, T: Tree, W: Sink, E: Sink>(
     out: &mut W,
     err: &mut E,
 ) -> Result<u8, Fault<'n>> {
-    let digest = requested(request)?;
+    let asked = requested(request)?;
     if request.files.is_empty() {
-        hash_file(alloc, digest, "-", input, tree, out)?;
+        hash_file(alloc, asked, "-", input, tree, out)?;
         return Ok(0);
     }
     let mut status = 0;
     for name in request.files.as_slice() {
-        match hash_file(alloc, digest, name, input, tree, out) {
+        match hash_file(alloc, asked, name, input, tree, out) {
             Ok(()) => {}
             Err(fault) if fault.status() == 1 => status = tell(err, fault),
             Err(fault) => return Err(fault),
@@ -56,28 +46,54 @@ pub(crate) fn print_digests<'n, L: Feed, T: Tree, W: Sink, E: Sink>(
     Ok(status)
 }
 
-fn requested(request: &Request<'_>) -> Result<Digest, Fault<'static>> {
+fn requested(request: &Request<'_>) -> Result<Requested, Fault<'static>>
+    ensures tag { IfOk result (λ asked. names_algorithm asked ≡ request.now.tag) }
+    ensures range { IfOk result HasDigest }
+{
     match request.algorithm {
         Some("sha256") => sha(request, Alg::Sha256),
         Some("sha512") => sha(request, Alg::Sha512),
         Some("blake2b") => {
             refused("--seek", request.seek)?;
             let length = number("-l", request.length, 64, 1, 64)?;
-            Ok(Digest::Whole(Alg::Blake2b(length as usize)))
+            Ok(whole(Alg::Blake2b(length as usize), request.tag))
         }
         Some("blake2s") => {
             refused("--seek", request.seek)?;
             let length = number("-l", request.length, 32, 1, 32)?;
-            Ok(Digest::Whole(Alg::Blake2s(length as usize)))
+            Ok(whole(Alg::Blake2s(length as usize), request.tag))
         }
-        _ => Ok(Digest::Output(stretch_of(request)?)),
+        _ if request.tag => tagged_blake3(request),
+        _ => Ok(Requested::Output(stretch_of(request)?)),
     }
 }
 
-fn sha(request: &Request<'_>, alg: Alg) -> Result<Digest, Fault<'static>> {
+fn whole(alg: Alg, is_tagged: bool) -> Requested
+    requires { IsInRange alg }
+    ensures tag { names_algorithm result ≡ is_tagged }
+    ensures range { HasDigest result }
+{
+    Requested::Digest(Form { alg, is_tagged })
+}
+
+fn sha(request: &Request<'_>, alg: Alg) -> Result<Requested, Fault<'static>>
+    requires { IsInRange alg }
+    ensures tag { IfOk result (λ asked. names_algorithm asked ≡ request.now.tag) }
+    ensures range { IfOk result HasDigest }
+{
     refused("-l", request.length)?;
     refused("--seek", request.seek)?;
-    Ok(Digest::Whole(alg))
+    Ok(whole(alg, request.tag))
+}
+
+// The label of BLAKE3 stands for its first 32 bytes.
+fn tagged_blake3(request: &Request<'_>) -> Result<Requested, Fault<'static>>
+    ensures tag { IfOk result (λ asked. names_algorithm asked ≡ true) }
+    ensures range { IfOk result HasDigest }
+{
+    number("-l", request.length, 32, 32, 32)?;
+    number("--seek", request.seek, 0, 0, 0)?;
+    Ok(whole(Alg::Blake3, true))
 }
 
 fn stretch_of(request: &Request<'_>) -> Result<Stretch, Fault<'static>> {
@@ -91,15 +107,17 @@ fn stretch_of(request: &Request<'_>) -> Result<Stretch, Fault<'static>> {
 
 fn hash_file<'n, L: Feed, T: Tree, W: Sink>(
     alloc: Global,
-    digest: Digest,
+    asked: Requested,
     name: &'n str,
     input: &mut L,
     tree: &mut T,
     out: &mut W,
-) -> Result<(), Fault<'n>> {
-    match digest {
-        Digest::Whole(alg) => hash_whole(alloc, alg, name, input, tree, out),
-        Digest::Output(stretch) => hash_output(stretch, name, input, tree, out),
+) -> Result<(), Fault<'n>>
+    requires { HasDigest asked }
+{
+    match asked {
+        Requested::Digest(form) => hash_whole(alloc, form, name, input, tree, out),
+        Requested::Output(stretch) => hash_output(stretch, name, input, tree, out),
     }
 }
 
@@ -107,51 +125,85 @@ fn hash_file<'n, L: Feed, T: Tree, W: Sink>(
 // of its line is written.
 fn hash_whole<'n, L: Feed, T: Tree, W: Sink>(
     alloc: Global,
-    alg: Alg,
+    form: Form,
     name: &'n str,
     input: &mut L,
     tree: &mut T,
     out: &mut W,
-) -> Result<(), Fault<'n>> {
-    named(digest_len(alg).saturating_mul(2), name)?;
+) -> Result<(), Fault<'n>>
+    requires { IsInRange form.alg }
+{
+    listable(form, name)?;
     if name == "-" {
-        return print_entry(alloc, alg, name, input, out);
+        return print_entry(alloc, form, name, input, out);
     }
     let mut feed = opened(name, tree)?;
-    let answer = print_entry(alloc, alg, name, &mut feed, out);
+    let answer = print_entry(alloc, form, name, &mut feed, out);
     tree.close(feed);
     answer
 }
 
-// Prints the entry of a name and the digest of all that its feed gives.
+// Refuses a name that cannot stand on a line of this form.
+fn listable<'n>(form: Form, name: &'n str) -> Result<(), Fault<'n>>
+    requires { IsInRange form.alg }
+    ensures { MatchResult result (λ _. IsListable form.is_tagged form.alg name.now)
+        (λ fault. (fault ≡ BadName name.entry) × (IsListable form.is_tagged form.alg name.now → ⊥)) }
+{
+    if !fits(2 * digest_len(form.alg), name) || form.is_tagged && !tagged_fits(form.alg, name) {
+        return Err(Fault::BadName(name));
+    }
+    Ok(())
+}
+
+// Prints the line of a name and the digest of all that its feed gives.
 fn print_entry<'n, F: Feed, W: Sink>(
     alloc: Global,
-    alg: Alg,
+    form: Form,
     name: &'n str,
     feed: &mut F,
     out: &mut W,
 ) -> Result<(), Fault<'n>>
     ensures { OnOk result (IfSome (F.remaining feed.old) (λ bytes.
-        Appends (W.contents out.old) (W.contents out.new)
-        (written (record { name = name.entry.now; alg = alg; tag = digest alg bytes })))) }
+        Appends (W.contents out.old) (W.contents out.new) (line_text form.is_tagged
+        (record { name = name.entry.now; alg = form.alg; tag = digest form.alg bytes })))) }
 {
-    let Ok(hasher) = AnyHash::new(alg) else {
+    let Ok(hasher) = AnyHash::new(form.alg) else {
         return Err(Fault::OutOfRange("-l"));
     };
     let tag = match digest_of(hasher, feed) {
         Ok(tag) => tag,
         Err(fault) => return Err(Fault::of_source(fault, name)),
     };
-    match Entry::new(alg, String::from_str(alloc, name)?, tag) {
-        Ok(entry) => {
-            write_entry(&entry, out)?;
-            Ok(())
-        }
+    match Entry::new(form.alg, String::from_str(alloc, name)?, tag) {
+        Ok(entry) => write_listed(&entry, form.is_tagged, name, out),
         Err(_) => Err(Fault::BadName(name)),
     }
 }
 
-fn digest_len(alg: Alg) -> usize {
+fn write_listed<'n, W: Sink>(
+    entry: &Entry,
+    is_tagged: bool,
+    name: &'n str,
+    out: &mut W,
+) -> Result<(), Fault<'n>>
+    ensures { OnOk result
+        (Appends (W.contents out.old) (W.contents out.new) (line_text is_tagged entry.now)) }
+{
+    if !is_tagged {
+        return Ok(write_entry(entry, out)?);
+    }
+    match write_tagged(entry, out) {
+        Ok(()) => Ok(()),
+        Err(TaggedFault::Write) => Err(Fault::CannotWrite),
+        Err(TaggedFault::TooLong) => Err(Fault::BadName(name)),
+    }
+}
+
+fn digest_len(alg: Alg) -> usize
+    requires { IsInRange alg }
+    ensures value { result ≡ tag_len alg }
+    ensures bound { result ≤ 64 }
+{
     match alg {
         Alg::Sha256 | Alg::Blake3 => 32,
         Alg::Sha512 => 64,

@@ -15,6 +15,7 @@ mod output;
 mod parameters;
 mod reports;
 mod request;
+mod requested;
 mod tags;
 
 use digests::print_digests;

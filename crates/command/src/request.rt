@@ -1,8 +1,9 @@
 // What the words of the command line ask for.
 
-ghost use Rattle.std.specs.Prelude.{◌≡◌, ◌≢◌, [], Err, IfOk, IsSomeAnd, OnOk, codes, map, option_map, true, unwrap_or};
+ghost use Rattle.std.specs.Prelude.{◌≡◌, ◌≢◌, ◌↔◌, [], Err, IfOk, IsSomeAnd, IsTrue, OnOk, codes, map};
+ghost use Rattle.std.specs.Prelude.{option_map, true, unwrap_or};
 ghost use Rattle.clap.specs.Words.{IsAmong, all_of, fault_of, first_of, found_of, has_subcommand, kind_of, rows_of, subcommand_of, subcommand_rows_of};
-ghost use Rattle.command.specs.CommandLine.{IsRequestOf, OfSums, Reads, sums_app};
+ghost use Rattle.command.specs.CommandLine.{IsGiven, IsRequestOf, OfSums, Reads, sums_app};
 ghost use Rattle.command.specs.declared.request.WordsFault.TheVariants.{OutOfMemory, Words};
 
 use crate::commands::sums_command;
@@ -27,7 +28,7 @@ impl From<AllocError> for WordsFault {
     }
 }
 
-/// What the words ask for: a command, the text of each option that was given, and the files.
+/// What the words ask for: a command, the text of each option that was given, a flag, and the files.
 #[derive(Debug, Drop)]
 pub struct Request<'a> {
     /// The command's name.
@@ -38,6 +39,8 @@ pub struct Request<'a> {
     pub length: Option<&'a str>,
     /// The text of `--seek`.
     pub seek: Option<&'a str>,
+    /// Whether `--tag` was given.
+    pub tag: bool,
     /// The text of `--key`.
     pub key: Option<&'a str>,
     /// The text of `--key-file`.
@@ -134,6 +137,7 @@ fn request_of<'a>(
         algorithm: text_of(matches, "algorithm"),
         length: text_of(matches, "length"),
         seek: text_of(matches, "seek"),
+        tag: is_given(matches, "tag"),
         key: text_of(matches, "key"),
         key_file: text_of(matches, "key-file"),
         ikm_file: text_of(matches, "ikm-file"),
@@ -148,6 +152,16 @@ fn text_of<'a>(matches: &ArgMatches<'a>, id: &str) -> Option<&'a str>
     ensures { option_map (λ t. t.now) result ≡ first_of id.now (rows_of (found_of matches.now)) }
 {
     matches.get_str(id)
+}
+
+// Whether a flag was given.
+fn is_given(matches: &ArgMatches<'_>, id: &str) -> bool
+    ensures { IsTrue result ↔ IsGiven id.now (rows_of (found_of matches.now)) }
+{
+    match text_of(matches, id) {
+        Some(text) => text == "true",
+        None => false,
+    }
 }
 
 fn texts_of<'m, 'a>(matches: &'m ArgMatches<'a>, id: &str) -> Option<&'m [&'a str]>

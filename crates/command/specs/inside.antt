@@ -1,0 +1,2 @@
+-- What the clauses of private functions say, and how private types are seen: of use inside alone.
+pub mod Asked
