@@ -18,29 +18,22 @@ fn working(h: &[u32; 8], t: u64, b: u32, d: u32) -> [u32; 16]
     ]
 }
 
-#[inline(always)]
-#[tactic(auto, unfolding(crate::specs::Blake3::rounds3, crate::specs::Blake3::permuted_words, crate::specs::Mix::round))]
-fn rounds(v: &mut [u32; 16], m: &[u32; 16])
-    ensures { v.new ≡ rounds3 v.old m.now 7 }
-{
-    round32(v, m, &PERMUTED[0]);
-    round32(v, m, &PERMUTED[1]);
-    round32(v, m, &PERMUTED[2]);
-    round32(v, m, &PERMUTED[3]);
-    round32(v, m, &PERMUTED[4]);
-    round32(v, m, &PERMUTED[5]);
-    round32(v, m, &PERMUTED[6]);
-}
-
 /// The compression function of BLAKE3, all sixteen words of it: of the chaining value `h`, the
 /// block `m`, the counter `t`, the block's length `b` in bytes and the flags `d` (the BLAKE3 paper,
 /// section 2.2). A chaining value is the first eight words.
-#[tactic(auto, unfolding(crate::specs::Blake3::compress3))]
+#[tactic(auto, unfolding(crate::specs::Blake3::compress3, crate::specs::Blake3::rounds3, crate::specs::Blake3::permuted_words, crate::specs::Mix::round))]
 pub fn compress_3(h: &[u32; 8], m: &[u32; 16], t: u64, b: u32, d: u32) -> [u32; 16]
     ensures { result ≡ compress3 h.now m.now t b d }
 {
     let mut v = working(h, t, b, d);
-    rounds(&mut v, m);
+    // The rounds stand here: in a function of their own the compiler would read each word of the block alone.
+    round32(&mut v, m, &PERMUTED[0]);
+    round32(&mut v, m, &PERMUTED[1]);
+    round32(&mut v, m, &PERMUTED[2]);
+    round32(&mut v, m, &PERMUTED[3]);
+    round32(&mut v, m, &PERMUTED[4]);
+    round32(&mut v, m, &PERMUTED[5]);
+    round32(&mut v, m, &PERMUTED[6]);
     [
         v[0] ^ v[8],
         v[1] ^ v[9],
