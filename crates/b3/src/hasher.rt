@@ -342,7 +342,7 @@ impl Blake3 {
     }
 
     /// Takes a beginning of `rest`, and answers its length: whole chunks, where no chunk is begun and
-    /// three or more have come, or what the open chunk has room for.
+    /// two or more have come, or what the open chunk has room for.
     pub(crate) fn take_some(&mut self, rest: &[u8]) -> usize
         requires some { 0 < length rest.now }
         requires room { self.old.chunk.len < 1024 }
@@ -355,7 +355,7 @@ impl Blake3 {
             → IsSplit self.new (m ++ take result rest.now) }
         ensures last { result ≡ length rest.now → 0 < self.new.chunk.len }
     {
-        if self.chunk.len() == 0 && rest.len() >= 3 * CHUNK_LEN {
+        if self.chunk.len() == 0 && rest.len() >= 2 * CHUNK_LEN {
             if self.closed % 8 == 0 && rest.len() >= GROUP_LEN {
                 let level = run_level(self.closed, rest.len());
                 let n = run_len(level);
@@ -371,7 +371,7 @@ impl Blake3 {
                 return rest.len();
             }
             let n = whole_chunks(self.closed, rest.len());
-            if n >= 3 * CHUNK_LEN {
+            if n >= 2 * CHUNK_LEN {
                 self.push_chunks(&rest[..n]);
                 return n;
             }

@@ -9,7 +9,7 @@ use crate::chunk::CHUNK_LEN;
 use crate::node::{BLOCK_LEN, CHUNK_END, CHUNK_START, Node, PARENT, pair};
 use std::simd::prelude::*;
 use words::compress_3x8;
-use words::lanes::{Turns, lane_rows, message_lanes, next_lanes, pair_lanes, same_lanes};
+use words::lanes::{Turns, four, lane_rows, message_lanes, next_lanes, pair_lanes, same_lanes};
 
 // Where lane `i` begins to read: at its own chunk, or at the last one, which begins at `last`.
 #[inline(always)]
@@ -69,6 +69,68 @@ fn numbers(first: u64) -> [u64; 8]
     ]
 }
 
+// Where each of four lanes begins to read.
+#[inline(always)]
+fn four_starts(last: usize) -> [usize; 4]
+    ensures own { (i : ℕ) → i < 4 → 1024 * i ≤ last → slice_index result i ≡ 1024 * i }
+    ensures within { (i : ℕ) → i < 4 → slice_index result i ≤ last }
+{
+    [
+        lane_start(0, last),
+        lane_start(1, last),
+        lane_start(2, last),
+        lane_start(3, last),
+    ]
+}
+
+// The numbers of four chunks.
+fn four_numbers(first: u64) -> [u64; 4]
+    requires { first + 4 < 2 ^ 64 }
+    ensures { (i : ℕ) → i < 4 → slice_index result i ≡ first + i }
+{
+    [first, first + 1, first + 2, first + 3]
+}
+
+// Four rows, and four more of no meaning.
+fn padded(rows: [[u32; 8]; 4]) -> [[u32; 8]; 8]
+    ensures { (i : ℕ) → i < 4 → slice_index_or result i [] ≡ slice_index_or rows i [] }
+{
+    [
+        rows[0], rows[1], rows[2], rows[3], [0; 8], [0; 8], [0; 8], [0; 8],
+    ]
+}
+
+// The chaining values of at most four whole chunks, and those before the last block of each.
+fn few_chunk_values(
+    key: &[u32; 8],
+    flags: u8,
+    first: u64,
+    bytes: &[u8],
+) -> ([[u32; 8]; 8], [[u32; 8]; 8])
+    requires some { 1024 ≤ length bytes.now }
+    requires numbers { first + 4 < 2 ^ 64 }
+    ensures values { (i : ℕ) → i < 4 → 1024 * i + 1024 ≤ length bytes.now
+        → slice_index_or result.0 i [] ≡ run_cv key.now flags first bytes.now 0 i }
+    ensures before { (i : ℕ) → i < 4 → 1024 * i + 1024 ≤ length bytes.now
+        → slice_index_or result.1 i [] ≡ value_before_last key.now flags first bytes.now i }
+{
+    let counters = four_numbers(first);
+    let starts = four_starts(bytes.len() - CHUNK_LEN);
+    let turns = four::Turns::new();
+    let mut values = four::same_lanes(key);
+    let mut before = values;
+    'each_block: for j in 0..16 {
+        let message = four::message_lanes(bytes, &starts, BLOCK_LEN * j);
+        let next = four::next_lanes(turns, values, message, &counters, 64, block_flags(flags, j));
+        before = values;
+        values = next;
+    }
+    (
+        padded(four::lane_rows(values)),
+        padded(four::lane_rows(before)),
+    )
+}
+
 // The chaining values of at most eight whole chunks, by lanes; `before` takes those before the last block of
 // each. Lanes beyond the last chunk read it again.
 fn chunk_lanes(
@@ -112,6 +174,9 @@ pub(crate) fn chunk_values(
     ensures before { (i : ℕ) → i < 8 → 1024 * i + 1024 ≤ length bytes.now
         → slice_index_or result.1 i [] ≡ value_before_last key.now flags first bytes.now i }
 {
+    if bytes.len() <= 4 * CHUNK_LEN {
+        return few_chunk_values(key, flags, first, bytes);
+    }
     let mut before = same_lanes(key);
     let values = chunk_lanes(key, flags, first, bytes, &mut before);
     (lane_rows(values), lane_rows(before))

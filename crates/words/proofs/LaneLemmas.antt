@@ -85,10 +85,10 @@ pub row_of : (r x : List (List ℕ)) → r ≡ transposed8 x → (i : ℕ) → i
 row_of r x e =
     below_eight _ (rw e refl) (rw e refl) (rw e refl) (rw e refl) (rw e refl) (rw e refl) (rw e refl) (rw e refl)
 
-pub xors_fit : (a : List ℕ) → length a ≡ 8 → (b : List ℕ) → length b ≡ 8 → Each1 (λ x. x < 2 ^ 32) a
+pub xors_fit : (n : ℕ) (a : List ℕ) → length a ≡ n → (b : List ℕ) → length b ≡ n → Each1 (λ x. x < 2 ^ 32) a
     → Each1 (λ x. x < 2 ^ 32) b
-    → (i : ℕ) → i < 8 → slice_index (zip2 bit_xor a b) i < 2 ^ 32
-xors_fit a la b lb fa fb i h =
+    → (i : ℕ) → i < n → slice_index (zip2 bit_xor a b) i < 2 ^ 32
+xors_fit n a la b lb fa fb i h =
     rw (get_or-zip2 bit_xor a b i 0 0 0 (omega arith) (omega arith))
     (xor_lt 32 _ _ (Each1-get_or (λ x. x < 2 ^ 32) a i 0 (omega arith) fa)
     (Each1-get_or (λ x. x < 2 ^ 32) b i 0 (omega arith) fb))

@@ -12,6 +12,53 @@ ghost use Rattle.words.specs.Words.{words};
 use crate::tables::IV32;
 use std::simd::prelude::*;
 
+// The message words in the order of the next round.
+macro_rules! permuted {
+    ($m:ident) => {
+        [
+            $m[2], $m[6], $m[3], $m[10], $m[7], $m[0], $m[4], $m[13], $m[1], $m[11], $m[12], $m[5],
+            $m[9], $m[14], $m[15], $m[8],
+        ]
+    };
+}
+
+// The seven rounds, each on the message words in its order.
+macro_rules! seven_rounds {
+    ($round:ident, $permute:ident, $turns:ident, $v:ident, $m:ident) => {{
+        let m1 = $permute($m);
+        let m2 = $permute(m1);
+        let m3 = $permute(m2);
+        let m4 = $permute(m3);
+        let m5 = $permute(m4);
+        let m6 = $permute(m5);
+        let v = $round($turns, $v, $m);
+        let v = $round($turns, v, m1);
+        let v = $round($turns, v, m2);
+        let v = $round($turns, v, m3);
+        let v = $round($turns, v, m4);
+        let v = $round($turns, v, m5);
+        $round($turns, v, m6)
+    }};
+}
+
+// The first eight words of output.
+macro_rules! folded {
+    ($xor:ident, $v:ident) => {
+        [
+            $xor($v[0], $v[8]),
+            $xor($v[1], $v[9]),
+            $xor($v[2], $v[10]),
+            $xor($v[3], $v[11]),
+            $xor($v[4], $v[12]),
+            $xor($v[5], $v[13]),
+            $xor($v[6], $v[14]),
+            $xor($v[7], $v[15]),
+        ]
+    };
+}
+
+pub mod four;
+
 /// Where the bytes of eight words come from when they turn by 16 and by 8.
 #[derive(Clone, Copy)]
 pub struct Turns {
@@ -245,10 +292,7 @@ fn round_lanes(turns: Turns, v: [u32x8; 16], m: [u32x8; 16]) -> [u32x8; 16]
 fn permute_lanes(m: [u32x8; 16]) -> [u32x8; 16]
     ensures { (i : ℕ) → i < 8 → lane i result ≡ words_in_order (lane i m) permutation }
 {
-    [
-        m[2], m[6], m[3], m[10], m[7], m[0], m[4], m[13], m[1], m[11], m[12], m[5], m[9], m[14],
-        m[15], m[8],
-    ]
+    permuted!(m)
 }
 
 // The seven rounds.
@@ -257,19 +301,7 @@ fn permute_lanes(m: [u32x8; 16]) -> [u32x8; 16]
 fn rounds_lanes<const USE: usize>(turns: Turns, v: [u32x8; 16], m: [u32x8; 16]) -> [u32x8; 16]
     ensures { (i : ℕ) → i < 8 → lane i result ≡ rounds3 (lane i v) (lane i m) 7 }
 {
-    let m1 = permute_lanes(m);
-    let m2 = permute_lanes(m1);
-    let m3 = permute_lanes(m2);
-    let m4 = permute_lanes(m3);
-    let m5 = permute_lanes(m4);
-    let m6 = permute_lanes(m5);
-    let v = round_lanes(turns, v, m);
-    let v = round_lanes(turns, v, m1);
-    let v = round_lanes(turns, v, m2);
-    let v = round_lanes(turns, v, m3);
-    let v = round_lanes(turns, v, m4);
-    let v = round_lanes(turns, v, m5);
-    round_lanes(turns, v, m6)
+    seven_rounds!(round_lanes, permute_lanes, turns, v, m)
 }
 
 #[inline(always)]
@@ -356,9 +388,10 @@ fn transpose(r: [u32x8; 8]) -> [u32x8; 8]
 
 // The sixteen bytes at `at`.
 #[inline(always)]
-fn load(bytes: &[u8], at: usize) -> u8x16
+pub(crate) fn load(bytes: &[u8], at: usize) -> u8x16
     requires { at + 16 ≤ length bytes.now }
-    ensures { (n : ℕ) → n < 16 → slice_index result n ≡ slice_index bytes.now (at + n) }
+    ensures bytes { (n : ℕ) → n < 16 → slice_index result n ≡ slice_index bytes.now (at + n) }
+    ensures whole { length result ≡ 16 }
 {
     u8x16::from_slice(&bytes[at..at + 16])
 }
@@ -419,7 +452,7 @@ fn quads(a: u32x8, b: u32x8, c: u32x8, d: u32x8) -> [u32x8; 4]
 
 // The block at `at`.
 #[inline(always)]
-fn block_at(bytes: &[u8], at: usize) -> &[u8]
+pub(crate) fn block_at(bytes: &[u8], at: usize) -> &[u8]
     requires { at + 64 ≤ length bytes.now }
     ensures block { result.now ≡ take 64 (drop at bytes.now) }
     ensures whole { length result.now ≡ 64 }
@@ -548,14 +581,14 @@ fn row_lanes(m: &[[u32; 16]; 8]) -> [u32x8; 16]
 }
 
 #[inline(always)]
-fn low(x: u64) -> u32
+pub(crate) fn low(x: u64) -> u32
     ensures { result ≡ x % 2 ^ 32 }
 {
     (x % 0x1_0000_0000) as u32
 }
 
 #[inline(always)]
-fn high(x: u64) -> u32
+pub(crate) fn high(x: u64) -> u32
     ensures { result ≡ x / 2 ^ 32 }
 {
     (x >> 32) as u32
@@ -610,16 +643,7 @@ fn working_lanes(h: [u32x8; 8], t: &[u64; 8], b: u32, d: u32) -> [u32x8; 16]
 fn fold_lanes(v: [u32x8; 16]) -> [u32x8; 8]
     ensures { (i : ℕ) → i < 8 → lane8 i result ≡ take 8 (folded_halves3 [] (lane i v)) }
 {
-    [
-        xor(v[0], v[8]),
-        xor(v[1], v[9]),
-        xor(v[2], v[10]),
-        xor(v[3], v[11]),
-        xor(v[4], v[12]),
-        xor(v[5], v[13]),
-        xor(v[6], v[14]),
-        xor(v[7], v[15]),
-    ]
+    folded!(xor, v)
 }
 
 /// The first eight words of `compress_3` in each of eight lanes.

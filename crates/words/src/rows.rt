@@ -61,7 +61,7 @@ macro_rules! mixed_rows {
 }
 
 #[inline(always)]
-fn sum32(x: u32x4, y: u32x4) -> u32x4
+pub(crate) fn sum32(x: u32x4, y: u32x4) -> u32x4
     ensures { (j : ℕ) → j < 4
         → slice_index result j ≡ word_sum blake2s (slice_index x j) (slice_index y j) }
 {
@@ -70,7 +70,7 @@ fn sum32(x: u32x4, y: u32x4) -> u32x4
 
 // Each word of x xor y, rotated right.
 #[inline(always)]
-fn rotated_xor32(x: u32x4, y: u32x4, r: u32) -> u32x4
+pub(crate) fn rotated_xor32(x: u32x4, y: u32x4, r: u32) -> u32x4
     requires { (0 < r) × (r < 32) }
     ensures { (j : ℕ) → j < 4
         → slice_index result j ≡ rotate_right w32 (bit_xor (slice_index x j) (slice_index y j)) r }

@@ -8,41 +8,41 @@ returns-clause-low c =
     (rw (
       c.words_of.ensures 0 (omega arith),
       c.beside.ensures,
-      c.load.ensures 0 (omega arith),
-      c.load.ensures 1
+      c.load.ensures.bytes 0 (omega arith),
+      c.load.ensures.bytes 1
           (omega arith),
-      c.load.ensures 2 (omega arith),
-      c.load.ensures 3 (omega arith),
+      c.load.ensures.bytes 2 (omega arith),
+      c.load.ensures.bytes 3 (omega arith),
     )
     (le_word c.args.x.now (c.args.at + 0) _ _ _ _ (omega arith) (omega arith) (omega arith) (omega arith)))
     (rw (
       c.words_of.ensures 1 (omega arith),
       c.beside.ensures,
-      c.load.ensures 4 (omega arith),
-      c.load.ensures 5
+      c.load.ensures.bytes 4 (omega arith),
+      c.load.ensures.bytes 5
           (omega arith),
-      c.load.ensures 6 (omega arith),
-      c.load.ensures 7 (omega arith),
+      c.load.ensures.bytes 6 (omega arith),
+      c.load.ensures.bytes 7 (omega arith),
     )
     (le_word c.args.x.now (c.args.at + 4) _ _ _ _ (omega arith) (omega arith) (omega arith) (omega arith)))
     (rw (
       c.words_of.ensures 2 (omega arith),
       c.beside.ensures,
-      c.load.ensures 8 (omega arith),
-      c.load.ensures 9
+      c.load.ensures.bytes 8 (omega arith),
+      c.load.ensures.bytes 9
           (omega arith),
-      c.load.ensures 10 (omega arith),
-      c.load.ensures 11 (omega arith),
+      c.load.ensures.bytes 10 (omega arith),
+      c.load.ensures.bytes 11 (omega arith),
     )
     (le_word c.args.x.now (c.args.at + 8) _ _ _ _ (omega arith) (omega arith) (omega arith) (omega arith)))
     (rw (
       c.words_of.ensures 3 (omega arith),
       c.beside.ensures,
-      c.load.ensures 12 (omega arith),
-      c.load.ensures 13
+      c.load.ensures.bytes 12 (omega arith),
+      c.load.ensures.bytes 13
           (omega arith),
-      c.load.ensures 14 (omega arith),
-      c.load.ensures 15 (omega arith),
+      c.load.ensures.bytes 14 (omega arith),
+      c.load.ensures.bytes 15 (omega arith),
     )
     (le_word c.args.x.now (c.args.at + 12) _ _ _ _ (omega arith) (omega arith) (omega arith) (omega arith)))
 
@@ -52,40 +52,40 @@ returns-clause-high c =
     (rw (
       c.words_of.ensures 4 (omega arith),
       c.beside.ensures,
-      c.load-2.ensures 0 (omega arith),
-      c.load-2.ensures 1
+      c.load-2.ensures.bytes 0 (omega arith),
+      c.load-2.ensures.bytes 1
           (omega arith),
-      c.load-2.ensures 2 (omega arith),
-      c.load-2.ensures 3 (omega arith),
+      c.load-2.ensures.bytes 2 (omega arith),
+      c.load-2.ensures.bytes 3 (omega arith),
     )
     (le_word c.args.y.now (c.args.at + 0) _ _ _ _ (omega arith) (omega arith) (omega arith) (omega arith)))
     (rw (
       c.words_of.ensures 5 (omega arith),
       c.beside.ensures,
-      c.load-2.ensures 4 (omega arith),
-      c.load-2.ensures 5
+      c.load-2.ensures.bytes 4 (omega arith),
+      c.load-2.ensures.bytes 5
           (omega arith),
-      c.load-2.ensures 6 (omega arith),
-      c.load-2.ensures 7 (omega arith),
+      c.load-2.ensures.bytes 6 (omega arith),
+      c.load-2.ensures.bytes 7 (omega arith),
     )
     (le_word c.args.y.now (c.args.at + 4) _ _ _ _ (omega arith) (omega arith) (omega arith) (omega arith)))
     (rw (
       c.words_of.ensures 6 (omega arith),
       c.beside.ensures,
-      c.load-2.ensures 8 (omega arith),
-      c.load-2.ensures 9
+      c.load-2.ensures.bytes 8 (omega arith),
+      c.load-2.ensures.bytes 9
           (omega arith),
-      c.load-2.ensures 10 (omega arith),
-      c.load-2.ensures 11 (omega arith),
+      c.load-2.ensures.bytes 10 (omega arith),
+      c.load-2.ensures.bytes 11 (omega arith),
     )
     (le_word c.args.y.now (c.args.at + 8) _ _ _ _ (omega arith) (omega arith) (omega arith) (omega arith)))
     (rw (
       c.words_of.ensures 7 (omega arith),
       c.beside.ensures,
-      c.load-2.ensures 12 (omega arith),
-      c.load-2.ensures 13
+      c.load-2.ensures.bytes 12 (omega arith),
+      c.load-2.ensures.bytes 13
           (omega arith),
-      c.load-2.ensures 14 (omega arith),
-      c.load-2.ensures 15 (omega arith),
+      c.load-2.ensures.bytes 14 (omega arith),
+      c.load-2.ensures.bytes 15 (omega arith),
     )
     (le_word c.args.y.now (c.args.at + 12) _ _ _ _ (omega arith) (omega arith) (omega arith) (omega arith)))

@@ -1,0 +1,19 @@
+use Rattle.std.proofs.Common.{refl}
+use Rattle.words.specs.Mix.{g}
+use Rattle.words.proofs.lanes.four.mix.Goals as goal
+
+pub returns : goal.returns
+unfolding g
+returns c j h =
+    rw (
+      c.rotated_xor32-b2.ensures j h,
+      c.sum32-c2.ensures j h,
+      c.turn8-d2.ensures j h,
+      c.sum32-a2.ensures j h,
+      c.sum32-2.ensures j h,
+      c.rotated_xor32-b1.ensures j h,
+      c.sum32-c1.ensures j h,
+      c.turn16-d1.ensures j h,
+      c.sum32-a1.ensures j h,
+      c.sum32.ensures j h,
+    ) refl
