@@ -1,7 +1,7 @@
-ghost use Rattle.std.specs.Prelude.{None};
+ghost use Rattle.std.specs.Prelude.{◌≤◌, None};
 
 use super::{BLAKE2B_8_EMPTY, BLAKE2S_ABC, SHA256_ABC, entry_of, line_of};
-use source::{Alg, Bytes, FixedSink, VecSink};
+use source::{Alg, Bytes, Feed, FixedSink, VecSink};
 use std::alloc::Global;
 use std::collections::BTreeMap;
 use std::test::Fail;
@@ -42,11 +42,30 @@ fn files(alloc: Global) -> Result<Files, Fail> {
     Ok(files)
 }
 
-// The report on a list over these files, and the summary's numbers in the order of its fields.
-fn report_of(alloc: Global, kind: Kind, list: &str) -> Result<(String, [u64; 7]), Fail> {
+// The report on a list over these files, and the summary's numbers in the order of its fields. They
+// have to be alike for reads of at most 1, 7 and 4,096 bytes.
+fn report_of(alloc: Global, kind: Kind, list: &[u8]) -> Result<(String, [u64; 7]), Fail> {
+    let (report, summary) = report_by_reads(alloc, kind, list, 1)?;
+    for most in [7, 4096] {
+        let (again, numbers) = report_by_reads(alloc, kind, list, most)?;
+        if again != report || numbers != summary {
+            return Err("the report depends on the reads".into());
+        }
+    }
+    Ok((report, summary))
+}
+
+fn report_by_reads(
+    alloc: Global,
+    kind: Kind,
+    list: &[u8],
+    most: usize,
+) -> Result<(String, [u64; 7]), Fail>
+    requires { 1 ≤ most }
+{
     let files = files(alloc)?;
     let mut tree = MemoryTree::new(&files, 100);
-    let mut feed = Bytes::new(list.as_bytes(), 1000);
+    let mut feed = Bytes::new(list, most);
     let mut out = VecSink::new(alloc);
     let summary = check(alloc, &mut feed, kind, &mut tree, &mut out).map_err(|_| "refused")?;
     Ok((
@@ -80,7 +99,7 @@ fn a_line_in_any_of_its_forms_is_ok(rt: HostRuntime) -> Result<(), Fail> {
     ];
     for (digits, end) in cases {
         let list = format!(in alloc; "{digits}{end}")?;
-        let (report, summary) = report_of(alloc, Kind::Sha256, list.as_str())?;
+        let (report, summary) = report_of(alloc, Kind::Sha256, list.as_bytes())?;
         assert_eq!(rt; report.as_str(), "abc.txt: OK\n", "{end:?}");
         assert_eq!(rt; summary, [1, 0, 0, 0, 0, 0, 0]);
     }
@@ -96,7 +115,7 @@ fn each_line_has_its_verdict(rt: HostRuntime) -> Result<(), Fail> {
         "{good}  abc.txt\n{other}  abc.txt\n{good}  none.txt\n{}  abc.txt\n# end\n",
         &good[1..]
     )?;
-    let (report, summary) = report_of(alloc, Kind::Sha256, list.as_str())?;
+    let (report, summary) = report_of(alloc, Kind::Sha256, list.as_bytes())?;
     assert_eq!(rt;
         report.as_str(),
         "abc.txt: OK\nabc.txt: FAILED\nnone.txt: MISSING\nline 4: MALFORMED\n"
@@ -118,11 +137,11 @@ fn names_are_reported_in_their_escaped_form(rt: HostRuntime) -> Result<(), Fail>
     ];
     for (lead, end, expected) in cases {
         let list = format!(in alloc; "{lead}{digits}{end}\n")?;
-        let (report, _) = report_of(alloc, Kind::Sha256, list.as_str())?;
+        let (report, _) = report_of(alloc, Kind::Sha256, list.as_bytes())?;
         assert_eq!(rt; report.as_str(), expected, "{lead}{end}");
     }
     let entry = entry_of(alloc, Alg::Sha256, digits, "a\\b\n")?;
-    let (report, _) = report_of(alloc, Kind::Sha256, line_of(alloc, &entry)?.as_str())?;
+    let (report, _) = report_of(alloc, Kind::Sha256, line_of(alloc, &entry)?.as_bytes())?;
     assert_eq!(rt;
         report.as_str(),
         "a\\\\b\\n: OK\n",
@@ -153,7 +172,7 @@ fn lists_of_each_kind(rt: HostRuntime) -> Result<(), Fail> {
     ];
     for (kind, digits, end, expected) in cases {
         let list = format!(in alloc; "{digits}{end}{digits}{end}")?;
-        let (report, _) = report_of(alloc, kind, list.as_str())?;
+        let (report, _) = report_of(alloc, kind, list.as_bytes())?;
         assert!(rt; report.as_str().starts_with(expected), "{kind:?} {digits}");
     }
     Ok(())
@@ -170,7 +189,7 @@ fn lists_that_say_nothing_have_an_empty_report(rt: HostRuntime) -> Result<(), Fa
         ("# a\n\n#", 3),
     ];
     for (list, skipped) in cases {
-        let (report, summary) = report_of(alloc, Kind::Sha256, list)?;
+        let (report, summary) = report_of(alloc, Kind::Sha256, list.as_bytes())?;
         assert_eq!(rt; report.as_str(), "", "{list:?}");
         assert_eq!(rt; summary, [0, 0, 0, 0, 0, 0, skipped], "{list:?}");
     }
@@ -180,13 +199,13 @@ fn lists_that_say_nothing_have_an_empty_report(rt: HostRuntime) -> Result<(), Fa
 #[test]
 fn malformed_lines_are_told_by_number(rt: HostRuntime) -> Result<(), Fail> {
     let alloc = rt.alloc();
-    let (report, summary) = report_of(alloc, Kind::Sha256, "x\n\n#\nx\n\n\n\n\n\nx\nx")?;
+    let (report, summary) = report_of(alloc, Kind::Sha256, b"x\n\n#\nx\n\n\n\n\n\nx\nx")?;
     let expected = "line 1: MALFORMED\nline 4: MALFORMED\nline 10: MALFORMED\nline 11: MALFORMED\n";
     assert_eq!(rt; report.as_str(), expected);
     assert_eq!(rt; summary, [0, 0, 0, 0, 0, 4, 7]);
     let lines = "\n".repeat(alloc, 12_344)?;
     let list = format!(in alloc; "{lines}x\n")?;
-    let (report, _) = report_of(alloc, Kind::Sha256, list.as_str())?;
+    let (report, _) = report_of(alloc, Kind::Sha256, list.as_bytes())?;
     assert_eq!(rt; report.as_str(), "line 12345: MALFORMED\n");
     Ok(())
 }
@@ -197,7 +216,7 @@ fn the_line_after_one_that_is_too_long_is_read(rt: HostRuntime) -> Result<(), Fa
     let digits = SHA256_ABC;
     let name = "n".repeat(alloc, 65_470)?;
     let list = format!(in alloc; "{digits}  {name}\n{digits}  {name}n\n{digits}  abc.txt\n")?;
-    let (report, summary) = report_of(alloc, Kind::Sha256, list.as_str())?;
+    let (report, summary) = report_of(alloc, Kind::Sha256, list.as_bytes())?;
     let expected = format!(in alloc; "{name}: MISSING\nline 2: MALFORMED\nabc.txt: OK\n")?;
     assert_eq!(rt; report, expected);
     assert_eq!(rt; summary, [1, 0, 1, 0, 0, 1, 0]);
@@ -215,15 +234,15 @@ fn a_file_whose_read_fails_is_unreadable_and_the_next_is_checked(
     )?;
     // The failing place is before, in and after the content; a read that would begin at its end fails.
     let cases = [
-        (0, "1025: UNREADABLE", 2),
-        (1000, "1025: UNREADABLE", 2),
-        (1025, "1025: UNREADABLE", 2),
-        (1026, "1025: OK", 0),
+        (0, "1025: UNREADABLE", 2, 1),
+        (1000, "1025: UNREADABLE", 2, 7),
+        (1025, "1025: UNREADABLE", 2, 4096),
+        (1026, "1025: OK", 0, 1),
     ];
-    for (place, line, unreadable) in cases {
+    for (place, line, unreadable, most) in cases {
         let places = [("1025", place)];
         let mut tree = MemoryTree::failing(&files, 64, &places);
-        let mut feed = Bytes::new(list.as_bytes(), 7);
+        let mut feed = Bytes::new(list.as_bytes(), most);
         let mut out = VecSink::new(alloc);
         let summary = check(alloc, &mut feed, Kind::Blake3, &mut tree, &mut out).map_err(
             |_| "refused",
@@ -280,27 +299,102 @@ fn a_full_sink_holds_a_beginning_of_the_report(rt: HostRuntime) -> Result<(), Fa
     Ok(())
 }
 
+// The list fails at each place in turn: what was reported is what the lines before the place say.
 #[test]
-fn lines_before_a_failed_read_are_reported(rt: HostRuntime) -> Result<(), Fail> {
+fn each_line_is_reported_before_the_next_read(rt: HostRuntime) -> Result<(), Fail> {
     let alloc = rt.alloc();
     let files = files(alloc)?;
     let list = format!(in alloc; "{SHA256_ABC}  abc.txt\n{SHA256_ABC}  abc.txt\n")?;
     let cases = [
-        (0, ""),
-        (10, ""),
-        (73, ""),
-        (74, "abc.txt: OK\n"),
-        (147, "abc.txt: OK\n"),
-        (148, "abc.txt: OK\nabc.txt: OK\n"),
+        (0..74, ""),
+        (74..148, "abc.txt: OK\n"),
+        (148..149, "abc.txt: OK\nabc.txt: OK\n"),
     ];
-    for most in [1, 20, 4096] {
-        for (place, report) in cases {
-            let mut tree = MemoryTree::new(&files, 100);
-            let mut feed = Bytes::failing(list.as_bytes(), most, place);
-            let mut out = VecSink::new(alloc);
-            let answer = check(alloc, &mut feed, Kind::Sha256, &mut tree, &mut out);
-            assert_eq!(rt; answer, Err(CheckFault::ListRead), "{most} {place}");
-            assert_eq!(rt; out.written(), report.as_bytes(), "{most} {place}");
+    for (places, report) in cases {
+        for place in places {
+            for most in [1, 7, 4096] {
+                let mut tree = MemoryTree::new(&files, 100);
+                let mut feed = Bytes::failing(list.as_bytes(), most, place);
+                let mut out = VecSink::new(alloc);
+                let answer = check(alloc, &mut feed, Kind::Sha256, &mut tree, &mut out);
+                assert_eq!(rt; answer, Err(CheckFault::ListRead), "{most} {place}");
+                assert_eq!(rt; out.written(), report.as_bytes(), "{most} {place}");
+            }
+        }
+    }
+    Ok(())
+}
+
+#[test]
+fn a_list_may_end_anywhere(rt: HostRuntime) -> Result<(), Fail> {
+    let alloc = rt.alloc();
+    let list = format!(in alloc; "{SHA256_ABC}  abc.txt\n")?;
+    let bytes = list.as_bytes();
+    assert_eq!(rt; bytes.len(), 74);
+    let cases = [
+        (0..1, ""),
+        (1..67, "line 1: MALFORMED\n"),
+        (67..68, "a: MISSING\n"),
+        (68..69, "ab: MISSING\n"),
+        (69..70, "abc: MISSING\n"),
+        (70..71, "abc.: MISSING\n"),
+        (71..72, "abc.t: MISSING\n"),
+        (72..73, "abc.tx: MISSING\n"),
+        (73..75, "abc.txt: OK\n"),
+    ];
+    for (ends, expected) in cases {
+        for end in ends {
+            let (report, _) = report_of(alloc, Kind::Sha256, &bytes[..end.min(bytes.len())])?;
+            assert_eq!(rt; report.as_str(), expected, "{end}");
+        }
+    }
+    Ok(())
+}
+
+#[test]
+fn a_list_may_hold_both_forms(rt: HostRuntime) -> Result<(), Fail> {
+    let alloc = rt.alloc();
+    let list = format!(in alloc;
+        "SHA256 (abc.txt) = {SHA256_ABC}\n\
+         {BLAKE3_ABC}  abc.txt\n\
+         BLAKE2s (abc.txt) = {BLAKE2S_ABC}\r\n\
+         BLAKE2s-256 (abc.txt) = {BLAKE2S_ABC}\n\
+         \\SHA256 (a\\\\b\\n) = {SHA256_ABC_UPPER}\n\
+         BLAKE2b-8 (empty) = {BLAKE2B_8_EMPTY}\n\
+         BLAKE3 (abc.txt) = {SHA256_ABC}\n\
+         BLAKE2b-12 (abc.txt) = 000\n\
+         SHA256 (1025) = {BLAKE3_1025}\n\
+         BLAKE3 (1025) = {BLAKE3_1025}"
+    )?;
+    let (report, summary) = report_of(alloc, Kind::Blake3, list.as_bytes())?;
+    assert_eq!(rt;
+        report.as_str(),
+        "abc.txt: OK\nabc.txt: OK\nabc.txt: OK\nabc.txt: OK\na\\\\b\\n: OK\nempty: OK\n\
+         abc.txt: FAILED\nline 8: MALFORMED\n1025: FAILED\n1025: OK\n"
+    );
+    assert_eq!(rt; summary, [7, 2, 0, 0, 0, 1, 0]);
+    Ok(())
+}
+
+// The buffer of a line is the one growth here, so that `rt try --test --fail-alloc` reaches the other arm.
+#[test]
+fn a_refused_buffer_leaves_list_and_output_as_they_were(rt: HostRuntime) -> Result<(), Fail> {
+    let alloc = rt.alloc();
+    let files: Files = BTreeMap::new(alloc);
+    let mut tree = MemoryTree::new(&files, 100);
+    let mut feed = Bytes::new(b"x\n", 4096);
+    let mut storage = [0; 64];
+    let mut out = FixedSink::new(&mut storage);
+    match check(alloc, &mut feed, Kind::Sha256, &mut tree, &mut out) {
+        Ok(_) => assert_eq!(rt; out.written(), b"line 1: MALFORMED\n".as_slice()),
+        Err(fault) => {
+            assert_eq!(rt; fault, CheckFault::OutOfMemory);
+            assert_eq!(rt; out.written().len(), 0);
+            assert_eq!(rt;
+                feed.read(&mut [0; 4]),
+                Ok(2),
+                "the whole list is still to come"
+            );
         }
     }
     Ok(())
@@ -309,27 +403,13 @@ fn lines_before_a_failed_read_are_reported(rt: HostRuntime) -> Result<(), Fail> 
 #[test]
 fn a_line_of_a_mebibyte_is_malformed_and_the_next_is_read(rt: HostRuntime) -> Result<(), Fail> {
     let alloc = rt.alloc();
-    let files = files(alloc)?;
     let long = "a".repeat(alloc, 1_048_576)?;
+    let list = format!(in alloc; "{long}\n{SHA256_ABC}  abc.txt\n")?;
+    let (report, _) = report_of(alloc, Kind::Sha256, list.as_bytes())?;
+    assert_eq!(rt; report.as_str(), "line 1: MALFORMED\nabc.txt: OK\n");
     let comment = "#".repeat(alloc, 1_048_576)?;
-    let cases = [
-        (
-            format!(in alloc; "{long}\n{SHA256_ABC}  abc.txt\n")?,
-            "line 1: MALFORMED\nabc.txt: OK\n",
-        ),
-        (comment, "line 1: MALFORMED\n"),
-    ];
-    for most in [1, 7, 4096] {
-        for (list, report) in cases.iter() {
-            let mut tree = MemoryTree::new(&files, 100);
-            let mut feed = Bytes::new(list.as_bytes(), most);
-            let mut out = VecSink::new(alloc);
-            let _ = check(alloc, &mut feed, Kind::Sha256, &mut tree, &mut out).map_err(
-                |_| "refused",
-            )?;
-            assert_eq!(rt; out.written(), report.as_bytes(), "{most}");
-        }
-    }
+    let (report, _) = report_of(alloc, Kind::Sha256, comment.as_bytes())?;
+    assert_eq!(rt; report.as_str(), "line 1: MALFORMED\n");
     Ok(())
 }
 
