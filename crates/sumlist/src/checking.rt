@@ -30,7 +30,8 @@ pub enum CheckFault {
     /// A write of the report failed.
     #[error("cannot write")]
     Write,
-    /// A growth was refused.
+    /// A growth was refused: that of the buffer of a line, before anything was read or written, that
+    /// of an entry's name, or one in opening a file.
     #[error("out of memory")]
     OutOfMemory,
     /// The list gave more than 2^64 - 1 bytes.
@@ -116,7 +117,7 @@ pub fn check<L: Feed, T: Tree, W: Sink>(
     }
 }
 
-// Checks each line that ends in the piece, and keeps the beginning of the next one.
+// Checks each line that ends in the piece, and holds the beginning of the next one, which has no LF.
 fn check_piece<T: Tree, W: Sink>(
     alloc: Global,
     piece: &[u8],

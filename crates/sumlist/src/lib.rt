@@ -1,5 +1,5 @@
-//! Lists of digests, as `sha256sum`, `sha512sum`, `b2sum` and `b3sum` write them: their lines, the
-//! files that they name, and reports on them.
+//! Lists of digests, as `sha256sum`, `sha512sum`, `b2sum` and `b3sum` write them, with `--tag` or
+//! without: their lines, the files that they name, and reports on them.
 //!
 //! ```rust
 //! use sumlist::{Kind, Line, parse_line};

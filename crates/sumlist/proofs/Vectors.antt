@@ -1,0 +1,55 @@
+-- Worked values of the definitions of lists, computed: a wrong escape, label, cut or number does not check.
+use Rattle.std.proofs.Common.{◌≡◌, ◌≤◌, inr, ℕ, List, [], ◌∷◌, ◌++◌, codes, refl, arith}
+use Rattle.std.specs.Fmt.{digits}
+use Rattle.hex.specs.Hex.{encode_with, decode_pairs}
+use Rattle.source.specs.declared.alg.Alg.TheVariants.{Blake2b, Blake2s}
+use Rattle.sumlist.specs.declared.verdict.Verdict.TheVariants.{Missing}
+use Rattle.sumlist.specs.Entry.{Listing, written}
+use Rattle.sumlist.specs.Lines.{lines}
+use Rattle.sumlist.specs.Report.{skipped, malformed, told, report_from}
+use Rattle.sumlist.specs.Tagged.{Labelled, label_of, tagged}
+
+-- BLAKE2b of "abc" with a digest of one byte, under a name with a backslash and an LF
+abbrev example : Listing
+example = record { name = 97 ∷ 92 ∷ 98 ∷ 10 ∷ []; alg = Blake2b 1; tag = 0x6b ∷ [] }
+
+-- as `b2sum -l 8` writes it
+written_example : written example ≡ (92 ∷ codes "6b  a") ++ (92 ∷ 92 ∷ 98 ∷ 92 ∷ 110 ∷ 10 ∷ [])
+unfolding encode_with
+written_example = refl
+
+-- as `b2sum -l 8 --tag` writes it
+tagged_example : tagged example
+    ≡ (92 ∷ codes "BLAKE2b-8 (a") ++ (92 ∷ 92 ∷ 98 ∷ 92 ∷ 110 ∷ []) ++ codes ") = 6b" ++ 10 ∷ []
+unfolding digits encode_with
+tagged_example = refl
+
+-- the greatest length goes without a number
+label_of_512_bits : label_of (Blake2b 64) ≡ codes "BLAKE2b"
+label_of_512_bits = refl
+
+label_of_160_bits : label_of (Blake2s 20) ≡ codes "BLAKE2s-160"
+unfolding digits
+label_of_160_bits = refl
+
+-- the name ends at the last bracket that digits follow
+labelled_example : Labelled (codes "BLAKE2b-8 (a) = b) = 6B") (Blake2b 1) (0x6b ∷ []) (codes "a) = b")
+unfolding digits decode_pairs
+labelled_example = record {
+  label = codes "BLAKE2b-8";
+  digits = codes "6B";
+  whole = refl;
+  range = (omega arith, omega arith);
+  names = inr refl;
+  sized = refl;
+  tag_is = refl;
+}
+
+-- an empty line in the middle counts, an empty last one does not
+lines_example : lines (97 ∷ 10 ∷ 10 ∷ 98 ∷ 10 ∷ []) ≡ (97 ∷ []) ∷ [] ∷ (98 ∷ []) ∷ []
+lines_example = refl
+
+report_example : report_from 1 (skipped ∷ malformed ∷ told (codes "x") Missing ∷ [])
+    ≡ codes "line 2: MALFORMED" ++ 10 ∷ codes "x: MISSING" ++ 10 ∷ []
+unfolding digits report_from
+report_example = refl
