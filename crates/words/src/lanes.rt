@@ -6,7 +6,7 @@ ghost use Rattle.words.specs.Mix.{word_sum, rotated_xor, g, round};
 ghost use Rattle.words.specs.Tables.{permutation};
 ghost use Rattle.words.specs.Blake2.{schedule, blake2s};
 ghost use Rattle.std.specs.Simd.Lanes.{number_l, chunk};
-ghost use Rattle.words.specs.inside.Lanes.{lane, lane4, lane8, transposed8, places_16, places_8, word_at, lane_column, lane_at, moved};
+ghost use Rattle.words.specs.inside.Lanes.{lane, lane4, lane8, rows_lane, OnLanes, transposed8, places_16, places_8, word_at, lane_column, lane_at, moved};
 ghost use Rattle.words.specs.Words.{words};
 
 use crate::tables::IV32;
@@ -167,122 +167,107 @@ fn turn7(x: u32x8, y: u32x8) -> u32x8
     (z >> u32x8::splat(7)) | (z << u32x8::splat(25))
 }
 
-// G on the four columns of sixteen words, side by side.
+// The same of four words in each lane.
 #[inline(always)]
-fn four_g(turns: Turns, v: [u32x8; 16], m: [u32x8; 8]) -> [u32x8; 16]
-    ensures first { (i : ℕ) → i < 8
-        → lane_column 0 i result ≡ g blake2s (lane_column 0 i v) (lane_at m 0 i) (lane_at m 1 i) }
-    ensures second { (i : ℕ) → i < 8
-        → lane_column 1 i result ≡ g blake2s (lane_column 1 i v) (lane_at m 2 i) (lane_at m 3 i) }
-    ensures third { (i : ℕ) → i < 8
-        → lane_column 2 i result ≡ g blake2s (lane_column 2 i v) (lane_at m 4 i) (lane_at m 5 i) }
-    ensures fourth { (i : ℕ) → i < 8
-        → lane_column 3 i result ≡ g blake2s (lane_column 3 i v) (lane_at m 6 i) (lane_at m 7 i) }
+fn sums(x: [u32x8; 4], y: [u32x8; 4]) -> [u32x8; 4]
+    ensures { OnLanes 8 (word_sum blake2s) x y result }
 {
-    let [
-        a0,
-        a1,
-        a2,
-        a3,
-        b0,
-        b1,
-        b2,
-        b3,
-        c0,
-        c1,
-        c2,
-        c3,
-        d0,
-        d1,
-        d2,
-        d3,
-    ] = v;
-    let p0 = add(add(a0, b0), m[0]);
-    let p1 = add(add(a1, b1), m[2]);
-    let p2 = add(add(a2, b2), m[4]);
-    let p3 = add(add(a3, b3), m[6]);
-    let s0 = turn16(turns, d0, p0);
-    let s1 = turn16(turns, d1, p1);
-    let s2 = turn16(turns, d2, p2);
-    let s3 = turn16(turns, d3, p3);
-    let r0 = add(c0, s0);
-    let r1 = add(c1, s1);
-    let r2 = add(c2, s2);
-    let r3 = add(c3, s3);
-    let q0 = turn12(b0, r0);
-    let q1 = turn12(b1, r1);
-    let q2 = turn12(b2, r2);
-    let q3 = turn12(b3, r3);
-    let e0 = add(add(p0, q0), m[1]);
-    let e1 = add(add(p1, q1), m[3]);
-    let e2 = add(add(p2, q2), m[5]);
-    let e3 = add(add(p3, q3), m[7]);
-    let h0 = turn8(turns, s0, e0);
-    let h1 = turn8(turns, s1, e1);
-    let h2 = turn8(turns, s2, e2);
-    let h3 = turn8(turns, s3, e3);
-    let g0 = add(r0, h0);
-    let g1 = add(r1, h1);
-    let g2 = add(r2, h2);
-    let g3 = add(r3, h3);
-    let f0 = turn7(q0, g0);
-    let f1 = turn7(q1, g1);
-    let f2 = turn7(q2, g2);
-    let f3 = turn7(q3, g3);
     [
-        e0, e1, e2, e3, f0, f1, f2, f3, g0, g1, g2, g3, h0, h1, h2, h3,
+        add(x[0], y[0]),
+        add(x[1], y[1]),
+        add(x[2], y[2]),
+        add(x[3], y[3]),
     ]
 }
 
-// One round.
 #[inline(always)]
-fn round_lanes(turns: Turns, v: [u32x8; 16], m: [u32x8; 16]) -> [u32x8; 16]
-    ensures { (i : ℕ) → i < 8 → lane i result ≡ round blake2s (lane i v) (lane i m) (schedule 0) }
+fn turned16(turns: Turns, x: [u32x8; 4], y: [u32x8; 4]) -> [u32x8; 4]
+    ensures { OnLanes 8 (rotated_xor blake2s 0) x y result }
 {
-    let [
-        a0,
-        a1,
-        a2,
-        a3,
-        b0,
-        b1,
-        b2,
-        b3,
-        c0,
-        c1,
-        c2,
-        c3,
-        d0,
-        d1,
-        d2,
-        d3,
-    ] = four_g(turns, v, [m[0], m[1], m[2], m[3], m[4], m[5], m[6], m[7]]);
-    let [
-        a0,
-        a1,
-        a2,
-        a3,
-        b1,
-        b2,
-        b3,
-        b0,
-        c2,
-        c3,
-        c0,
-        c1,
-        d3,
-        d0,
-        d1,
-        d2,
-    ] = four_g(
-        turns,
-        [
-            a0, a1, a2, a3, b1, b2, b3, b0, c2, c3, c0, c1, d3, d0, d1, d2,
-        ],
-        [m[8], m[9], m[10], m[11], m[12], m[13], m[14], m[15]],
-    );
     [
-        a0, a1, a2, a3, b0, b1, b2, b3, c0, c1, c2, c3, d0, d1, d2, d3,
+        turn16(turns, x[0], y[0]),
+        turn16(turns, x[1], y[1]),
+        turn16(turns, x[2], y[2]),
+        turn16(turns, x[3], y[3]),
+    ]
+}
+
+#[inline(always)]
+fn turned12(x: [u32x8; 4], y: [u32x8; 4]) -> [u32x8; 4]
+    ensures { OnLanes 8 (rotated_xor blake2s 1) x y result }
+{
+    [
+        turn12(x[0], y[0]),
+        turn12(x[1], y[1]),
+        turn12(x[2], y[2]),
+        turn12(x[3], y[3]),
+    ]
+}
+
+#[inline(always)]
+fn turned8(turns: Turns, x: [u32x8; 4], y: [u32x8; 4]) -> [u32x8; 4]
+    ensures { OnLanes 8 (rotated_xor blake2s 2) x y result }
+{
+    [
+        turn8(turns, x[0], y[0]),
+        turn8(turns, x[1], y[1]),
+        turn8(turns, x[2], y[2]),
+        turn8(turns, x[3], y[3]),
+    ]
+}
+
+#[inline(always)]
+fn turned7(x: [u32x8; 4], y: [u32x8; 4]) -> [u32x8; 4]
+    ensures { OnLanes 8 (rotated_xor blake2s 3) x y result }
+{
+    [
+        turn7(x[0], y[0]),
+        turn7(x[1], y[1]),
+        turn7(x[2], y[2]),
+        turn7(x[3], y[3]),
+    ]
+}
+
+// G on the four columns of the state, step by step side by side.
+#[inline(always)]
+fn four_g(turns: Turns, rows: [[u32x8; 4]; 4], x: [u32x8; 4], y: [u32x8; 4]) -> [[u32x8; 4]; 4]
+    ensures { (j : ℕ) → j < 4 → (i : ℕ) → i < 8
+        → lane_column j i result ≡ g blake2s (lane_column j i rows) (lane_at x j i) (lane_at y j i) }
+{
+    let [a, b, c, d] = rows;
+    let a1 = sums(sums(a, b), x);
+    let d1 = turned16(turns, d, a1);
+    let c1 = sums(c, d1);
+    let b1 = turned12(b, c1);
+    let a2 = sums(sums(a1, b1), y);
+    let d2 = turned8(turns, d1, a2);
+    let c2 = sums(c1, d2);
+    let b2 = turned7(b1, c2);
+    [a2, b2, c2, d2]
+}
+
+// One round: G down the columns, and then down the diagonals, which are columns of turned rows.
+#[inline(always)]
+fn round_lanes(turns: Turns, rows: [[u32x8; 4]; 4], m: [u32x8; 16]) -> [[u32x8; 4]; 4]
+    ensures { (i : ℕ) → i < 8 → rows_lane i result ≡ round blake2s (rows_lane i rows) (lane i m) (schedule 0) }
+{
+    let x = [m[0], m[2], m[4], m[6]];
+    let y = [m[1], m[3], m[5], m[7]];
+    let [a, b, c, d] = four_g(turns, rows, x, y);
+    let turned = [
+        a,
+        [b[1], b[2], b[3], b[0]],
+        [c[2], c[3], c[0], c[1]],
+        [d[3], d[0], d[1], d[2]],
+    ];
+    let x = [m[8], m[10], m[12], m[14]];
+    let y = [m[9], m[11], m[13], m[15]];
+    let [a, b, c, d] = four_g(turns, turned, x, y);
+    [
+        a,
+        [b[3], b[0], b[1], b[2]],
+        [c[2], c[3], c[0], c[1]],
+        [d[1], d[2], d[3], d[0]],
     ]
 }
 
@@ -298,10 +283,14 @@ fn permute_lanes(m: [u32x8; 16]) -> [u32x8; 16]
 // The seven rounds.
 #[inline(always)]
 #[tactic(auto, unfolding(crate::specs::Blake3::rounds3, crate::specs::Blake3::permuted_words))]
-fn rounds_lanes<const USE: usize>(turns: Turns, v: [u32x8; 16], m: [u32x8; 16]) -> [u32x8; 16]
-    ensures { (i : ℕ) → i < 8 → lane i result ≡ rounds3 (lane i v) (lane i m) 7 }
+fn rounds_lanes<const USE: usize>(
+    turns: Turns,
+    rows: [[u32x8; 4]; 4],
+    m: [u32x8; 16],
+) -> [[u32x8; 4]; 4]
+    ensures { (i : ℕ) → i < 8 → rows_lane i result ≡ rounds3 (rows_lane i rows) (lane i m) 7 }
 {
-    seven_rounds!(round_lanes, permute_lanes, turns, v, m)
+    seven_rounds!(round_lanes, permute_lanes, turns, rows, m)
 }
 
 #[inline(always)]
@@ -596,54 +585,60 @@ pub(crate) fn high(x: u64) -> u32
 
 // The working words before the first round.
 #[inline(always)]
-#[tactic(auto, unfolding(crate::specs::inside::Lanes::lane))]
-fn working_lanes(h: [u32x8; 8], t: &[u64; 8], b: u32, d: u32) -> [u32x8; 16]
-    ensures { (i : ℕ) → i < 8 → lane i result ≡ working_words3 (lane8 i h) (slice_index t.now i) b d }
+#[tactic(auto, unfolding(crate::specs::inside::Lanes::rows_lane))]
+fn working_lanes(h: [u32x8; 8], t: &[u64; 8], b: u32, d: u32) -> [[u32x8; 4]; 4]
+    ensures { (i : ℕ) → i < 8 → rows_lane i result ≡ working_words3 (lane8 i h) (slice_index t.now i) b d }
 {
+    let [t0, t1, t2, t3, t4, t5, t6, t7] = *t;
+    let lows = u32x8::from_array([
+        low(t0),
+        low(t1),
+        low(t2),
+        low(t3),
+        low(t4),
+        low(t5),
+        low(t6),
+        low(t7),
+    ]);
+    let highs = u32x8::from_array([
+        high(t0),
+        high(t1),
+        high(t2),
+        high(t3),
+        high(t4),
+        high(t5),
+        high(t6),
+        high(t7),
+    ]);
     [
-        h[0],
-        h[1],
-        h[2],
-        h[3],
-        h[4],
-        h[5],
-        h[6],
-        h[7],
-        u32x8::splat(IV32[0]),
-        u32x8::splat(IV32[1]),
-        u32x8::splat(IV32[2]),
-        u32x8::splat(IV32[3]),
-        u32x8::from_array([
-            low(t[0]),
-            low(t[1]),
-            low(t[2]),
-            low(t[3]),
-            low(t[4]),
-            low(t[5]),
-            low(t[6]),
-            low(t[7]),
-        ]),
-        u32x8::from_array([
-            high(t[0]),
-            high(t[1]),
-            high(t[2]),
-            high(t[3]),
-            high(t[4]),
-            high(t[5]),
-            high(t[6]),
-            high(t[7]),
-        ]),
-        u32x8::splat(b),
-        u32x8::splat(d),
+        [h[0], h[1], h[2], h[3]],
+        [h[4], h[5], h[6], h[7]],
+        [
+            u32x8::splat(IV32[0]),
+            u32x8::splat(IV32[1]),
+            u32x8::splat(IV32[2]),
+            u32x8::splat(IV32[3]),
+        ],
+        [lows, highs, u32x8::splat(b), u32x8::splat(d)],
     ]
 }
 
 // The first eight words of output.
 #[inline(always)]
-fn fold_lanes(v: [u32x8; 16]) -> [u32x8; 8]
-    ensures { (i : ℕ) → i < 8 → lane8 i result ≡ take 8 (folded_halves3 [] (lane i v)) }
+fn fold_lanes(rows: [[u32x8; 4]; 4]) -> [u32x8; 8]
+    ensures { (i : ℕ) → i < 8 → lane8 i result ≡ take 8 (folded_halves3 [] (rows_lane i rows)) }
 {
-    folded!(xor, v)
+    let [a, b, c, d] = rows;
+    [
+        xor(a[0], c[0]),
+        xor(a[1], c[1]),
+        xor(a[2], c[2]),
+        xor(a[3], c[3]),
+        xor(b[0], d[0]),
+        xor(b[1], d[1]),
+        xor(b[2], d[2]),
+        xor(b[3], d[3]),
+    ]
 }
 
 /// The first eight words of `compress_3` in each of eight lanes.

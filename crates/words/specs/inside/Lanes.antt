@@ -1,5 +1,5 @@
 -- Eight compressions side by side: each word is a vector, with one lane for each of them.
-use Rattle.std.specs.Prelude.{ℕ, drop, suc, ◌+◌, ◌*◌, ◌/◌, List, [], ◌∷◌, slice_index, slice_index_or}
+use Rattle.std.specs.Prelude.{◌≡◌, ℕ, ◌<◌, drop, suc, ◌+◌, ◌*◌, ◌/◌, List, [], ◌∷◌, slice_index, slice_index_or}
 use Rattle.byteorder.specs.Endian.{little_number}
 
 -- lane i of vector k
@@ -52,10 +52,26 @@ moved_from i (p ∷ ps) x = slice_index x (16 * (i / 16) + p) ∷ moved_from (su
 abbrev pub moved : List ℕ → List ℕ → List ℕ
 moved ps x = moved_from 0 ps x
 
--- the words in lane i of vectors p, p + 4, p + 8 and p + 12
-abbrev pub lane_column : ℕ → ℕ → List (List ℕ) → List ℕ
-lane_column p i x =
-    lane_at x p i ∷ lane_at x (p + 4) i ∷ lane_at x (p + 8) i ∷ lane_at x (p + 12) i ∷ []
+-- the word in lane i of vector j of row r
+abbrev pub row_lane_at : List (List (List ℕ)) → ℕ → ℕ → ℕ → ℕ
+row_lane_at rows r j i = lane_at (slice_index_or rows r []) j i
+
+-- the words in lane i of vector j of each of four rows
+abbrev pub lane_column : ℕ → ℕ → List (List (List ℕ)) → List ℕ
+lane_column j i rows =
+    row_lane_at rows 0 j i ∷ row_lane_at rows 1 j i ∷ row_lane_at rows 2 j i ∷ row_lane_at rows 3 j i ∷ []
+
+-- the sixteen words in lane i of four rows of four vectors
+unfoldable pub rows_lane : ℕ → List (List (List ℕ)) → List ℕ
+rows_lane i rows =
+    row_lane_at rows 0 0 i ∷ row_lane_at rows 0 1 i ∷ row_lane_at rows 0 2 i ∷ row_lane_at rows 0 3 i ∷
+    row_lane_at rows 1 0 i ∷ row_lane_at rows 1 1 i ∷ row_lane_at rows 1 2 i ∷ row_lane_at rows 1 3 i ∷
+    row_lane_at rows 2 0 i ∷ row_lane_at rows 2 1 i ∷ row_lane_at rows 2 2 i ∷ row_lane_at rows 2 3 i ∷
+    row_lane_at rows 3 0 i ∷ row_lane_at rows 3 1 i ∷ row_lane_at rows 3 2 i ∷ row_lane_at rows 3 3 i ∷ []
+
+-- f of the words of x and y in each of n lanes of four vectors
+abbrev pub OnLanes : ℕ → (ℕ → ℕ → ℕ) → List (List ℕ) → List (List ℕ) → List (List ℕ) → Type 0
+OnLanes n f x y z = (j : ℕ) → j < 4 → (i : ℕ) → i < n → lane_at z j i ≡ f (lane_at x j i) (lane_at y j i)
 
 -- the word at byte i
 abbrev pub word_at : List ℕ → ℕ → ℕ

@@ -1,9 +1,9 @@
 use Rattle.std.proofs.Common.{refl}
-use Rattle.words.specs.inside.Lanes.{lane}
+use Rattle.words.specs.inside.Lanes.{rows_lane}
 use Rattle.words.proofs.lanes.fold_lanes.Goals as goal
 
 pub returns : goal.returns
-unfolding lane
+unfolding rows_lane
 returns c i h =
     rw (
       c.xor.ensures.lanes i h,
