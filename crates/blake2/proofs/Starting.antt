@@ -46,7 +46,8 @@ parameters_first k n d key salt personal b b1 b2 en some es ep eb e1 e2 =
     let l : ℕ = length key in
     let z : ℕ → List ℕ = λ i. replicate {A = ℕ} i 0 in
     let all : n / 4 ≡ suc (suc (suc (suc (4 * w - 4)))) = omega arith in
-    let cut : take (4 * w - 4) (z (n - 4)) ≡ z (4 * w - 4) = take-replicate {X = ℕ} (4 * w - 4) (n - 4) 0 (omega arith) in
+    let cut : take (4 * w - 4) (z (n - 4)) ≡ z (4 * w - 4) =
+    take-replicate {X = ℕ} (4 * w - 4) (n - 4) 0 (omega arith) in
     let first : take (n / 4) b ≡ d ∷ l ∷ 1 ∷ 1 ∷ z (4 * w - 4) =
     ap (λ (t : List ℕ). take (n / 4) t) eb ∙ ap (λ (i : ℕ). take i (d ∷ l ∷ 1 ∷ 1 ∷ z (n - 4))) all
     ∙ ap (λ (t : List ℕ). d ∷ l ∷ 1 ∷ 1 ∷ t) cut in

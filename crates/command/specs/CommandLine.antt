@@ -72,11 +72,11 @@ files_rule = record file_rule { action = Some Append }
 abbrev pub with_rules : App → List Rule → App
 with_rules = fold with_rule
 
--- `hash -a ALG [-l N] [--seek N] [--tag] [FILE]..`
+-- `hash -a ALG [-l N] [--seek N] [--salt HEX] [--personal HEX] [--tag] [FILE]..`
 abbrev pub hash_app : NameList → App
 hash_app names = with_rules (new_app (codes "hash"))
-    (algorithm_rule names ∷ length_rule ∷ number_rule (codes "seek") ∷ flag_rule (codes "tag")
-    ∷ files_rule ∷ [])
+    (algorithm_rule names ∷ length_rule ∷ number_rule (codes "seek") ∷ text_rule (codes "salt")
+    ∷ text_rule (codes "personal") ∷ flag_rule (codes "tag") ∷ files_rule ∷ [])
 
 -- `mac -a MAC [--key HEX] [--key-file F] [-l N] [FILE]`
 abbrev pub mac_app : NameList → App
@@ -117,6 +117,7 @@ pub record IsRequestOf (s : Text × List Row) (r : Request) : Type 0 where
   pub key_file : option_map (λ t. t.now) r.key_file ≡ first_of (codes "key-file") s.1
   pub ikm_file : option_map (λ t. t.now) r.ikm_file ≡ first_of (codes "ikm-file") s.1
   pub salt : option_map (λ t. t.now) r.salt ≡ first_of (codes "salt") s.1
+  pub personal : option_map (λ t. t.now) r.personal ≡ first_of (codes "personal") s.1
   pub info : option_map (λ t. t.now) r.info ≡ first_of (codes "info") s.1
   pub context : option_map (λ t. t.now) r.context ≡ first_of (codes "context") s.1
   pub files : map (λ t. t.now) r.files.items ≡ unwrap_or (all_of (codes "file") s.1) []

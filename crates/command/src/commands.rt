@@ -45,7 +45,7 @@ fn described<'a>(alloc: Global, name: &'a str, about: &'a str) -> Command<'a>
 fn hash_command<'a>(alloc: Global, names: &'a [&'a str]) -> Result<Command<'a>, AllocError>
     ensures { IfOk result (λ c. app_of c ≡ hash_app names.entry) }
 {
-    described(
+    let command = described(
         alloc,
         "hash",
         "Prints the digest of each file, as a line of a list",
@@ -60,13 +60,36 @@ fn hash_command<'a>(alloc: Global, names: &'a [&'a str]) -> Result<Command<'a>, 
         alloc,
         "seek",
         "The first byte of the output that is printed, for blake3 alone [default: 0]",
-    ))?
-    .arg(flag_option(
-        alloc,
-        "tag",
-        "Prints lines that name their algorithm, as SHA256 (FILE) = DIGITS; of blake3 32 bytes",
-    ))?
-    .arg(files_argument(alloc, "The files, each - standard input [default: -]"))
+    ))?;
+    with_salt_options(alloc, command)?
+        .arg(flag_option(
+            alloc,
+            "tag",
+            "Prints lines that name their algorithm, as SHA256 (FILE) = DIGITS; of blake3 32 bytes",
+        ))?
+        .arg(files_argument(alloc, "The files, each - standard input [default: -]"))
+}
+
+// What separates the uses of BLAKE2.
+fn with_salt_options<'a>(alloc: Global, command: Command<'a>) -> Result<Command<'a>, AllocError>
+    ensures { IfOk result (λ c. app_of c ≡ with_rules (app_of command.entry)
+        (text_rule (codes "salt") ∷ text_rule (codes "personal") ∷ [])) }
+{
+    command
+        .arg(text_option(
+            alloc,
+            "salt",
+            "HEX",
+            "The salt in hexadecimal digits, 16 bytes for blake2b and 8 for blake2s, \
+             for these two alone [default: zeros]",
+        ))?
+        .arg(text_option(
+            alloc,
+            "personal",
+            "HEX",
+            "The personalization in hexadecimal digits, as long as the salt, \
+             for blake2b and blake2s alone [default: zeros]",
+        ))
 }
 
 fn mac_command<'a>(alloc: Global, macs: &'a [&'a str]) -> Result<Command<'a>, AllocError>

@@ -5,20 +5,23 @@ ghost use Rattle.std.specs.Io.KnownBytes.{Appends};
 ghost use Rattle.source.specs.Digest.{IsInRange, digest, tag_len};
 ghost use Rattle.command.specs.Lines.{IsListable, line_text};
 ghost use Rattle.command.specs.inside.Asked.{HasDigest, names_algorithm};
+ghost use Rattle.command.specs.inside.Digests.{alg_of, hash_of};
 ghost use Rattle.command.specs.declared.fault.Fault.TheVariants.{BadName};
 
 use crate::fault::{Fault, tell};
-use crate::files::{absorb_file, opened};
+use crate::files::{absorb_feed, absorb_file, opened};
 use crate::output::{named, write_output};
-use crate::parameters::{number, refused};
+use crate::parameters::{given_bytes, number, refused, sized};
 use crate::request::Request;
-use crate::requested::{Form, Requested, Stretch};
+use crate::requested::{Form, Hash, Requested, Stretch};
 use b3::Blake3;
+use blake2::{Blake2b, Blake2s};
 use source::{Alg, AnyHash, Feed, Sink, digest_of};
 use std::alloc::Global;
 use sumlist::{
     Entry, TaggedFault, Tree, fits, tagged_fits, write_end, write_entry, write_lead, write_tagged,
 };
+use words::Tag;
 
 /// Prints the line of each file, and goes on with the next after a file that can't be read or
 /// named. Answers the status.
@@ -30,7 +33,7 @@ pub(crate) fn print_digests<'n, L: Feed, T: Tree, W: Sink, E: Sink>(
     out: &mut W,
     err: &mut E,
 ) -> Result<u8, Fault<'n>> {
-    let asked = requested(request)?;
+    let asked = requested(alloc, request)?;
     if request.files.is_empty() {
         hash_file(alloc, asked, "-", input, tree, out)?;
         return Ok(0);
@@ -46,7 +49,7 @@ pub(crate) fn print_digests<'n, L: Feed, T: Tree, W: Sink, E: Sink>(
     Ok(status)
 }
 
-fn requested(request: &Request<'_>) -> Result<Requested, Fault<'static>>
+fn requested(alloc: Global, request: &Request<'_>) -> Result<Requested, Fault<'static>>
     ensures tag { IfOk result (λ asked. names_algorithm asked ≡ request.now.tag) }
     ensures range { IfOk result HasDigest }
 {
@@ -55,25 +58,31 @@ fn requested(request: &Request<'_>) -> Result<Requested, Fault<'static>>
         Some("sha512") => sha(request, Alg::Sha512),
         Some("blake2b") => {
             refused("--seek", request.seek)?;
-            let length = number("-l", request.length, 64, 1, 64)?;
-            Ok(whole(Alg::Blake2b(length as usize), request.tag))
+            let length = number("-l", request.length, 64, 1, 64)? as usize;
+            let (salt, personal) = salting(alloc, request)?;
+            let salt = sized("--salt", salt)?;
+            let personal = sized("--personal", personal)?;
+            Ok(whole(Hash::Blake2b(length, salt, personal), request.tag))
         }
         Some("blake2s") => {
             refused("--seek", request.seek)?;
-            let length = number("-l", request.length, 32, 1, 32)?;
-            Ok(whole(Alg::Blake2s(length as usize), request.tag))
+            let length = number("-l", request.length, 32, 1, 32)? as usize;
+            let (salt, personal) = salting(alloc, request)?;
+            let salt = sized("--salt", salt)?;
+            let personal = sized("--personal", personal)?;
+            Ok(whole(Hash::Blake2s(length, salt, personal), request.tag))
         }
         _ if request.tag => tagged_blake3(request),
         _ => Ok(Requested::Output(stretch_of(request)?)),
     }
 }
 
-fn whole(alg: Alg, is_tagged: bool) -> Requested
-    requires { IsInRange alg }
+fn whole(hash: Hash, is_tagged: bool) -> Requested
+    requires { IsInRange (alg_of hash) }
     ensures tag { names_algorithm result ≡ is_tagged }
     ensures range { HasDigest result }
 {
-    Requested::Digest(Form { alg, is_tagged })
+    Requested::Digest(Form { hash, is_tagged })
 }
 
 fn sha(request: &Request<'_>, alg: Alg) -> Result<Requested, Fault<'static>>
@@ -83,7 +92,24 @@ fn sha(request: &Request<'_>, alg: Alg) -> Result<Requested, Fault<'static>>
 {
     refused("-l", request.length)?;
     refused("--seek", request.seek)?;
-    Ok(whole(alg, request.tag))
+    unsalted(request)?;
+    Ok(whole(Hash::Plain(alg), request.tag))
+}
+
+fn unsalted(request: &Request<'_>) -> Result<(), Fault<'static>> {
+    refused("--salt", request.salt)?;
+    refused("--personal", request.personal)
+}
+
+// The bytes of the salt and of the personalization, where they were given. The digits of both are
+// judged before the length of either.
+fn salting(
+    alloc: Global,
+    request: &Request<'_>,
+) -> Result<(Option<Vec<u8>>, Option<Vec<u8>>), Fault<'static>> {
+    let salt = given_bytes(alloc, "--salt", request.salt)?;
+    let personal = given_bytes(alloc, "--personal", request.personal)?;
+    Ok((salt, personal))
 }
 
 // The label of BLAKE3 stands for its first 32 bytes.
@@ -91,12 +117,14 @@ fn tagged_blake3(request: &Request<'_>) -> Result<Requested, Fault<'static>>
     ensures tag { IfOk result (λ asked. names_algorithm asked ≡ true) }
     ensures range { IfOk result HasDigest }
 {
+    unsalted(request)?;
     number("-l", request.length, 32, 32, 32)?;
     number("--seek", request.seek, 0, 0, 0)?;
-    Ok(whole(Alg::Blake3, true))
+    Ok(whole(Hash::Plain(Alg::Blake3), true))
 }
 
 fn stretch_of(request: &Request<'_>) -> Result<Stretch, Fault<'static>> {
+    unsalted(request)?;
     let length = number("-l", request.length, 32, 1, u64::MAX)?;
     let position = number("--seek", request.seek, 0, 0, u64::MAX)?;
     if position > u64::MAX - length {
@@ -131,7 +159,7 @@ fn hash_whole<'n, L: Feed, T: Tree, W: Sink>(
     tree: &mut T,
     out: &mut W,
 ) -> Result<(), Fault<'n>>
-    requires { IsInRange form.alg }
+    requires { IsInRange (alg_of form.hash) }
 {
     listable(form, name)?;
     if name == "-" {
@@ -145,11 +173,12 @@ fn hash_whole<'n, L: Feed, T: Tree, W: Sink>(
 
 // Refuses a name that cannot stand on a line of this form.
 fn listable<'n>(form: Form, name: &'n str) -> Result<(), Fault<'n>>
-    requires { IsInRange form.alg }
-    ensures { MatchResult result (λ _. IsListable form.is_tagged form.alg name.now)
-        (λ fault. (fault ≡ BadName name.entry) × (IsListable form.is_tagged form.alg name.now → ⊥)) }
+    requires { IsInRange (alg_of form.hash) }
+    ensures { MatchResult result (λ _. IsListable form.is_tagged (alg_of form.hash) name.now)
+        (λ fault. (fault ≡ BadName name.entry) × (IsListable form.is_tagged (alg_of form.hash) name.now → ⊥)) }
 {
-    if !fits(2 * digest_len(form.alg), name) || form.is_tagged && !tagged_fits(form.alg, name) {
+    let alg = algorithm(form.hash);
+    if !fits(2 * digest_len(alg), name) || form.is_tagged && !tagged_fits(alg, name) {
         return Err(Fault::BadName(name));
     }
     Ok(())
@@ -165,18 +194,58 @@ fn print_entry<'n, F: Feed, W: Sink>(
 ) -> Result<(), Fault<'n>>
     ensures { OnOk result (IfSome (F.remaining feed.old) (λ bytes.
         Appends (W.contents out.old) (W.contents out.new) (line_text form.is_tagged
-        (record { name = name.entry.now; alg = form.alg; tag = digest form.alg bytes })))) }
+        (record { name = name.entry.now; alg = alg_of form.hash; tag = hash_of form.hash bytes })))) }
 {
-    let Ok(hasher) = AnyHash::new(form.alg) else {
-        return Err(Fault::OutOfRange("-l"));
-    };
-    let tag = match digest_of(hasher, feed) {
-        Ok(tag) => tag,
-        Err(fault) => return Err(Fault::of_source(fault, name)),
-    };
-    match Entry::new(form.alg, String::from_str(alloc, name)?, tag) {
+    let tag = digest_of_feed(form.hash, name, feed)?;
+    match Entry::new(algorithm(form.hash), String::from_str(alloc, name)?, tag) {
         Ok(entry) => write_listed(&entry, form.is_tagged, name, out),
         Err(_) => Err(Fault::BadName(name)),
+    }
+}
+
+// The digest of all that a feed gives.
+fn digest_of_feed<'n, F: Feed>(hash: Hash, name: &'n str, feed: &mut F) -> Result<Tag, Fault<'n>>
+    ensures { IfOk result (λ tag. IfSome (F.remaining feed.old) (λ bytes. tag ≡ hash_of hash bytes)) }
+{
+    match hash {
+        Hash::Plain(alg) => plain_digest(alg, name, feed),
+        Hash::Blake2b(length, salt, personal) => {
+            let Ok(mut hasher) = Blake2b::with_parameters(length, &[], &salt, &personal) else {
+                return Err(Fault::OutOfRange("-l"));
+            };
+            absorb_feed(&mut hasher, name, feed)?;
+            Ok(hasher.finish())
+        }
+        Hash::Blake2s(length, salt, personal) => {
+            let Ok(mut hasher) = Blake2s::with_parameters(length, &[], &salt, &personal) else {
+                return Err(Fault::OutOfRange("-l"));
+            };
+            absorb_feed(&mut hasher, name, feed)?;
+            Ok(hasher.finish())
+        }
+    }
+}
+
+fn plain_digest<'n, F: Feed>(alg: Alg, name: &'n str, feed: &mut F) -> Result<Tag, Fault<'n>>
+    ensures { IfOk result (λ tag. IfSome (F.remaining feed.old) (λ bytes. tag ≡ digest alg bytes)) }
+{
+    let Ok(hasher) = AnyHash::new(alg) else {
+        return Err(Fault::OutOfRange("-l"));
+    };
+    match digest_of(hasher, feed) {
+        Ok(tag) => Ok(tag),
+        Err(fault) => Err(Fault::of_source(fault, name)),
+    }
+}
+
+// The algorithm that the entry of such a digest has.
+fn algorithm(hash: Hash) -> Alg
+    ensures { result ≡ alg_of hash }
+{
+    match hash {
+        Hash::Plain(alg) => alg,
+        Hash::Blake2b(length, _, _) => Alg::Blake2b(length),
+        Hash::Blake2s(length, _, _) => Alg::Blake2s(length),
     }
 }
 

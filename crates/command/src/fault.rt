@@ -20,6 +20,8 @@ pub enum Fault<'a> {
     OutOfRange(&'static str),
     /// The option's text is not made of pairs of hexadecimal digits.
     NotHexadecimal(&'static str),
+    /// The option's digits spell more or fewer bytes than the algorithm takes.
+    WrongLength(&'static str),
     /// Both `--key` and `--key-file` were given, or none.
     OneKey,
     /// The key file has more bytes than are read of one.
@@ -63,6 +65,7 @@ impl<'a> Fault<'a> {
             | Fault::ContextNeeded
             | Fault::OutOfRange(_)
             | Fault::NotHexadecimal(_)
+            | Fault::WrongLength(_)
             | Fault::OneKey
             | Fault::KeyFileTooLong
             | Fault::KeyLength => 2,
@@ -78,6 +81,7 @@ impl<'a> Display for Fault<'a> {
             Fault::ContextNeeded => write!(f, "--context: needed"),
             Fault::OutOfRange(option) => write!(f, "{option}: out of range"),
             Fault::NotHexadecimal(option) => write!(f, "{option}: not hexadecimal"),
+            Fault::WrongLength(option) => write!(f, "{option}: wrong length"),
             Fault::OneKey => write!(f, "give one of --key and --key-file"),
             Fault::KeyFileTooLong => write!(f, "--key-file: too long"),
             Fault::KeyLength => write!(f, "key: wrong length"),

@@ -1,6 +1,7 @@
 // The files of the system, by name, and what is read of one.
 
-ghost use Rattle.std.specs.Prelude.{None};
+ghost use Rattle.std.specs.Prelude.{◌≡◌, None, IfSome, OnOk};
+ghost use Rattle.source.specs.Pumped.{Appended};
 
 use crate::fault::Fault;
 use source::{Device, Feed, pump};
@@ -83,11 +84,16 @@ pub(crate) fn absorb_file<'n, A: Absorb, L: Feed, T: Tree>(
     }
 }
 
-fn absorb_feed<'n, A: Absorb, F: Feed>(
+/// Feeds the hasher all that the feed of this name gives.
+pub(crate) fn absorb_feed<'n, A: Absorb, F: Feed>(
     hasher: &mut A,
     name: &'n str,
     feed: &mut F,
-) -> Result<(), Fault<'n>> {
+) -> Result<(), Fault<'n>>
+    ensures appended { OnOk result
+        (IfSome (F.remaining feed.old) (Appended A.holds hasher.old hasher.new)) }
+    ensures parameters { A.parameters hasher.new ≡ A.parameters hasher.old }
+{
     match pump(hasher, feed) {
         Ok(()) => Ok(()),
         Err(fault) => Err(Fault::of_source(fault, name)),

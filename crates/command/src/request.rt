@@ -49,6 +49,8 @@ pub struct Request<'a> {
     pub ikm_file: Option<&'a str>,
     /// The text of `--salt`.
     pub salt: Option<&'a str>,
+    /// The text of `--personal`.
+    pub personal: Option<&'a str>,
     /// The text of `--info`.
     pub info: Option<&'a str>,
     /// The text of `--context`.
@@ -142,6 +144,7 @@ fn request_of<'a>(
         key_file: text_of(matches, "key-file"),
         ikm_file: text_of(matches, "ikm-file"),
         salt: text_of(matches, "salt"),
+        personal: text_of(matches, "personal"),
         info: text_of(matches, "info"),
         context: text_of(matches, "context"),
         files,

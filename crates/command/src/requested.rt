@@ -14,8 +14,16 @@ pub(crate) enum Requested {
 /// The form of a line: whose digest it has, and whether it names that algorithm.
 #[derive(Clone, Copy)]
 pub(crate) struct Form {
-    pub(crate) alg: Alg,
+    pub(crate) hash: Hash,
     pub(crate) is_tagged: bool,
+}
+
+/// The hash of a digest: BLAKE2 with the digest's length, a salt and a personalization.
+#[derive(Clone, Copy)]
+pub(crate) enum Hash {
+    Plain(Alg),
+    Blake2b(usize, [u8; 16], [u8; 16]),
+    Blake2s(usize, [u8; 8], [u8; 8]),
 }
 
 /// Bytes of an output, from a position on.

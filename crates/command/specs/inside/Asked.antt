@@ -1,6 +1,7 @@
 -- What `hash` is asked to print, as contracts see it.
 use Rattle.std.specs.Prelude.{Bool, false, ⊤}
 use Rattle.source.specs.Digest.{IsInRange}
+use Rattle.command.specs.inside.Digests.{alg_of}
 use Rattle.command.specs.declared.requested.Requested.{Requested}
 use Rattle.command.specs.declared.requested.Requested.TheVariants.{Digest, Output}
 
@@ -11,5 +12,5 @@ names_algorithm (Output stretch) = false
 
 -- there is a digest of the length that is asked for
 abbrev pub HasDigest : Requested → Type 0
-HasDigest (Digest form) = IsInRange form.alg
+HasDigest (Digest form) = IsInRange (alg_of form.hash)
 HasDigest (Output stretch) = ⊤
