@@ -641,7 +641,8 @@ fn fold_lanes(rows: [[u32x8; 4]; 4]) -> [u32x8; 8]
     ]
 }
 
-/// The first eight words of `compress_3` in each of eight lanes.
+/// The first eight words of `compress_3` in each of eight lanes. Each value of `USE` is a copy of the code of its
+/// own, which is inlined where it is called; it has no other meaning.
 #[inline(always)]
 #[tactic(auto, unfolding(crate::specs::Blake3::compress3))]
 pub fn next_lanes<const USE: usize>(
