@@ -234,27 +234,44 @@ fn a_file_whose_read_fails_is_unreadable_and_the_next_is_checked(
     )?;
     // The failing place is before, in and after the content; a read that would begin at its end fails.
     let cases = [
-        (0, "1025: UNREADABLE", 2, 1),
-        (1000, "1025: UNREADABLE", 2, 7),
-        (1025, "1025: UNREADABLE", 2, 4096),
-        (1026, "1025: OK", 0, 1),
+        (0, "1025: UNREADABLE", 2),
+        (1000, "1025: UNREADABLE", 2),
+        (1025, "1025: UNREADABLE", 2),
+        (1026, "1025: OK", 0),
     ];
-    for (place, line, unreadable, most) in cases {
-        let places = [("1025", place)];
-        let mut tree = MemoryTree::failing(&files, 64, &places);
-        let mut feed = Bytes::new(list.as_bytes(), most);
-        let mut out = VecSink::new(alloc);
-        let summary = check(alloc, &mut feed, Kind::Blake3, &mut tree, &mut out).map_err(
-            |_| "refused",
-        )?;
+    for (place, line, unreadable) in cases {
         let expected = format!(in alloc; "{line}\nabc.txt: OK\n{line}\n")?;
-        assert_eq!(rt; out.written(), expected.as_bytes(), "{place}");
-        assert_eq!(rt;
-            numbers(summary),
-            [3 - unreadable, 0, 0, unreadable, 0, 0, 0]
-        );
+        for most in [1, 7, 4096] {
+            let (report, summary) = report_of_failing(alloc, &files, place, list.as_str(), most)?;
+            assert_eq!(rt; report, expected, "{place}");
+            assert_eq!(rt; summary, [3 - unreadable, 0, 0, unreadable, 0, 0, 0]);
+        }
     }
     Ok(())
+}
+
+// The report on a list that comes in reads of at most so many bytes, where reads of the file `1025` fail at a
+// place.
+fn report_of_failing(
+    alloc: Global,
+    files: &Files,
+    place: usize,
+    list: &str,
+    most: usize,
+) -> Result<(String, [u64; 7]), Fail>
+    requires { 1 ≤ most }
+{
+    let places = [("1025", place)];
+    let mut tree = MemoryTree::failing(files, 64, &places);
+    let mut feed = Bytes::new(list.as_bytes(), most);
+    let mut out = VecSink::new(alloc);
+    let summary = check(alloc, &mut feed, Kind::Blake3, &mut tree, &mut out).map_err(
+        |_| "refused",
+    )?;
+    Ok((
+        String::from_utf8_lossy(alloc, out.written())?,
+        numbers(summary),
+    ))
 }
 
 #[test]
