@@ -103,18 +103,18 @@ impl Blake3 {
 
     /// A hasher of the empty input in the mode `hash` (section 2.3).
     pub fn new() -> Blake3
-        ensures parameters { hasher_parameters result ≡ hash_parameters }
-        ensures room { hasher_room result ≡ 2 ^ 64 - 1 }
-        ensures holds { Holds result [] }
+        ensures parameters { ⟦<Blake3 as Absorb>⟧.parameters result ≡ hash_parameters }
+        ensures room { ⟦<Blake3 as Absorb>⟧.room_left result ≡ 2 ^ 64 - 1 }
+        ensures holds { ⟦<Blake3 as Absorb>⟧.holds result [] }
     {
         Blake3::under(IV32, 0)
     }
 
     /// A hasher of the empty input in the mode `keyed_hash`, under a key of 32 bytes (section 2.3).
     pub fn keyed(key: &[u8; 32]) -> Blake3
-        ensures parameters { hasher_parameters result ≡ keyed_parameters key.now }
-        ensures room { hasher_room result ≡ 2 ^ 64 - 1 }
-        ensures holds { Holds result [] }
+        ensures parameters { ⟦<Blake3 as Absorb>⟧.parameters result ≡ keyed_parameters key.now }
+        ensures room { ⟦<Blake3 as Absorb>⟧.room_left result ≡ 2 ^ 64 - 1 }
+        ensures holds { ⟦<Blake3 as Absorb>⟧.holds result [] }
     {
         Blake3::under(words_of_key(key), KEYED_HASH)
     }
@@ -123,9 +123,9 @@ impl Blake3 {
     /// context is a text that is meant for one use alone; the material is what the hasher takes
     /// then.
     pub fn derive(context: &[u8]) -> Blake3
-        ensures parameters { hasher_parameters result ≡ derive_parameters context.now }
-        ensures room { hasher_room result ≡ 2 ^ 64 - 1 }
-        ensures holds { Holds result [] }
+        ensures parameters { ⟦<Blake3 as Absorb>⟧.parameters result ≡ derive_parameters context.now }
+        ensures room { ⟦<Blake3 as Absorb>⟧.room_left result ≡ 2 ^ 64 - 1 }
+        ensures holds { ⟦<Blake3 as Absorb>⟧.holds result [] }
     {
         let key = Blake3::context_key(context);
         Blake3::under(words_of_key(&key), DERIVE_KEY_MATERIAL)
@@ -159,8 +159,8 @@ impl Blake3 {
 
     /// How many bytes the hasher has taken.
     pub fn count(&self) -> u64
-        ensures value { result ≡ hasher_count self.now }
-        ensures message { (m : List ℕ) → Holds self.now m → result ≡ length m }
+        ensures value { result + ⟦<Blake3 as Absorb>⟧.room_left self.now ≡ 2 ^ 64 - 1 }
+        ensures message { (m : List ℕ) → ⟦<Blake3 as Absorb>⟧.holds self.now m → result ≡ length m }
     {
         CHUNK_LEN as u64 * self.closed + self.chunk.len() as u64
     }
@@ -168,7 +168,8 @@ impl Blake3 {
     /// How many chaining values the hasher holds: for n chunks of input, as many as n - 1 has
     /// one-bits, and at most 54.
     pub fn held(&self) -> usize
-        ensures value { (m : List ℕ) → Holds self.now m → result ≡ count_ones (chunk_count m - 1) }
+        ensures value { (m : List ℕ) → ⟦<Blake3 as Absorb>⟧.holds self.now m
+            → result ≡ count_ones (chunk_count m - 1) }
         ensures most { result ≤ 54 }
     {
         self.stack.len()
@@ -176,8 +177,8 @@ impl Blake3 {
 
     /// The output of what the hasher has taken, at position 0. The hasher can go on.
     pub fn output(&self) -> Output
-        ensures root { (m : List ℕ) → Holds self.now m
-            → output_root result ≡ root_of (hasher_parameters self.now) m }
+        ensures root { (m : List ℕ) → ⟦<Blake3 as Absorb>⟧.holds self.now m
+            → output_root result ≡ root_of (⟦<Blake3 as Absorb>⟧.parameters self.now) m }
         ensures position { output_position result ≡ 0 }
     {
         let mut node = self.chunk.node(self.closed, self.flags);
