@@ -10,7 +10,7 @@ use Rattle.words.specs.Blake2.{compress}
 use Rattle.words.specs.Mix.{Variant}
 use Rattle.words.specs.Words.{words, padded}
 use Rattle.blake2.specs.Blake2.{chain, block_len, word_len, block_words, block_count, final_value}
-use Rattle.blake2.specs.Held.{IsChained, IsHeld}
+use Rattle.blake2.specs.inside.Held.{IsChained, IsHeld}
 use Rattle.blake2.proofs.Blocks.{after_blocks, before_last, last_block, same_scale}
 
 suc_mul : (n w : ℕ) → suc n * w ≡ n * w + w

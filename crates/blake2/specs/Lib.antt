@@ -1,7 +1,3 @@
 pub mod Blake2
-pub mod Lengths
-pub mod Listed
 pub mod Faults
-pub mod Held
-pub mod Hashers
-pub mod Rooms
+pub mod inside

@@ -90,8 +90,8 @@ impl Blake2b {
 }
 
 impl Absorb for Blake2b {
-    ghost use Rattle.blake2.specs.Hashers.{Holds2b, parameters_2b, room_left_2b};
-    ghost use Rattle.blake2.specs.Rooms.{room_is_2b};
+    ghost use Rattle.blake2.specs.inside.Hashers.{Holds2b, parameters_2b, room_left_2b};
+    ghost use Rattle.blake2.specs.inside.Rooms.{room_is_2b};
 
     ghost holds = { λ s m. Holds2b s m };
 

@@ -90,8 +90,8 @@ impl Blake2s {
 }
 
 impl Absorb for Blake2s {
-    ghost use Rattle.blake2.specs.Hashers.{Holds2s, parameters_2s, room_left_2s};
-    ghost use Rattle.blake2.specs.Rooms.{room_is_2s};
+    ghost use Rattle.blake2.specs.inside.Hashers.{Holds2s, parameters_2s, room_left_2s};
+    ghost use Rattle.blake2.specs.inside.Rooms.{room_is_2s};
 
     ghost holds = { λ s m. Holds2s s m };
 

@@ -6,7 +6,7 @@ ghost use Rattle.words.specs.Blake2.{blake2b, blake2s, compress};
 ghost use Rattle.words.specs.Mix.{Variant};
 ghost use Rattle.words.specs.Words.{word_bytes, words};
 ghost use Rattle.blake2.specs.Blake2.{block_len, word_len, xor_words};
-ghost use Rattle.blake2.specs.Lengths.{block_len_2b, block_len_2s};
+ghost use Rattle.blake2.specs.inside.Lengths.{block_len_2b, block_len_2s};
 
 use byteorder::{ByteOrder, LittleEndian};
 use words::{IV32, IV64, Tag, compress_2b, compress_2s, words32, words64};

@@ -3,7 +3,7 @@
 ghost use Rattle.std.specs.Prelude.{◌≡◌, ◌≤◌, ◌+◌, ◌-◌, ◌*◌, ◌++◌, ◌↔◌, [], ℕ, List, length, Some, None, MatchResult, IsOk, OnOk, OnErr};
 ghost use Rattle.blake2.specs.Blake2.{Parameters, blake2, salted, start, word_len};
 ghost use Rattle.blake2.specs.Faults.{parameter_fault};
-ghost use Rattle.blake2.specs.Held.{HoldsMessage, IsHeld};
+ghost use Rattle.blake2.specs.inside.Held.{HoldsMessage, IsHeld};
 
 use crate::ParameterFault;
 use crate::chain::Chain;
@@ -73,7 +73,7 @@ pub(crate) struct Hasher<C: Chain<N>, const N: usize, const S: usize> {
 }
 
 impl<C: Chain<N>, const N: usize, const S: usize> Hasher<C, N, S> {
-    ghost use Rattle.blake2.specs.Hashers.{hasher_parameters};
+    ghost use Rattle.blake2.specs.inside.Hashers.{hasher_parameters};
 
     pub(crate) fn with_parameters(
         digest_length: usize,

@@ -10,7 +10,7 @@
 //! // 508c5e8c327c14e2e1a72ba34eeb452f37458b209ed63a294d999b4c86675982 (RFC 7693, appendix B)
 //! let digest = hasher.finish();
 //! ```
-#![tactic(auto, unfolding(crate::specs::Hashers::Holds2b, crate::specs::Hashers::Holds2s, crate::specs::Hashers::parameters_2b, crate::specs::Hashers::parameters_2s, crate::specs::Hashers::room_left_2b, crate::specs::Hashers::room_left_2s))]
+#![tactic(auto, unfolding(crate::specs::inside::Hashers::Holds2b, crate::specs::inside::Hashers::Holds2s, crate::specs::inside::Hashers::parameters_2b, crate::specs::inside::Hashers::parameters_2s, crate::specs::inside::Hashers::room_left_2b, crate::specs::inside::Hashers::room_left_2s))]
 
 pub use blake2b::Blake2b;
 pub use blake2s::Blake2s;

@@ -5,7 +5,7 @@ ghost use Rattle.std.specs.List.{concat};
 ghost use Rattle.words.specs.Blake2.{compress};
 ghost use Rattle.words.specs.Words.{padded, words};
 ghost use Rattle.blake2.specs.Blake2.{final_value, word_len};
-ghost use Rattle.blake2.specs.Held.{IsChained, IsHeld};
+ghost use Rattle.blake2.specs.inside.Held.{IsChained, IsHeld};
 
 use crate::chain::Chain;
 use std::slice::from_ref;

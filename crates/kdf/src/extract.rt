@@ -15,7 +15,7 @@ pub struct Extract<H> {
 }
 
 impl<H: BlockHash> Absorb for Extract<H> {
-    ghost use Rattle.kdf.specs.Extracts.{extract_mac};
+    ghost use Rattle.kdf.specs.inside.Extracts.{extract_mac};
 
     ghost holds = { λ s m. ⟦<Hmac<H> as Absorb>⟧.holds (extract_mac s) m };
 

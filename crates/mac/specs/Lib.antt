@@ -1,4 +1,2 @@
 pub mod Hmac
-pub mod Streams
-pub mod Macs
-pub mod Unkeyed
+pub mod inside

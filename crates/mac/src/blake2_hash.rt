@@ -25,7 +25,7 @@ pub struct Blake2s256 {
 }
 
 impl Absorb for Blake2b512 {
-    ghost use Rattle.mac.specs.Unkeyed.{hasher_2b};
+    ghost use Rattle.mac.specs.inside.Unkeyed.{hasher_2b};
 
     ghost holds = { λ s m. ⟦<Blake2b as Absorb>⟧.holds (hasher_2b s) m };
 
@@ -72,7 +72,7 @@ impl BlockHash for Blake2b512 {
     }
 
     ghost use Rattle.std.proofs.Common.{lit≤, lit<};
-    ghost use Rattle.mac.specs.Unkeyed.{length-blake2b, limit_2b};
+    ghost use Rattle.mac.specs.inside.Unkeyed.{length-blake2b, limit_2b};
 
     ghost out_is_positive = { lit< tt };
 
@@ -90,7 +90,7 @@ impl BlockHash for Blake2b512 {
 }
 
 impl Absorb for Blake2s256 {
-    ghost use Rattle.mac.specs.Unkeyed.{hasher_2s};
+    ghost use Rattle.mac.specs.inside.Unkeyed.{hasher_2s};
 
     ghost holds = { λ s m. ⟦<Blake2s as Absorb>⟧.holds (hasher_2s s) m };
 
@@ -137,7 +137,7 @@ impl BlockHash for Blake2s256 {
     }
 
     ghost use Rattle.std.proofs.Common.{lit≤, lit<};
-    ghost use Rattle.mac.specs.Unkeyed.{length-blake2s, limit_2s};
+    ghost use Rattle.mac.specs.inside.Unkeyed.{length-blake2s, limit_2s};
 
     ghost out_is_positive = { lit< tt };
 

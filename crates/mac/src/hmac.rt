@@ -24,7 +24,7 @@ pub struct Hmac<H> {
 }
 
 impl<H: BlockHash> Absorb for Hmac<H> {
-    ghost use Rattle.mac.specs.Macs.{IsMacOf, mac_hasher, mac_key};
+    ghost use Rattle.mac.specs.inside.Macs.{IsMacOf, mac_hasher, mac_key};
 
     ghost holds = { λ s m. IsMacOf H.holds H.room_left H.BLOCK H.LIMIT s m };
 

@@ -23,7 +23,7 @@ pub type Sha256Stream = Sha2Stream<Sha256, 61>;
 pub type Sha512Stream = Sha2Stream<Sha512, 125>;
 
 impl<D: Digest, const BITS: u32> Absorb for Sha2Stream<D, BITS> {
-    ghost use Rattle.mac.specs.Streams.{StreamHolds, stream_room};
+    ghost use Rattle.mac.specs.inside.Streams.{StreamHolds, stream_room};
 
     ghost holds = { λ s m. StreamHolds D.holds s m };
 

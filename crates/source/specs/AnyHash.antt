@@ -3,8 +3,8 @@
 use Rattle.std.specs.Prelude.{ℕ, ◌==◌, ◌-◌, ◌^◌, List, [], ◌∷◌, drop, slice_index, if◌then◌else◌}
 use Rattle.b3.specs.Hasher as b3
 use Rattle.blake2.specs.Blake2.{from_list, message_limit}
-use Rattle.blake2.specs.Hashers.{Holds2b, Holds2s, parameters_2b, parameters_2s, room_left_2b, room_left_2s}
-use Rattle.mac.specs.Streams.{StreamHolds, stream_room}
+use Rattle.blake2.specs.inside.Hashers.{Holds2b, Holds2s, parameters_2b, parameters_2s, room_left_2b, room_left_2s}
+use Rattle.mac.specs.inside.Streams.{StreamHolds, stream_room}
 use Rattle.sha2.specs.Hashers.{Holds256, Holds512}
 use Rattle.words.specs.Blake2.{blake2b, blake2s}
 use Rattle.source.specs.declared.any_hash.AnyHash.{AnyHash}

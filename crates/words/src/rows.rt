@@ -5,7 +5,7 @@ ghost use Rattle.std.specs.Int.{rotate_right, w32, w64};
 ghost use Rattle.std.specs.Int.Bits.{bit_xor};
 ghost use Rattle.words.specs.Blake2.{blake2b, blake2s};
 ghost use Rattle.words.specs.Mix.{round, word_sum};
-ghost use Rattle.words.specs.Rows.{MixesColumns, picked_words};
+ghost use Rattle.words.specs.inside.Rows.{MixesColumns, picked_words};
 
 use std::simd::{u32x4, u64x4};
 

@@ -5,7 +5,7 @@ ghost use Rattle.std.specs.Simd.Lanes.{number_l, chunk};
 ghost use Rattle.words.specs.Blake2.{schedule, blake2s};
 ghost use Rattle.words.specs.Blake3.{words_in_order, working_words3, rounds3, folded_halves3, compress3};
 ghost use Rattle.words.specs.Mix.{rotated_xor, round};
-ghost use Rattle.words.specs.Rows.{MixesColumns};
+ghost use Rattle.words.specs.inside.Rows.{MixesColumns};
 ghost use Rattle.words.specs.Tables.{permutation};
 ghost use Rattle.words.specs.Words.{words};
 ghost use Rattle.words.specs.inside.Lanes.{lane, lane4, lane8, places_16, places_8, word_at, moved};

@@ -3,7 +3,7 @@ use Rattle.std.specs.List.{concat}
 use Rattle.words.specs.Blake2.{compress}
 use Rattle.words.specs.Words.{words}
 use Rattle.blake2.specs.Blake2.{word_len}
-use Rattle.blake2.specs.Held.{IsChained}
+use Rattle.blake2.specs.inside.Held.{IsChained}
 use Rattle.blake2.proofs.stream.compress_blocks.Given as goal
 
 abbrev pub invariant-blocks-2 : goal.invariant-blocks-2

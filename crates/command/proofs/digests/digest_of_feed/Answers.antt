@@ -1,7 +1,7 @@
 use Rattle.std.proofs.Common.{rules, ◌∙◌, ◌≡◌, [], length}
 use Rattle.words.specs.Blake2.{blake2b, blake2s}
 use Rattle.blake2.specs.Blake2.{Parameters, salted}
-use Rattle.blake2.specs.Listed.{read_back}
+use Rattle.blake2.specs.inside.Listed.{read_back}
 use Rattle.command.proofs.Printing.{salted_digest_is}
 use Rattle.command.proofs.digests.digest_of_feed.Goals as goal
 

@@ -1,8 +1,8 @@
 use Rattle.std.proofs.Common.{refl, sym, ap, ◌∙◌}
 use Rattle.words.specs.Blake2.{blake2b}
 use Rattle.blake2.specs.Blake2.{Parameters, blake2}
-use Rattle.blake2.specs.Hashers.{Holds2b, hasher_parameters, parameters_2b}
-use Rattle.blake2.specs.Listed.{read_back}
+use Rattle.blake2.specs.inside.Hashers.{Holds2b, hasher_parameters, parameters_2b}
+use Rattle.blake2.specs.inside.Listed.{read_back}
 use Rattle.blake2.proofs.blake2b.Blake2b.finish.Goals as goal
 
 pub returns-clause-digest : goal.returns-clause-digest

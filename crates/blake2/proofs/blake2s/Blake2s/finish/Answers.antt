@@ -1,8 +1,8 @@
 use Rattle.std.proofs.Common.{refl, sym, ap, ◌∙◌}
 use Rattle.words.specs.Blake2.{blake2s}
 use Rattle.blake2.specs.Blake2.{Parameters, blake2}
-use Rattle.blake2.specs.Hashers.{Holds2s, hasher_parameters, parameters_2s}
-use Rattle.blake2.specs.Listed.{read_back}
+use Rattle.blake2.specs.inside.Hashers.{Holds2s, hasher_parameters, parameters_2s}
+use Rattle.blake2.specs.inside.Listed.{read_back}
 use Rattle.blake2.proofs.blake2s.Blake2s.finish.Goals as goal
 
 pub returns-clause-digest : goal.returns-clause-digest

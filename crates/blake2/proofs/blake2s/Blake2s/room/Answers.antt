@@ -1,5 +1,5 @@
-use Rattle.blake2.specs.Hashers.{room_left_2s}
-use Rattle.blake2.specs.Rooms.{room_is_2s}
+use Rattle.blake2.specs.inside.Hashers.{room_left_2s}
+use Rattle.blake2.specs.inside.Rooms.{room_is_2s}
 use Rattle.blake2.proofs.blake2s.Blake2s.room.Goals as goal
 
 pub returns-clause-limit : goal.returns-clause-limit

@@ -1,9 +1,9 @@
 use Rattle.std.proofs.Common.{◌≡◌, ◌-◌, ◌^◌, ℕ, List, [], ap, sym, ◌∙◌, add-zero}
 use Rattle.words.specs.Blake2.{blake2s}
 use Rattle.blake2.specs.Blake2.{Parameters, from_list, listed, message_limit}
-use Rattle.blake2.specs.Hashers.{Holds2s, hasher_parameters, parameters_2s}
-use Rattle.blake2.specs.Listed.{read_back}
-use Rattle.blake2.specs.Rooms.{room_is_2s}
+use Rattle.blake2.specs.inside.Hashers.{Holds2s, hasher_parameters, parameters_2s}
+use Rattle.blake2.specs.inside.Listed.{read_back}
+use Rattle.blake2.specs.inside.Rooms.{room_is_2s}
 use Rattle.blake2.proofs.blake2s.Blake2s.with_parameters.Goals as goal
 
 pub returns : goal.returns

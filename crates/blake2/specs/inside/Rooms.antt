@@ -5,9 +5,9 @@ use Rattle.std.proofs.lemmas.List.{length-replicate}
 use Rattle.words.specs.Blake2.{blake2b, blake2s}
 use Rattle.words.specs.Mix.{Variant}
 use Rattle.blake2.specs.Blake2.{Parameters, block_len, from_list, key_block, listed, message_limit}
-use Rattle.blake2.specs.Held.{HoldsMessage, IsHeld}
-use Rattle.blake2.specs.Hashers.{Holds2b, Holds2s, hasher_parameters, parameters_2b, parameters_2s, room_left_2b, room_left_2s}
-use Rattle.blake2.specs.Listed.{read_back}
+use Rattle.blake2.specs.inside.Held.{HoldsMessage, IsHeld}
+use Rattle.blake2.specs.inside.Hashers.{Holds2b, Holds2s, hasher_parameters, parameters_2b, parameters_2s, room_left_2b, room_left_2s}
+use Rattle.blake2.specs.inside.Listed.{read_back}
 use Rattle.blake2.specs.declared.blake2b.Blake2b.{Blake2b}
 use Rattle.blake2.specs.declared.blake2s.Blake2s.{Blake2s}
 

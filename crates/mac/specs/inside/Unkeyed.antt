@@ -4,7 +4,7 @@ use Rattle.std.proofs.Common.{ap}
 use Rattle.words.specs.Blake2.{blake2b, blake2s, compress}
 use Rattle.words.specs.Words.{word_bytes}
 use Rattle.blake2.specs.Blake2.{blake2, final_value, from_list, message_limit, unsalted}
-use Rattle.blake2.specs.Hashers.{parameters_2b, parameters_2s}
+use Rattle.blake2.specs.inside.Hashers.{parameters_2b, parameters_2s}
 use Rattle.blake2.specs.declared.blake2b.Blake2b.{Blake2b}
 use Rattle.blake2.specs.declared.blake2s.Blake2s.{Blake2s}
 use Rattle.mac.specs.declared.blake2_hash.Blake2b512.{Blake2b512}

@@ -2,7 +2,7 @@
 use Rattle.std.specs.Prelude.{ℕ, ◌+◌, ◌-◌, ◌^◌, List}
 use Rattle.words.specs.Blake2.{blake2b, blake2s}
 use Rattle.blake2.specs.Blake2.{Parameters, listed, salted}
-use Rattle.blake2.specs.Held.{HoldsMessage}
+use Rattle.blake2.specs.inside.Held.{HoldsMessage}
 use Rattle.blake2.specs.declared.blake2b.Blake2b.{Blake2b}
 use Rattle.blake2.specs.declared.blake2s.Blake2s.{Blake2s}
 use Rattle.blake2.specs.declared.chain.Chain.{Ghosts}

@@ -1,0 +1,5 @@
+pub mod Lengths
+pub mod Listed
+pub mod Held
+pub mod Hashers
+pub mod Rooms
