@@ -1,2 +1,3 @@
 pub mod Hmac
+pub mod Numbers
 pub mod inside

@@ -71,18 +71,10 @@ impl BlockHash for Blake2b512 {
         self.hasher.finish()
     }
 
-    ghost use Rattle.std.proofs.Common.{lit≤, lit<};
+    ghost use Rattle.std.proofs.Common.{rules};
     ghost use Rattle.mac.specs.inside.Unkeyed.{length-blake2b, limit_2b};
 
-    ghost out_is_positive = { lit< tt };
-
-    ghost out_within_block = { lit≤ tt };
-
-    ghost block_is_small = { lit≤ tt };
-
-    ghost out_is_small = { lit≤ tt };
-
-    ghost limit_is_large = { lit≤ tt };
+    ghost numbers = { Prim.search rules };
 
     ghost digest_length = { λ m _. length-blake2b m };
 
@@ -136,18 +128,10 @@ impl BlockHash for Blake2s256 {
         self.hasher.finish()
     }
 
-    ghost use Rattle.std.proofs.Common.{lit≤, lit<};
+    ghost use Rattle.std.proofs.Common.{rules};
     ghost use Rattle.mac.specs.inside.Unkeyed.{length-blake2s, limit_2s};
 
-    ghost out_is_positive = { lit< tt };
-
-    ghost out_within_block = { lit≤ tt };
-
-    ghost block_is_small = { lit≤ tt };
-
-    ghost out_is_small = { lit≤ tt };
-
-    ghost limit_is_large = { lit≤ tt };
+    ghost numbers = { Prim.search rules };
 
     ghost digest_length = { λ m _. length-blake2s m };
 

@@ -1,6 +1,7 @@
 // What HMAC and HKDF ask of a hash function.
 
-ghost use Rattle.std.specs.Prelude.{◌≡◌, ◌<◌, ◌≤◌, ◌+◌, ◌-◌, ◌^◌, ◌++◌, ℕ, List, [], length};
+ghost use Rattle.std.specs.Prelude.{◌≡◌, ◌≤◌, ◌+◌, ◌++◌, ℕ, List, [], length};
+ghost use Rattle.mac.specs.Numbers.{AreNumbers};
 
 use words::{Absorb, Tag};
 
@@ -38,15 +39,8 @@ pub trait BlockHash: Absorb {
         ensures length { length result ≡ OUT }
         ensures digest { (m : List ℕ) → Self.holds self m → result ≡ hash_of m };
 
-    ghost out_is_positive: { 0 < OUT };
-
-    ghost out_within_block: { OUT ≤ BLOCK };
-
-    ghost block_is_small: { BLOCK ≤ 128 };
-
-    ghost out_is_small: { OUT ≤ 64 };
-
-    ghost limit_is_large: { 2 ^ 61 - 1 ≤ LIMIT };
+    // What is said of the three numbers above.
+    ghost numbers: { AreNumbers BLOCK OUT LIMIT };
 
     // A digest of an input within the limit has OUT bytes.
     ghost digest_length: { (m : List ℕ) → length m ≤ LIMIT → length (hash_of m) ≡ OUT };

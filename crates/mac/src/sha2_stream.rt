@@ -76,18 +76,10 @@ impl BlockHash for Sha256Stream {
         Tag::of(&self.hasher.finalize()).unwrap()
     }
 
-    ghost use Rattle.std.proofs.Common.{lit≤, lit<, refl};
+    ghost use Rattle.std.proofs.Common.{refl, rules};
     ghost use Rattle.sha2.proofs.Facts256.{length-sha256};
 
-    ghost out_is_positive = { lit< tt };
-
-    ghost out_within_block = { lit≤ tt };
-
-    ghost block_is_small = { lit≤ tt };
-
-    ghost out_is_small = { lit≤ tt };
-
-    ghost limit_is_large = { lit≤ tt };
+    ghost numbers = { Prim.search rules };
 
     ghost digest_length = { λ m _. length-sha256 m };
 
@@ -120,18 +112,10 @@ impl BlockHash for Sha512Stream {
         Tag::of(&self.hasher.finalize()).unwrap()
     }
 
-    ghost use Rattle.std.proofs.Common.{lit≤, lit<, refl};
+    ghost use Rattle.std.proofs.Common.{refl, rules};
     ghost use Rattle.sha2.proofs.Facts512.{length-sha512};
 
-    ghost out_is_positive = { lit< tt };
-
-    ghost out_within_block = { lit≤ tt };
-
-    ghost block_is_small = { lit≤ tt };
-
-    ghost out_is_small = { lit≤ tt };
-
-    ghost limit_is_large = { lit≤ tt };
+    ghost numbers = { Prim.search rules };
 
     ghost digest_length = { λ m _. length-sha512 m };
 
