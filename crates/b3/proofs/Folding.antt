@@ -4,11 +4,11 @@ use Rattle.std.proofs.Common.{◌≡◌, ℕ, zero, suc, ◌+◌, ◌-◌, ◌*�
 use Rattle.std.proofs.Math.Nat.{pow-succ'}
 use Rattle.std.proofs.lemmas.Bool.{cases_lt, le-leb, lt-leb}
 use Rattle.std.proofs.lemmas.List.{drop-drop, take-take, drop-take, take-append-le, drop-append-le}
-use Rattle.b3.specs.Subtrees.{subtrees}
+use Rattle.b3.specs.inside.Subtrees.{subtrees}
 use Rattle.b3.specs.Node.{Node, cv}
 use Rattle.b3.specs.Chunk.{chunk}
 use Rattle.b3.specs.Tree.{parent, tree_within, tree, chunk_count, IsGreatestPowerBelow}
-use Rattle.b3.specs.Stack.{subtree_cv}
+use Rattle.b3.specs.inside.Stack.{subtree_cv}
 use Rattle.b3.specs.inside.Runs.{run_cv}
 use Rattle.b3.proofs.Subtrees.{subtrees_low, subtrees_high}
 

@@ -7,7 +7,7 @@ use Rattle.std.proofs.Math.Nat.{pow-succ'}
 use Rattle.b3.specs.Node.{cv}
 use Rattle.b3.specs.Chunk.{value_before}
 use Rattle.b3.specs.Tree.{tree}
-use Rattle.b3.specs.Stack.{joined_cv}
+use Rattle.b3.specs.inside.Stack.{joined_cv}
 use Rattle.b3.specs.inside.Runs.{run_cv, value_before_last}
 use Rattle.b3.proofs.Folding.{run_join, run_append}
 use Rattle.b3.proofs.Lanes8.{below_eight}

@@ -4,7 +4,7 @@
 use Rattle.std.proofs.Common.{◌≡◌, ℕ, zero, suc, ◌+◌, ◌-◌, ◌*◌, ◌^◌, ◌<◌, ◌≤◌, [], ◌∷◌, ◌++◌, refl, ap, ◌∙◌, inl, inr, arith, add-zero, pow_pos, pow_mono, pow-add, mul-add, mul-le-mul_left}
 use Rattle.std.proofs.Math.Nat.{mul-sub, pow-succ'}
 use Rattle.std.proofs.lemmas.Bool.{cases_lt, lt-ltb, le-ltb}
-use Rattle.b3.specs.Subtrees.{subtrees}
+use Rattle.b3.specs.inside.Subtrees.{subtrees}
 
 module _ {X : Type 0} (tree : ℕ → ℕ → X) where
   pub subtrees_low : (l i k : ℕ) → k < 2 ^ l → subtrees tree (suc l) i k ≡ subtrees tree l i k

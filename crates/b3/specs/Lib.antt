@@ -4,9 +4,4 @@ pub mod Tree
 pub mod Bytes
 pub mod Modes
 pub mod Laws
-pub mod Subtrees
-pub mod Stack
-pub mod Hasher
-pub mod Rooms
-pub mod Output
 pub mod inside

@@ -92,8 +92,8 @@ pub struct Blake3 {
 }
 
 impl Blake3 {
-    ghost use Rattle.b3.specs.Hasher.{Holds, IsSplit, hasher_count, hasher_room, hasher_parameters};
-    ghost use Rattle.b3.specs.Output.{output_root, output_position};
+    ghost use Rattle.b3.specs.inside.Hasher.{Holds, IsSplit, hasher_count, hasher_room, hasher_parameters};
+    ghost use Rattle.b3.specs.inside.Output.{output_root, output_position};
     ghost use Rattle.b3.specs.Modes.{hash_parameters, keyed_parameters, derive_parameters, context_parameters, root_of};
     ghost use Rattle.b3.specs.Tree.{chunk_count, tree};
     ghost use Rattle.b3.specs.Node.{cv};

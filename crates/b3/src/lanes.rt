@@ -1,7 +1,7 @@
 // Eight chunks at once, and the subtrees over them (the BLAKE3 paper, section 5.3).
 
 ghost use Rattle.std.specs.Prelude.{◌≡◌, ℕ, ◌+◌, ◌-◌, ◌*◌, ◌<◌, ◌≤◌, ◌^◌, [], length, slice_index, slice_index_or};
-ghost use Rattle.b3.specs.Stack.{joined_cv};
+ghost use Rattle.b3.specs.inside.Stack.{joined_cv};
 ghost use Rattle.b3.specs.inside.Runs.{run_cv, value_before_last};
 ghost use Rattle.words.specs.inside.Lanes.{lane8};
 

@@ -1,7 +1,7 @@
 // What a command prints: digits, and lines that end in a name.
 
 ghost use Rattle.std.specs.Prelude.{◌+◌, ◌-◌, ◌^◌, ◌≤◌};
-ghost use Rattle.b3.specs.Output.{output_position};
+ghost use Rattle.b3.specs.inside.Output.{output_position};
 
 use crate::fault::Fault;
 use b3::Output;

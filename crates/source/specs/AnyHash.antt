@@ -1,7 +1,7 @@
 -- What contracts see of a hasher for any of the hashes: what they see of the hasher in it, whose hash
 -- is told by a number before its parameters.
 use Rattle.std.specs.Prelude.{ℕ, ◌==◌, ◌-◌, ◌^◌, List, [], ◌∷◌, drop, slice_index, if◌then◌else◌}
-use Rattle.b3.specs.Hasher as b3
+use Rattle.b3.specs.inside.Hasher as b3
 use Rattle.blake2.specs.Blake2.{from_list, message_limit}
 use Rattle.blake2.specs.inside.Hashers.{Holds2b, Holds2s, parameters_2b, parameters_2s, room_left_2b, room_left_2s}
 use Rattle.mac.specs.inside.Streams.{StreamHolds, stream_room}

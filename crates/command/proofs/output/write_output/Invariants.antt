@@ -1,5 +1,5 @@
 use Rattle.std.specs.Prelude.{◌+◌, ◌-◌, ◌^◌, ◌≤◌}
-use Rattle.b3.specs.Output.{output_position}
+use Rattle.b3.specs.inside.Output.{output_position}
 use Rattle.command.proofs.output.write_output.Given as goal
 
 abbrev pub invariant-loop-left : goal.invariant-loop-left

@@ -1,6 +1,6 @@
 use Rattle.std.proofs.Common.{◌≡◌, ℕ, ◌+◌, ◌-◌, ◌*◌, ◌^◌, ◌<◌, ◌≤◌, List, ◌++◌, length, take, drop, refl, sym, ap, ap₂, ◌∙◌, arith, append-nil, length-take-le, length-drop, pow_pos}
 use Rattle.std.proofs.lemmas.List.{take_all}
-use Rattle.b3.specs.Hasher.{IsSplit}
+use Rattle.b3.specs.inside.Hasher.{IsSplit}
 use Rattle.b3.proofs.Holding.{IsSplit_same, IsSplit_alike, eight_pow, spine_aligned}
 use Rattle.b3.proofs.Pieces.{take_further}
 use Rattle.b3.proofs.Runs.{doubled, run_at, two_below}

@@ -1,5 +1,5 @@
 use Rattle.std.proofs.Common.{◌≡◌, ℕ, List, ◌++◌, ◌+◌, ◌-◌, ◌*◌, ◌^◌, ◌≤◌, take}
-use Rattle.b3.specs.Hasher.{IsSplit}
+use Rattle.b3.specs.inside.Hasher.{IsSplit}
 use Rattle.b3.proofs.hasher.Blake3.open_run.Given as goal
 
 abbrev pub invariant-lefts : goal.invariant-lefts

@@ -1,5 +1,5 @@
 use Rattle.std.proofs.Common.{◌≡◌, ℕ, ◌<◌, List, [], ◌++◌, ◌+◌, ◌*◌, length, take, slice_index_or}
-use Rattle.b3.specs.Hasher.{IsSplit}
+use Rattle.b3.specs.inside.Hasher.{IsSplit}
 use Rattle.b3.specs.inside.Runs.{run_cv}
 use Rattle.b3.proofs.hasher.Blake3.push_values.Given as goal
 
