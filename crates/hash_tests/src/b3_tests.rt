@@ -247,6 +247,38 @@ fn the_other_modes_come_out(rt: HostRuntime) -> Result<(), Fail> {
     Ok(())
 }
 
+// 31 chunks, which are 16 + 8 + 4 + 2 + 1, as b3sum hashes them.
+#[test]
+fn a_subtree_of_each_size_comes_out(rt: HostRuntime) -> Result<(), Fail> {
+    let hasher = hashed(&counting(rt.alloc(), 31_744)?, 31_744)?;
+    let expected = "62b6960e1a44bcc1eb1a611a8d6235b6b4b78f32e7abc4fb4c6cdcce94895c47";
+    assert!(rt; spells(rt.alloc(), &hasher, 0, expected)?);
+    Ok(())
+}
+
+// The output of 1,025 bytes on both sides of its block 2^32, as other programs write it.
+#[test]
+fn output_goes_on_past_block_2_to_the_32(rt: HostRuntime) -> Result<(), Fail> {
+    let hasher = hashed(&counting(rt.alloc(), 1025)?, 1025)?;
+    let sides = [
+        (
+            274_877_906_912,
+            "f40128f5bfeb494fcdc1d9f23b3e66eeae3515acf621bf8eee6b4836409df10a",
+        ),
+        (
+            274_877_906_944,
+            "e54e45687e25a1673882cb09f828f13b3f9e8b746c970c5531648dac9ef3e163",
+        ),
+    ];
+    for (position, expected) in sides {
+        assert!(rt;
+            spells(rt.alloc(), &hasher, position, expected)?,
+            "{position}"
+        );
+    }
+    Ok(())
+}
+
 // Whether a hasher of the key words and the flag gives the definition's first 70 bytes of output.
 fn gives_the_slow_output(hasher: Blake3, key: &[u32; 8], flags: u32, input: &[u8]) -> bool {
     let mut hasher = hasher;
