@@ -125,11 +125,10 @@ impl<C: Chain<N>, const N: usize, const S: usize> Hasher<C, N, S> {
     }
 
     pub(crate) fn finish(self) -> Tag
-        ensures digest { (p : Parameters) (m : List ℕ) → p.digest_length ≡ self.digest_length
-            → HoldsMessage C.variant p (C.value self.stream.chain)
-            self.stream.buffer self.stream.used self.stream.compressed m
-            → result ≡ blake2 C.variant p m }
-        ensures length { length result ≡ self.digest_length }
+        ensures digest { (m : List ℕ) → HoldsMessage C.variant (hasher_parameters self)
+            (C.value self.stream.chain) self.stream.buffer self.stream.used self.stream.compressed m
+            → result ≡ blake2 C.variant (hasher_parameters self) m }
+        ensures length { length result ≡ (hasher_parameters self).digest_length }
     {
         self.stream.finish().tag(self.digest_length)
     }

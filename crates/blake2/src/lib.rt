@@ -15,10 +15,12 @@
 pub use blake2b::Blake2b;
 pub use blake2s::Blake2s;
 pub use fault::ParameterFault;
+pub use laws::parameter_laws;
 
 mod blake2b;
 mod blake2s;
 mod chain;
 mod fault;
 mod hasher;
+mod laws;
 mod stream;

@@ -1,4 +1,4 @@
-use Rattle.std.proofs.Common.{refl, sym, ap, ◌∙◌}
+use Rattle.std.proofs.Common.{sym, ap, ◌∙◌}
 use Rattle.words.specs.Blake2.{blake2b}
 use Rattle.blake2.specs.Blake2.{Parameters, blake2}
 use Rattle.blake2.specs.inside.Hashers.{Holds2b, hasher_parameters, parameters_2b}
@@ -10,5 +10,5 @@ unfolding Holds2b parameters_2b
 returns-clause-digest c = λ m held.
     let h = c.args.self.hasher in
     let p : Parameters = hasher_parameters h in
-    c.finish.ensures.digest p m refl held
+    c.finish.ensures.digest m held
     ∙ ap (λ (q : Parameters). blake2 blake2b q m) (sym (read_back blake2b p h.salt_whole h.personal_whole))

@@ -1,4 +1,4 @@
-use Rattle.std.proofs.Common.{refl, sym, ap, ◌∙◌}
+use Rattle.std.proofs.Common.{sym, ap, ◌∙◌}
 use Rattle.words.specs.Blake2.{blake2s}
 use Rattle.blake2.specs.Blake2.{Parameters, blake2}
 use Rattle.blake2.specs.inside.Hashers.{Holds2s, hasher_parameters, parameters_2s}
@@ -10,5 +10,5 @@ unfolding Holds2s parameters_2s
 returns-clause-digest c = λ m held.
     let h = c.args.self.hasher in
     let p : Parameters = hasher_parameters h in
-    c.finish.ensures.digest p m refl held
+    c.finish.ensures.digest m held
     ∙ ap (λ (q : Parameters). blake2 blake2s q m) (sym (read_back blake2s p h.salt_whole h.personal_whole))

@@ -4,4 +4,4 @@ use Rattle.blake2.proofs.hasher.Hasher.finish.Goals as goal
 
 pub returns-clause-digest : goal.returns-clause-digest
 unfolding blake2
-returns-clause-digest g c = λ p m len held. c.tag.ensures.value ∙ rw (c.finish.ensures _ _ held, len) refl
+returns-clause-digest g c = λ m held. c.tag.ensures.value ∙ rw (c.finish.ensures _ _ held) refl

@@ -1,0 +1,18 @@
+// What the parameters of a hasher are, beside what the functions do.
+
+ghost use Rattle.std.specs.Prelude.{◌≡◌, ◌*◌, ◌↔◌, length, None};
+ghost use Rattle.words.specs.Mix.{Variant};
+ghost use Rattle.blake2.specs.Blake2.{IsParameters, Parameters, from_list, listed, word_len};
+ghost use Rattle.blake2.specs.Faults.{parameter_fault};
+
+/// Does nothing. Its contract says that the parameters that are not refused are those that the
+/// function has (RFC 7693, section 2.1; the BLAKE2 paper, section 2.5), where salt and
+/// personalization have two words each, and that all of these are read back from their list.
+#[tactic(auto, using(crate::specs::inside::Listed::parameters_read_back))]
+pub fn parameter_laws()
+    ensures allowed { (k : Variant) (p : Parameters) → length p.salt ≡ 2 * word_len k
+        → length p.personal ≡ 2 * word_len k
+        → (parameter_fault (8 * word_len k) p.digest_length (length p.key) ≡ None) ↔ IsParameters k p }
+    ensures read_back { (k : Variant) (p : Parameters) → IsParameters k p
+        → from_list k (listed p) ≡ p }
+{}
