@@ -1,3 +1,4 @@
 pub mod Keys
 pub mod Ties
 pub mod Vectors
+pub mod Blake2Vectors
