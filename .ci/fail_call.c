@@ -1,0 +1,54 @@
+/* Loaded before the C library. Of the calls of the function that CALL names, the one whose number
+   CALL_NUMBER gives does nothing and fails with the error CALL_ERROR. With SHORT set, each read gives
+   at most one byte, and each write takes at most one. At the end the number of calls is written into
+   the file that CALL_COUNT names. */
+typedef unsigned long size_t;
+
+extern void *dlsym(void *, const char *);
+extern char *getenv(const char *);
+extern long strtol(const char *, char **, int);
+extern int strcmp(const char *, const char *);
+extern int *__errno_location(void);
+extern int dprintf(int, const char *, ...);
+
+#define AFTER_THIS ((void *)-1)
+#define CREATE_TO_WRITE 01101
+
+static long count;
+
+static int fails(const char *name) {
+    const char *call = getenv("CALL");
+    if (!call || strcmp(call, name) || ++count != strtol(getenv("CALL_NUMBER"), 0, 10)) return 0;
+    *__errno_location() = strtol(getenv("CALL_ERROR"), 0, 10);
+    return 1;
+}
+
+static size_t cut(size_t size) {
+    return size > 1 && getenv("SHORT") ? 1 : size;
+}
+
+long read(int file, void *buffer, size_t size) {
+    long (*next)(int, void *, size_t) = dlsym(AFTER_THIS, "read");
+    return fails("read") ? -1 : next(file, buffer, cut(size));
+}
+
+long write(int file, const void *buffer, size_t size) {
+    long (*next)(int, const void *, size_t) = dlsym(AFTER_THIS, "write");
+    return fails("write") ? -1 : next(file, buffer, cut(size));
+}
+
+int openat(int folder, const char *name, int flags, unsigned mode) {
+    int (*next)(int, const char *, int, unsigned) = dlsym(AFTER_THIS, "openat");
+    return fails("openat") ? -1 : next(folder, name, flags, mode);
+}
+
+int close(int file) {
+    int (*next)(int) = dlsym(AFTER_THIS, "close");
+    return fails("close") ? -1 : next(file);
+}
+
+__attribute__((destructor)) static void tell_count(void) {
+    int (*next)(int, const char *, int, unsigned) = dlsym(AFTER_THIS, "openat");
+    const char *name = getenv("CALL_COUNT");
+    if (name) dprintf(next(-100, name, CREATE_TO_WRITE, 0600), "%ld\n", count);
+}
