@@ -193,7 +193,7 @@ fn print_entry<'n, F: Feed, W: Sink>(
     out: &mut W,
 ) -> Result<(), Fault<'n>>
     ensures { OnOk result (IfSome (F.remaining feed.old) (λ bytes.
-        Appends (W.contents out.old) (W.contents out.new) (line_text form.is_tagged
+        Appends (W.shown out.old).contents (W.shown out.new).contents (line_text form.is_tagged
         (record { name = name.entry.now; alg = alg_of form.hash; tag = hash_of form.hash bytes })))) }
 {
     let tag = digest_of_feed(form.hash, name, feed)?;
@@ -256,7 +256,7 @@ fn write_listed<'n, W: Sink>(
     out: &mut W,
 ) -> Result<(), Fault<'n>>
     ensures { OnOk result
-        (Appends (W.contents out.old) (W.contents out.new) (line_text is_tagged entry.now)) }
+        (Appends (W.shown out.old).contents (W.shown out.new).contents (line_text is_tagged entry.now)) }
 {
     if !is_tagged {
         return Ok(write_entry(entry, out)?);

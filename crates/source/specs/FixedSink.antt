@@ -1,15 +1,12 @@
 -- What contracts see of a lent slice as a sink.
-use Rattle.std.specs.Prelude.{ℕ, ◌-◌, List, length, take}
+use Rattle.std.specs.Prelude.{ℕ, ◌-◌, length, take, Some}
+use Rattle.source.specs.Written.{Shown}
 use Rattle.source.specs.declared.fixed_sink.FixedSink.{FixedSink}
 
--- the bytes written
-abbrev pub fixed_written : FixedSink → List ℕ
-fixed_written s = take s.len s.buffer.now
+-- what it shows: its failures, and the bytes at its front that were written
+abbrev pub fixed_shown : FixedSink → Shown
+fixed_shown s = record { failures = s.failures; contents = Some (take s.len s.buffer.now) }
 
 -- how many more bytes fit
 abbrev pub fixed_room : FixedSink → ℕ
 fixed_room s = length s.buffer.now - s.len
-
--- how many writes have failed
-abbrev pub fixed_failures : FixedSink → ℕ
-fixed_failures s = s.failures

@@ -1,4 +1,5 @@
 pub mod Counts
+pub mod Read
 pub mod Written
 pub mod Pumped
 pub mod Faults

@@ -1,7 +1,21 @@
--- What a text that was written, whole or in part, leaves in a sink.
-use Rattle.std.specs.Prelude.{◌≡◌, ℕ, List, ◌++◌, Option, Result, MatchResult}
-use Rattle.source.specs.Counts.{next_count}
+-- What a sink shows, and what one write of bytes, or a whole text, leaves in it.
+use Rattle.std.specs.Prelude.{◌≡◌, ◌<◌, ◌≤◌, ℕ, List, ◌++◌, Option, Result, MatchResult, length, take, IfOk, OnErr}
+use Rattle.source.specs.Counts.{CountsFailure, next_count}
 use Rattle.std.specs.Io.KnownBytes.{Appends}
+
+-- what is seen of a sink: how many writes have failed, and the bytes written, or `None` where they are not told
+pub record Shown : Type 0 where
+  pub failures : ℕ
+  pub contents : Option (List ℕ)
+
+-- one write of these bytes answered r: an `Ok` appended so many of them, at least one if there are any, and an
+-- `Err` is one more failure and appended nothing
+pub record IsWrite {E : Type 0} (r : Result ℕ E) (old new : Shown) (bytes : List ℕ) : Type 0 where
+  pub bound : IfOk r (λ n. n ≤ length bytes)
+  pub progress : IfOk r (λ n. 0 < length bytes → 0 < n)
+  pub appended : IfOk r (λ n. Appends old.contents new.contents (take n bytes))
+  pub kept : OnErr r (new.contents ≡ old.contents)
+  pub counted : CountsFailure r old.failures new.failures
 
 -- a list that another one begins with
 abbrev pub Begins : List ℕ → List ℕ → Type 0
@@ -11,8 +25,14 @@ Begins front whole = (rest : List ℕ) × (whole ≡ front ++ rest)
 abbrev pub AppendsPrefix : Option (List ℕ) → Option (List ℕ) → List ℕ → Type 0
 AppendsPrefix old new bytes = (front : List ℕ) × Appends old new front × Begins front bytes
 
+-- a text was written whole, and no write failed
+abbrev pub Done : Shown → Shown → List ℕ → Type 0
+Done old new text = (new.failures ≡ old.failures) × Appends old.contents new.contents text
+
+-- a beginning of a text was written, and one write failed
+abbrev pub Failed : Shown → Shown → List ℕ → Type 0
+Failed old new text = (new.failures ≡ next_count old.failures) × AppendsPrefix old.contents new.contents text
+
 -- a text was written, whole and with no failure, or a beginning of it and then one write failed
-abbrev pub Writes : {T E : Type 0} → Result T E → ℕ → ℕ → Option (List ℕ) → Option (List ℕ) → List ℕ → Type 0
-Writes r count_old count_new old new text =
-    MatchResult r (λ _. (count_new ≡ count_old) × Appends old new text)
-    (λ _. (count_new ≡ next_count count_old) × AppendsPrefix old new text)
+abbrev pub Writes : {T E : Type 0} → Result T E → Shown → Shown → List ℕ → Type 0
+Writes r old new text = MatchResult r (λ _. Done old new text) (λ _. Failed old new text)

@@ -1,8 +1,7 @@
 // A slice as a feed.
 
-ghost use Rattle.std.specs.Prelude.{◌≡◌, ◌≤◌, ◌<◌, ◌-◌, ◌↔◌, Some, None, length, take, IsErr, IsTrue, IfOk, OnErr};
-ghost use Rattle.std.specs.Io.KnownBytes.{Consumes, IsAtEnd};
-ghost use Rattle.source.specs.Counts.{CountsFailure};
+ghost use Rattle.std.specs.Prelude.{◌≡◌, ◌≤◌, ◌<◌, ◌↔◌, Some, None, length, IsErr, IsTrue, IfOk, OnErr};
+ghost use Rattle.source.specs.Read.{IsRead};
 
 use crate::{Feed, ReadFailed};
 
@@ -80,15 +79,8 @@ impl<'a> Feed for Bytes<'a> {
     ghost remaining = { λ s. Some (bytes_rest s) };
 
     fn read(&mut self, buf: &mut [u8]) -> Result<usize, ReadFailed>
-        ensures bound { IfOk result (λ n. n ≤ length buf.new) }
-        ensures given { IfOk result (λ n. Consumes (⟦<Bytes<'a> as Feed>⟧.remaining self.old)
-            (⟦<Bytes<'a> as Feed>⟧.remaining self.new) (take n buf.new)) }
-        ensures end { IfOk result (λ n. n ≡ 0 → 0 < length buf.new
-            → IsAtEnd (⟦<Bytes<'a> as Feed>⟧.remaining self.new)) }
-        ensures kept { OnErr result (⟦<Bytes<'a> as Feed>⟧.remaining self.new
-            ≡ ⟦<Bytes<'a> as Feed>⟧.remaining self.old) }
-        ensures counted { CountsFailure result (⟦<Bytes<'a> as Feed>⟧.failure_count self.old)
-            (⟦<Bytes<'a> as Feed>⟧.failure_count self.new) }
+        ensures read { IsRead result ⟦<Bytes<'a> as Feed>⟧.remaining ⟦<Bytes<'a> as Feed>⟧.failure_count
+            self.old self.new buf.new }
 
         // Where it fails, how much it reads, and what stays.
         ensures fails { IsErr result ↔ ((bytes_place self.old ≡ Some 0) × (0 < length buf.old)) }

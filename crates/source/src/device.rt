@@ -1,8 +1,10 @@
 // A reader or a writer of std as a feed or a sink.
 
-ghost use Rattle.std.specs.Prelude.{◌≡◌, ◌<◌, ◌≤◌, None, length, take, IfOk, OnErr, OnOk};
-ghost use Rattle.std.specs.Io.KnownBytes.{Appends, Consumes, IsAtEnd, ReadConsumes};
-ghost use Rattle.source.specs.Counts.{CountsFailure, next_count};
+ghost use Rattle.std.specs.Prelude.{◌≡◌, None, length, IfOk, OnOk};
+ghost use Rattle.std.specs.Io.KnownBytes.{Appends, ReadConsumes};
+ghost use Rattle.source.specs.Counts.{next_count};
+ghost use Rattle.source.specs.Read.{IsRead};
+ghost use Rattle.source.specs.Written.{IsWrite};
 
 use crate::{Feed, ReadFailed, Sink, WriteFailed};
 use std::io::{Read, Write};
@@ -49,15 +51,8 @@ impl<R: Read> Feed for Device<R> {
     ghost remaining = { λ _. None };
 
     fn read(&mut self, buf: &mut [u8]) -> Result<usize, ReadFailed>
-        ensures bound { IfOk result (λ n. n ≤ length buf.new) }
-        ensures given { IfOk result (λ n. Consumes (⟦<Device<R> as Feed>⟧.remaining self.old)
-            (⟦<Device<R> as Feed>⟧.remaining self.new) (take n buf.new)) }
-        ensures end { IfOk result (λ n. n ≡ 0 → 0 < length buf.new
-            → IsAtEnd (⟦<Device<R> as Feed>⟧.remaining self.new)) }
-        ensures kept { OnErr result (⟦<Device<R> as Feed>⟧.remaining self.new
-            ≡ ⟦<Device<R> as Feed>⟧.remaining self.old) }
-        ensures counted { CountsFailure result (⟦<Device<R> as Feed>⟧.failure_count self.old)
-            (⟦<Device<R> as Feed>⟧.failure_count self.new) }
+        ensures read { IsRead result ⟦<Device<R> as Feed>⟧.remaining ⟦<Device<R> as Feed>⟧.failure_count
+            self.old self.new buf.new }
 
         // What the reader had to come, where it tells that, is what was read.
         ensures reader { ReadConsumes (R.remaining (device_inner self.old))
@@ -78,24 +73,16 @@ impl<R: Read> Feed for Device<R> {
 }
 
 impl<W: Write> Sink for Device<W> {
-    ghost use Rattle.source.specs.Device.{device_failures, device_inner};
+    ghost use Rattle.source.specs.Device.{device_inner, device_shown};
 
-    ghost failure_count = { λ s. device_failures s };
-
-    ghost contents = { λ _. None };
+    ghost shown = { λ s. device_shown s };
 
     /// Hands the whole of `bytes` to the writer's `write_all`, so that a writer that gathers lines
     /// sends each in one write: an `Ok` is their length. After an `Err` the writer may have taken a
     /// beginning of them, of which std's `write_all` says nothing.
     fn write(&mut self, bytes: &[u8]) -> Result<usize, WriteFailed>
-        ensures bound { IfOk result (λ n. n ≤ length bytes.now) }
-        ensures progress { IfOk result (λ n. 0 < length bytes.now → 0 < n) }
-        ensures appended { IfOk result (λ n. Appends (⟦<Device<W> as Sink>⟧.contents self.old)
-            (⟦<Device<W> as Sink>⟧.contents self.new) (take n bytes.now)) }
-        ensures kept { OnErr result (⟦<Device<W> as Sink>⟧.contents self.new
-            ≡ ⟦<Device<W> as Sink>⟧.contents self.old) }
-        ensures counted { CountsFailure result (⟦<Device<W> as Sink>⟧.failure_count self.old)
-            (⟦<Device<W> as Sink>⟧.failure_count self.new) }
+        ensures write { IsWrite result (⟦<Device<W> as Sink>⟧.shown self.old)
+            (⟦<Device<W> as Sink>⟧.shown self.new) bytes.now }
 
         // All of it is written, and what the writer holds, where it tells that, grows by it.
         ensures whole { IfOk result (λ n. n ≡ length bytes.now) }

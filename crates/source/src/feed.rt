@@ -1,8 +1,7 @@
 // What bytes come from.
 
-ghost use Rattle.std.specs.Prelude.{◌≡◌, ℕ, ◌<◌, ◌≤◌, List, Option, length, take, IfOk, OnErr};
-ghost use Rattle.std.specs.Io.KnownBytes.{Consumes, IsAtEnd};
-ghost use Rattle.source.specs.Counts.{CountsFailure};
+ghost use Rattle.std.specs.Prelude.{◌≡◌, ℕ, List, Option};
+ghost use Rattle.source.specs.Read.{IsRead};
 
 use thiserror::Error;
 
@@ -22,13 +21,7 @@ pub trait Feed {
     /// Reads the next bytes to the front of `buf` and answers how many they are. With room in `buf`,
     /// 0 is the end. After an `Err` the same bytes are still to come, and the failure is counted.
     fn read(&mut self, buf: &mut [u8]) -> Result<usize, ReadFailed>
-        ensures bound { IfOk result (λ n. n ≤ length buf.new) }
-        ensures given { IfOk result
-            (λ n. Consumes (remaining self.old) (remaining self.new) (take n buf.new)) }
-        ensures end { IfOk result
-            (λ n. n ≡ 0 → 0 < length buf.new → IsAtEnd (remaining self.new)) }
-        ensures kept { OnErr result (remaining self.new ≡ remaining self.old) }
-        ensures counted { CountsFailure result (failure_count self.old) (failure_count self.new) };
+        ensures { IsRead result remaining failure_count self.old self.new buf.new };
 
     /// How many reads have failed, up to `u64::MAX`.
     fn failures(&self) -> u64

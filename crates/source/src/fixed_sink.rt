@@ -1,8 +1,7 @@
 // A slice as a sink.
 
-ghost use Rattle.std.specs.Prelude.{◌≡◌, ◌≤◌, ◌<◌, ◌+◌, ◌↔◌, [], Some, length, min, take, IsErr, IfOk, OnErr};
-ghost use Rattle.std.specs.Io.KnownBytes.{Appends};
-ghost use Rattle.source.specs.Counts.{CountsFailure};
+ghost use Rattle.std.specs.Prelude.{◌≡◌, ◌≤◌, ◌<◌, ◌+◌, ◌↔◌, [], Some, length, min, IsErr, IfOk, OnErr};
+ghost use Rattle.source.specs.Written.{IsWrite};
 
 use crate::{Sink, WriteFailed};
 
@@ -21,8 +20,8 @@ impl<'a> FixedSink<'a> {
 
     /// A sink with room for as many bytes as `buffer` has, and none written.
     pub fn new(buffer: &'a mut [u8]) -> FixedSink<'a>
-        ensures empty { ⟦<FixedSink<'a> as Sink>⟧.contents result ≡ Some [] }
-        ensures fresh { ⟦<FixedSink<'a> as Sink>⟧.failure_count result ≡ 0 }
+        ensures empty { (⟦<FixedSink<'a> as Sink>⟧.shown result).contents ≡ Some [] }
+        ensures fresh { (⟦<FixedSink<'a> as Sink>⟧.shown result).failures ≡ 0 }
         ensures room { fixed_room result ≡ length buffer.entry.now }
     {
         FixedSink {
@@ -34,28 +33,20 @@ impl<'a> FixedSink<'a> {
 
     /// The bytes written.
     pub fn written(&self) -> &[u8]
-        ensures { Some result.now ≡ ⟦<FixedSink<'a> as Sink>⟧.contents self.now }
+        ensures { Some result.now ≡ (⟦<FixedSink<'a> as Sink>⟧.shown self.now).contents }
     {
         &self.buffer[..self.len]
     }
 }
 
 impl<'a> Sink for FixedSink<'a> {
-    ghost use Rattle.source.specs.FixedSink.{fixed_failures, fixed_room, fixed_written};
+    ghost use Rattle.source.specs.FixedSink.{fixed_room, fixed_shown};
 
-    ghost failure_count = { λ s. fixed_failures s };
-
-    ghost contents = { λ s. Some (fixed_written s) };
+    ghost shown = { λ s. fixed_shown s };
 
     fn write(&mut self, bytes: &[u8]) -> Result<usize, WriteFailed>
-        ensures bound { IfOk result (λ n. n ≤ length bytes.now) }
-        ensures progress { IfOk result (λ n. 0 < length bytes.now → 0 < n) }
-        ensures appended { IfOk result (λ n. Appends (⟦<FixedSink<'a> as Sink>⟧.contents self.old)
-            (⟦<FixedSink<'a> as Sink>⟧.contents self.new) (take n bytes.now)) }
-        ensures kept { OnErr result (⟦<FixedSink<'a> as Sink>⟧.contents self.new
-            ≡ ⟦<FixedSink<'a> as Sink>⟧.contents self.old) }
-        ensures counted { CountsFailure result (⟦<FixedSink<'a> as Sink>⟧.failure_count self.old)
-            (⟦<FixedSink<'a> as Sink>⟧.failure_count self.new) }
+        ensures write { IsWrite result (⟦<FixedSink<'a> as Sink>⟧.shown self.old)
+            (⟦<FixedSink<'a> as Sink>⟧.shown self.new) bytes.now }
 
         // Where it fails, how much it takes, and what room is left.
         ensures full { IsErr result ↔ ((fixed_room self.old ≡ 0) × (0 < length bytes.now)) }

@@ -1,8 +1,7 @@
 // A list that grows as a sink.
 
-ghost use Rattle.std.specs.Prelude.{◌≡◌, ◌≤◌, ◌<◌, [], Some, length, take, IfOk, OnErr};
-ghost use Rattle.std.specs.Io.KnownBytes.{Appends};
-ghost use Rattle.source.specs.Counts.{CountsFailure};
+ghost use Rattle.std.specs.Prelude.{◌≡◌, [], Some, length, IfOk};
+ghost use Rattle.source.specs.Written.{IsWrite};
 
 use crate::{Sink, WriteFailed};
 use std::alloc::Global;
@@ -18,8 +17,8 @@ pub struct VecSink {
 impl VecSink {
     /// An empty list, which takes no memory before the first write.
     pub fn new(alloc: Global) -> VecSink
-        ensures empty { ⟦<VecSink as Sink>⟧.contents result ≡ Some [] }
-        ensures fresh { ⟦<VecSink as Sink>⟧.failure_count result ≡ 0 }
+        ensures empty { (⟦<VecSink as Sink>⟧.shown result).contents ≡ Some [] }
+        ensures fresh { (⟦<VecSink as Sink>⟧.shown result).failures ≡ 0 }
     {
         VecSink {
             bytes: Vec::new(alloc),
@@ -29,28 +28,20 @@ impl VecSink {
 
     /// The bytes written.
     pub fn written(&self) -> &[u8]
-        ensures { Some result.now ≡ ⟦<VecSink as Sink>⟧.contents self.now }
+        ensures { Some result.now ≡ (⟦<VecSink as Sink>⟧.shown self.now).contents }
     {
         &self.bytes
     }
 }
 
 impl Sink for VecSink {
-    ghost use Rattle.source.specs.VecSink.{vec_failures, vec_written};
+    ghost use Rattle.source.specs.VecSink.{vec_shown};
 
-    ghost failure_count = { λ s. vec_failures s };
-
-    ghost contents = { λ s. Some (vec_written s) };
+    ghost shown = { λ s. vec_shown s };
 
     fn write(&mut self, bytes: &[u8]) -> Result<usize, WriteFailed>
-        ensures bound { IfOk result (λ n. n ≤ length bytes.now) }
-        ensures progress { IfOk result (λ n. 0 < length bytes.now → 0 < n) }
-        ensures appended { IfOk result (λ n. Appends (⟦<VecSink as Sink>⟧.contents self.old)
-            (⟦<VecSink as Sink>⟧.contents self.new) (take n bytes.now)) }
-        ensures kept { OnErr result (⟦<VecSink as Sink>⟧.contents self.new
-            ≡ ⟦<VecSink as Sink>⟧.contents self.old) }
-        ensures counted { CountsFailure result (⟦<VecSink as Sink>⟧.failure_count self.old)
-            (⟦<VecSink as Sink>⟧.failure_count self.new) }
+        ensures write { IsWrite result (⟦<VecSink as Sink>⟧.shown self.old)
+            (⟦<VecSink as Sink>⟧.shown self.new) bytes.now }
 
         // No write stops short.
         ensures takes { IfOk result (λ n. n ≡ length bytes.now) }

@@ -1,7 +1,7 @@
 -- The written line of an entry spells it: its core is the whole line, since no CR and no LF is in it.
 use Rattle.std.proofs.Common.{◌≡◌, ◌≢◌, ◌⊎◌, inl, inr, ℕ, ◌-◌, ◌*◌, ◌/◌, ◌%◌, ◌<◌, Bool, true, false, List, [], ◌∷◌}
 use Rattle.std.proofs.Common.{◌++◌, length, append_assoc, length-append, if◌then◌else◌, Contains, slice_index}
-use Rattle.std.proofs.Common.{slice_index_or, zero, suc, refl, sym, ap, ◌∙◌, subst, Option, Some, None, Result, eqb}
+use Rattle.std.proofs.Common.{slice_index_or, zero, suc, refl, sym, ap, ◌∙◌, subst, Some, None, Result, eqb}
 use Rattle.std.proofs.Common.{leb, arith}
 use Rattle.std.proofs.lemmas.Bool.{cases_eq}
 use Rattle.std.proofs.lemmas.Bool.Decides.{nat_tests}
@@ -11,7 +11,7 @@ use Rattle.source.specs.Digest.{tag_len, IsInRange}
 use Rattle.source.specs.declared.alg.Alg.{Alg}
 use Rattle.source.specs.declared.alg.Alg.TheVariants.{Sha256 as sha256, Sha512 as sha512, Blake2b as blake2b}
 use Rattle.source.specs.declared.alg.Alg.TheVariants.{Blake2s as blake2s, Blake3 as blake3}
-use Rattle.source.specs.Written.{Writes}
+use Rattle.source.specs.Written.{Shown, Writes}
 use Rattle.sumlist.specs.Entry.{Listing, IsEntry, written, written_line, written_len, ending}
 use Rattle.sumlist.specs.Escape.{escaped, escape_of, needs_escape, lead, SpellsByte, SpellsName}
 use Rattle.sumlist.specs.Kinds.{alg_of, kind_of}
@@ -24,9 +24,9 @@ written_is e =
     sym (append_assoc (lead e.name) (encode_lower e.tag ++ 32 ∷ 32 ∷ escaped e.name) (10 ∷ [])
     ∙ ap (λ x. lead e.name ++ x) (append_assoc (encode_lower e.tag) (32 ∷ 32 ∷ escaped e.name) (10 ∷ [])))
 
-pub Writes-written : {T E : Type 0} (r : Result T E) (m n : ℕ) (old new : Option (List ℕ)) (e : Listing)
-    → Writes r m n old new (lead e.name ++ (encode_lower e.tag ++ ending e.name)) → Writes r m n old new (written e)
-Writes-written r m n old new e w = subst (Writes r m n old new) (written_is e) w
+pub Writes-written : {T E : Type 0} (r : Result T E) (old new : Shown) (e : Listing)
+    → Writes r old new (lead e.name ++ (encode_lower e.tag ++ ending e.name)) → Writes r old new (written e)
+Writes-written r old new e w = subst (Writes r old new) (written_is e) w
 
 spells_byte : (c : ℕ) → SpellsByte c (escape_of c)
 spells_byte c = elim (cases_eq c 92) [

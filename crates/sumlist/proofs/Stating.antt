@@ -9,7 +9,7 @@ use Rattle.sumlist.specs.Body.{unescaped}
 use Rattle.sumlist.specs.Cut.{NoParts, NoLabelled, HasNoForm}
 use Rattle.sumlist.specs.Line.{Parts, IsMark, HasForm, Stated}
 use Rattle.sumlist.specs.Tagged.{Labelled, opening, closing}
-use Rattle.source.specs.Written.{Writes}
+use Rattle.source.specs.Written.{Shown, Writes}
 use Rattle.sumlist.proofs.Unescaping.{unescaped-spelled, spelled-unescaped}
 use Rattle.sumlist.proofs.Untagging.{cut_unique, parts_no_space, parts_unique, parts_no_slash, parts_cases}
 use Rattle.sumlist.proofs.LabelOne.{label_plain, labelled_unique, labelled_no_slash}
@@ -125,6 +125,6 @@ stated_cases core kind = elim (form_cases core kind)
     [ inl p ↦ inl (listing p.2 p.0 p.1, inl p.3) | inr none ↦ escaped_cases core kind none ]
 
 -- the name in brackets is written in one piece, and the digits in another
-pub Writes-named : {T E : Type 0} (r : Result T E) (m n : ℕ) (a b : Option (List ℕ)) (name digits : List ℕ)
-    → Writes r m n a b (opening (name ++ closing []) ++ digits) → Writes r m n a b (opening (name ++ closing digits))
-Writes-named r m n a b name digits w = subst (Writes r m n a b) (ap opening (append_assoc name (closing []) digits)) w
+pub Writes-named : {T E : Type 0} (r : Result T E) (a b : Shown) (name digits : List ℕ)
+    → Writes r a b (opening (name ++ closing []) ++ digits) → Writes r a b (opening (name ++ closing digits))
+Writes-named r a b name digits w = subst (Writes r a b) (ap opening (append_assoc name (closing []) digits)) w

@@ -1,6 +1,6 @@
 -- The tagged line of an entry spells it, whatever the kind of its list.
 use Rattle.std.proofs.Common.{◌≡◌, ◌≢◌, ◌⊎◌, inl, inr, ℕ, ◌+◌, ◌*◌, ◌%◌, ◌<◌, ◌≤◌, ◌^◌, Bool, true, false, List, []}
-use Rattle.std.proofs.Common.{◌∷◌, ◌++◌, length, append_assoc, length-append, Option, Result, if◌then◌else◌}
+use Rattle.std.proofs.Common.{◌∷◌, ◌++◌, length, append_assoc, length-append, Result, if◌then◌else◌}
 use Rattle.std.proofs.Common.{slice_index, refl, sym, ap, ◌∙◌, subst, eqb, leb, arith, rules, codes}
 use Rattle.std.specs.List.{AllPass}
 use Rattle.std.specs.Fmt.{decimal}
@@ -13,7 +13,7 @@ use Rattle.source.specs.Digest.{tag_len, IsInRange}
 use Rattle.source.specs.declared.alg.Alg.{Alg}
 use Rattle.source.specs.declared.alg.Alg.TheVariants.{Sha256 as sha256, Sha512 as sha512, Blake2b as blake2b}
 use Rattle.source.specs.declared.alg.Alg.TheVariants.{Blake2s as blake2s, Blake3 as blake3}
-use Rattle.source.specs.Written.{Writes}
+use Rattle.source.specs.Written.{Shown, Writes}
 use Rattle.sumlist.specs.declared.kind.Kind.{Kind}
 use Rattle.sumlist.specs.Entry.{Listing, IsEntry}
 use Rattle.sumlist.specs.Escape.{escaped, needs_escape, lead}
@@ -34,11 +34,11 @@ tagged_is e =
     ∙ ap (λ x. lead e.name ++ x) (append_assoc (label_of e.alg) (opening rest) (10 ∷ [])
     ∙ ap (λ x. label_of e.alg ++ opening x) ended))
 
-pub Writes-tagged : {T E : Type 0} (r : Result T E) (m n : ℕ) (old new : Option (List ℕ)) (e : Listing)
-    → Writes r m n old new ((lead e.name ++ label_of e.alg)
+pub Writes-tagged : {T E : Type 0} (r : Result T E) (old new : Shown) (e : Listing)
+    → Writes r old new ((lead e.name ++ label_of e.alg)
     ++ opening (escaped e.name ++ closing (encode_lower e.tag ++ 10 ∷ [])))
-    → Writes r m n old new (tagged e)
-Writes-tagged r m n old new e w = subst (Writes r m n old new) (tagged_is e) w
+    → Writes r old new (tagged e)
+Writes-tagged r old new e w = subst (Writes r old new) (tagged_is e) w
 
 lacks_plain : (xs : List ℕ) (v : ℕ) → IsEnd v → AllPass (λ c. leb 32 c) xs → Lacks xs v
 lacks_plain [] v e h = lacks_nil v

@@ -1,5 +1,5 @@
 -- Worked values of the definitions of lists, computed: a wrong escape, label, cut or number does not check.
-use Rattle.std.proofs.Common.{◌≡◌, ◌≤◌, inr, ℕ, List, [], ◌∷◌, ◌++◌, codes, refl, arith}
+use Rattle.std.proofs.Common.{◌≡◌, inr, [], ◌∷◌, ◌++◌, codes, refl, arith}
 use Rattle.std.specs.Fmt.{digits}
 use Rattle.hex.specs.Hex.{encode_with, decode_pairs}
 use Rattle.source.specs.declared.alg.Alg.TheVariants.{Blake2b, Blake2s}

@@ -80,14 +80,14 @@ pub fn check<L: Feed, T: Tree, W: Sink>(
     ensures checked { IfSome (L.remaining list.old) (λ bytes. IfSome (T.files tree.old) (λ files.
         ListChecked files kind bytes result
         (T.failure_count tree.old) (T.failure_count tree.new)
-        (W.contents out.old) (W.contents out.new))) }
+        (W.shown out.old).contents (W.shown out.new).contents)) }
     ensures unreadable { IfOk result (λ s. T.failure_count tree.new
         ≡ count_after (T.failure_count tree.old) s.unreadable) }
     ensures kept { T.files tree.new ≡ T.files tree.old }
 
     // When each fault comes.
     ensures reads { ListCounts result (L.failure_count list.old) (L.failure_count list.new) }
-    ensures writes { WriteCounts result (W.failure_count out.old) (W.failure_count out.new) }
+    ensures writes { WriteCounts result (W.shown out.old).failures (W.shown out.new).failures }
     ensures gave { IfSome (L.remaining list.old) (λ _. (given : List ℕ)
         × Consumes (L.remaining list.old) (L.remaining list.new) given
         × (IsErrOf result CheckFault.ListTooLong ↔ (2 ^ 64 - 1 < length given))) }
@@ -132,16 +132,16 @@ fn check_piece<T: Tree, W: Sink>(
         ≤ lines_of summary.old + held_len held.old + length piece.now) }
     ensures checked { IfSome (T.files tree.old) (λ files. MatchResult result
         (λ _. Goes files kind
-        held.old piece.now summary.old (T.failure_count tree.old) (W.contents out.old)
-        held.new [] summary.new (T.failure_count tree.new) (W.contents out.new))
+        held.old piece.now summary.old (T.failure_count tree.old) (W.shown out.old).contents
+        held.new [] summary.new (T.failure_count tree.new) (W.shown out.new).contents)
         (λ _. Stops files kind
-        held.old piece.now summary.old (T.failure_count tree.old) (W.contents out.old)
-        (T.failure_count tree.new) (W.contents out.new))) }
+        held.old piece.now summary.old (T.failure_count tree.old) (W.shown out.old).contents
+        (T.failure_count tree.new) (W.shown out.new).contents)) }
     ensures unreadable { OnOk result
         ((k : ℕ) → T.failure_count tree.old ≡ count_after k summary.old.unreadable
         → T.failure_count tree.new ≡ count_after k summary.new.unreadable) }
     ensures kept { T.files tree.new ≡ T.files tree.old }
-    ensures writes { StepCounts result (W.failure_count out.old) (W.failure_count out.new) }
+    ensures writes { StepCounts result (W.shown out.old).failures (W.shown out.new).failures }
 {
     let mut rest = piece;
     loop {
@@ -172,13 +172,13 @@ fn check_last<T: Tree, W: Sink>(
     requires few { lines_of summary + held_len held.now < 2 ^ 64 }
     ensures checked { IfSome (T.files tree.old) (λ files.
         (whole : List ℕ) (k : ℕ) (a : Option (List ℕ))
-        → Partway files kind whole held.now [] summary k (T.failure_count tree.old) a (W.contents out.old)
-        → ListChecked files kind whole result k (T.failure_count tree.new) a (W.contents out.new)) }
+        → Partway files kind whole held.now [] summary k (T.failure_count tree.old) a (W.shown out.old).contents
+        → ListChecked files kind whole result k (T.failure_count tree.new) a (W.shown out.new).contents) }
     ensures unreadable { IfOk result
         (λ s. (k : ℕ) → T.failure_count tree.old ≡ count_after k summary.unreadable
         → T.failure_count tree.new ≡ count_after k s.unreadable) }
     ensures kept { T.files tree.new ≡ T.files tree.old }
-    ensures writes { StepCounts result (W.failure_count out.old) (W.failure_count out.new) }
+    ensures writes { StepCounts result (W.shown out.old).failures (W.shown out.new).failures }
 {
     if held.is_empty() {
         return Ok(summary);
@@ -201,11 +201,11 @@ fn check_held<T: Tree, W: Sink>(
     ensures checked { IfSome (T.files tree.old) (λ files. (line : List ℕ) → IsHeld held.now line
         → LineChecked files kind line number result
         (T.failure_count tree.old) (T.failure_count tree.new)
-        (W.contents out.old) (W.contents out.new)) }
+        (W.shown out.old).contents (W.shown out.new).contents) }
     ensures unreadable { IfOk result (λ mark. T.failure_count tree.new
         ≡ count_after (T.failure_count tree.old) (part (Mark.Told Verdict.Unreadable) mark)) }
     ensures kept { T.files tree.new ≡ T.files tree.old }
-    ensures writes { StepCounts result (W.failure_count out.old) (W.failure_count out.new) }
+    ensures writes { StepCounts result (W.shown out.old).failures (W.shown out.new).failures }
 {
     let Some(line) = held.line() else {
         write_malformed(number, out)?;
@@ -226,11 +226,11 @@ fn check_line<T: Tree, W: Sink>(
     ensures checked { IfSome (T.files tree.old) (λ files.
         LineChecked files kind line.now number result
         (T.failure_count tree.old) (T.failure_count tree.new)
-        (W.contents out.old) (W.contents out.new)) }
+        (W.shown out.old).contents (W.shown out.new).contents) }
     ensures unreadable { IfOk result (λ mark. T.failure_count tree.new
         ≡ count_after (T.failure_count tree.old) (part (Mark.Told Verdict.Unreadable) mark)) }
     ensures kept { T.files tree.new ≡ T.files tree.old }
-    ensures writes { StepCounts result (W.failure_count out.old) (W.failure_count out.new) }
+    ensures writes { StepCounts result (W.shown out.old).failures (W.shown out.new).failures }
 {
     match parse_line(alloc, line, kind) {
         Ok(Line::Skipped) => Ok(Mark::Skipped),

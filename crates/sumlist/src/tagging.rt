@@ -34,8 +34,7 @@ pub enum TaggedFault {
 /// Writes the entry's one tagged line, with its LF: `LABEL (name) = digits`, the name in its escaped form
 /// and the digits in lower case, behind a backslash where the name needs escapes. It takes no memory.
 pub fn write_tagged<W: Sink>(entry: &Entry, out: &mut W) -> Result<(), TaggedFault>
-    ensures writes { WritesTagged result entry.now (W.failure_count out.old) (W.failure_count out.new)
-        (W.contents out.old) (W.contents out.new) }
+    ensures writes { WritesTagged result entry.now (W.shown out.old) (W.shown out.new) }
     ensures spells { OnOk result ((kind : Kind) → Spells (tagged_line entry.now) kind entry.now) }
 {
     if !tagged_fits(entry.alg(), entry.name()) {
@@ -48,8 +47,7 @@ pub fn write_tagged<W: Sink>(entry: &Entry, out: &mut W) -> Result<(), TaggedFau
 }
 
 fn write_tagged_line<W: Sink>(entry: &Entry, out: &mut W) -> Result<(), WriteFault>
-    ensures { Writes result (W.failure_count out.old) (W.failure_count out.new)
-        (W.contents out.old) (W.contents out.new) (tagged entry.now) }
+    ensures { Writes result (W.shown out.old) (W.shown out.new) (tagged entry.now) }
 {
     write_front(entry.name(), entry.alg(), out)?;
     write_named(entry.name(), entry.tag(), out)
@@ -58,8 +56,7 @@ fn write_tagged_line<W: Sink>(entry: &Entry, out: &mut W) -> Result<(), WriteFau
 // What stands before the name: a backslash where the name needs escapes, and the label.
 fn write_front<W: Sink>(name: &str, alg: Alg, out: &mut W) -> Result<(), WriteFault>
     requires { IsInRange alg }
-    ensures { Writes result (W.failure_count out.old) (W.failure_count out.new)
-        (W.contents out.old) (W.contents out.new) (lead name.now ++ label_of alg) }
+    ensures { Writes result (W.shown out.old) (W.shown out.new) (lead name.now ++ label_of alg) }
 {
     write_lead(name, out)?;
     write_label(alg, out)?;
@@ -68,8 +65,7 @@ fn write_front<W: Sink>(name: &str, alg: Alg, out: &mut W) -> Result<(), WriteFa
 
 // The name in brackets, the digits and LF.
 fn write_named<W: Sink>(name: &str, tag: &Tag, out: &mut W) -> Result<(), WriteFault>
-    ensures { Writes result (W.failure_count out.old) (W.failure_count out.new)
-        (W.contents out.old) (W.contents out.new)
+    ensures { Writes result (W.shown out.old) (W.shown out.new)
         (opening (escaped name.now ++ closing (encode_lower tag.now ++ 10 ∷ []))) }
 {
     write_name(b" (", name.as_bytes(), b") = ", out)?;
@@ -78,8 +74,7 @@ fn write_named<W: Sink>(name: &str, tag: &Tag, out: &mut W) -> Result<(), WriteF
 
 // The digits and LF.
 fn write_tag<W: Sink>(tag: &Tag, out: &mut W) -> Result<(), WriteFault>
-    ensures { Writes result (W.failure_count out.old) (W.failure_count out.new)
-        (W.contents out.old) (W.contents out.new) (encode_lower tag.now ++ 10 ∷ []) }
+    ensures { Writes result (W.shown out.old) (W.shown out.new) (encode_lower tag.now ++ 10 ∷ []) }
 {
     write_digits(tag, out)?;
     write_all(out, b"\n")?;
@@ -88,8 +83,7 @@ fn write_tag<W: Sink>(tag: &Tag, out: &mut W) -> Result<(), WriteFault>
 
 fn write_label<W: Sink>(alg: Alg, out: &mut W) -> Result<(), WriteFailed>
     requires { IsInRange alg }
-    ensures { Writes result (W.failure_count out.old) (W.failure_count out.new)
-        (W.contents out.old) (W.contents out.new) (label_of alg) }
+    ensures { Writes result (W.shown out.old) (W.shown out.new) (label_of alg) }
 {
     match alg {
         Alg::Sha256 => write_all(out, b"SHA256"),
@@ -105,8 +99,7 @@ fn write_label<W: Sink>(alg: Alg, out: &mut W) -> Result<(), WriteFailed>
 // A label that ends in the number of the tag's bits.
 fn write_numbered<W: Sink>(front: &[u8], len: usize, out: &mut W) -> Result<(), WriteFailed>
     requires { len ≤ 64 }
-    ensures { Writes result (W.failure_count out.old) (W.failure_count out.new)
-        (W.contents out.old) (W.contents out.new) (front.now ++ decimal (8 * len)) }
+    ensures { Writes result (W.shown out.old) (W.shown out.new) (front.now ++ decimal (8 * len)) }
 {
     let mut digits = [0; 20];
     let start = place_digits(8 * len as u64, &mut digits);

@@ -136,9 +136,7 @@ struct Counter {
 }
 
 impl Sink for Counter {
-    ghost failure_count = { λ _. 0 };
-
-    ghost contents = { λ _. None };
+    ghost shown = { λ _. record { failures = 0; contents = None } };
 
     fn write(&mut self, bytes: &[u8]) -> Result<usize, WriteFailed> {
         self.writes = self.writes.saturating_add(1);

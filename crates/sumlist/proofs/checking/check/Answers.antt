@@ -9,13 +9,13 @@ use Rattle.sumlist.proofs.checking.check.Goals as goal
 
 pub returns-in_err-held-clause-checked : goal.returns-in_err-held-clause-checked
 returns-in_err-held-clause-checked g c =
-    IfSome-all (g.L.Feed.remaining c.args.list.now) _ (λ bytes. IfSome-all (g.T.Tree.files c.args.tree.now) _ (λ files. ListChecked-none files c.args.kind bytes _ (g.T.Tree.failure_count c.args.tree.now) (g.W.Sink.contents c.args.out.now) c.from_residual.ensures.0))
+    IfSome-all (g.L.Feed.remaining c.args.list.now) _ (λ bytes. IfSome-all (g.T.Tree.files c.args.tree.now) _ (λ files. ListChecked-none files c.args.kind bytes _ (g.T.Tree.failure_count c.args.tree.now) (g.W.Sink.shown c.args.out.now).contents c.from_residual.ensures.0))
 
 pub loop-held-init : goal.loop-held-init
 loop-held-init g c = record {
   progress = rw (c.in_ok-held.ensures, c.new-summary.ensures)
       (Coming-start (g.L.Feed.remaining c.args.list.now) (g.T.Tree.files c.args.tree.now) c.args.kind
-      (g.T.Tree.failure_count c.args.tree.now) (g.W.Sink.contents c.args.out.now));
+      (g.T.Tree.failure_count c.args.tree.now) (g.W.Sink.shown c.args.out.now).contents);
   consumed = ([], Consumes-nil (g.L.Feed.remaining c.args.list.now), refl);
   reads = refl;
   writes = refl;
@@ -31,7 +31,7 @@ returns-in_err-count-clause-checked g c =
     Coming-halt (g.L.Feed.remaining c.args.list.now) (g.T.Tree.files c.args.tree.now) c.args.kind
     (g.L.Feed.remaining c.loop-held.list) c.loop-held.held c.loop-held.summary
     (g.T.Tree.failure_count c.args.tree.now) (g.T.Tree.failure_count c.loop-held.tree)
-    (g.W.Sink.contents c.args.out.now) (g.W.Sink.contents c.loop-held.out) _ c.loop-held.invariant.progress
+    (g.W.Sink.shown c.args.out.now).contents (g.W.Sink.shown c.loop-held.out).contents _ c.loop-held.invariant.progress
     c.from_residual-in_err-count.ensures.0
 
 pub returns-in_default-clause-checked : goal.returns-in_default-clause-checked
@@ -39,7 +39,7 @@ returns-in_default-clause-checked g c =
     Coming-halt (g.L.Feed.remaining c.args.list.now) (g.T.Tree.files c.args.tree.now) c.args.kind
     (g.L.Feed.remaining c.loop-held.list) c.loop-held.held c.loop-held.summary
     (g.T.Tree.failure_count c.args.tree.now) (g.T.Tree.failure_count c.loop-held.tree)
-    (g.W.Sink.contents c.args.out.now) (g.W.Sink.contents c.loop-held.out) (Err ListTooLong)
+    (g.W.Sink.shown c.args.out.now).contents (g.W.Sink.shown c.loop-held.out).contents (Err ListTooLong)
     c.loop-held.invariant.progress refl
 
 pub returns-in_default-clause-gave : goal.returns-in_default-clause-gave
@@ -68,8 +68,8 @@ loop-held-preserved g c =
           (g.L.Feed.remaining c.read.new.self) c.loop-held.held c.check_piece.new.held piece c.loop-held.summary
           c.check_piece.new.summary
           (g.T.Tree.failure_count c.args.tree.now) (g.T.Tree.failure_count c.loop-held.tree)
-          (g.T.Tree.failure_count c.check_piece.new.tree) (g.W.Sink.contents c.args.out.now)
-          (g.W.Sink.contents c.loop-held.out) (g.W.Sink.contents c.check_piece.new.out)
+          (g.T.Tree.failure_count c.check_piece.new.tree) (g.W.Sink.shown c.args.out.now).contents
+          (g.W.Sink.shown c.loop-held.out).contents (g.W.Sink.shown c.check_piece.new.out).contents
           c.loop-held.invariant.kept c.loop-held.invariant.progress c.in_ok-count.ensures.given
           c.in_ok-check_piece.ensures.checked;
       consumed = (
@@ -96,8 +96,8 @@ returns-in_err-check_piece-clause-checked g c =
     c.args.kind (g.L.Feed.remaining c.loop-held.list) (g.L.Feed.remaining c.read.new.self) c.loop-held.held piece
     c.loop-held.summary
     (g.T.Tree.failure_count c.args.tree.now) (g.T.Tree.failure_count c.loop-held.tree)
-    (g.T.Tree.failure_count c.check_piece.new.tree) (g.W.Sink.contents c.args.out.now)
-    (g.W.Sink.contents c.loop-held.out) (g.W.Sink.contents c.check_piece.new.out) _
+    (g.T.Tree.failure_count c.check_piece.new.tree) (g.W.Sink.shown c.args.out.now).contents
+    (g.W.Sink.shown c.loop-held.out).contents (g.W.Sink.shown c.check_piece.new.out).contents _
     c.loop-held.invariant.kept c.loop-held.invariant.progress c.in_ok-count.ensures.given
     c.in_err-check_piece.ensures.checked c.from_residual-in_err-check_piece.ensures.0
 

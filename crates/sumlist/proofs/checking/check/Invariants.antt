@@ -12,11 +12,11 @@ invariant-loop-held g l = record {
       (λ bytes. IfSome (g.T.Tree.files l.initial.tree)
       (λ files. (more : List ℕ) × (g.L.Feed.remaining l.list ≡ Some more)
       × Partway files l.kind bytes l.held more l.summary (g.T.Tree.failure_count l.initial.tree)
-      (g.T.Tree.failure_count l.tree) (g.W.Sink.contents l.initial.out) (g.W.Sink.contents l.out)));
+      (g.T.Tree.failure_count l.tree) (g.W.Sink.shown l.initial.out).contents (g.W.Sink.shown l.out).contents));
   consumed : (taken : List ℕ) × Consumes (g.L.Feed.remaining l.initial.list) (g.L.Feed.remaining l.list) taken
       × (l.total ≡ length taken);
   reads : g.L.Feed.failure_count l.list ≡ g.L.Feed.failure_count l.initial.list;
-  writes : g.W.Sink.failure_count l.out ≡ g.W.Sink.failure_count l.initial.out;
+  writes : (g.W.Sink.shown l.out).failures ≡ (g.W.Sink.shown l.initial.out).failures;
   kept : g.T.Tree.files l.tree ≡ g.T.Tree.files l.initial.tree;
   unreadable : g.T.Tree.failure_count l.tree ≡ count_after (g.T.Tree.failure_count l.initial.tree) l.summary.unreadable;
   bound : lines_of l.summary + held_len l.held ≤ l.total;

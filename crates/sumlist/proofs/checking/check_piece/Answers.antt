@@ -13,9 +13,9 @@ pub returns-then-is_empty-clause-checked : goal.returns-then-is_empty-clause-che
 returns-then-is_empty-clause-checked g c =
     rw c.append.ensures (IfSome_then (g.T.Tree.files c.args.tree.now) c.loop-back.invariant.goes
     (λ files goes. Goes-end files c.args.kind c.args.held.now c.args.piece.now c.args.summary.now
-    (g.T.Tree.failure_count c.args.tree.now) (g.W.Sink.contents c.args.out.now)
+    (g.T.Tree.failure_count c.args.tree.now) (g.W.Sink.shown c.args.out.now).contents
     c.loop-back.held c.loop-back.rest.now c.split_at.result.0.now c.split_at.result.1.now c.loop-back.summary
-    (g.T.Tree.failure_count c.loop-back.tree) (g.W.Sink.contents c.loop-back.out) c.find_byte-end.result
+    (g.T.Tree.failure_count c.loop-back.tree) (g.W.Sink.shown c.loop-back.out).contents c.find_byte-end.result
     goes c.find_byte-end.ensures.within c.find_byte-end.ensures.before c.split_at.ensures.front c.split_at.ensures.back
     c.if-is_empty.ensures))
 
@@ -29,14 +29,14 @@ returns-in_err-mark-clause-checked g c =
     c.loop-back.invariant.goes (rw c.append.ensures at c.in_err-mark.ensures.checked)
     (λ files goes l. MatchResult-from_err c.from_residual.result _ _ c.from_residual.ensures.0
     (λ _. Stops-line files c.args.kind c.args.held.now c.args.piece.now c.args.summary.now
-    (g.T.Tree.failure_count c.args.tree.now) (g.W.Sink.contents c.args.out.now)
+    (g.T.Tree.failure_count c.args.tree.now) (g.W.Sink.shown c.args.out.now).contents
     (held_after c.loop-back.held c.split_at.result.0.now) c.split_at.result.1.now (drop 1 c.split_at.result.1.now)
     c.loop-back.summary (c.lines-number.result + 1) (g.T.Tree.failure_count c.loop-back.tree) _
-    (g.W.Sink.contents c.loop-back.out) _ c.in_err-mark.field-0.0
+    (g.W.Sink.shown c.loop-back.out).contents _ c.in_err-mark.field-0.0
     (Goes-more files c.args.kind c.args.held.now c.args.piece.now c.args.summary.now
-    (g.T.Tree.failure_count c.args.tree.now) (g.W.Sink.contents c.args.out.now)
+    (g.T.Tree.failure_count c.args.tree.now) (g.W.Sink.shown c.args.out.now).contents
     c.loop-back.held c.loop-back.rest.now c.split_at.result.0.now c.split_at.result.1.now c.loop-back.summary
-    (g.T.Tree.failure_count c.loop-back.tree) (g.W.Sink.contents c.loop-back.out) c.find_byte-end.result
+    (g.T.Tree.failure_count c.loop-back.tree) (g.W.Sink.shown c.loop-back.out).contents c.find_byte-end.result
     goes c.find_byte-end.ensures.within c.find_byte-end.ensures.before c.split_at.ensures.front c.split_at.ensures.back)
     (first_is c.loop-back.rest.now c.split_at.result.1.now c.find_byte-end.result c.split_at.ensures.back some
     (c.find_byte-end.ensures.found fits))
@@ -56,14 +56,14 @@ loop-back-preserved g c =
           (IfSome-two (g.T.Tree.files c.args.tree.now) (g.T.Tree.files c.loop-back.tree) _ _ _
           c.loop-back.invariant.kept c.loop-back.invariant.goes (rw c.append.ensures at checked.checked)
           (λ files goes l. Goes-line files c.args.kind c.args.held.now c.args.piece.now c.args.summary.now
-          (g.T.Tree.failure_count c.args.tree.now) (g.W.Sink.contents c.args.out.now)
+          (g.T.Tree.failure_count c.args.tree.now) (g.W.Sink.shown c.args.out.now).contents
           (held_after c.loop-back.held c.split_at.result.0.now) c.split_at.result.1.now
           (drop 1 c.split_at.result.1.now) c.loop-back.summary c.count.new.self (c.lines-number.result + 1)
-          (g.T.Tree.failure_count c.loop-back.tree) _ (g.W.Sink.contents c.loop-back.out) _ c.in_ok-mark.mark
+          (g.T.Tree.failure_count c.loop-back.tree) _ (g.W.Sink.shown c.loop-back.out).contents _ c.in_ok-mark.mark
           (Goes-more files c.args.kind c.args.held.now c.args.piece.now c.args.summary.now
-          (g.T.Tree.failure_count c.args.tree.now) (g.W.Sink.contents c.args.out.now)
+          (g.T.Tree.failure_count c.args.tree.now) (g.W.Sink.shown c.args.out.now).contents
           c.loop-back.held c.loop-back.rest.now c.split_at.result.0.now c.split_at.result.1.now c.loop-back.summary
-          (g.T.Tree.failure_count c.loop-back.tree) (g.W.Sink.contents c.loop-back.out) c.find_byte-end.result
+          (g.T.Tree.failure_count c.loop-back.tree) (g.W.Sink.shown c.loop-back.out).contents c.find_byte-end.result
           goes c.find_byte-end.ensures.within c.find_byte-end.ensures.before c.split_at.ensures.front
           c.split_at.ensures.back)
           (first_is c.loop-back.rest.now c.split_at.result.1.now c.find_byte-end.result c.split_at.ensures.back some

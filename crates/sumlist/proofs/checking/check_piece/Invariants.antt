@@ -9,10 +9,10 @@ abbrev pub invariant-loop-back : goal.invariant-loop-back
 invariant-loop-back g l = record {
   goes : IfSome (g.T.Tree.files l.initial.tree)
       (λ files. Goes files l.kind l.initial.held l.piece l.initial.summary (g.T.Tree.failure_count l.initial.tree)
-      (g.W.Sink.contents l.initial.out)
-      l.held l.rest l.summary (g.T.Tree.failure_count l.tree) (g.W.Sink.contents l.out));
+      (g.W.Sink.shown l.initial.out).contents
+      l.held l.rest l.summary (g.T.Tree.failure_count l.tree) (g.W.Sink.shown l.out).contents);
   kept : g.T.Tree.files l.tree ≡ g.T.Tree.files l.initial.tree;
-  count : g.W.Sink.failure_count l.out ≡ g.W.Sink.failure_count l.initial.out;
+  count : (g.W.Sink.shown l.out).failures ≡ (g.W.Sink.shown l.initial.out).failures;
   unreadable : (k : ℕ) → g.T.Tree.failure_count l.initial.tree ≡ count_after k l.initial.summary.unreadable
       → g.T.Tree.failure_count l.tree ≡ count_after k l.summary.unreadable;
   bound : lines_of l.summary + held_len l.held + length l.rest ≤ lines_of l.initial.summary + held_len l.initial.held +

@@ -1,0 +1,14 @@
+-- What one read of a feed does.
+use Rattle.std.specs.Prelude.{◌≡◌, ◌<◌, ◌≤◌, ℕ, List, Option, Result, length, take, IfOk, OnErr}
+use Rattle.std.specs.Io.KnownBytes.{Consumes, IsAtEnd}
+use Rattle.source.specs.Counts.{CountsFailure}
+
+-- a read into a buffer, which is then `buf`, answered r: an `Ok` gave so many of the bytes to come, of which
+-- none is left where it gave none and there was room, and an `Err` is one more failure and gave nothing
+pub record IsRead {S E : Type 0} (r : Result ℕ E) (remaining : S → Option (List ℕ)) (failure_count : S → ℕ)
+    (old new : S) (buf : List ℕ) : Type 0 where
+  pub bound : IfOk r (λ n. n ≤ length buf)
+  pub given : IfOk r (λ n. Consumes (remaining old) (remaining new) (take n buf))
+  pub end : IfOk r (λ n. n ≡ 0 → 0 < length buf → IsAtEnd (remaining new))
+  pub kept : OnErr r (remaining new ≡ remaining old)
+  pub counted : CountsFailure r (failure_count old) (failure_count new)
