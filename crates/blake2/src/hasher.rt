@@ -114,7 +114,7 @@ impl<C: Chain<N>, const N: usize, const S: usize> Hasher<C, N, S> {
             self.old.stream.buffer self.old.stream.used self.old.stream.compressed m
             → HoldsMessage C.variant p (C.value self.new.stream.chain)
             self.new.stream.buffer self.new.stream.used self.new.stream.compressed (m ++ piece.now)) }
-        ensures parameters { hasher_parameters self.new ≡ hasher_parameters self.old }
+        ensures kept { hasher_parameters self.new ≡ hasher_parameters self.old }
         ensures refused { OnErr result (self.new ≡ self.old) }
     {
         if piece.len() as u128 > self.stream.room() {

@@ -36,7 +36,7 @@ pub fn expand<H: BlockHash>(prk: &[u8], info: &[u8], out: &mut [u8]) -> Result<(
     ensures info { IsErrOf result ExpandFault.InfoTooLong ↔ ((H.OUT ≤ length prk.now)
         × (length prk.now ≤ H.LIMIT) × (length out.old ≤ 255 * H.OUT)
         × (H.LIMIT < H.BLOCK + H.OUT + length info.now + 1)) }
-    ensures unchanged { OnErr result (out.new ≡ out.old) }
+    ensures refused { OnErr result (out.new ≡ out.old) }
 {
     if prk.len() < H::OUT {
         return Err(ExpandFault::PrkTooShort);

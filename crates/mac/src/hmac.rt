@@ -74,7 +74,7 @@ impl<H: BlockHash> Hmac<H> {
     /// The leftmost `n` bytes of the tag (RFC 2104, section 5). An `n` below half of `H::OUT` or
     /// above `H::OUT` is refused, and the MAC is handed back as it was.
     pub fn finish_left(self, n: usize) -> Result<Tag, (Hmac<H>, TagLength)>
-        ensures within { IsOk result ↔ ((H.OUT / 2 ≤ n) × (n ≤ H.OUT)) }
+        ensures fits { IsOk result ↔ ((H.OUT / 2 ≤ n) × (n ≤ H.OUT)) }
         ensures length { IfOk result (λ tag. length tag ≡ n) }
         ensures tag { IfOk result (λ tag. (m : List ℕ) → ⟦<Hmac<H> as Absorb>⟧.holds self m
             → tag ≡ take n (hmac_of_block_key H.hash_of (⟦<Hmac<H> as Absorb>⟧.parameters self) m)) }

@@ -16,7 +16,7 @@ pub fn block_sized_key<H: BlockHash>(key: &[u8]) -> Result<[u8; 128], KeyTooLong
     ensures fits { IsOk result ↔ (length key.now ≤ H.LIMIT) }
     ensures value { IfOk result
         (λ block. take H.BLOCK block ≡ spec.block_sized_key H.hash_of H.BLOCK key.now) }
-    ensures storage { IfOk result (λ block. length block ≡ 128) }
+    ensures length { IfOk result (λ block. length block ≡ 128) }
 {
     if key.len() as u128 > H::LIMIT {
         return Err(KeyTooLong);

@@ -10,5 +10,5 @@ loop-piece-preserved g c =
       front = _;
       whole = joined-drop _ _ c.args.pieces.now c.loop-piece.piece-index _ (omega arith) before.whole;
       takes = Takes-more g.A.Absorb.holds g.A.Absorb.room_left _ _ _ _ _ before.takes c.in_ok-update.ensures.appended c.in_ok-update.ensures.room;
-      parameters = c.in_ok-update.ensures.parameters ∙ before.parameters;
+      parameters = c.in_ok-update.ensures.kept ∙ before.parameters;
     }
