@@ -22,7 +22,7 @@ module _ {X : Type 0} (tree : ℕ → ℕ → X) where
   subtrees_none (suc l) i = subtrees_low l i 0 (pow_pos l) ∙ subtrees_none l i
 
 -- a multiple of a below one of its multiples is a whole step below it
-step_below : (a q b : ℕ) → a * q < a * b → a * q + a ≤ a * b
+pub step_below : (a q b : ℕ) → a * q < a * b → a * q + a ≤ a * b
 step_below a q b h =
     elim (cases_lt q b) [
       | inl lt ↦

@@ -21,9 +21,13 @@ material_flag = 64
 abbrev pub key_words : List ℕ → List ℕ
 key_words key = words 4 8 key
 
+-- the tree over a message under parameters, the first chunk of which has the number c
+abbrev pub tree_of : List ℕ → ℕ → List ℕ → Node
+tree_of parameters c m = tree (drop 1 parameters) (slice_index parameters 0) c m
+
 -- the root over a message under parameters
 abbrev pub root_of : List ℕ → List ℕ → Node
-root_of parameters m = tree (drop 1 parameters) (slice_index parameters 0) 0 m
+root_of parameters m = tree_of parameters 0 m
 
 -- of the mode hash: the initial value, and no flag
 abbrev pub hash_parameters : List ℕ
@@ -37,9 +41,17 @@ keyed_parameters key = keyed_flag ∷ key_words key
 abbrev pub context_parameters : List ℕ
 context_parameters = context_flag ∷ iv32
 
--- of its second pass, over the key material: the words of the first 32 bytes of the first's output
+-- the key that a context stands for: the first 32 bytes of that pass's output
+abbrev pub context_key : List ℕ → List ℕ
+context_key context = slice (root_of context_parameters context) 0 32
+
+-- of its second pass, over the key material: the words of such a key
+abbrev pub material_parameters : List ℕ → List ℕ
+material_parameters key = material_flag ∷ key_words key
+
+-- of both, under a context
 abbrev pub derive_parameters : List ℕ → List ℕ
-derive_parameters context = material_flag ∷ key_words (slice (root_of context_parameters context) 0 32)
+derive_parameters context = material_parameters (context_key context)
 
 -- the root of each mode over a message
 abbrev pub hash_root : List ℕ → Node

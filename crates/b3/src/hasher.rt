@@ -5,7 +5,7 @@ ghost use Rattle.arrayvec.specs.ArrayVec.{array_vec_len};
 
 use crate::chunk::{CHUNK_LEN, Chunk};
 use crate::lanes::{chunk_values, open_lefts, subtree_of};
-use crate::mode::{DERIVE_KEY_CONTEXT, DERIVE_KEY_MATERIAL, KEYED_HASH, words_of_key};
+use crate::mode::{DERIVE_KEY_MATERIAL, KEYED_HASH, key_of_context, words_of_key};
 use crate::node::{BLOCK_LEN, Node};
 use crate::output::Output;
 use crate::stack::push_subtree;
@@ -13,7 +13,7 @@ use arrayvec::ArrayVec;
 use words::{Absorb, IV32};
 
 // The bytes of eight chunks.
-const GROUP_LEN: usize = 8192;
+pub(crate) const GROUP_LEN: usize = 8192;
 
 // The level of the longest run of 8 * 2 ^ level chunks, at most 1024 of them, that lies within `left` bytes and
 // begins at chunk `closed`, a multiple of its length.
@@ -94,12 +94,11 @@ pub struct Blake3 {
 impl Blake3 {
     ghost use Rattle.b3.specs.inside.Hasher.{Holds, IsSplit, hasher_count, hasher_room, hasher_parameters};
     ghost use Rattle.b3.specs.inside.Output.{output_root, output_position};
-    ghost use Rattle.b3.specs.Modes.{hash_parameters, keyed_parameters, derive_parameters, context_parameters, root_of};
+    ghost use Rattle.b3.specs.Modes.{hash_parameters, keyed_parameters, derive_parameters, root_of};
     ghost use Rattle.b3.specs.Tree.{chunk_count, tree};
     ghost use Rattle.b3.specs.Node.{cv};
     ghost use Rattle.b3.specs.Chunk.{value_before};
     ghost use Rattle.b3.specs.inside.Runs.{run_cv};
-    ghost use Rattle.b3.specs.Bytes.{slice};
 
     /// A hasher of the empty input in the mode `hash` (section 2.3).
     pub fn new() -> Blake3
@@ -127,23 +126,11 @@ impl Blake3 {
         ensures room { ⟦<Blake3 as Absorb>⟧.room_left result ≡ 2 ^ 64 - 1 }
         ensures holds { ⟦<Blake3 as Absorb>⟧.holds result [] }
     {
-        let key = Blake3::context_key(context);
-        Blake3::under(words_of_key(&key), DERIVE_KEY_MATERIAL)
+        Blake3::under(words_of_key(&key_of_context(context)), DERIVE_KEY_MATERIAL)
     }
 
-    // The first pass of `derive_key`: the key that a context stands for.
-    fn context_key(context: &[u8]) -> [u8; 32]
-        ensures { result ≡ slice (root_of context_parameters context.now) 0 32 }
-    {
-        let mut hasher = Blake3::under(IV32, DERIVE_KEY_CONTEXT);
-        hasher.update(context).unwrap();
-        let mut key = [0; 32];
-        hasher.output().fill(&mut key).unwrap();
-        key
-    }
-
-    // A hasher of the empty input under key words and a mode's flag.
-    fn under(key: [u32; 8], flags: u8) -> Blake3
+    /// A hasher of the empty input under key words and a mode's flag.
+    pub(crate) fn under(key: [u32; 8], flags: u8) -> Blake3
         ensures parameters { hasher_parameters result ≡ flags ∷ key }
         ensures room { hasher_room result ≡ 2 ^ 64 - 1 }
         ensures holds { Holds result [] }

@@ -16,7 +16,11 @@
 
 pub use hasher::Blake3;
 pub use laws::{output_laws, tree_laws};
+pub use mode::Mode;
 pub use output::{EndOfOutput, Output};
+pub use part::{NotNeighbours, NotWhole, Part};
+pub use place::Misplaced;
+pub use row::{NotNext, PartValue, Row};
 
 mod absorb;
 mod chunk;
@@ -26,4 +30,8 @@ mod laws;
 mod mode;
 mod node;
 mod output;
+mod part;
+mod place;
+mod row;
 mod stack;
+mod tree;

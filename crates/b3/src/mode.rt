@@ -1,13 +1,18 @@
-// The key words and flags of the modes (the BLAKE3 paper, section 2.3).
+// The modes (the BLAKE3 paper, section 2.3): their key words and flags.
 
 ghost use Rattle.std.specs.Prelude.{◌≡◌};
 ghost use Rattle.words.specs.Words.{words};
+ghost use Rattle.b3.specs.Modes.{context_key};
 
+use crate::hasher::Blake3;
 use byteorder::{ByteOrder, LittleEndian};
+use std::fmt;
+use std::fmt::{Debug, Write};
+use words::{Absorb, IV32};
 
 pub(crate) const KEYED_HASH: u8 = 16;
 
-pub(crate) const DERIVE_KEY_CONTEXT: u8 = 32;
+const DERIVE_KEY_CONTEXT: u8 = 32;
 
 pub(crate) const DERIVE_KEY_MATERIAL: u8 = 64;
 
@@ -18,4 +23,77 @@ pub(crate) fn words_of_key(key: &[u8; 32]) -> [u32; 8]
     let mut words = [0; 8];
     LittleEndian::read_u32_into(key, &mut words);
     words
+}
+
+/// The first pass of `derive_key`: the key that a context stands for.
+pub(crate) fn key_of_context(context: &[u8]) -> [u8; 32]
+    ensures { result ≡ context_key context.now }
+{
+    let mut hasher = Blake3::under(IV32, DERIVE_KEY_CONTEXT);
+    hasher.update(context).unwrap();
+    let mut key = [0; 32];
+    hasher.output().fill(&mut key).unwrap();
+    key
+}
+
+/// What a part is hashed under: one of the three modes, with its key.
+#[derive(Clone, Copy, PartialEq, Eq)]
+pub enum Mode {
+    /// `hash`.
+    Hash,
+    /// `keyed_hash`, under a key.
+    Keyed([u8; 32]),
+    /// The second pass of `derive_key`, under the key that a context stands for.
+    Material([u8; 32]),
+}
+
+impl Mode {
+    ghost use Rattle.b3.specs.Parts.{mode_parameters};
+    ghost use Rattle.std.specs.Prelude.{drop, slice_index};
+    ghost use Rattle.b3.specs.declared.mode.Mode.TheVariants.{Material as MaterialMode};
+
+    /// The mode `derive_key` under a context: a text that is meant for one use alone.
+    pub fn derive(context: &[u8]) -> Mode
+        ensures { result ≡ MaterialMode (context_key context.now) }
+    {
+        Mode::Material(key_of_context(context))
+    }
+
+    /// The key words.
+    pub(crate) fn key(&self) -> [u32; 8]
+        ensures { result ≡ drop 1 (mode_parameters self.now) }
+    {
+        match self {
+            Mode::Hash => IV32,
+            Mode::Keyed(key) => words_of_key(key),
+            Mode::Material(key) => words_of_key(key),
+        }
+    }
+
+    /// The flag.
+    pub(crate) fn flags(&self) -> u8
+        ensures { result ≡ slice_index (mode_parameters self.now) 0 }
+    {
+        match self {
+            Mode::Hash => 0,
+            Mode::Keyed(_) => KEYED_HASH,
+            Mode::Material(_) => DERIVE_KEY_MATERIAL,
+        }
+    }
+}
+
+impl Debug for Mode {
+    ghost use Rattle.b3.specs.Parts.{mode_name};
+    ghost use Rattle.std.specs.Prelude.{Some};
+
+    ghost debug_output = { λ mode. Some (mode_name mode) };
+
+    /// Writes the mode's name. The key is not shown.
+    fn fmt<W: Write>(&self, f: &mut fmt::Formatter<W>) -> fmt::Result {
+        match self {
+            Mode::Hash => f.write_str("Hash"),
+            Mode::Keyed(_) => f.write_str("Keyed"),
+            Mode::Material(_) => f.write_str("Material"),
+        }
+    }
 }

@@ -1,0 +1,68 @@
+-- Powers of two are the numbers with one bit.
+use Rattle.std.proofs.Common.{◌≡◌, ℕ, zero, suc, ◌+◌, ◌*◌, ◌/◌, ◌%◌, ◌^◌, ◌<◌, ◌≤◌, refl, sym, ap, ◌∙◌, inl, inr, arith, pow_pos, pow_mono}
+use Rattle.std.proofs.Math.Nat.{pow-succ'}
+use Rattle.std.proofs.lemmas.Bool.{cases_lt, cases_order}
+use Rattle.std.proofs.lemmas.Nat.{zero_from_ones}
+use Rattle.std.specs.Int.Count.{ones as count_ones, ones_in, ones_step, ones_cat}
+use Rattle.b3.specs.Parts.{IsLeastPowerFrom}
+
+pub ones_of_zero : count_ones 0 ≡ 0
+unfolding count_ones ones_in
+ones_of_zero = refl
+
+ones_of_one : count_ones 1 ≡ 1
+unfolding count_ones ones_in
+ones_of_one = refl
+
+pub ones_pow : (e : ℕ) → count_ones (2 ^ e) ≡ 1
+ones_pow e =
+    let whole : 1 * 2 ^ e + 0 ≡ 2 ^ e = omega arith in
+    let cat : count_ones (1 * 2 ^ e + 0) ≡ count_ones 1 + count_ones 0 = ones_cat e 1 0 (pow_pos e) in
+    omega (arith, rw whole at cat, ones_of_zero, ones_of_one)
+
+pub pow_from_ones : (k n : ℕ) → n < 2 ^ k → count_ones n ≡ 1 → (e : ℕ) × (n ≡ 2 ^ e)
+pow_from_ones zero n h one =
+    let none : n ≡ 0 = omega arith in
+    absurd (omega (arith, ap count_ones none, ones_of_zero))
+pow_from_ones (suc k) n h one =
+    let double : 2 ^ suc k ≡ 2 * 2 ^ k = pow-succ' 2 k in
+    elim (cases_lt (n % 2) 1) [
+      | inl even ↦
+          let half = pow_from_ones k (n / 2) (omega arith) (omega (arith, ones_step n)) in
+          (suc half.0, omega (arith, half.1, pow-succ' 2 half.0))
+      | inr odd ↦
+          let none : n / 2 ≡ 0 = zero_from_ones (n / 2) (omega (arith, ones_step n)) in
+          (0, omega arith)
+    ]
+
+-- no two powers of two are so near
+pub smaller_power : (e f n : ℕ) → e < f → n ≤ 2 ^ e → 2 ^ f < 2 * n → ⊥
+smaller_power e f n lt a b =
+    let up : 2 ^ suc e ≤ 2 ^ f = pow_mono lt in
+    let double : 2 ^ suc e ≡ 2 * 2 ^ e = pow-succ' 2 e in
+    omega arith
+
+-- there is one least power of two from n on
+pub least_power_unique : (p q n : ℕ) → IsLeastPowerFrom p n → IsLeastPowerFrom q n → p ≡ q
+least_power_unique p q n (e, pe, pn, p2) (f, qf, qn, q2) =
+    elim (cases_order e f) [
+      | inl same ↦ pe ∙ ap (λ (k : ℕ). 2 ^ k) same ∙ sym qf
+      | inr (inl lt) ↦ absurd (smaller_power e f n lt (omega arith) (omega arith))
+      | inr (inr gt) ↦ absurd (smaller_power f e n gt (omega arith) (omega arith))
+    ]
+
+-- there is a least power of two from n on
+pub least_power : (n : ℕ) → 0 < n → (p : ℕ) × IsLeastPowerFrom p n
+least_power zero h = absurd (omega arith)
+least_power (suc zero) h = (1, (0, refl, omega arith, omega arith))
+least_power (suc (suc n)) h =
+    let found = least_power (suc n) (omega arith) in
+    let p : ℕ = found.0 in
+    let e : ℕ = found.1.0 in
+    let is : p ≡ 2 ^ e = found.1.1 in
+    let from : suc n ≤ p = found.1.2 in
+    let near : p < 2 * suc n = found.1.3 in
+    elim (cases_lt (suc n) p) [
+      | inl lt ↦ (p, (e, is, omega arith, omega arith))
+      | inr ge ↦ (2 * p, (suc e, omega (arith, pow-succ' 2 e), omega arith, omega arith))
+    ]

@@ -1,0 +1,27 @@
+use Rattle.std.proofs.Common.{◌≡◌, ◌+◌, ◌-◌, ◌*◌, ◌^◌, ◌≤◌, sym, ◌∙◌, refl, arith, add-zero}
+use Rattle.std.proofs.Math.Nat.{mul-mod_right}
+use Rattle.b3.specs.inside.Runs.{run_cv}
+use Rattle.b3.proofs.Subtrees.{subtrees_none}
+use Rattle.b3.proofs.row.Row.of.Goals as goal
+
+pub invariant_of-result-clause-placed : goal.invariant_of-result-clause-placed
+invariant_of-result-clause-placed c =
+    let len : 1024 * 0 + c.args.part.len ≡ c.args.part.len = omega arith in
+    rw len c.args.part.placed
+
+pub invariant_of-result-clause-last : goal.invariant_of-result-clause-last
+invariant_of-result-clause-last c =
+    let limit : 1024 * c.args.part.first_chunk + c.args.part.len ≤ 2 ^ 64 - 1 = c.args.part.placed.1 in (
+      λ none. refl,
+      omega arith,
+      λ p least.
+          let z : p * 0 ≡ 0 = omega arith in
+          rw z at (mul-mod_right p 0),
+    )
+
+pub returns-clause-holds : goal.returns-clause-holds
+returns-clause-holds c = λ m is_value. record {
+  len = omega (arith, is_value.len);
+  stack = c.new.ensures ∙ sym (subtrees_none (run_cv c.key-key.result c.flags.result c.args.part.first_chunk m) 54 0);
+  value = rw (c.key-key.ensures, c.flags.ensures, add-zero) is_value.value;
+}

@@ -1,0 +1,31 @@
+use Rattle.std.proofs.Common.{◌≡◌, ℕ, ◌+◌, ◌-◌, ◌*◌, ◌/◌, List, [], length, drop, sym, ap, ◌∙◌, inl, inr, arith, length-drop}
+use Rattle.std.proofs.lemmas.Bool.{cases_lt}
+use Rattle.std.proofs.lemmas.List.{take_all, get_or-set_same, get_or-set_other}
+use Rattle.b3.specs.Node.{cv}
+use Rattle.b3.specs.Tree.{tree}
+use Rattle.b3.specs.inside.Runs.{run_cv}
+use Rattle.b3.proofs.tree.group_values.Goals as goal
+
+pub returns-then-bytes-eq0 : goal.returns-then-bytes-eq0
+returns-then-bytes-eq0 c = λ i h. c.chunk_values.ensures.values i (omega (arith, h)) (omega (arith, h))
+
+pub returns : goal.returns
+unfolding run_cv
+returns c = λ i h.
+    let key = c.args.key.now in
+    let bytes : List ℕ = c.args.bytes.now in
+    let last : ℕ = (length bytes - 1) / 1024 in
+    let left : List ℕ = drop (1024 * last) bytes in
+    let size : length left ≡ length bytes - 1024 * last = length-drop (1024 * last) bytes in
+    elim (cases_lt i last) [
+      | inl below ↦
+          get_or-set_other c.chunk_values.result.0 last i c.chaining_value.result [] (λ e. absurd (omega (arith, e)))
+          ∙ c.chunk_values.ensures.values i (omega (arith, h)) (omega (arith, below))
+      | inr above ↦
+          let here : i ≡ last = omega (arith, above, h) in
+          rw here (get_or-set_same c.chunk_values.result.0 last c.chaining_value.result [] (omega arith)
+          ∙ c.chaining_value.ensures ∙ ap cv c.chunk_over-rest.ensures
+          ∙ ap (λ (x : List ℕ). cv (tree key c.args.flags (c.args.first + last) x))
+          (take_all (length bytes - 1024 * last) left (omega (arith, size))
+          ∙ sym (take_all 1024 left (omega (arith, size)))))
+    ]

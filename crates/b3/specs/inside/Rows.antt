@@ -1,0 +1,50 @@
+-- What a contract sees of a part's chaining value, and of a row of them.
+use Rattle.std.specs.Prelude.{◌≡◌, ℕ, ◌+◌, ◌*◌, List, ◌∷◌, drop, length}
+use Rattle.b3.specs.Node.{cv}
+use Rattle.b3.specs.Tree.{tree}
+use Rattle.b3.specs.Modes.{tree_of}
+use Rattle.b3.specs.inside.Runs.{run_cv}
+use Rattle.b3.specs.inside.Subtrees.{subtrees}
+use Rattle.b3.specs.declared.row.PartValue.{PartValue}
+use Rattle.b3.specs.declared.row.Row.{Row}
+
+-- the number of its first chunk, how many bytes it has, and its chaining value
+abbrev pub value_first : PartValue → ℕ
+value_first part = part.first_chunk
+
+abbrev pub value_len : PartValue → ℕ
+value_len part = part.len
+
+abbrev pub value_words : PartValue → List ℕ
+value_words part = part.value
+
+-- the value is that of the bytes m, under parameters
+pub record IsValueOf (parameters : List ℕ) (part : PartValue) (m : List ℕ) : Type 0 where
+  pub len : value_len part ≡ length m
+  pub value : value_words part ≡ cv (tree_of parameters (value_first part) m)
+
+-- what a row hashes under
+abbrev pub row_parameters : Row → List ℕ
+row_parameters row = row.flags ∷ row.key
+
+-- the number of its first chunk, how many chunks stand before its last part, and how many bytes that
+-- part has
+abbrev pub row_first : Row → ℕ
+row_first row = row.first_chunk
+
+abbrev pub row_closed : Row → ℕ
+row_closed row = row.closed
+
+abbrev pub row_open : Row → ℕ
+row_open row = row.len
+
+-- how many bytes its parts have
+abbrev pub row_count : Row → ℕ
+row_count row = 1024 * row_closed row + row_open row
+
+-- the row is that of the bytes m: the chunks before its last part are in the stack, as the chaining
+-- values of subtrees
+pub record HoldsRow (row : Row) (m : List ℕ) : Type 0 where
+  pub len : row_count row ≡ length m
+  pub stack : row.stack.items ≡ subtrees (run_cv row.key row.flags row.first_chunk m) 54 0 row.closed
+  pub value : row.value ≡ cv (tree row.key row.flags (row.first_chunk + row.closed) (drop (1024 * row.closed) m))

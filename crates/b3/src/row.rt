@@ -1,0 +1,273 @@
+// Parts that were hashed elsewhere, of which only the chaining values are told, in a row.
+
+ghost use Rattle.std.specs.Prelude.{◌≡◌, ℕ, ◌+◌, ◌*◌, ◌^◌, ◌<◌, ◌≤◌, ◌↔◌, List, ◌∷◌, ◌++◌, length, count_ones, IsOk, OnOk, OnErr, IfOk, IsTrue};
+ghost use Rattle.arrayvec.specs.ArrayVec.{array_vec_len};
+ghost use Rattle.words.specs.Words.{words, word_bytes};
+ghost use Rattle.b3.specs.Node.{cv};
+ghost use Rattle.b3.specs.Parts.{IsPlacedAt};
+
+use crate::chunk::CHUNK_LEN;
+use crate::mode::{Mode, words_of_key};
+use crate::node::Node;
+use crate::output::Output;
+use crate::part::NotWhole;
+use crate::place::{Misplaced, is_placed, is_whole};
+use crate::stack::push_subtree;
+use arrayvec::ArrayVec;
+use byteorder::{ByteOrder, LittleEndian};
+
+// The bytes of eight words, of each the lowest first.
+fn bytes_of_words(value: &[u32; 8]) -> [u8; 32]
+    ensures written { result ≡ word_bytes 4 value.now }
+    ensures read { words 4 8 result ≡ value.now }
+{
+    let mut bytes = [0; 32];
+    LittleEndian::write_u32_into(value, &mut bytes);
+    bytes
+}
+
+/// A part, by its chaining value.
+#[derive(Clone, Copy, Debug)]
+pub struct PartValue {
+    pub(crate) first_chunk: u64,
+    // how many bytes it has
+    pub(crate) len: u64,
+    pub(crate) value: [u32; 8],
+    ghost placed: { IsPlacedAt first_chunk len },
+}
+
+impl PartValue {
+    ghost use Rattle.b3.specs.inside.Rows.{value_first, value_len, value_words};
+
+    /// A part as others tell it. It is refused exactly where `Part::of` refuses bytes of that
+    /// number at that chunk; nothing says that the value is that of such bytes.
+    pub fn of(first_chunk: u64, len: u64, value: [u32; 8]) -> Result<PartValue, Misplaced>
+        ensures placed { IsOk result ↔ IsPlacedAt first_chunk len }
+        ensures first { IfOk result (λ part. value_first part ≡ first_chunk) }
+        ensures len { IfOk result (λ part. value_len part ≡ len) }
+        ensures value { IfOk result (λ part. value_words part ≡ value) }
+    {
+        if !is_placed(first_chunk, len) {
+            return Err(Misplaced);
+        }
+        Ok(PartValue {
+            first_chunk,
+            len,
+            value,
+        })
+    }
+
+    /// The same, of a chaining value in bytes.
+    pub fn of_bytes(first_chunk: u64, len: u64, value: &[u8; 32]) -> Result<PartValue, Misplaced>
+        ensures placed { IsOk result ↔ IsPlacedAt first_chunk len }
+        ensures first { IfOk result (λ part. value_first part ≡ first_chunk) }
+        ensures len { IfOk result (λ part. value_len part ≡ len) }
+        ensures value { IfOk result (λ part. value_words part ≡ words 4 8 value.now) }
+    {
+        PartValue::of(first_chunk, len, words_of_key(value))
+    }
+
+    /// The number of its first chunk.
+    pub fn first_chunk(&self) -> u64
+        ensures { result ≡ value_first self.now }
+    {
+        self.first_chunk
+    }
+
+    /// How many bytes it has.
+    pub fn len(&self) -> u64
+        ensures { result ≡ value_len self.now }
+    {
+        self.len
+    }
+
+    /// Its chaining value.
+    pub fn value(&self) -> [u32; 8]
+        ensures { result ≡ value_words self.now }
+    {
+        self.value
+    }
+
+    /// It as bytes, of each word the lowest first.
+    pub fn bytes(&self) -> [u8; 32]
+        ensures written { result ≡ word_bytes 4 (value_words self.now) }
+        ensures read { words 4 8 result ≡ value_words self.now }
+    {
+        bytes_of_words(&self.value)
+    }
+}
+
+/// The part does not begin where the row ends, the part before it has not a power of two of full
+/// chunks, or the row with it would be no part.
+#[derive(Clone, Copy, Debug, PartialEq, Eq, Drop)]
+pub struct NotNext;
+
+/// Parts that follow each other, and are one part together.
+#[derive(Drop)]
+pub struct Row {
+    key: [u32; 8],
+    flags: u8,
+    first_chunk: u64,
+    // the chaining values of the subtrees of all parts but the last
+    stack: ArrayVec<[u32; 8], 54>,
+    // how many chunks those have
+    closed: u64,
+    // the last part: its chaining value, and how many bytes it has
+    value: [u32; 8],
+    len: u64,
+    ghost one_bits: { array_vec_len stack ≡ count_ones closed },
+    ghost placed: { IsPlacedAt first_chunk (1024 * closed + len) },
+    ghost last: { IsPlacedAt closed len },
+}
+
+impl Row {
+    ghost use Rattle.b3.specs.Modes.{root_of, tree_of};
+    ghost use Rattle.b3.specs.inside.Output.{output_root, output_position};
+    ghost use Rattle.b3.specs.Parts.{IsNext, mode_parameters};
+    ghost use Rattle.b3.specs.inside.Rows.{HoldsRow, IsValueOf, row_parameters, row_first, row_count, row_closed, row_open, value_first, value_len};
+
+    /// The row of one part.
+    pub fn of(mode: Mode, part: PartValue) -> Row
+        ensures parameters { row_parameters result ≡ mode_parameters mode }
+        ensures first { row_first result ≡ value_first part }
+        ensures count { row_count result ≡ value_len part }
+        ensures closed { row_closed result ≡ 0 }
+        ensures holds { (m : List ℕ) → IsValueOf (mode_parameters mode) part m → HoldsRow result m }
+    {
+        let key = mode.key();
+        let value = part.value;
+        Row {
+            key,
+            flags: mode.flags(),
+            first_chunk: part.first_chunk,
+            stack: ArrayVec::new(),
+            closed: 0,
+            value,
+            len: part.len,
+        }
+    }
+
+    /// How many bytes its parts have.
+    pub fn count(&self) -> u64
+        ensures value { result ≡ row_count self.now }
+        ensures message { (m : List ℕ) → HoldsRow self.now m → result ≡ length m }
+    {
+        CHUNK_LEN as u64 * self.closed + self.len
+    }
+
+    /// Adds the part that comes next. It is refused exactly where it does not begin where the row
+    /// ends, where the row's last part has not a power of two of full chunks, or where the bytes of
+    /// both can be no part; then nothing changes.
+    pub fn push(&mut self, part: PartValue) -> Result<(), NotNext>
+        ensures next { IsOk result ↔ IsNext (row_first self.old) (row_count self.old) (row_open self.old)
+            (value_first part) (value_len part) }
+        ensures holds { OnOk result ((m x : List ℕ) → HoldsRow self.old m
+            → IsValueOf (row_parameters self.old) part x → HoldsRow self.new (m ++ x)) }
+        ensures count { OnOk result (row_count self.new ≡ row_count self.old + value_len part) }
+        ensures closed { OnOk result (0 < row_closed self.new) }
+        ensures first { row_first self.new ≡ row_first self.old }
+        ensures parameters { row_parameters self.new ≡ row_parameters self.old }
+        ensures refused { OnErr result (self.new ≡ self.old) }
+    {
+        if !self.is_next(&part) {
+            return Err(NotNext);
+        }
+        self.close(&part);
+        Ok(())
+    }
+
+    // Whether `part` comes next.
+    fn is_next(&self, part: &PartValue) -> bool
+        ensures { IsTrue result ↔ IsNext (row_first self.now) (row_count self.now) (row_open self.now)
+            (value_first part.now) (value_len part.now) }
+    {
+        if CHUNK_LEN as u64 * part.first_chunk
+            != CHUNK_LEN as u64 * self.first_chunk + self.count()
+        {
+            return false;
+        }
+        is_whole(self.len) && is_placed(self.first_chunk, self.count() + part.len)
+    }
+
+    // Closes the last part, since another one follows it.
+    fn close(&mut self, part: &PartValue)
+        requires { IsNext (row_first self.old) (row_count self.old) (row_open self.old)
+            (value_first part.now) (value_len part.now) }
+        ensures holds { (m x : List ℕ) → HoldsRow self.old m
+            → IsValueOf (row_parameters self.old) part.now x → HoldsRow self.new (m ++ x) }
+        ensures count { row_count self.new ≡ row_count self.old + value_len part.now }
+        ensures closed { 0 < row_closed self.new }
+        ensures first { row_first self.new ≡ row_first self.old }
+        ensures parameters { row_parameters self.new ≡ row_parameters self.old }
+    {
+        let chunks = self.len / CHUNK_LEN as u64;
+        self.closed += chunks;
+        push_subtree(
+            &mut self.stack,
+            &self.key,
+            self.flags,
+            self.value,
+            self.closed / chunks,
+        );
+        self.value = part.value;
+        self.len = part.len;
+    }
+
+    // The node over the parts, of which there are two at least.
+    fn node(&self) -> Node
+        requires { 0 < row_closed self.now }
+        ensures { (m : List ℕ) → HoldsRow self.now m
+            → result ≡ tree_of (row_parameters self.now) (row_first self.now) m }
+    {
+        let stack = self.stack.as_slice();
+        let mut left = stack.len() - 1;
+        let mut node = Node::parent(&self.key, self.flags, &stack[left], &self.value);
+        while left > 0 {
+            left -= 1;
+            node = Node::parent(&self.key, self.flags, &stack[left], &node.chaining_value());
+        }
+        node
+    }
+
+    /// The row as one part.
+    pub fn told(&self) -> PartValue
+        ensures first { value_first result ≡ row_first self.now }
+        ensures len { value_len result ≡ row_count self.now }
+        ensures value { (m : List ℕ) → HoldsRow self.now m
+            → IsValueOf (row_parameters self.now) result m }
+    {
+        let value = self.top_value();
+        PartValue {
+            first_chunk: self.first_chunk,
+            len: self.count(),
+            value,
+        }
+    }
+
+    // Its chaining value.
+    fn top_value(&self) -> [u32; 8]
+        ensures { (m : List ℕ) → HoldsRow self.now m
+            → result ≡ cv (tree_of (row_parameters self.now) (row_first self.now) m) }
+    {
+        if self.closed == 0 {
+            self.value
+        } else {
+            self.node().chaining_value()
+        }
+    }
+
+    /// The output of the message that the row is all of, at position 0. It is refused exactly where
+    /// the row does not begin at the first chunk, or has one part alone, since a chaining value
+    /// tells nothing of the root.
+    pub fn output(&self) -> Result<Output, NotWhole>
+        ensures whole { IsOk result ↔ (row_first self.now ≡ 0) × (0 < row_closed self.now) }
+        ensures root { IfOk result (λ output. (m : List ℕ) → HoldsRow self.now m
+            → output_root output ≡ root_of (row_parameters self.now) m) }
+        ensures position { IfOk result (λ output. output_position output ≡ 0) }
+    {
+        if self.first_chunk != 0 || self.closed == 0 {
+            return Err(NotWhole);
+        }
+        Ok(Output::of(self.node()))
+    }
+}
