@@ -1,4 +1,1 @@
-pub mod CommandLemmas
-pub mod ParseLemmas
-pub mod ExampleWords
 pub mod Printing

@@ -1,6 +1,7 @@
 // What can go wrong in a run: the texts, and the statuses.
 
 ghost use Rattle.std.specs.Prelude.{◌≡◌};
+ghost use Rattle.command.specs.inside.Faults.{of_task};
 ghost use Rattle.command.specs.declared.fault.Fault.TheVariants.{CannotWrite, OutOfMemory};
 
 use source::{Sink, SourceFault, WriteFailed, write_all};
@@ -8,22 +9,13 @@ use std::alloc::AllocError;
 use std::fmt;
 use std::fmt::{Display, Write};
 use sumlist::{OpenFault, WriteFault};
+use task::{TaskFault, UsageFault};
 
-/// Why a run ended, or passed a file over. A name is a file's or an option's.
+/// Why a run ended, or passed a file over. A name is a file's.
 #[derive(Clone, Copy, Debug, PartialEq, Eq)]
 pub enum Fault<'a> {
-    /// The option says nothing to this algorithm.
-    NotForAlgorithm(&'static str),
-    /// The algorithm needs a context.
-    ContextNeeded,
-    /// The number is outside the option's range.
-    OutOfRange(&'static str),
-    /// The option's text is not made of pairs of hexadecimal digits.
-    NotHexadecimal(&'static str),
-    /// The option's digits spell more or fewer bytes than the algorithm takes.
-    WrongLength(&'static str),
-    /// Both `--key` and `--key-file` were given, or none.
-    OneKey,
+    /// The request is wrong.
+    Usage(UsageFault),
     /// The key file has more bytes than are read of one.
     KeyFileTooLong,
     /// The key has a length that the algorithm does not take.
@@ -61,14 +53,7 @@ impl<'a> Fault<'a> {
     pub(crate) fn status(&self) -> u8 {
         match self {
             Fault::CannotRead(_) | Fault::TooLong(_) | Fault::BadName(_) => 1,
-            Fault::NotForAlgorithm(_)
-            | Fault::ContextNeeded
-            | Fault::OutOfRange(_)
-            | Fault::NotHexadecimal(_)
-            | Fault::WrongLength(_)
-            | Fault::OneKey
-            | Fault::KeyFileTooLong
-            | Fault::KeyLength => 2,
+            Fault::Usage(_) | Fault::KeyFileTooLong | Fault::KeyLength => 2,
             Fault::CannotWrite | Fault::OutOfMemory => 3,
         }
     }
@@ -77,12 +62,7 @@ impl<'a> Fault<'a> {
 impl<'a> Display for Fault<'a> {
     fn fmt<W: Write>(&self, f: &mut fmt::Formatter<W>) -> fmt::Result {
         match self {
-            Fault::NotForAlgorithm(option) => write!(f, "{option}: not for this algorithm"),
-            Fault::ContextNeeded => write!(f, "--context: needed"),
-            Fault::OutOfRange(option) => write!(f, "{option}: out of range"),
-            Fault::NotHexadecimal(option) => write!(f, "{option}: not hexadecimal"),
-            Fault::WrongLength(option) => write!(f, "{option}: wrong length"),
-            Fault::OneKey => write!(f, "give one of --key and --key-file"),
+            Fault::Usage(fault) => write!(f, "{fault}"),
             Fault::KeyFileTooLong => write!(f, "--key-file: too long"),
             Fault::KeyLength => write!(f, "key: wrong length"),
             Fault::CannotRead(name) => write!(f, "{name}: cannot read"),
@@ -115,6 +95,17 @@ impl<'a> From<AllocError> for Fault<'a> {
 
     fn from(_error: AllocError) -> Fault<'a> {
         Fault::OutOfMemory
+    }
+}
+
+impl<'a> From<TaskFault> for Fault<'a> {
+    ghost from_gives = { λ task fault. fault ≡ of_task task };
+
+    fn from(fault: TaskFault) -> Fault<'a> {
+        match fault {
+            TaskFault::Usage(fault) => Fault::Usage(fault),
+            TaskFault::OutOfMemory => Fault::OutOfMemory,
+        }
     }
 }
 

@@ -1,102 +1,101 @@
 // The command `kdf`: a key that is derived from key material.
 
+ghost use Rattle.std.specs.Prelude.{◌*◌, ◌-◌, ◌^◌, ◌≤◌};
+ghost use Rattle.task.specs.Deriving.{HasKey, derivation_shown};
+
 use crate::fault::Fault;
-use crate::files::absorb_named;
 use crate::output::{write_digits, write_output};
-use crate::parameters::{hexadecimal, number, refused};
-use crate::request::Request;
+use crate::session::{Session, absorb_feed, open_file};
 use b3::Blake3;
 use kdf::{Extract, expand};
 use mac::{Blake2b512, Blake2s256, BlockHash, Sha256Stream, Sha512Stream};
-use source::{Sink, write_all};
-use std::alloc::Global;
+use source::{Feed, Sink, write_all};
 use sumlist::Tree;
-use words::Tag;
+use task::{Derivation, Hkdf, HmacHash, Setting, UsageFault};
+use words::{Absorb, Tag};
 
 // The longest output of HKDF: 255 times 64 bytes.
 const OUTPUT_LIMIT: usize = 16320;
 
-/// Prints the digits of the derived key.
-pub(crate) fn print_key<'n, T: Tree, W: Sink>(
-    alloc: Global,
-    request: &Request<'n>,
-    tree: &mut T,
-    out: &mut W,
-) -> Result<u8, Fault<'n>> {
-    let printed = match request.algorithm {
-        Some("sha256") => hkdf::<Sha256Stream, T, W>(alloc, request, tree, out),
-        Some("sha512") => hkdf::<Sha512Stream, T, W>(alloc, request, tree, out),
-        Some("blake2b") => hkdf::<Blake2b512, T, W>(alloc, request, tree, out),
-        Some("blake2s") => hkdf::<Blake2s256, T, W>(alloc, request, tree, out),
-        _ => derive(request, tree, out),
-    };
-    printed?;
-    write_all(out, b"\n")?;
-    Ok(0)
-}
-
-fn hkdf<'n, H: BlockHash, T: Tree, W: Sink>(
-    alloc: Global,
-    request: &Request<'n>,
-    tree: &mut T,
-    out: &mut W,
-) -> Result<(), Fault<'n>> {
-    refused("--context", request.context)?;
-    let most = 255 * H::OUT as u64;
-    let length = number("-l", request.length, most, 1, most)? as usize;
-    let salt = bytes_of(alloc, "--salt", request.salt)?;
-    let info = bytes_of(alloc, "--info", request.info)?;
-    let salt = if request.salt.is_some() {
-        Some(salt.as_slice())
-    } else {
-        None
-    };
-    let prk = extracted::<H, T>(salt, request.ikm_file.unwrap_or(""), tree)?;
-    let mut key = [0; OUTPUT_LIMIT];
-    let (key, _) = key.split_at_mut(length);
-    match expand::<H>(prk.bytes(), info.as_slice(), key) {
-        Ok(()) => Ok(write_digits(key, out)?),
-        Err(_) => Err(Fault::OutOfRange("--info")),
+impl<'i, 't, 'o, L: Feed, T: Tree, W: Sink> Session<'i, 't, 'o, L, T, W> {
+    /// Prints the digits of the key that is derived of a file.
+    pub(crate) fn print_key<'n>(
+        &mut self,
+        derivation: &Derivation<'n>,
+        material: &'n str,
+    ) -> Result<u8, Fault<'n>>
+        requires { HasKey (derivation_shown derivation.now) }
+    {
+        match derivation {
+            Derivation::Hkdf(hkdf) => match hkdf.hash {
+                HmacHash::Sha256 => self.print_hkdf::<Sha256Stream>(hkdf, material)?,
+                HmacHash::Sha512 => self.print_hkdf::<Sha512Stream>(hkdf, material)?,
+                HmacHash::Blake2b => self.print_hkdf::<Blake2b512>(hkdf, material)?,
+                HmacHash::Blake2s => self.print_hkdf::<Blake2s256>(hkdf, material)?,
+            },
+            Derivation::Blake3 { context, length } => {
+                self.print_derived(context, *length, material)?
+            }
+        }
+        write_all(self.out, b"\n")?;
+        Ok(0)
     }
-}
 
-// The pseudorandom key of a file's bytes.
-fn extracted<'n, H: BlockHash, T: Tree>(
-    salt: Option<&[u8]>,
-    name: &'n str,
-    tree: &mut T,
-) -> Result<Tag, Fault<'n>> {
-    let Ok(mut extract) = Extract::<H>::new(salt) else {
-        return Err(Fault::OutOfRange("--salt"));
-    };
-    absorb_named(&mut extract, name, tree)?;
-    Ok(extract.finish())
-}
-
-// The bytes of an option, none where it was not given.
-fn bytes_of(
-    alloc: Global,
-    option: &'static str,
-    text: Option<&str>,
-) -> Result<Vec<u8>, Fault<'static>> {
-    match text {
-        Some(text) => hexadecimal(alloc, option, text),
-        None => Ok(Vec::new(alloc)),
+    fn print_hkdf<'n, H: BlockHash>(
+        &mut self,
+        hkdf: &Hkdf,
+        material: &'n str,
+    ) -> Result<(), Fault<'n>>
+        requires { hkdf.now.length ≤ 16320 }
+    {
+        let prk = self.extracted::<H>(hkdf, material)?;
+        let mut key = [0; OUTPUT_LIMIT];
+        let (key, _) = key.split_at_mut(hkdf.length);
+        match expand::<H>(prk.bytes(), hkdf.info.as_slice(), key) {
+            Ok(()) => Ok(write_digits(key, self.out)?),
+            Err(_) => Err(Fault::Usage(UsageFault::OutOfRange(Setting::Info))),
+        }
     }
-}
 
-fn derive<'n, T: Tree, W: Sink>(
-    request: &Request<'n>,
-    tree: &mut T,
-    out: &mut W,
-) -> Result<(), Fault<'n>> {
-    refused("--salt", request.salt)?;
-    refused("--info", request.info)?;
-    let Some(context) = request.context else {
-        return Err(Fault::ContextNeeded);
-    };
-    let length = number("-l", request.length, 1, 1, u64::MAX)?;
-    let mut hasher = Blake3::derive(context.as_bytes());
-    absorb_named(&mut hasher, request.ikm_file.unwrap_or(""), tree)?;
-    write_output(hasher.output(), length, out)
+    // The pseudorandom key of a file's bytes.
+    fn extracted<'n, H: BlockHash>(
+        &mut self,
+        hkdf: &Hkdf,
+        material: &'n str,
+    ) -> Result<Tag, Fault<'n>> {
+        let salt = match &hkdf.salt {
+            Some(salt) => Some(salt.as_slice()),
+            None => None,
+        };
+        let Ok(mut extract) = Extract::<H>::new(salt) else {
+            return Err(Fault::Usage(UsageFault::OutOfRange(Setting::Salt)));
+        };
+        self.absorb_named(&mut extract, material)?;
+        Ok(extract.finish())
+    }
+
+    fn print_derived<'n>(
+        &mut self,
+        context: &str,
+        length: u64,
+        material: &'n str,
+    ) -> Result<(), Fault<'n>>
+        requires { length ≤ 2 ^ 64 - 1 }
+    {
+        let mut hasher = Blake3::derive(context.as_bytes());
+        self.absorb_named(&mut hasher, material)?;
+        write_output(hasher.output(), length, self.out)
+    }
+
+    // Feeds the hasher the whole of the file of this name.
+    fn absorb_named<'n, A: Absorb>(
+        &mut self,
+        hasher: &mut A,
+        name: &'n str,
+    ) -> Result<(), Fault<'n>> {
+        let mut feed = open_file(name, self.tree)?;
+        let answer = absorb_feed(hasher, name, &mut feed);
+        self.tree.close(feed);
+        answer
+    }
 }

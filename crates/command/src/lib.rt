@@ -3,28 +3,21 @@
 
 pub use fault::{Fault, tell, write_text};
 pub use files::FileTree;
-pub use request::{Request, WordsFault, line};
 
-mod arguments;
-mod commands;
 mod digests;
 mod fault;
 mod files;
 mod keys;
 mod output;
-mod parameters;
 mod reports;
-mod request;
-mod requested;
+mod session;
 mod tags;
 
-use digests::print_digests;
-use keys::print_key;
-use reports::print_report;
+use session::Session;
 use source::{Feed, Sink};
 use std::alloc::Global;
 use sumlist::Tree;
-use tags::print_tag;
+use task::{Request, Task, WordsFault, line};
 
 /// One whole run over the words, the program's own name first, with the standard streams and the
 /// files: it answers the status. What `err` does not take is dropped.
@@ -36,29 +29,38 @@ pub fn run<L: Feed, T: Tree, W: Sink, E: Sink>(
     out: &mut W,
     err: &mut E,
 ) -> u8 {
-    match line(alloc, words) {
-        Ok(request) => match run_request(alloc, &request, input, tree, out, err) {
-            Ok(status) => status,
-            Err(fault) => tell(err, fault),
-        },
-        Err(WordsFault::OutOfMemory) => tell(err, Fault::OutOfMemory),
-        Err(WordsFault::Words(error)) => print_clap(&error, out, err),
+    let request = match line(alloc, words) {
+        Ok(request) => request,
+        Err(WordsFault::OutOfMemory) => return tell(err, Fault::OutOfMemory),
+        Err(WordsFault::Words(error)) => return print_clap(&error, out, err),
+    };
+    let mut session = Session {
+        alloc,
+        input,
+        tree,
+        out,
+    };
+    match session.run_request(request, err) {
+        Ok(status) => status,
+        Err(fault) => tell(err, fault),
     }
 }
 
-fn run_request<'n, L: Feed, T: Tree, W: Sink, E: Sink>(
-    alloc: Global,
-    request: &Request<'n>,
-    input: &mut L,
-    tree: &mut T,
-    out: &mut W,
-    err: &mut E,
-) -> Result<u8, Fault<'n>> {
-    match request.command {
-        "hash" => print_digests(alloc, request, input, tree, out, err),
-        "mac" => print_tag(alloc, request, input, tree, out),
-        "kdf" => print_key(alloc, request, tree, out),
-        _ => print_report(alloc, request, input, tree, out),
+impl<'i, 't, 'o, L: Feed, T: Tree, W: Sink> Session<'i, 't, 'o, L, T, W> {
+    fn run_request<'n, E: Sink>(
+        &mut self,
+        request: Request<'n>,
+        err: &mut E,
+    ) -> Result<u8, Fault<'n>> {
+        match Task::of(self.alloc, request)? {
+            Task::Hash { requested, files } => self.print_digests(requested, files.as_slice(), err),
+            Task::Mac { mac, key, file } => self.print_tag(mac, key, file),
+            Task::Kdf {
+                derivation,
+                material,
+            } => self.print_key(&derivation, material),
+            Task::Check { kind, list } => self.print_report(kind, list),
+        }
     }
 }
 

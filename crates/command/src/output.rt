@@ -43,6 +43,21 @@ pub(crate) fn write_line<'n, W: Sink>(
     Ok(())
 }
 
+/// Writes the line of the next bytes of an output and a name.
+pub(crate) fn write_output_line<'n, W: Sink>(
+    output: Output,
+    length: u64,
+    name: &'n str,
+    out: &mut W,
+) -> Result<(), Fault<'n>>
+    requires { output_position output + length ≤ 2 ^ 64 - 1 }
+{
+    write_lead(name, out)?;
+    write_output(output, length, out)?;
+    write_end(name, out)?;
+    Ok(())
+}
+
 /// Writes the next bytes of the output in digits, piece by piece.
 pub(crate) fn write_output<W: Sink>(
     mut output: Output,

@@ -1,40 +1,18 @@
 // The command `check`: the report on a list.
 
 use crate::fault::Fault;
-use crate::files::opened;
-use crate::request::Request;
+use crate::session::{Session, opened_or};
 use source::{Feed, Sink};
-use std::alloc::Global;
 use sumlist::{CheckFault, Kind, Summary, Tree, check};
 
-/// Prints the report, and answers 0 where every line that is not skipped is OK, else 1.
-pub(crate) fn print_report<'n, L: Feed, T: Tree, W: Sink>(
-    alloc: Global,
-    request: &Request<'n>,
-    input: &mut L,
-    tree: &mut T,
-    out: &mut W,
-) -> Result<u8, Fault<'n>> {
-    let kind = kind_of(request);
-    let [name, ..] = request.files.as_slice() else {
-        return Err(Fault::CannotRead("-"));
-    };
-    if *name == "-" {
-        return status_of(check(alloc, input, kind, tree, out), name);
-    }
-    let mut list = opened(name, tree)?;
-    let answer = check(alloc, &mut list, kind, tree, out);
-    tree.close(list);
-    status_of(answer, name)
-}
-
-fn kind_of(request: &Request<'_>) -> Kind {
-    match request.algorithm {
-        Some("sha256") => Kind::Sha256,
-        Some("sha512") => Kind::Sha512,
-        Some("blake2b") => Kind::Blake2b,
-        Some("blake2s") => Kind::Blake2s,
-        _ => Kind::Blake3,
+impl<'i, 't, 'o, L: Feed, T: Tree, W: Sink> Session<'i, 't, 'o, L, T, W> {
+    /// Prints the report, and answers 0 where every line that is not skipped is OK, else 1.
+    pub(crate) fn print_report<'n>(&mut self, kind: Kind, name: &'n str) -> Result<u8, Fault<'n>> {
+        let mut file = self.open(name)?;
+        let mut list = opened_or(self.input, &mut file);
+        let answer = check(self.alloc, &mut list, kind, self.tree, self.out);
+        self.close(file);
+        status_of(answer, name)
     }
 }
 

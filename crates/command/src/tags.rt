@@ -1,173 +1,129 @@
 // The command `mac`: the tag of a file under a key.
 
+ghost use Rattle.std.specs.Prelude.{◌*◌, ◌-◌, ◌/◌, ◌^◌, ◌≤◌};
+ghost use Rattle.task.specs.Tagging.{HasTag};
+
 use crate::fault::Fault;
-use crate::files::{absorb_file, opened};
-use crate::output::{named, write_line, write_output};
-use crate::parameters::{hexadecimal, number};
-use crate::request::Request;
+use crate::output::{write_line, write_output_line};
+use crate::session::{Session, open_file};
 use b3::Blake3;
 use blake2::{Blake2b, Blake2s};
 use mac::{Blake2b512, Blake2s256, BlockHash, Hmac, Sha256Stream, Sha512Stream};
 use source::{Feed, ReadFailed, Sink};
 use std::alloc::Global;
-use sumlist::{Tree, write_end, write_lead};
-use words::Absorb;
+use sumlist::Tree;
+use task::{HmacHash, Key, Mac};
 
 // A key file has at most so many bytes.
 const KEY_LIMIT: usize = 65536;
 
-/// Prints the line of the file, standard input where none is named.
-pub(crate) fn print_tag<'n, L: Feed, T: Tree, W: Sink>(
-    alloc: Global,
-    request: &Request<'n>,
-    input: &mut L,
-    tree: &mut T,
-    out: &mut W,
-) -> Result<u8, Fault<'n>> {
-    let name = match request.files.as_slice() {
-        [name, ..] => *name,
-        [] => "-",
-    };
-    let printed = match request.algorithm {
-        Some("hmac-sha256") => hmac::<Sha256Stream, L, T, W>(
-            alloc, request, name, input, tree, out,
-        ),
-        Some("hmac-sha512") => hmac::<Sha512Stream, L, T, W>(
-            alloc, request, name, input, tree, out,
-        ),
-        Some("hmac-blake2b") => hmac::<Blake2b512, L, T, W>(alloc, request, name, input, tree, out),
-        Some("hmac-blake2s") => hmac::<Blake2s256, L, T, W>(alloc, request, name, input, tree, out),
-        Some("blake2b") => keyed_blake2b(alloc, request, name, input, tree, out),
-        Some("blake2s") => keyed_blake2s(alloc, request, name, input, tree, out),
-        _ => keyed_blake3(alloc, request, name, input, tree, out),
-    };
-    printed?;
-    Ok(0)
-}
+impl<'i, 't, 'o, L: Feed, T: Tree, W: Sink> Session<'i, 't, 'o, L, T, W> {
+    /// Prints the line of the file's tag.
+    pub(crate) fn print_tag<'n>(
+        &mut self,
+        mac: Mac,
+        key: Key<'n>,
+        name: &'n str,
+    ) -> Result<u8, Fault<'n>>
+        requires { HasTag mac }
+    {
+        let key = self.key_of(key)?;
+        match mac {
+            Mac::Hmac(hash, length) => self.hmac(hash, length, key.as_slice(), name)?,
+            Mac::Blake2b(length) => self.blake2b(length, key.as_slice(), name)?,
+            Mac::Blake2s(length) => self.blake2s(length, key.as_slice(), name)?,
+            Mac::Blake3(length) => self.blake3(length, key.as_slice(), name)?,
+        }
+        Ok(0)
+    }
 
-fn hmac<'n, H: BlockHash, L: Feed, T: Tree, W: Sink>(
-    alloc: Global,
-    request: &Request<'n>,
-    name: &'n str,
-    input: &mut L,
-    tree: &mut T,
-    out: &mut W,
-) -> Result<(), Fault<'n>> {
-    let whole = H::OUT as u64;
-    let length = number("-l", request.length, whole, whole / 2, whole)? as usize;
-    let key = key_of(alloc, request, tree)?;
-    let Ok(mut tag) = Hmac::<H>::new(key.as_slice()) else {
-        return Err(Fault::KeyLength);
-    };
-    absorb_line(&mut tag, 2 * length, name, input, tree)?;
-    match tag.finish_left(length) {
-        Ok(tag) => write_line(tag.bytes(), name, out),
-        Err(_) => Err(Fault::OutOfRange("-l")),
+    fn hmac<'n>(
+        &mut self,
+        hash: HmacHash,
+        length: usize,
+        key: &[u8],
+        name: &'n str,
+    ) -> Result<(), Fault<'n>>
+        requires { HasTag (Mac.Hmac hash length) }
+    {
+        match hash {
+            HmacHash::Sha256 => self.print_hmac::<Sha256Stream>(length, key, name),
+            HmacHash::Sha512 => self.print_hmac::<Sha512Stream>(length, key, name),
+            HmacHash::Blake2b => self.print_hmac::<Blake2b512>(length, key, name),
+            HmacHash::Blake2s => self.print_hmac::<Blake2s256>(length, key, name),
+        }
+    }
+
+    fn print_hmac<'n, H: BlockHash>(
+        &mut self,
+        length: usize,
+        key: &[u8],
+        name: &'n str,
+    ) -> Result<(), Fault<'n>>
+        requires half { H.OUT / 2 ≤ length }
+        requires whole { length ≤ H.OUT }
+    {
+        let Ok(mut hmac) = Hmac::<H>::new(key) else {
+            return Err(Fault::KeyLength);
+        };
+        self.absorb_line(&mut hmac, 2 * length, name)?;
+        let Ok(tag) = hmac.finish_left(length) else {
+            unreachable!()
+        };
+        write_line(tag.bytes(), name, self.out)
+    }
+
+    fn blake2b<'n>(&mut self, length: usize, key: &[u8], name: &'n str) -> Result<(), Fault<'n>>
+        requires { length ≤ 64 }
+    {
+        let Ok(mut hasher) = Blake2b::keyed(length, some_key(key)?) else {
+            return Err(Fault::KeyLength);
+        };
+        self.absorb_line(&mut hasher, 2 * length, name)?;
+        write_line(hasher.finish().bytes(), name, self.out)
+    }
+
+    fn blake2s<'n>(&mut self, length: usize, key: &[u8], name: &'n str) -> Result<(), Fault<'n>>
+        requires { length ≤ 32 }
+    {
+        let Ok(mut hasher) = Blake2s::keyed(length, some_key(key)?) else {
+            return Err(Fault::KeyLength);
+        };
+        self.absorb_line(&mut hasher, 2 * length, name)?;
+        write_line(hasher.finish().bytes(), name, self.out)
+    }
+
+    fn blake3<'n>(&mut self, length: u64, key: &[u8], name: &'n str) -> Result<(), Fault<'n>>
+        requires { length ≤ 2 ^ 64 - 1 }
+    {
+        let Some((key, [])) = key.split_first_chunk::<32>() else {
+            return Err(Fault::KeyLength);
+        };
+        let mut hasher = Blake3::keyed(key);
+        self.absorb_line(&mut hasher, 64, name)?;
+        write_output_line(hasher.output(), length, name, self.out)
+    }
+
+    // The bytes of a key.
+    fn key_of<'n>(&mut self, key: Key<'n>) -> Result<Vec<u8>, Fault<'n>> {
+        match key {
+            Key::Given(key) => Ok(key),
+            Key::File(name) => {
+                let mut feed = open_file(name, self.tree)?;
+                let answer = read_key(self.alloc, name, &mut feed);
+                self.tree.close(feed);
+                answer
+            }
+        }
     }
 }
 
-fn keyed_blake2b<'n, L: Feed, T: Tree, W: Sink>(
-    alloc: Global,
-    request: &Request<'n>,
-    name: &'n str,
-    input: &mut L,
-    tree: &mut T,
-    out: &mut W,
-) -> Result<(), Fault<'n>> {
-    let length = number("-l", request.length, 64, 1, 64)? as usize;
-    let key = some_key(alloc, request, tree)?;
-    let Ok(mut hasher) = Blake2b::keyed(length, key.as_slice()) else {
-        return Err(Fault::KeyLength);
-    };
-    absorb_line(&mut hasher, 2 * length, name, input, tree)?;
-    write_line(hasher.finish().bytes(), name, out)
-}
-
-fn keyed_blake2s<'n, L: Feed, T: Tree, W: Sink>(
-    alloc: Global,
-    request: &Request<'n>,
-    name: &'n str,
-    input: &mut L,
-    tree: &mut T,
-    out: &mut W,
-) -> Result<(), Fault<'n>> {
-    let length = number("-l", request.length, 32, 1, 32)? as usize;
-    let key = some_key(alloc, request, tree)?;
-    let Ok(mut hasher) = Blake2s::keyed(length, key.as_slice()) else {
-        return Err(Fault::KeyLength);
-    };
-    absorb_line(&mut hasher, 2 * length, name, input, tree)?;
-    write_line(hasher.finish().bytes(), name, out)
-}
-
-fn keyed_blake3<'n, L: Feed, T: Tree, W: Sink>(
-    alloc: Global,
-    request: &Request<'n>,
-    name: &'n str,
-    input: &mut L,
-    tree: &mut T,
-    out: &mut W,
-) -> Result<(), Fault<'n>> {
-    let length = number("-l", request.length, 32, 1, u64::MAX)?;
-    let key = key_of(alloc, request, tree)?;
-    let Some((key, [])) = key.as_slice().split_first_chunk::<32>() else {
-        return Err(Fault::KeyLength);
-    };
-    let mut hasher = Blake3::keyed(key);
-    absorb_line(&mut hasher, 64, name, input, tree)?;
-    write_lead(name, out)?;
-    write_output(hasher.output(), length, out)?;
-    write_end(name, out)?;
-    Ok(())
-}
-
-// Feeds the hasher the file of a line with so many digits: the name is judged before it is opened.
-fn absorb_line<'n, A: Absorb, L: Feed, T: Tree>(
-    hasher: &mut A,
-    digits: usize,
-    name: &'n str,
-    input: &mut L,
-    tree: &mut T,
-) -> Result<(), Fault<'n>> {
-    named(digits, name)?;
-    absorb_file(hasher, name, input, tree)
-}
-
 // A key that is not empty: under an empty one BLAKE2 is a hash.
-fn some_key<'n, T: Tree>(
-    alloc: Global,
-    request: &Request<'n>,
-    tree: &mut T,
-) -> Result<Vec<u8>, Fault<'n>> {
-    let key = key_of(alloc, request, tree)?;
+fn some_key(key: &[u8]) -> Result<&[u8], Fault<'static>> {
     if key.is_empty() {
         return Err(Fault::KeyLength);
     }
     Ok(key)
-}
-
-// The key that was given in one of the two ways.
-fn key_of<'n, T: Tree>(
-    alloc: Global,
-    request: &Request<'n>,
-    tree: &mut T,
-) -> Result<Vec<u8>, Fault<'n>> {
-    let given = match request.key {
-        Some(text) => Some(hexadecimal(alloc, "--key", text)?),
-        None => None,
-    };
-    match (given, request.key_file) {
-        (Some(key), None) => Ok(key),
-        (None, Some(name)) => key_in(alloc, name, tree),
-        _ => Err(Fault::OneKey),
-    }
-}
-
-fn key_in<'n, T: Tree>(alloc: Global, name: &'n str, tree: &mut T) -> Result<Vec<u8>, Fault<'n>> {
-    let mut feed = opened(name, tree)?;
-    let answer = read_key(alloc, name, &mut feed);
-    tree.close(feed);
-    answer
 }
 
 // Reads the whole of a key file.

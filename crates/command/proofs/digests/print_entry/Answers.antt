@@ -1,5 +1,6 @@
 use Rattle.std.proofs.lemmas.Result.{on_ok_weaker}
-use Rattle.command.specs.inside.Digests.{alg_of, hash_of}
+use Rattle.command.specs.inside.Digests.{hash_of}
+use Rattle.task.specs.Requested.{alg_of}
 use Rattle.command.proofs.Printing.{written_digest}
 use Rattle.command.proofs.digests.print_entry.Goals as goal
 

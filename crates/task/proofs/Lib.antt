@@ -1,0 +1,4 @@
+pub mod CommandLemmas
+pub mod ParseLemmas
+pub mod ExampleWords
+pub mod Numbers

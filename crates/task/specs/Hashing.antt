@@ -1,0 +1,97 @@
+-- What a request of `hash` has printed, or the first fault of its settings.
+use Rattle.std.specs.Prelude.{ℕ, ◌+◌, ◌-◌, ◌^◌, Bool, true, List, Option, Result, Ok, Err, nat_le, if◌then◌else◌}
+use Rattle.source.specs.declared.alg.Alg.{Alg}
+use Rattle.source.specs.declared.alg.Alg.TheVariants as alg
+use Rattle.sumlist.specs.declared.kind.Kind.{Kind}
+use Rattle.sumlist.specs.declared.kind.Kind.TheVariants as kind
+use Rattle.task.specs.Parameters.{◌>>=◌, ◌>>◌, absent, given, given_bytes, kind_of, needed, number, sized}
+use Rattle.task.specs.declared.fault.Setting.TheVariants.{Algorithm, Length, Personal, Salt, Seek}
+use Rattle.task.specs.declared.fault.UsageFault.{UsageFault}
+use Rattle.task.specs.declared.fault.UsageFault.TheVariants.{OutOfRange}
+use Rattle.task.specs.declared.hashing.Hash.{Hash}
+use Rattle.task.specs.declared.hashing.Hash.TheVariants.{Plain, Blake2b, Blake2s}
+use Rattle.task.specs.declared.hashing.Requested.{Requested}
+use Rattle.task.specs.declared.hashing.Requested.TheVariants.{Digest, Output}
+use Rattle.task.specs.declared.hashing.Stretch.{Stretch}
+use Rattle.task.specs.declared.request.Request.{Request}
+
+-- a digest, on lines that name their algorithm or do not
+abbrev pub whole : Hash → Bool → Requested
+whole hash tagged = Digest (record { hash = hash; is_tagged = tagged })
+
+-- no salt and no personalization
+abbrev pub no_salts : Request → Result (Unit {0}) UsageFault
+no_salts r = do
+  absent Salt (given r.salt)
+  absent Personal (given r.personal)
+
+-- SHA-2 has no parameters
+abbrev pub sha : Request → Alg → Result Requested UsageFault
+sha r a = do
+  absent Length (given r.length)
+  absent Seek (given r.seek)
+  no_salts r
+  Ok (whole (Plain a) r.tag)
+
+-- the bytes of salt and personalization: the digits of both are judged before the length of either
+abbrev pub salts : Request → Result (Option (List ℕ) × Option (List ℕ)) UsageFault
+salts r = do
+  salt ← given_bytes Salt (given r.salt)
+  personal ← given_bytes Personal (given r.personal)
+  Ok (salt, personal)
+
+abbrev pub blake2b_digest : Request → Result Requested UsageFault
+blake2b_digest r = do
+  absent Seek (given r.seek)
+  n ← number Length (given r.length) 64 1 64
+  given ← salts r
+  salt ← sized Salt 16 given.0
+  personal ← sized Personal 16 given.1
+  Ok (whole (Blake2b n salt personal) r.tag)
+
+abbrev pub blake2s_digest : Request → Result Requested UsageFault
+blake2s_digest r = do
+  absent Seek (given r.seek)
+  n ← number Length (given r.length) 32 1 32
+  given ← salts r
+  salt ← sized Salt 8 given.0
+  personal ← sized Personal 8 given.1
+  Ok (whole (Blake2s n salt personal) r.tag)
+
+-- the label of BLAKE3 stands for the first 32 bytes of its output
+abbrev pub tagged_blake3 : Request → Result Requested UsageFault
+tagged_blake3 r = do
+  no_salts r
+  number Length (given r.length) 32 32 32
+  number Seek (given r.seek) 0 0 0
+  Ok (whole (Plain alg.Blake3) true)
+
+-- so many bytes from a position on, before the end of the output
+abbrev pub stretch_at : ℕ → ℕ → Result Stretch UsageFault
+stretch_at position n =
+    if nat_le (position + n) (2 ^ 64 - 1) then Ok (record { position = position; length = n })
+    else Err (OutOfRange Seek)
+
+abbrev pub stretch_of : Request → Result Stretch UsageFault
+stretch_of r = do
+  no_salts r
+  n ← number Length (given r.length) 32 1 (2 ^ 64 - 1)
+  position ← number Seek (given r.seek) 0 0 (2 ^ 64 - 1)
+  stretch_at position n
+
+abbrev pub blake3 : Request → Result Requested UsageFault
+blake3 r = if r.tag then tagged_blake3 r else (stretch_of r >>= (λ s. Ok (Output s)))
+
+-- by the hash
+abbrev pub requested_of : Kind → Request → Result Requested UsageFault
+requested_of kind.Sha256 r = sha r alg.Sha256
+requested_of kind.Sha512 r = sha r alg.Sha512
+requested_of kind.Blake2b r = blake2b_digest r
+requested_of kind.Blake2s r = blake2s_digest r
+requested_of kind.Blake3 r = blake3 r
+
+abbrev pub requested : Request → Result Requested UsageFault
+requested r = do
+  name ← needed Algorithm (given r.algorithm)
+  hash ← kind_of name
+  requested_of hash r

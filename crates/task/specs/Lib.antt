@@ -1,0 +1,7 @@
+pub mod CommandLine
+pub mod Requested
+pub mod Parameters
+pub mod Hashing
+pub mod Tagging
+pub mod Deriving
+pub mod Tasks

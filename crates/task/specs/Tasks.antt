@@ -1,0 +1,93 @@
+-- What a request asks for, or the first fault of its settings.
+use Rattle.std.specs.Prelude.{⊤, List, Vec, [], ◌∷◌, Option, Some, None, Result, Ok, Err, codes, map, if◌then◌else◌}
+use Rattle.std.specs.Borrow.{Bor}
+use Rattle.std.specs.Str.{bytes_eq}
+use Rattle.clap.specs.Words.{Text}
+use Rattle.sumlist.specs.declared.kind.Kind.{Kind}
+use Rattle.task.specs.Deriving.{Derived, HasKey, derivation, derivation_shown}
+use Rattle.task.specs.Hashing.{requested}
+use Rattle.task.specs.Parameters.{◌>>=◌, given, kind_of, needed}
+use Rattle.task.specs.Requested.{HasDigest}
+use Rattle.task.specs.Tagging.{HasTag, KeyText, key, key_shown}
+use Rattle.task.specs.Tagging as tagging
+use Rattle.task.specs.declared.fault.Setting.TheVariants.{Algorithm, Command, IkmFile, List as ListSetting}
+use Rattle.task.specs.declared.fault.UsageFault.{UsageFault}
+use Rattle.task.specs.declared.fault.UsageFault.TheVariants.{OutOfRange}
+use Rattle.task.specs.declared.hashing.Requested.{Requested}
+use Rattle.task.specs.declared.request.Request.{Request}
+use Rattle.task.specs.declared.tagging.Mac.{Mac}
+use Rattle.task.specs.declared.tasks.Task.{Task}
+use Rattle.task.specs.declared.tasks.Task.TheVariants as code
+
+-- what a run is to do
+pub data Asked : Type 0 where
+  hashes : Requested → List Text → Asked
+  tags : Mac → KeyText → Text → Asked
+  derives : Derived → Text → Asked
+  checks : Kind → Text → Asked
+
+-- the texts of some names
+abbrev pub texts_of : {X : Type 0} → Vec (Bor Text) X → List Text
+texts_of names = map (λ n. n.now) names.items
+
+abbrev pub task_shown : Task → Asked
+task_shown (code.Hash wanted files) = hashes wanted (texts_of files)
+task_shown (code.Mac mac key file) = tags mac (key_shown key) file.now
+task_shown (code.Kdf derivation material) = derives (derivation_shown derivation) material.now
+task_shown (code.Check kind list) = checks kind list.now
+
+-- without a file standard input is hashed
+abbrev pub names_of : List Text → List Text
+names_of [] = codes "-" ∷ []
+names_of (name ∷ names) = name ∷ names
+
+abbrev pub hash : Request → Result Asked UsageFault
+hash r = requested r >>= (λ wanted. Ok (hashes wanted (names_of (texts_of r.files))))
+
+-- the one file or list that was named
+abbrev pub first_name : List Text → Option Text
+first_name [] = None
+first_name (name ∷ names) = Some name
+
+abbrev pub file_of : Request → Option Text
+file_of r = first_name (texts_of r.files)
+
+-- or standard input
+abbrev pub or_input : Option Text → Text
+or_input None = codes "-"
+or_input (Some name) = name
+
+abbrev pub mac : Request → Result Asked UsageFault
+mac r = do
+  function ← tagging.mac r
+  key ← key r
+  Ok (tags function key (or_input (file_of r)))
+
+abbrev pub kdf : Request → Result Asked UsageFault
+kdf r = do
+  derived ← derivation r
+  material ← needed IkmFile (given r.ikm_file)
+  Ok (derives derived material)
+
+abbrev pub check : Request → Result Asked UsageFault
+check r = do
+  name ← needed Algorithm (given r.algorithm)
+  kind ← kind_of name
+  list ← needed ListSetting (file_of r)
+  Ok (checks kind list)
+
+-- by the command
+abbrev pub asked : Request → Result Asked UsageFault
+asked r =
+    if bytes_eq r.command.now (codes "hash") then hash r
+    else if bytes_eq r.command.now (codes "mac") then mac r
+    else if bytes_eq r.command.now (codes "kdf") then kdf r
+    else if bytes_eq r.command.now (codes "check") then check r
+    else Err (OutOfRange Command)
+
+-- there are digests, tags and keys of the lengths that are asked for
+abbrev pub IsPossible : Task → Type 0
+IsPossible (code.Hash wanted files) = HasDigest wanted
+IsPossible (code.Mac mac key file) = HasTag mac
+IsPossible (code.Kdf derivation material) = HasKey (derivation_shown derivation)
+IsPossible (code.Check kind list) = ⊤

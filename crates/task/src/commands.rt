@@ -1,0 +1,190 @@
+// The program's command, with a subcommand for each thing that it does.
+
+ghost use Rattle.std.specs.Prelude.{◌≡◌, [], ◌∷◌, codes, IfOk};
+ghost use Rattle.clap.specs.Words.{app_of, new_app};
+ghost use Rattle.task.specs.CommandLine.{check_app, hash_app, kdf_app, mac_app, sums_app, text_rule, with_rules};
+
+use crate::arguments::{
+    algorithm_option, file_argument, files_argument, flag_option, length_option, number_option,
+    required, text_option,
+};
+use clap::Command;
+use std::alloc::{AllocError, Global};
+
+const STATUSES: &str = "\
+Status:
+  0  all is done, and every line of a list that is not skipped is OK
+  1  a file could not be read or named, or some line of a list is not OK
+  2  the words are wrong
+  3  standard output took not all, or memory ran out";
+
+pub(crate) fn sums_command<'a>(
+    alloc: Global,
+    names: &'a [&'a str],
+    macs: &'a [&'a str],
+) -> Result<Command<'a>, AllocError>
+    ensures { IfOk result (λ c. app_of c ≡ sums_app names.entry macs.entry) }
+{
+    Command::new(alloc, "sums")
+        .about("Hashes files, makes tags and keys, and checks lists of digests")
+        .after_help(STATUSES)
+        .version("0.1.0")
+        .subcommand_required(true)
+        .subcommand(hash_command(alloc, names)?)?
+        .subcommand(mac_command(alloc, macs)?)?
+        .subcommand(kdf_command(alloc, names)?)?
+        .subcommand(check_command(alloc, names)?)
+}
+
+fn described<'a>(alloc: Global, name: &'a str, about: &'a str) -> Command<'a>
+    ensures { app_of result ≡ new_app name.entry.now }
+{
+    Command::new(alloc, name).about(about).after_help(STATUSES)
+}
+
+fn hash_command<'a>(alloc: Global, names: &'a [&'a str]) -> Result<Command<'a>, AllocError>
+    ensures { IfOk result (λ c. app_of c ≡ hash_app names.entry) }
+{
+    let command = described(
+        alloc,
+        "hash",
+        "Prints the digest of each file, as a line of a list",
+    )
+    .arg(algorithm_option(alloc, "ALG", names, "The hash"))?
+    .arg(length_option(
+        alloc,
+        "The digest's length in bytes: blake2b 1 to 64 [default: 64], \
+             blake2s 1 to 32 [default: 32], blake3 at least 1 [default: 32]; not for sha256 and sha512",
+    ))?
+    .arg(number_option(
+        alloc,
+        "seek",
+        "The first byte of the output that is printed, for blake3 alone [default: 0]",
+    ))?;
+    with_salt_options(alloc, command)?
+        .arg(flag_option(
+            alloc,
+            "tag",
+            "Prints lines that name their algorithm, as SHA256 (FILE) = DIGITS; of blake3 32 bytes",
+        ))?
+        .arg(files_argument(alloc, "The files, each - standard input [default: -]"))
+}
+
+// What separates the uses of BLAKE2.
+fn with_salt_options<'a>(alloc: Global, command: Command<'a>) -> Result<Command<'a>, AllocError>
+    ensures { IfOk result (λ c. app_of c ≡ with_rules (app_of command.entry)
+        (text_rule (codes "salt") ∷ text_rule (codes "personal") ∷ [])) }
+{
+    command
+        .arg(text_option(
+            alloc,
+            "salt",
+            "HEX",
+            "The salt in hexadecimal digits, 16 bytes for blake2b and 8 for blake2s, \
+             for these two alone [default: zeros]",
+        ))?
+        .arg(text_option(
+            alloc,
+            "personal",
+            "HEX",
+            "The personalization in hexadecimal digits, as long as the salt, \
+             for blake2b and blake2s alone [default: zeros]",
+        ))
+}
+
+fn mac_command<'a>(alloc: Global, macs: &'a [&'a str]) -> Result<Command<'a>, AllocError>
+    ensures { IfOk result (λ c. app_of c ≡ mac_app macs.entry) }
+{
+    let command = described(alloc, "mac", "Prints the tag of a file under a key").arg(
+        algorithm_option(alloc, "MAC", macs, "The keyed function"),
+    )?;
+    with_key_options(alloc, command)?
+        .arg(length_option(
+            alloc,
+            "The tag's length in bytes: an HMAC's half or more [default: the whole], \
+             blake2b 1 to 64 [default: 64], blake2s 1 to 32 [default: 32], blake3 at least 1 [default: 32]",
+        ))?
+        .arg(file_argument(alloc, "FILE", "The file, - standard input [default: -]"))
+}
+
+// The two ways to give a key.
+fn with_key_options<'a>(alloc: Global, command: Command<'a>) -> Result<Command<'a>, AllocError>
+    ensures { IfOk result (λ c. app_of c ≡ with_rules (app_of command.entry)
+        (text_rule (codes "key") ∷ text_rule (codes "key-file") ∷ [])) }
+{
+    command
+        .arg(text_option(
+            alloc,
+            "key",
+            "HEX",
+            "The key in hexadecimal digits, which other users may see; --key-file keeps it to itself",
+        ))?
+        .arg(text_option(
+            alloc,
+            "key-file",
+            "F",
+            "The file whose bytes are the key, at most 65536 of them",
+        ))
+}
+
+fn kdf_command<'a>(alloc: Global, names: &'a [&'a str]) -> Result<Command<'a>, AllocError>
+    ensures { IfOk result (λ c. app_of c ≡ kdf_app names.entry) }
+{
+    let command = described(
+        alloc,
+        "kdf",
+        "Prints a derived key: HKDF's, or for blake3 its own derivation",
+    )
+    .arg(algorithm_option(alloc, "ALG", names, "The hash"))?
+    .arg(required(text_option(
+        alloc,
+        "ikm-file",
+        "F",
+        "The file whose bytes are the key material",
+    )))?;
+    with_derivation_options(alloc, command)?.arg(required(length_option(
+        alloc,
+        "The key's length in bytes: 1 to 255 times the hash's output, for blake3 at least 1",
+    )))
+}
+
+// What a derived key depends on beside the key material.
+fn with_derivation_options<'a>(
+    alloc: Global,
+    command: Command<'a>,
+) -> Result<Command<'a>, AllocError>
+    ensures { IfOk result (λ c. app_of c ≡ with_rules (app_of command.entry)
+        (text_rule (codes "salt") ∷ text_rule (codes "info") ∷ text_rule (codes "context") ∷ [])) }
+{
+    command
+        .arg(text_option(
+            alloc,
+            "salt",
+            "HEX",
+            "The salt in hexadecimal digits, not for blake3 [default: none]",
+        ))?
+        .arg(text_option(
+            alloc,
+            "info",
+            "HEX",
+            "The info in hexadecimal digits, not for blake3 [default: empty]",
+        ))?
+        .arg(text_option(
+            alloc,
+            "context",
+            "TEXT",
+            "The context, for blake3 alone, which needs it",
+        ))
+}
+
+fn check_command<'a>(alloc: Global, names: &'a [&'a str]) -> Result<Command<'a>, AllocError>
+    ensures { IfOk result (λ c. app_of c ≡ check_app names.entry) }
+{
+    described(
+        alloc,
+        "check",
+        "Checks the files of a list, and prints a line for each",
+    )
+    .arg(algorithm_option(alloc, "ALG", names, "The hash of the list"))?
+    .arg(required(file_argument(alloc, "LIST", "The list, - standard input")))
+}

@@ -1,0 +1,143 @@
+// What `hash` is to print of a file.
+
+ghost use Rattle.std.specs.Prelude.{◌≡◌, IfOk, option_map};
+ghost use Rattle.task.specs.Hashing as spec;
+ghost use Rattle.task.specs.Parameters.{Judges};
+ghost use Rattle.task.specs.Requested.{HasDigest, IsWithin, names_algorithm};
+
+use crate::fault::{Setting, TaskFault, UsageFault};
+use crate::parameters::{given_bytes, kind_of, needed, number, refused, sized};
+use crate::request::Request;
+use source::Alg;
+use std::alloc::Global;
+use sumlist::Kind;
+
+/// What is printed of a file: a digest, or bytes of BLAKE3's output.
+#[derive(Clone, Copy, Debug, PartialEq, Eq)]
+pub enum Requested {
+    Digest(Form),
+    Output(Stretch),
+}
+
+/// The form of a line: whose digest it has, and whether it names that algorithm.
+#[derive(Clone, Copy, Debug, PartialEq, Eq)]
+pub struct Form {
+    pub hash: Hash,
+    pub is_tagged: bool,
+}
+
+/// The hash of a digest: BLAKE2 with the digest's length, a salt and a personalization.
+#[derive(Clone, Copy, Debug, PartialEq, Eq)]
+pub enum Hash {
+    Plain(Alg),
+    Blake2b(usize, [u8; 16], [u8; 16]),
+    Blake2s(usize, [u8; 8], [u8; 8]),
+}
+
+/// Bytes of an output, from a position on: at least one, and none past position 2^64 - 1.
+#[derive(Clone, Copy, Debug, PartialEq, Eq)]
+pub struct Stretch {
+    pub position: u64,
+    pub length: u64,
+}
+
+impl Requested {
+    /// What a request of `hash` has printed, or the first fault of its settings.
+    pub(crate) fn of(alloc: Global, request: &Request<'_>) -> Result<Requested, TaskFault>
+        ensures judged { Judges (λ r. r) (spec.requested request.now) result }
+        ensures tag { IfOk result (λ asked. names_algorithm asked ≡ request.now.tag) }
+        ensures range { IfOk result HasDigest }
+    {
+        match kind_of(needed(Setting::Algorithm, request.algorithm)?)? {
+            Kind::Sha256 => Ok(sha(request, Alg::Sha256)?),
+            Kind::Sha512 => Ok(sha(request, Alg::Sha512)?),
+            Kind::Blake2b => with_blake2b(alloc, request),
+            Kind::Blake2s => with_blake2s(alloc, request),
+            Kind::Blake3 if request.tag => Ok(tagged_blake3(request)?),
+            Kind::Blake3 => Ok(Requested::Output(stretch_of(request)?)),
+        }
+    }
+}
+
+fn whole(hash: Hash, is_tagged: bool) -> Requested
+    ensures { result ≡ spec.whole hash is_tagged }
+{
+    Requested::Digest(Form { hash, is_tagged })
+}
+
+fn sha(request: &Request<'_>, alg: Alg) -> Result<Requested, UsageFault>
+    ensures { result ≡ spec.sha request.now alg }
+{
+    refused(Setting::Length, request.length)?;
+    refused(Setting::Seek, request.seek)?;
+    unsalted(request)?;
+    Ok(whole(Hash::Plain(alg), request.tag))
+}
+
+fn unsalted(request: &Request<'_>) -> Result<(), UsageFault>
+    ensures { result ≡ spec.no_salts request.now }
+{
+    refused(Setting::Salt, request.salt)?;
+    refused(Setting::Personal, request.personal)
+}
+
+fn with_blake2b(alloc: Global, request: &Request<'_>) -> Result<Requested, TaskFault>
+    ensures judged { Judges (λ r. r) (spec.blake2b_digest request.now) result }
+    ensures range { IfOk result HasDigest }
+{
+    refused(Setting::Seek, request.seek)?;
+    let length = number(Setting::Length, request.length, 64, 1, 64)? as usize;
+    let (salt, personal) = salts(alloc, request)?;
+    let salt = sized(Setting::Salt, salt)?;
+    let personal = sized(Setting::Personal, personal)?;
+    Ok(whole(Hash::Blake2b(length, salt, personal), request.tag))
+}
+
+fn with_blake2s(alloc: Global, request: &Request<'_>) -> Result<Requested, TaskFault>
+    ensures judged { Judges (λ r. r) (spec.blake2s_digest request.now) result }
+    ensures range { IfOk result HasDigest }
+{
+    refused(Setting::Seek, request.seek)?;
+    let length = number(Setting::Length, request.length, 32, 1, 32)? as usize;
+    let (salt, personal) = salts(alloc, request)?;
+    let salt = sized(Setting::Salt, salt)?;
+    let personal = sized(Setting::Personal, personal)?;
+    Ok(whole(Hash::Blake2s(length, salt, personal), request.tag))
+}
+
+// The bytes of the salt and of the personalization, where they were given. The digits of both are
+// judged before the length of either.
+fn salts(
+    alloc: Global,
+    request: &Request<'_>,
+) -> Result<(Option<Vec<u8>>, Option<Vec<u8>>), TaskFault>
+    ensures { Judges (λ s. (option_map (λ v. v.items) s.0, option_map (λ v. v.items) s.1))
+        (spec.salts request.now) result }
+{
+    let salt = given_bytes(alloc, Setting::Salt, request.salt)?;
+    let personal = given_bytes(alloc, Setting::Personal, request.personal)?;
+    Ok((salt, personal))
+}
+
+// The label of BLAKE3 stands for its first 32 bytes.
+fn tagged_blake3(request: &Request<'_>) -> Result<Requested, UsageFault>
+    ensures { result ≡ spec.tagged_blake3 request.now }
+{
+    unsalted(request)?;
+    number(Setting::Length, request.length, 32, 32, 32)?;
+    number(Setting::Seek, request.seek, 0, 0, 0)?;
+    Ok(whole(Hash::Plain(Alg::Blake3), true))
+}
+
+fn stretch_of(request: &Request<'_>) -> Result<Stretch, UsageFault>
+    ensures value { result ≡ spec.stretch_of request.now }
+    ensures ends { IfOk result IsWithin }
+{
+    unsalted(request)?;
+    let length = number(Setting::Length, request.length, 32, 1, u64::MAX)?;
+    let position = number(Setting::Seek, request.seek, 0, 0, u64::MAX)?;
+    if position > u64::MAX - length {
+        return Err(UsageFault::OutOfRange(Setting::Seek));
+    }
+    Ok(Stretch { position, length })
+}

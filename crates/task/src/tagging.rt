@@ -1,0 +1,85 @@
+// What `mac` is to print.
+
+ghost use Rattle.std.specs.Prelude.{◌≡◌, ◌-◌, ◌^◌, ◌≤◌, IfOk};
+ghost use Rattle.task.specs.Parameters.{Judges};
+ghost use Rattle.task.specs.Tagging as spec;
+
+use crate::fault::{Setting, TaskFault, UsageFault};
+use crate::parameters::{HmacHash, given_bytes, needed, number};
+use crate::request::Request;
+use std::alloc::Global;
+
+/// A keyed function, and the length in bytes of the tags that are printed.
+#[derive(Clone, Copy, Debug, PartialEq, Eq)]
+pub enum Mac {
+    /// HMAC over a hash, whose length is half of the hash's digest at least, and the whole at most.
+    Hmac(HmacHash, usize),
+    /// Keyed BLAKE2b, 1 to 64 bytes.
+    Blake2b(usize),
+    /// Keyed BLAKE2s, 1 to 32 bytes.
+    Blake2s(usize),
+    /// Keyed BLAKE3, at least one byte.
+    Blake3(u64),
+}
+
+/// A key.
+#[derive(Debug, Drop)]
+pub enum Key<'a> {
+    /// These bytes.
+    Given(Vec<u8>),
+    /// The bytes of the file of this name.
+    File(&'a str),
+}
+
+impl Mac {
+    /// The keyed function that a request of `mac` names, or the first fault of its settings.
+    pub(crate) fn of(request: &Request<'_>) -> Result<Mac, UsageFault>
+        ensures value { result ≡ spec.mac request.now }
+        ensures range { IfOk result spec.HasTag }
+    {
+        match needed(Setting::Algorithm, request.algorithm)? {
+            "hmac-sha256" => hmac(request, HmacHash::Sha256),
+            "hmac-sha512" => hmac(request, HmacHash::Sha512),
+            "hmac-blake2b" => hmac(request, HmacHash::Blake2b),
+            "hmac-blake2s" => hmac(request, HmacHash::Blake2s),
+            "blake2b" => Ok(Mac::Blake2b(tag_len(request, 64)? as usize)),
+            "blake2s" => Ok(Mac::Blake2s(tag_len(request, 32)? as usize)),
+            "blake3" => Ok(Mac::Blake3(number(Setting::Length, request.length, 32, 1, u64::MAX)?)),
+            _ => Err(UsageFault::OutOfRange(Setting::Algorithm)),
+        }
+    }
+}
+
+fn hmac(request: &Request<'_>, hash: HmacHash) -> Result<Mac, UsageFault>
+    ensures value { result ≡ spec.hmac request.now hash }
+    ensures range { IfOk result spec.HasTag }
+{
+    let whole = hash.digest_len();
+    let length = number(Setting::Length, request.length, whole, whole / 2, whole)?;
+    Ok(Mac::Hmac(hash, length as usize))
+}
+
+fn tag_len(request: &Request<'_>, most: u64) -> Result<u64, UsageFault>
+    requires low { 1 ≤ most }
+    requires high { most ≤ 2 ^ 64 - 1 }
+    ensures value { result ≡ spec.tag_len request.now 1 most }
+    ensures low { IfOk result (λ n. 1 ≤ n) }
+    ensures high { IfOk result (λ n. n ≤ most) }
+{
+    number(Setting::Length, request.length, most, 1, most)
+}
+
+impl<'a> Key<'a> {
+    /// The key of a request of `mac`, which gives it in one of the two ways. The digits of `--key`
+    /// are judged first.
+    pub(crate) fn of(alloc: Global, request: &Request<'a>) -> Result<Key<'a>, TaskFault>
+        ensures { Judges spec.key_shown (spec.key request.now) result }
+    {
+        let given = given_bytes(alloc, Setting::Key, request.key)?;
+        match (given, request.key_file) {
+            (Some(key), None) => Ok(Key::Given(key)),
+            (None, Some(name)) => Ok(Key::File(name)),
+            _ => Err(TaskFault::Usage(UsageFault::OneKey)),
+        }
+    }
+}

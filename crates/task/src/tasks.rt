@@ -1,0 +1,116 @@
+// What a run is to do.
+
+ghost use Rattle.std.specs.Prelude.{◌≡◌, IfOk};
+ghost use Rattle.task.specs.Parameters.{Judges, given, seen};
+ghost use Rattle.task.specs.Tasks as spec;
+ghost use Rattle.task.specs.Tasks.{IsPossible, asked, task_shown, texts_of};
+
+use crate::derivation::Derivation;
+use crate::fault::{Setting, TaskFault, UsageFault};
+use crate::hashing::Requested;
+use crate::parameters::{kind_of, needed};
+use crate::request::Request;
+use crate::tagging::{Key, Mac};
+use std::alloc::{AllocError, Global};
+use sumlist::Kind;
+
+/// What a run is to do. A name `-` of a file or a list is standard input; names are judged as they
+/// are used.
+#[derive(Debug, Drop)]
+pub enum Task<'a> {
+    /// Print this of each file, one at least.
+    Hash {
+        requested: Requested,
+        files: Vec<&'a str>,
+    },
+    /// Print the tag of a file under a key.
+    Mac {
+        mac: Mac,
+        key: Key<'a>,
+        file: &'a str,
+    },
+    /// Print the key that is derived of a file's bytes. Here `-` is a file.
+    Kdf {
+        derivation: Derivation<'a>,
+        material: &'a str,
+    },
+    /// Report on a list, whose untagged lines are of this hash.
+    Check {
+        kind: Kind,
+        list: &'a str,
+    },
+}
+
+impl<'a> Task<'a> {
+    /// The task that a request asks for, or what is wrong with the first of its settings: each
+    /// command has an order in which it judges them.
+    pub fn of(alloc: Global, request: Request<'a>) -> Result<Task<'a>, TaskFault>
+        ensures judged { Judges task_shown (asked request.entry) result }
+        ensures possible { IfOk result IsPossible }
+    {
+        match request.command {
+            "hash" => hash(alloc, request),
+            "mac" => mac(alloc, &request),
+            "kdf" => kdf(alloc, &request),
+            "check" => Ok(check(&request)?),
+            _ => Err(TaskFault::Usage(UsageFault::OutOfRange(Setting::Command))),
+        }
+    }
+}
+
+fn hash<'a>(alloc: Global, request: Request<'a>) -> Result<Task<'a>, TaskFault>
+    ensures judged { Judges task_shown (spec.hash request.entry) result }
+    ensures possible { IfOk result IsPossible }
+{
+    let requested = Requested::of(alloc, &request)?;
+    let files = names_of(request.files)?;
+    Ok(Task::Hash { requested, files })
+}
+
+// Without a file standard input is hashed.
+fn names_of<'a>(mut files: Vec<&'a str>) -> Result<Vec<&'a str>, AllocError>
+    ensures { IfOk result (λ names. texts_of names ≡ spec.names_of (texts_of files.entry)) }
+{
+    if files.is_empty() {
+        files.push("-")?;
+    }
+    Ok(files)
+}
+
+fn mac<'a>(alloc: Global, request: &Request<'a>) -> Result<Task<'a>, TaskFault>
+    ensures judged { Judges task_shown (spec.mac request.now) result }
+    ensures possible { IfOk result IsPossible }
+{
+    let mac = Mac::of(request)?;
+    let key = Key::of(alloc, request)?;
+    let file = file_of(request).unwrap_or("-");
+    Ok(Task::Mac { mac, key, file })
+}
+
+fn kdf<'a>(alloc: Global, request: &Request<'a>) -> Result<Task<'a>, TaskFault>
+    ensures judged { Judges task_shown (spec.kdf request.now) result }
+    ensures possible { IfOk result IsPossible }
+{
+    let derivation = Derivation::of(alloc, request)?;
+    let material = needed(Setting::IkmFile, request.ikm_file)?;
+    Ok(Task::Kdf {
+        derivation,
+        material,
+    })
+}
+
+fn check<'a>(request: &Request<'a>) -> Result<Task<'a>, UsageFault>
+    ensures judged { seen task_shown result ≡ spec.check request.now }
+    ensures possible { IfOk result IsPossible }
+{
+    let kind = kind_of(needed(Setting::Algorithm, request.algorithm)?)?;
+    let list = needed(Setting::List, file_of(request))?;
+    Ok(Task::Check { kind, list })
+}
+
+// The one file or list that was named.
+fn file_of<'a>(request: &Request<'a>) -> Option<&'a str>
+    ensures { given result ≡ spec.file_of request.now }
+{
+    request.files.first().copied()
+}
