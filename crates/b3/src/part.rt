@@ -65,10 +65,9 @@ impl Part {
         })
     }
 
-    /// The part of the bytes of two, one after the other. It is refused exactly where both have not
-    /// the same mode, where `left` has not a power of two of full chunks, p, and begins at a
-    /// multiple of 2 p, where `right` does not begin behind it, and where `right` has more than p
-    /// chunks; then both are handed back.
+    /// The part of the bytes of two, one after the other: `left` has p full chunks, where p is a
+    /// power of two, and begins at a multiple of 2 p; `right` is of the same mode, begins where
+    /// `left` ends, and has at most p chunks. Any other two are refused, and handed back.
     pub fn join(left: Part, right: Part) -> Result<Part, NotNeighbours>
         ensures neighbours { IsOk result ↔ (part_mode left ≡ part_mode right)
             × AreNeighbours (part_first left) (part_len left) (part_first right) (part_len right) }
