@@ -1,5 +1,6 @@
 -- Counting and cutting blocks: how many come before the last, and whole blocks as chunks.
-use Rattle.std.proofs.Common.{◌≡◌, ℕ, zero, suc, ◌+◌, ◌-◌, ◌*◌, ◌/◌, ◌<◌, ◌≤◌, List, length, take, drop, refl, sym, ap, ◌∙◌, arith, length-drop, add-zero}
+use Rattle.std.proofs.Common.{◌≡◌, ℕ, zero, suc, ◌+◌, ◌-◌, ◌*◌, ◌/◌, ◌<◌, ◌≤◌, List, length, take, drop, refl, sym, ap}
+use Rattle.std.proofs.Common.{◌∙◌, arith, length-drop, add-zero}
 use Rattle.std.proofs.lemmas.List.{take_all}
 use Rattle.std.proofs.lemmas.Nat.{div-mul-add}
 use Rattle.std.proofs.Math.Seq.{take-add}
@@ -17,7 +18,8 @@ concat_chunks n (suc k) xs h =
     rw (e, take-add n (n * k) xs, concat_chunks n k (drop n xs) (omega (arith, length-drop n xs))) refl
 
 -- the chunks of whole blocks, joined again
-pub whole_chunks : (n q : ℕ) (xs : List ℕ) (bs : List (List ℕ)) → 0 < n → length xs ≡ q * n → bs ≡ first_chunks n (length xs / n) xs → concat bs ≡ xs
+pub whole_chunks : (n q : ℕ) (xs : List ℕ) (bs : List (List ℕ)) → 0 < n → length xs ≡ q * n
+    → bs ≡ first_chunks n (length xs / n) xs → concat bs ≡ xs
 whole_chunks n q xs bs pos len e =
     let count : length xs / n ≡ q = rw (len, ← add-zero (q * n)) (div-mul-add q n 0 pos) in
     let all : n * q ≡ length xs = omega arith in

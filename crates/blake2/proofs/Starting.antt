@@ -1,5 +1,6 @@
 -- What a hasher starts with: the parameter block, and the key's block.
-use Rattle.std.proofs.Common.{◌≡◌, ℕ, ◌+◌, ◌-◌, ◌*◌, ◌/◌, ◌≤◌, ◌<◌, List, [], ◌∷◌, ◌++◌, length, take, drop, replicate, refl, sym, ap, ◌∙◌, arith, zero-add, suc, true, false}
+use Rattle.std.proofs.Common.{◌≡◌, ℕ, ◌+◌, ◌-◌, ◌*◌, ◌/◌, ◌≤◌, ◌<◌, List, [], ◌∷◌, ◌++◌, length, take, drop, replicate}
+use Rattle.std.proofs.Common.{refl, sym, ap, ◌∙◌, arith, zero-add, suc, true, false}
 use Rattle.std.specs.Prelude.{◌==◌}
 use Rattle.std.proofs.lemmas.Bool.Decides.{nat_tests}
 use Rattle.std.proofs.lemmas.List.{take-append-drop, drop-replicate, append-nil, take-replicate}
@@ -8,7 +9,8 @@ use Rattle.words.specs.Words.{padded}
 use Rattle.blake2.specs.Blake2.{block_len, key_block, parameter_block, input, salted, word_len}
 
 -- bytes that were written over the first of n zeros
-pub padded_from : (n : ℕ) (b y : List ℕ) → take (0 + length y) b ≡ y → drop (0 + length y) b ≡ drop (0 + length y) (replicate {A = ℕ} n 0) → b ≡ padded n y
+pub padded_from : (n : ℕ) (b y : List ℕ) → take (0 + length y) b ≡ y
+    → drop (0 + length y) b ≡ drop (0 + length y) (replicate {A = ℕ} n 0) → b ≡ padded n y
 padded_from n b y front rest =
     let zeros : drop (0 + length y) (replicate {A = ℕ} n 0) ≡ replicate {A = ℕ} (n - length y) 0 =
     drop-replicate {X = ℕ} (0 + length y) n 0 ∙ ap (λ (i : ℕ). replicate {A = ℕ} (n - i) 0) (zero-add (length y)) in
@@ -22,7 +24,8 @@ input_unkeyed k [] e = refl
 input_unkeyed k (x ∷ xs) e = absurd (grind (arith, nat_tests))
 
 -- under a key, it has the key's block
-pub input_keyed : (k : Variant) (key : List ℕ) (n : ℕ) → false ≡ (length key == 0) → n ≡ block_len k → padded n key ≡ input k key []
+pub input_keyed : (k : Variant) (key : List ℕ) (n : ℕ) → false ≡ (length key == 0) → n ≡ block_len k
+    → padded n key ≡ input k key []
 unfolding key_block
 input_keyed k [] n e w = cc
 input_keyed k (x ∷ xs) n e w = rw (w, append-nil) refl

@@ -1,6 +1,7 @@
 -- BLAKE2 (RFC 7693, 3.3) as a function of the whole input, once for both variants, with the salt and
 -- the personalization of its parameter block (the BLAKE2 paper, 2.5 and 2.8).
-use Rattle.std.specs.Prelude.{◌≡◌, ◌≤◌, ℕ, zero, suc, ◌+◌, ◌-◌, ◌*◌, ◌/◌, true, false, List, [], ◌∷◌, ◌++◌, length, take, drop, replicate, bit_xor, slice_index}
+use Rattle.std.specs.Prelude.{◌≡◌, ◌≤◌, ℕ, zero, suc, ◌+◌, ◌-◌, ◌*◌, ◌/◌, true, false, List, [], ◌∷◌, ◌++◌, length}
+use Rattle.std.specs.Prelude.{take, drop, replicate, bit_xor, slice_index}
 use Rattle.std.specs.Int.{byte_len}
 use Rattle.words.specs.Blake2.{compress}
 use Rattle.words.specs.Mix.{Variant}

@@ -96,7 +96,8 @@ impl<C: Chain<N>, const N: usize> Stream<C, N> {
             ≡ self.old.compressed + self.old.used + length piece.now }
         ensures held { (s p : List ℕ)
             → IsHeld C.variant s p (C.value self.old.chain) self.old.buffer self.old.used self.old.compressed
-            → IsHeld C.variant s (p ++ piece.now) (C.value self.new.chain) self.new.buffer self.new.used self.new.compressed }
+            → IsHeld C.variant s (p ++ piece.now) (C.value self.new.chain)
+            self.new.buffer self.new.used self.new.compressed }
     {
         // A full buffer stays open: only more input shows that its block is not the last.
         let space = N - self.used;

@@ -1,12 +1,14 @@
 -- Output keying material, written block by block: so far it is the beginning of all the blocks.
-use Rattle.std.proofs.Common.{◌≡◌, ℕ, zero, suc, ◌+◌, ◌-◌, ◌*◌, ◌<◌, ◌≤◌, min, List, [], ◌∷◌, ◌++◌, length, take, arith, refl, sym, ◌∙◌, ap, length-append, add-zero, add-suc}
+use Rattle.std.proofs.Common.{◌≡◌, ℕ, zero, suc, ◌+◌, ◌-◌, ◌*◌, ◌<◌, ◌≤◌, min, List, [], ◌∷◌, ◌++◌, length, take, arith}
+use Rattle.std.proofs.Common.{refl, sym, ◌∙◌, ap, length-append, add-zero, add-suc}
 use Rattle.std.proofs.Math.Nat.{suc-mul, zero-mul, lt_of_mul-lt-mul_right}
 use Rattle.std.proofs.Math.Seq.{take-append-add}
 use Rattle.std.proofs.lemmas.List.{take-append-le, take_all}
 use Rattle.kdf.specs.Hkdf.{expand_block, expand_blocks}
 
 -- so many bytes of out are written, from so many blocks of size bytes, of which block is the last
-pub record Written (prf : List ℕ → List ℕ) (info : List ℕ) (size : ℕ) (out : List ℕ) (filled counter : ℕ) (block : List ℕ) : Type 0 where
+pub record Written (prf : List ℕ → List ℕ) (info : List ℕ) (size : ℕ) (out : List ℕ) (filled counter : ℕ)
+    (block : List ℕ) : Type 0 where
   pub counted : counter ≤ 255
   pub blocks : length (expand_blocks prf info counter) ≡ counter * size
   pub place : filled ≡ min (counter * size) (length out)
@@ -16,7 +18,8 @@ pub record Written (prf : List ℕ → List ℕ) (info : List ℕ) (size : ℕ) 
 
 module _ (prf : List ℕ → List ℕ) (info : List ℕ) where
   -- more blocks are no shorter
-  pub length-expand_blocks : (n more : ℕ) → length (expand_blocks prf info n) ≤ length (expand_blocks prf info (n + more))
+  pub length-expand_blocks : (n more : ℕ)
+      → length (expand_blocks prf info n) ≤ length (expand_blocks prf info (n + more))
   unfolding expand_blocks
   length-expand_blocks n zero = rw add-zero (omega arith)
   length-expand_blocks n (suc more) =
@@ -32,7 +35,8 @@ module _ (prf : List ℕ → List ℕ) (info : List ℕ) where
   take-expand_blocks wanted n (suc more) fits =
       let longer = length-expand_blocks n more in
       let fits' : wanted ≤ length (expand_blocks prf info (n + more)) = omega arith in
-      rw add-suc (take-append-le wanted (expand_blocks prf info (n + more)) _ fits' ∙ take-expand_blocks wanted n more fits)
+      rw add-suc (take-append-le wanted (expand_blocks prf info (n + more)) _ fits'
+      ∙ take-expand_blocks wanted n more fits)
 
   -- at first nothing is written
   pub written_none : (size : ℕ) (out : List ℕ) → Written prf info size out 0 0 []
@@ -48,7 +52,8 @@ module _ (prf : List ℕ → List ℕ) (info : List ℕ) where
         short = omega arith;
       }
 
-  module _ (size : ℕ) (out : List ℕ) (filled counter : ℕ) (block : List ℕ) (w : Written prf info size out filled counter block) where
+  module _ (size : ℕ) (out : List ℕ) (filled counter : ℕ) (block : List ℕ)
+      (w : Written prf info size out filled counter block) where
     -- where not all is written, all blocks so far are, and there is a number for one more
     pub written_next : filled < length out → length out ≤ 255 * size → counter < 255
     written_next more fits =
@@ -64,7 +69,8 @@ module _ (prf : List ℕ → List ℕ) (info : List ℕ) where
     unfolding expand_blocks expand_block
     written_more after next taken more fits made whole count same written =
         let blocks = expand_blocks prf info counter in
-        let last : next ≡ expand_block prf info (suc counter) = made ∙ ap (λ b. prf (b ++ info ++ suc counter ∷ [])) w.last in
+        let last : next ≡ expand_block prf info (suc counter) = made
+        ∙ ap (λ b. prf (b ++ info ++ suc counter ∷ [])) w.last in
         let one : length (expand_block prf info (suc counter)) ≡ size = sym (ap length last) ∙ whole in
         let all = length-append blocks (expand_block prf info (suc counter)) in
         let product = suc-mul counter size in

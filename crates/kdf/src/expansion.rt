@@ -1,6 +1,7 @@
 // HKDF-Expand: keying material of any length from a pseudorandom key.
 
-ghost use Rattle.std.specs.Prelude.{◌≡◌, ◌<◌, ◌≤◌, ◌+◌, ◌-◌, ◌*◌, ◌↔◌, [], ◌∷◌, ◌++◌, length, min, take, IsOk, OnOk, OnErr, IsErrOf};
+ghost use Rattle.std.specs.Prelude.{◌≡◌, ◌<◌, ◌≤◌, ◌+◌, ◌-◌, ◌*◌, ◌↔◌, [], ◌∷◌, ◌++◌, length, min, take, IsOk, OnOk};
+ghost use Rattle.std.specs.Prelude.{OnErr, IsErrOf};
 ghost use Rattle.mac.specs.Hmac.{hmac};
 ghost use Rattle.kdf.specs.Hkdf as spec;
 

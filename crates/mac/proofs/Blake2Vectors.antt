@@ -11,5 +11,6 @@ pub hmac_blake2s-short_key : hmac (blake2 blake2s (unsalted blake2s 32 [])) 64 (
     (codes "what do ya want for nothing?") ≡
     0x90 ∷ 0xb6 ∷ 0x28 ∷ 0x1e ∷ 0x2f ∷ 0x30 ∷ 0x38 ∷ 0xc9 ∷ 0x05 ∷ 0x6a ∷ 0xf0 ∷ 0xb4 ∷ 0xa7 ∷ 0xe7 ∷ 0x63 ∷ 0xca ∷
     0xe6 ∷ 0xfe ∷ 0x5d ∷ 0x9e ∷ 0xb4 ∷ 0x38 ∷ 0x6a ∷ 0x0e ∷ 0xc9 ∷ 0x52 ∷ 0x37 ∷ 0x89 ∷ 0x0c ∷ 0x10 ∷ 0x4f ∷ 0xf0 ∷ []
-unfolding g g_at round rounds compress words word_bytes block_len block_count start key_block chain final_value blake2 hmac_of_block_key block_sized_key
+unfolding g g_at round rounds compress words word_bytes block_len block_count start key_block chain final_value blake2
+    hmac_of_block_key block_sized_key
 hmac_blake2s-short_key = refl

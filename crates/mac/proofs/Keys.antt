@@ -19,10 +19,13 @@ take-padded n limit xs short fits =
 pub block_sized_key-short : (hash : List ℕ → List ℕ) (n limit : ℕ) (key : List ℕ) → length key ≤ n → n ≤ limit
     → take n (padded limit key) ≡ block_sized_key hash n key
 unfolding block_sized_key
-block_sized_key-short hash n limit key short fits = rw (le-ltb n (length key) short) (take-padded n limit key short fits)
+block_sized_key-short hash n limit key short fits =
+    rw (le-ltb n (length key) short) (take-padded n limit key short fits)
 
 -- a longer key
-pub block_sized_key-long : (hash : List ℕ → List ℕ) (n limit : ℕ) (key : List ℕ) → n < length key → length (hash key) ≤ n → n ≤ limit
+pub block_sized_key-long : (hash : List ℕ → List ℕ) (n limit : ℕ) (key : List ℕ) → n < length key
+    → length (hash key) ≤ n → n ≤ limit
     → take n (padded limit (hash key)) ≡ block_sized_key hash n key
 unfolding block_sized_key
-block_sized_key-long hash n limit key long digest fits = rw (lt-ltb n (length key) long) (take-padded n limit (hash key) digest fits)
+block_sized_key-long hash n limit key long digest fits =
+    rw (lt-ltb n (length key) long) (take-padded n limit (hash key) digest fits)

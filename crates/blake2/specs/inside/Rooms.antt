@@ -6,7 +6,8 @@ use Rattle.words.specs.Blake2.{blake2b, blake2s}
 use Rattle.words.specs.Mix.{Variant}
 use Rattle.blake2.specs.Blake2.{Parameters, block_len, from_list, key_block, listed, message_limit}
 use Rattle.blake2.specs.inside.Held.{HoldsMessage, IsHeld}
-use Rattle.blake2.specs.inside.Hashers.{Holds2b, Holds2s, hasher_parameters, parameters_2b, parameters_2s, room_left_2b, room_left_2s}
+use Rattle.blake2.specs.inside.Hashers.{Holds2b, Holds2s, hasher_parameters, parameters_2b, parameters_2s, room_left_2b}
+use Rattle.blake2.specs.inside.Hashers.{room_left_2s}
 use Rattle.blake2.specs.inside.Listed.{read_back}
 use Rattle.blake2.specs.declared.blake2b.Blake2b.{Blake2b}
 use Rattle.blake2.specs.declared.blake2s.Blake2s.{Blake2s}
@@ -17,7 +18,11 @@ pub limit_of_key : (k : Variant) (most n : ℕ) (key : List ℕ) → n ≡ block
 unfolding key_block
 limit_of_key k most n [] block fits = omega arith
 limit_of_key k most n (x ∷ xs) block fits =
-    omega (arith, length-append (x ∷ xs) (replicate {A = ℕ} (block_len k - length (x ∷ xs)) 0), length-replicate {A = ℕ} (block_len k - length (x ∷ xs)) 0)
+    omega (
+      arith,
+      length-append (x ∷ xs) (replicate {A = ℕ} (block_len k - length (x ∷ xs)) 0),
+      length-replicate {A = ℕ} (block_len k - length (x ∷ xs)) 0,
+    )
 
 -- what a message leaves of the limit, where a hasher holds it
 pub room_of : (k : Variant) (p : Parameters) (h b : List ℕ) (used compressed most n : ℕ) (m : List ℕ) → n ≡ block_len k

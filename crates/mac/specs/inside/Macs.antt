@@ -14,6 +14,7 @@ module _ {H : Type 0} where
 
   -- the inner hash has taken the key xored with ipad and then the text, and its room is what is left
   -- of the limit less that block
-  pub record IsMacOf (holds : H → List ℕ → Type 0) (room_left : H → ℕ) (n limit : ℕ) (mac : Hmac H) (text : List ℕ) : Type 0 where
+  pub record IsMacOf (holds : H → List ℕ → Type 0) (room_left : H → ℕ) (n limit : ℕ) (mac : Hmac H)
+      (text : List ℕ) : Type 0 where
     pub inner : holds (mac_hasher mac) (xored 0x36 (mac_key n mac) ++ text)
     pub room : room_left (mac_hasher mac) + length text ≡ limit - n

@@ -7,5 +7,8 @@ returns-then-is_empty g c =
 
 pub returns : goal.returns
 returns g c =
-    rw (← input_keyed g.C.Chain.variant c.args.key.now g.row.N c.if-is_empty.ensures g.met.C.Chain.block, ← c.padded_block-block.ensures)
+    rw (
+      ← input_keyed g.C.Chain.variant c.args.key.now g.row.N c.if-is_empty.ensures g.met.C.Chain.block,
+      ← c.padded_block-block.ensures,
+    )
     (c.update.ensures.held _ _ c.empty_stream-stream.ensures.held)

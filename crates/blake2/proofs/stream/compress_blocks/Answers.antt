@@ -17,8 +17,11 @@ blocks-2-preserved g c = record {
   chained = λ s p n unmarked e begun held.
       let w : g.row.N ≡ block_len g.C.Chain.variant = g.met.C.Chain.block in
       let steps : c.args.step * c.blocks-2.block-index ≡ g.row.N * c.blocks-2.block-index = rw e refl in
-      let split : (n + c.blocks-2.block-index) * g.row.N ≡ g.row.N * n + g.row.N * c.blocks-2.block-index = omega arith in
-      IsChained_more g.C.Chain.variant s p _ _ c.block-item.result c.args.blocks.now n c.blocks-2.block-index (c.blocks-2.count + c.args.step)
-      (c.blocks-2.invariant.chained s p n unmarked e begun held) (omega arith) c.block-item.is (rw (← w) c.compress.ensures.whole)
+      let split : (n + c.blocks-2.block-index) * g.row.N ≡ g.row.N * n + g.row.N * c.blocks-2.block-index =
+      omega arith in
+      IsChained_more g.C.Chain.variant s p _ _ c.block-item.result c.args.blocks.now n c.blocks-2.block-index
+      (c.blocks-2.count + c.args.step)
+      (c.blocks-2.invariant.chained s p n unmarked e begun held) (omega arith) c.block-item.is
+      (rw (← w) c.compress.ensures.whole)
       (rw (← w) (omega arith)) (rw unmarked at c.compress.ensures.value);
 }

@@ -15,5 +15,6 @@ invariant-blocks-2 g l = record {
       (words (word_len g.C.Chain.variant) 16 b) (l.compressed + l.step) l.last);
   chained : (s p : List ℕ) (n : ℕ) → l.last ≡ false → l.step ≡ g.row.N → l.compressed ≡ g.row.N * n
       → IsChained g.C.Chain.variant s p (g.C.Chain.value l.fn.chain) n
-      → IsChained g.C.Chain.variant s (p ++ concat (take l.block-index l.blocks)) (g.C.Chain.value l.chain) (n + l.block-index);
+      → IsChained g.C.Chain.variant s (p ++ concat (take l.block-index l.blocks)) (g.C.Chain.value l.chain)
+      (n + l.block-index);
 }
