@@ -41,7 +41,7 @@ pub(crate) fn line_of(alloc: Global, entry: &Entry) -> Result<String, Fail> {
 
 // A name, what stands before the digits of its line, and what stands after them. These are the
 // forms that coreutils' `sha256sum` and `b2sum` write; the name with a CR is b3sum's from 1.8 on.
-pub(crate) const NAMES: [(&str, &str, &str); 12] = [
+pub(crate) const NAMES: &[(&str, &str, &str)] = &[
     ("abc.txt", "", "  abc.txt\n"),
     ("a b", "", "  a b\n"),
     (" a", "", "   a\n"),

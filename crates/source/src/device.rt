@@ -1,16 +1,18 @@
 // A reader or a writer of std as a feed or a sink.
 
-ghost use Rattle.std.specs.Prelude.{◌≡◌, None, length, IfOk, OnOk};
+ghost use Rattle.std.specs.Prelude.{◌≡◌, Err, None, Ok, length, IfOk, MatchResult, OnOk};
 ghost use Rattle.std.specs.Io.KnownBytes.{Appends, ReadConsumes};
-ghost use Rattle.source.specs.Counts.{next_count};
+ghost use Rattle.source.specs.Counts.{CountsFailure};
 ghost use Rattle.source.specs.Read.{IsRead};
 ghost use Rattle.source.specs.Written.{IsWrite};
 
 use crate::{Feed, ReadFailed, Sink, WriteFailed};
+use std::io;
 use std::io::{Read, Write};
 
 /// A reader or a writer, as a file or a standard stream. It tells neither what is still to come nor
-/// what was written; what its reader or writer itself tells, each read and write keeps to.
+/// what was written; what its reader or writer itself tells, each read and write keeps to. A read is
+/// one read of the reader, and a fault of any kind is a failure: an interrupted one is not repeated.
 #[derive(Drop)]
 pub struct Device<R> {
     inner: R,
@@ -35,11 +37,19 @@ impl<R> Device<R> {
         self.inner
     }
 
-    fn count_failure(&mut self)
-        ensures counted { device_failures self.new ≡ next_count (device_failures self.old) }
+    // Hands on what the reader or writer answered, and counts a fault, of any kind, as this failure.
+    fn counted<T, E: Drop>(&mut self, answer: io::Result<T>, failure: E) -> Result<T, E>
+        ensures answer { MatchResult answer (λ given. result ≡ Ok given) (λ _. result ≡ Err failure) }
+        ensures counted { CountsFailure answer (device_failures self.old) (device_failures self.new) }
         ensures inner { device_inner self.new ≡ device_inner self.old }
     {
-        self.failures = self.failures.saturating_add(1);
+        match answer {
+            Ok(given) => Ok(given),
+            Err(_) => {
+                self.failures = self.failures.saturating_add(1);
+                Err(failure)
+            }
+        }
     }
 }
 
@@ -58,13 +68,8 @@ impl<R: Read> Feed for Device<R> {
         ensures reader { ReadConsumes (R.remaining (device_inner self.old))
             (R.remaining (device_inner self.new)) result buf.new }
     {
-        match self.inner.read(buf) {
-            Ok(count) => Ok(count),
-            Err(_) => {
-                self.count_failure();
-                Err(ReadFailed)
-            }
-        }
+        let answer = self.inner.read(buf);
+        self.counted(answer, ReadFailed)
     }
 
     fn failures(&self) -> u64 {
@@ -89,12 +94,8 @@ impl<W: Write> Sink for Device<W> {
         ensures writer { OnOk result (Appends (W.contents (device_inner self.old))
             (W.contents (device_inner self.new)) bytes.now) }
     {
-        match self.inner.write_all(bytes) {
-            Ok(()) => Ok(bytes.len()),
-            Err(_) => {
-                self.count_failure();
-                Err(WriteFailed)
-            }
-        }
+        let answer = self.inner.write_all(bytes);
+        self.counted(answer, WriteFailed)?;
+        Ok(bytes.len())
     }
 }

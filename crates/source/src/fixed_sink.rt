@@ -1,6 +1,6 @@
 // A slice as a sink.
 
-ghost use Rattle.std.specs.Prelude.{◌≡◌, ◌≤◌, ◌<◌, ◌+◌, ◌↔◌, [], Some, length, min, IsErr, IfOk, OnErr};
+ghost use Rattle.std.specs.Prelude.{◌≡◌, ◌≤◌, ◌<◌, ◌+◌, ◌↔◌, [], Some, drop, length, min, IsErr, IfOk, OnErr};
 ghost use Rattle.source.specs.Written.{IsWrite};
 
 use crate::{Sink, WriteFailed};
@@ -16,13 +16,14 @@ pub struct FixedSink<'a> {
 }
 
 impl<'a> FixedSink<'a> {
-    ghost use Rattle.source.specs.FixedSink.{fixed_room};
+    ghost use Rattle.source.specs.FixedSink.{fixed_rest, fixed_room};
 
     /// A sink with room for as many bytes as `buffer` has, and none written.
     pub fn new(buffer: &'a mut [u8]) -> FixedSink<'a>
         ensures empty { (⟦<FixedSink<'a> as Sink>⟧.shown result).contents ≡ Some [] }
         ensures fresh { (⟦<FixedSink<'a> as Sink>⟧.shown result).failures ≡ 0 }
         ensures room { fixed_room result ≡ length buffer.entry.now }
+        ensures rest { fixed_rest result ≡ buffer.entry.now }
     {
         FixedSink {
             buffer,
@@ -40,7 +41,7 @@ impl<'a> FixedSink<'a> {
 }
 
 impl<'a> Sink for FixedSink<'a> {
-    ghost use Rattle.source.specs.FixedSink.{fixed_room, fixed_shown};
+    ghost use Rattle.source.specs.FixedSink.{fixed_rest, fixed_room, fixed_shown};
 
     ghost shown = { λ s. fixed_shown s };
 
@@ -53,6 +54,10 @@ impl<'a> Sink for FixedSink<'a> {
         ensures takes { IfOk result (λ n. n ≡ min (fixed_room self.old) (length bytes.now)) }
         ensures room { IfOk result (λ n. fixed_room self.new + n ≡ fixed_room self.old) }
         ensures room_kept { OnErr result (fixed_room self.new ≡ fixed_room self.old) }
+
+        // What stands in the slice behind the bytes written stays, but for those that were taken.
+        ensures rest { IfOk result (λ n. fixed_rest self.new ≡ drop n (fixed_rest self.old)) }
+        ensures rest_kept { OnErr result (fixed_rest self.new ≡ fixed_rest self.old) }
     {
         let count = (self.buffer.len() - self.len).min(bytes.len());
         if count == 0 && !bytes.is_empty() {

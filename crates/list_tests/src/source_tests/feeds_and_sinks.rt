@@ -80,6 +80,14 @@ fn a_fixed_sink_takes_what_fits(rt: HostRuntime) {
 }
 
 #[test]
+fn a_fixed_sink_leaves_the_rest_of_its_slice(rt: HostRuntime) {
+    let mut buffer = [7; 4];
+    let mut sink = FixedSink::new(&mut buffer);
+    assert_eq!(rt; sink.write(b"ab"), Ok(2));
+    assert_eq!(rt; buffer, [b'a', b'b', 7, 7]);
+}
+
+#[test]
 fn a_text_is_written_whole_or_a_beginning_of_it(rt: HostRuntime) {
     for room in 0..8 {
         let mut buffer = [0; 8];
@@ -138,6 +146,56 @@ fn a_device_counts_a_read_that_fails_in_mid_stream(rt: HostRuntime) -> Result<()
     assert_eq!(rt; take_all(&mut whole, &mut [0; 3], &mut out)?, 0);
     assert_eq!(rt; out.written(), b"0123456789".as_slice());
     Ok(())
+}
+
+// Counts its reads or writes, of which each odd one is interrupted.
+#[derive(Drop)]
+struct Interrupted {
+    calls: u64,
+}
+
+impl Interrupted {
+    fn answer(&mut self, len: usize) -> io::Result<usize> {
+        self.calls = self.calls.wrapping_add(1);
+        if self.calls % 2 == 1 {
+            return Err(io::Error::from(ErrorKind::Interrupted));
+        }
+        Ok(len)
+    }
+}
+
+impl Read for Interrupted {
+    fn read(&mut self, buf: &mut [u8]) -> io::Result<usize> {
+        self.answer(buf.len())
+    }
+}
+
+impl Write for Interrupted {
+    fn write(&mut self, bytes: &[u8]) -> io::Result<usize> {
+        self.answer(bytes.len())
+    }
+
+    fn flush(&mut self) -> io::Result<()> {
+        Ok(())
+    }
+}
+
+// A reader is asked once a read, so an interrupted read is a failure.
+#[test]
+fn a_device_does_not_repeat_an_interrupted_read(rt: HostRuntime) {
+    let mut feed = Device::new(Interrupted { calls: 0 });
+    assert_eq!(rt; feed.read(&mut [0; 4]), Err(ReadFailed));
+    assert_eq!(rt; feed.failures(), 1);
+    assert_eq!(rt; feed.read(&mut [0; 4]), Ok(4));
+    assert_eq!(rt; feed.into_inner().calls, 2);
+}
+
+// An interrupted write is repeated, as `write_all` of std does.
+#[test]
+fn a_device_repeats_an_interrupted_write(rt: HostRuntime) {
+    let mut sink = Device::new(Interrupted { calls: 0 });
+    assert_eq!(rt; sink.write(b"ab"), Ok(2));
+    assert_eq!(rt; sink.into_inner().calls, 2);
 }
 
 // Takes one byte of a write, and none of the third; a fourth fails.

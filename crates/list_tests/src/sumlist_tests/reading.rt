@@ -324,7 +324,7 @@ fn written_entries_are_read_back(rt: HostRuntime) -> Result<(), Fail> {
         (Kind::Blake2b, Alg::Blake2b(1), BLAKE2B_8_EMPTY),
         (Kind::Blake3, Alg::Blake3, SHA256_ABC),
     ];
-    for (name, ..) in NAMES {
+    for &(name, ..) in NAMES {
         for (kind, alg, digits) in cases {
             let entry = entry_of(alloc, alg, digits, name)?;
             let line = line_of(alloc, &entry)?;

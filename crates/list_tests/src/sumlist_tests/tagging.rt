@@ -68,7 +68,7 @@ fn entries_are_written_tagged_and_read_back(rt: HostRuntime) -> Result<(), Fail>
         (Alg::Blake3, SHA256_ABC, "BLAKE3"),
     ];
     for (alg, digits, label) in cases {
-        for (name, lead, end) in NAMES {
+        for &(name, lead, end) in NAMES {
             let entry = entry_of(alloc, alg, digits, name)?;
             let mut out = VecSink::new(alloc);
             write_tagged(&entry, &mut out).map_err(|_| "write")?;

@@ -8,7 +8,7 @@ use sumlist::{Entry, EntryFault, WriteFault, fits, write_end, write_entry, write
 #[test]
 fn names_are_written_in_their_escaped_form(rt: HostRuntime) -> Result<(), Fail> {
     let alloc = rt.alloc();
-    for (name, lead, end) in NAMES {
+    for &(name, lead, end) in NAMES {
         let mut out = VecSink::new(alloc);
         write_lead(name, &mut out).map_err(|_| "write")?;
         assert_eq!(rt; out.written(), lead.as_bytes(), "lead of {name:?}");
