@@ -1,6 +1,8 @@
 // What can go wrong in a run: the texts, and the statuses.
 
 ghost use Rattle.std.specs.Prelude.{◌≡◌};
+ghost use Rattle.command.specs.Statuses.{status_of};
+ghost use Rattle.command.specs.inside.Faults as spec;
 ghost use Rattle.command.specs.inside.Faults.{of_task};
 ghost use Rattle.command.specs.declared.fault.Fault.TheVariants.{CannotWrite, OutOfMemory};
 
@@ -34,7 +36,9 @@ pub enum Fault<'a> {
 
 impl<'a> Fault<'a> {
     /// The fault of a file that did not open.
-    pub(crate) fn of_open(fault: OpenFault, name: &'a str) -> Fault<'a> {
+    pub(crate) fn of_open(fault: OpenFault, name: &'a str) -> Fault<'a>
+        ensures { result ≡ spec.of_open fault name.entry }
+    {
         match fault {
             OpenFault::Missing | OpenFault::Failed => Fault::CannotRead(name),
             OpenFault::OutOfMemory => Fault::OutOfMemory,
@@ -42,7 +46,9 @@ impl<'a> Fault<'a> {
     }
 
     /// The fault of a file that was not read to its end.
-    pub(crate) fn of_source(fault: SourceFault, name: &'a str) -> Fault<'a> {
+    pub(crate) fn of_source(fault: SourceFault, name: &'a str) -> Fault<'a>
+        ensures { result ≡ spec.of_source fault name.entry }
+    {
         match fault {
             SourceFault::Read => Fault::CannotRead(name),
             SourceFault::TooLong => Fault::TooLong(name),
@@ -50,7 +56,9 @@ impl<'a> Fault<'a> {
     }
 
     /// The status of a run that ends with it.
-    pub(crate) fn status(&self) -> u8 {
+    pub(crate) fn status(&self) -> u8
+        ensures { result ≡ status_of self.now }
+    {
         match self {
             Fault::CannotRead(_) | Fault::TooLong(_) | Fault::BadName(_) => 1,
             Fault::Usage(_) | Fault::KeyFileTooLong | Fault::KeyLength => 2,
@@ -131,7 +139,9 @@ pub fn write_text<W: Sink, D: Display>(out: &mut W, value: &D) -> Result<(), Wri
 }
 
 /// Tells a fault on standard error, which may drop it, and answers its status.
-pub fn tell<E: Sink>(err: &mut E, fault: Fault<'_>) -> u8 {
+pub fn tell<E: Sink>(err: &mut E, fault: Fault<'_>) -> u8
+    ensures { result ≡ status_of fault.entry }
+{
     let _ = write!(SinkText(err), "sums: {fault}\n");
     fault.status()
 }

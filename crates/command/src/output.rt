@@ -1,7 +1,9 @@
 // What a command prints: digits, and lines that end in a name.
 
-ghost use Rattle.std.specs.Prelude.{◌+◌, ◌-◌, ◌^◌, ◌≤◌};
+ghost use Rattle.std.specs.Prelude.{◌≡◌, ◌+◌, ◌-◌, ◌^◌, ◌≤◌, MatchResult};
 ghost use Rattle.b3.specs.inside.Output.{output_position};
+ghost use Rattle.command.specs.declared.fault.Fault.TheVariants.{BadName};
+ghost use Rattle.sumlist.specs.Entry.{Fits};
 
 use crate::fault::Fault;
 use b3::Output;
@@ -12,7 +14,10 @@ use sumlist::{fits, write_end, write_lead};
 const PIECE: usize = 4096;
 
 /// Refuses a name that cannot stand after so many digits.
-pub(crate) fn named(digits: usize, name: &str) -> Result<(), Fault<'_>> {
+pub(crate) fn named(digits: usize, name: &str) -> Result<(), Fault<'_>>
+    ensures { MatchResult result (λ _. Fits digits name.entry.now)
+        (λ fault. (fault ≡ BadName name.entry) × (Fits digits name.entry.now → ⊥)) }
+{
     if fits(digits, name) {
         Ok(())
     } else {

@@ -1,5 +1,9 @@
 // The command `check`: the report on a list.
 
+ghost use Rattle.std.specs.Prelude.{◌≡◌};
+ghost use Rattle.command.specs.inside.Faults as spec;
+ghost use Rattle.command.specs.inside.Faults.{of_check};
+
 use crate::fault::Fault;
 use crate::session::{Session, opened_or};
 use source::{Feed, Sink};
@@ -16,7 +20,9 @@ impl<'i, 't, 'o, L: Feed, T: Tree, W: Sink> Session<'i, 't, 'o, L, T, W> {
     }
 }
 
-fn status_of(answer: Result<Summary, CheckFault>, name: &str) -> Result<u8, Fault<'_>> {
+fn status_of(answer: Result<Summary, CheckFault>, name: &str) -> Result<u8, Fault<'_>>
+    ensures { result ≡ of_check answer name.entry }
+{
     match answer {
         Ok(summary) if is_clean(&summary) => Ok(0),
         Ok(_) => Ok(1),
@@ -27,7 +33,9 @@ fn status_of(answer: Result<Summary, CheckFault>, name: &str) -> Result<u8, Faul
     }
 }
 
-fn is_clean(summary: &Summary) -> bool {
+fn is_clean(summary: &Summary) -> bool
+    ensures { result ≡ spec.is_clean summary.now }
+{
     summary.failed == 0
         && summary.missing == 0
         && summary.unreadable == 0

@@ -1,6 +1,6 @@
 // What a run reads and writes.
 
-ghost use Rattle.std.specs.Prelude.{◌≡◌, IfSome, OnOk};
+ghost use Rattle.std.specs.Prelude.{◌≡◌, ◌↔◌, IfOk, IfSome, None, OnOk, codes};
 ghost use Rattle.source.specs.Pumped.{Appended};
 
 use crate::fault::Fault;
@@ -85,7 +85,9 @@ pub(crate) fn absorb_feed<'n, A: Absorb, F: Feed>(
 
 impl<'i, 't, 'o, L: Feed, T: Tree, W: Sink> Session<'i, 't, 'o, L, T, W> {
     /// Opens the file of this name; `-` is no file, but standard input.
-    pub(crate) fn open<'n>(&mut self, name: &'n str) -> Result<Option<T::F>, Fault<'n>> {
+    pub(crate) fn open<'n>(&mut self, name: &'n str) -> Result<Option<T::F>, Fault<'n>>
+        ensures { IfOk result (λ file. (file ≡ None) ↔ (name.entry.now ≡ codes "-")) }
+    {
         if name == "-" {
             return Ok(None);
         }

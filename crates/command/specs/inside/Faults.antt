@@ -1,9 +1,43 @@
--- The fault of a run that ends before it begins.
+-- The fault of a run that goes no further, by what stopped it.
+use Rattle.std.specs.Prelude.{◌==◌, ◌&&◌, ℕ, Bool, Result, Ok, Err, if◌then◌else◌}
+use Rattle.std.specs.Borrow.{Bor}
+use Rattle.clap.specs.Words.{Text}
+use Rattle.source.specs.declared.pumping.SourceFault.{SourceFault}
+use Rattle.source.specs.declared.pumping.SourceFault.TheVariants as source
+use Rattle.sumlist.specs.declared.checking.CheckFault.{CheckFault}
+use Rattle.sumlist.specs.declared.checking.CheckFault.TheVariants as check
+use Rattle.sumlist.specs.declared.summary.Summary.{Summary}
+use Rattle.sumlist.specs.declared.tree.OpenFault.{OpenFault}
+use Rattle.sumlist.specs.declared.tree.OpenFault.TheVariants as opening
 use Rattle.task.specs.declared.fault.TaskFault.{TaskFault}
 use Rattle.task.specs.declared.fault.TaskFault.TheVariants as task
 use Rattle.command.specs.declared.fault.Fault.{Fault}
-use Rattle.command.specs.declared.fault.Fault.TheVariants.{OutOfMemory, Usage}
+use Rattle.command.specs.declared.fault.Fault.TheVariants.{CannotRead, CannotWrite, OutOfMemory, TooLong, Usage}
 
+-- the request makes no task
 abbrev pub of_task : TaskFault → Fault
 of_task (task.Usage fault) = Usage fault
 of_task task.OutOfMemory = OutOfMemory
+
+-- a file of this name did not open
+abbrev pub of_open : OpenFault → Bor Text → Fault
+of_open opening.Missing name = CannotRead name
+of_open opening.Failed name = CannotRead name
+of_open opening.OutOfMemory name = OutOfMemory
+
+-- it was not read to its end
+abbrev pub of_source : SourceFault → Bor Text → Fault
+of_source source.Read name = CannotRead name
+of_source source.TooLong name = TooLong name
+
+-- each line of a list that is not skipped is OK
+abbrev pub is_clean : Summary → Bool
+is_clean s = s.failed == 0 && s.missing == 0 && s.unreadable == 0 && s.too_long == 0 && s.malformed == 0
+
+-- the end of a check of the list of this name: its status, or its fault
+abbrev pub of_check : Result Summary CheckFault → Bor Text → Result ℕ Fault
+of_check (Ok summary) name = Ok (if is_clean summary then 0 else 1)
+of_check (Err check.ListRead) name = Err (CannotRead name)
+of_check (Err check.ListTooLong) name = Err (TooLong name)
+of_check (Err check.Write) name = Err CannotWrite
+of_check (Err check.OutOfMemory) name = Err OutOfMemory
