@@ -8,7 +8,7 @@ ghost use Rattle.task.specs.CommandLine.{number_rule, required_rule, text_rule};
 use clap::{Arg, ArgAction, value_parser};
 use std::alloc::Global;
 
-/// `-a VALUE`, one of the names, which has to be there.
+/// `-a VALUE`, one of the names, which has to be there. The help tells the names.
 pub(crate) fn algorithm_option<'a>(
     alloc: Global,
     value: &'a str,
@@ -23,6 +23,7 @@ pub(crate) fn algorithm_option<'a>(
         .value_name(value)
         .help(help)
         .required(true)
+        .hide_possible_values(true)
         .value_parser(names)
 }
 

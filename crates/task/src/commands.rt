@@ -11,6 +11,8 @@ use crate::arguments::{
 use clap::Command;
 use std::alloc::{AllocError, Global};
 
+const HASHES: &str = "The hash: sha256, sha512, blake2b, blake2s or blake3";
+
 const STATUSES: &str = "\
 Status:
   0  all is done, and every line of a list that is not skipped is OK
@@ -50,22 +52,26 @@ fn hash_command<'a>(alloc: Global, names: &'a [&'a str]) -> Result<Command<'a>, 
         "hash",
         "Prints the digest of each file, as a line of a list",
     )
-    .arg(algorithm_option(alloc, "ALG", names, "The hash"))?
+    .arg(algorithm_option(alloc, "ALG", names, HASHES))?
     .arg(length_option(
         alloc,
-        "The digest's length in bytes: blake2b 1 to 64 [default: 64], \
-             blake2s 1 to 32 [default: 32], blake3 at least 1 [default: 32]; not for sha256 and sha512",
+        "The digest's length in bytes, where b2sum counts bits:\n\
+             blake2b 1 to 64 [default: 64], blake2s 1 to 32\n\
+             [default: 32], blake3 1 to 2^64 - 1 [default: 32]; not\n\
+             for sha256 and sha512",
     ))?
     .arg(number_option(
         alloc,
         "seek",
-        "The first byte of the output that is printed, for blake3 alone [default: 0]",
+        "The first byte of the output that is printed, for blake3\n\
+             alone: 0 to 2^64 - 1 less the length [default: 0]",
     ))?;
     with_salt_options(alloc, command)?
         .arg(flag_option(
             alloc,
             "tag",
-            "Prints lines that name their algorithm, as SHA256 (FILE) = DIGITS; of blake3 32 bytes",
+            "Prints lines that name their algorithm, as\n\
+             SHA256 (FILE) = DIGITS; of blake3 the first 32 bytes",
         ))?
         .arg(files_argument(alloc, "The files, each - standard input [default: -]"))
 }
@@ -80,15 +86,15 @@ fn with_salt_options<'a>(alloc: Global, command: Command<'a>) -> Result<Command<
             alloc,
             "salt",
             "HEX",
-            "The salt in hexadecimal digits, 16 bytes for blake2b and 8 for blake2s, \
-             for these two alone [default: zeros]",
+            "The salt in hexadecimal digits, 16 bytes for blake2b and\n\
+             8 for blake2s, for these two alone [default: zeros]",
         ))?
         .arg(text_option(
             alloc,
             "personal",
             "HEX",
-            "The personalization in hexadecimal digits, as long as the salt, \
-             for blake2b and blake2s alone [default: zeros]",
+            "The personalization in hexadecimal digits, as long as the\n\
+             salt, for blake2b and blake2s alone [default: zeros]",
         ))
 }
 
@@ -96,13 +102,22 @@ fn mac_command<'a>(alloc: Global, macs: &'a [&'a str]) -> Result<Command<'a>, Al
     ensures { IfOk result (λ c. app_of c ≡ mac_app macs.entry) }
 {
     let command = described(alloc, "mac", "Prints the tag of a file under a key").arg(
-        algorithm_option(alloc, "MAC", macs, "The keyed function"),
+        algorithm_option(
+            alloc,
+            "MAC",
+            macs,
+            "The keyed function: hmac-sha256, hmac-sha512,\n\
+             hmac-blake2b, hmac-blake2s, blake2b, blake2s or blake3",
+        ),
     )?;
     with_key_options(alloc, command)?
         .arg(length_option(
             alloc,
-            "The tag's length in bytes: an HMAC's half or more [default: the whole], \
-             blake2b 1 to 64 [default: 64], blake2s 1 to 32 [default: 32], blake3 at least 1 [default: 32]",
+            "The tag's length in bytes: hmac-sha256 and hmac-blake2s\n\
+             16 to 32 [default: 32], hmac-sha512 and hmac-blake2b\n\
+             32 to 64 [default: 64], blake2b 1 to 64 [default: 64],\n\
+             blake2s 1 to 32 [default: 32], blake3 1 to 2^64 - 1\n\
+             [default: 32]",
         ))?
         .arg(file_argument(alloc, "FILE", "The file, - standard input [default: -]"))
 }
@@ -117,7 +132,9 @@ fn with_key_options<'a>(alloc: Global, command: Command<'a>) -> Result<Command<'
             alloc,
             "key",
             "HEX",
-            "The key in hexadecimal digits, which other users may see; --key-file keeps it to itself",
+            "The key in hexadecimal digits, for blake2b 1 to 64 bytes,\n\
+             for blake2s 1 to 32, for blake3 32. Other users may see\n\
+             it; --key-file keeps it to itself",
         ))?
         .arg(text_option(
             alloc,
@@ -135,7 +152,7 @@ fn kdf_command<'a>(alloc: Global, names: &'a [&'a str]) -> Result<Command<'a>, A
         "kdf",
         "Prints a derived key: HKDF's, or for blake3 its own derivation",
     )
-    .arg(algorithm_option(alloc, "ALG", names, "The hash"))?
+    .arg(algorithm_option(alloc, "ALG", names, HASHES))?
     .arg(required(text_option(
         alloc,
         "ikm-file",
@@ -144,7 +161,8 @@ fn kdf_command<'a>(alloc: Global, names: &'a [&'a str]) -> Result<Command<'a>, A
     )))?;
     with_derivation_options(alloc, command)?.arg(required(length_option(
         alloc,
-        "The key's length in bytes: 1 to 255 times the hash's output, for blake3 at least 1",
+        "The key's length in bytes: sha256 and blake2s 1 to 8160,\n\
+             sha512 and blake2b 1 to 16320, blake3 1 to 2^64 - 1",
     )))
 }
 
@@ -185,6 +203,18 @@ fn check_command<'a>(alloc: Global, names: &'a [&'a str]) -> Result<Command<'a>,
         "check",
         "Checks the files of a list, and prints a line for each",
     )
-    .arg(algorithm_option(alloc, "ALG", names, "The hash of the list"))?
-    .arg(required(file_argument(alloc, "LIST", "The list, - standard input")))
+    .arg(algorithm_option(
+        alloc,
+        "ALG",
+        names,
+        "The hash of untagged lines: sha256, sha512, blake2b, blake2s or\n\
+             blake3",
+    ))?
+    .arg(required(file_argument(
+        alloc,
+        "LIST",
+        "The list, - standard input. Its names are taken from the current\n\
+             folder. A list with no line, or with skipped ones alone, is\n\
+             status 0: `test -s LIST` tells an empty one",
+    )))
 }
