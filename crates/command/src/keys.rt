@@ -49,9 +49,17 @@ impl<'i, 't, 'o, L: Feed, T: Tree, W: Sink> Session<'i, 't, 'o, L, T, W> {
         requires { hkdf.now.length ≤ 16320 }
     {
         let prk = self.extracted::<H>(hkdf, material)?;
+        self.print_expanded::<H>(hkdf, prk.bytes())
+    }
+
+    // The key's buffer is not on the stack while a file is hashed.
+    #[inline(never)]
+    fn print_expanded<H: BlockHash>(&mut self, hkdf: &Hkdf, prk: &[u8]) -> Result<(), Fault<'static>>
+        requires { hkdf.now.length ≤ 16320 }
+    {
         let mut key = [0; OUTPUT_LIMIT];
         let (key, _) = key.split_at_mut(hkdf.length);
-        match expand::<H>(prk.bytes(), hkdf.info.as_slice(), key) {
+        match expand::<H>(prk, hkdf.info.as_slice(), key) {
             Ok(()) => Ok(write_digits(key, self.out)?),
             Err(_) => Err(Fault::Usage(UsageFault::OutOfRange(Setting::Info))),
         }

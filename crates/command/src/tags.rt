@@ -1,6 +1,8 @@
 // The command `mac`: the tag of a file under a key.
 
-ghost use Rattle.std.specs.Prelude.{◌*◌, ◌-◌, ◌/◌, ◌^◌, ◌≤◌};
+ghost use Rattle.std.specs.Prelude.{◌≡◌, ◌≢◌, ◌-◌, ◌/◌, ◌^◌, ◌<◌, ◌≤◌, [], length};
+ghost use Rattle.std.specs.Prelude.{IfOk, IfSome, IsErrOf, MatchResult};
+ghost use Rattle.command.specs.declared.fault.Fault.TheVariants.{KeyFileTooLong, KeyLength};
 ghost use Rattle.task.specs.Tagging.{HasTag};
 
 use crate::fault::Fault;
@@ -119,15 +121,24 @@ impl<'i, 't, 'o, L: Feed, T: Tree, W: Sink> Session<'i, 't, 'o, L, T, W> {
 }
 
 // A key that is not empty: under an empty one BLAKE2 is a hash.
-fn some_key(key: &[u8]) -> Result<&[u8], Fault<'static>> {
+fn some_key(key: &[u8]) -> Result<&[u8], Fault<'static>>
+    ensures { MatchResult result (λ k. (k.now ≡ key.entry.now) × (key.entry.now ≢ []))
+        (λ fault. (fault ≡ KeyLength) × (key.entry.now ≡ [])) }
+{
     if key.is_empty() {
         return Err(Fault::KeyLength);
     }
     Ok(key)
 }
 
-// Reads the whole of a key file.
-fn read_key<'n, F: Feed>(alloc: Global, name: &'n str, feed: &mut F) -> Result<Vec<u8>, Fault<'n>> {
+// Reads the whole of a key file. Its buffer is not on the stack while a file is hashed.
+#[inline(never)]
+fn read_key<'n, F: Feed>(alloc: Global, name: &'n str, feed: &mut F) -> Result<Vec<u8>, Fault<'n>>
+    ensures whole { IfOk result (λ key. IfSome (F.remaining feed.old)
+        (λ bytes. (key.items ≡ bytes) × (length bytes ≤ 65536))) }
+    ensures too_long { IsErrOf result KeyFileTooLong
+        → IfSome (F.remaining feed.old) (λ bytes. 65536 < length bytes) }
+{
     let mut key = Vec::new(alloc);
     let mut piece = [0; 4096];
     while key.len() <= KEY_LIMIT {

@@ -29,6 +29,7 @@ const PIECE: usize = 65536;
 
 /// Feeds the hasher all that is still to come. `Read` comes exactly where a read failed; where none
 /// did, `TooLong` comes where what was to come is longer than the room that the hasher had.
+#[inline(never)] // its buffer is on the stack once, whoever calls
 pub fn pump<A: Absorb, F: Feed>(hasher: &mut A, feed: &mut F) -> Result<(), SourceFault>
     ensures appended { OnOk result
         (IfSome (F.remaining feed.old) (Appended A.holds hasher.old hasher.new)) }

@@ -72,7 +72,8 @@ static MACS: [&str; 7] = [
 ];
 
 /// Reads the words of the command line, the program's own name first, as `clap` reads them for the
-/// program's command.
+/// program's command. What that takes of the stack is given back before anything is hashed.
+#[inline(never)]
 pub fn line<'a>(alloc: Global, words: &'a [&'a str]) -> Result<Request<'a>, WordsFault>
     ensures request { IfOk result (λ r. OfSums (λ app.
         Reads app (map (λ w. w.now) words.entry.now) r)) }
