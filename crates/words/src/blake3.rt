@@ -7,7 +7,7 @@ use crate::rows::round32;
 use crate::tables::{IV32, PERMUTED};
 
 #[inline(always)]
-fn working(h: &[u32; 8], t: u64, b: u32, d: u32) -> [u32; 16]
+pub(crate) fn working(h: &[u32; 8], t: u64, b: u32, d: u32) -> [u32; 16]
     ensures { result ≡ working_words3 h.now t b d }
 {
     let low = (t % 0x1_0000_0000) as u32;

@@ -58,6 +58,7 @@ macro_rules! folded {
 }
 
 pub mod four;
+pub mod two;
 
 /// Where the bytes of eight words come from when they turn by 16 and by 8.
 #[derive(Clone, Copy)]
