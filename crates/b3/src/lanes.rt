@@ -9,7 +9,9 @@ use crate::chunk::CHUNK_LEN;
 use crate::node::{BLOCK_LEN, CHUNK_END, CHUNK_START, Node, PARENT, pair};
 use std::simd::prelude::*;
 use words::compress_3x8;
-use words::lanes::{Turns, four, lane_rows, message_lanes, next_lanes, pair_lanes, same_lanes};
+use words::lanes::{
+    Turns, four, lane_rows, message_lanes, next_lanes, pair_lanes, same_lanes, two,
+};
 
 // Where lane `i` begins to read: at its own chunk, or at the last one, which begins at `last`.
 #[inline(always)]
@@ -131,6 +133,41 @@ fn few_chunk_values(
     )
 }
 
+// The chaining values of two whole chunks, and those before the last block of each.
+fn two_chunk_values(
+    key: &[u32; 8],
+    flags: u8,
+    first: u64,
+    bytes: &[u8],
+) -> ([[u32; 8]; 8], [[u32; 8]; 8])
+    requires length { length bytes.now ≡ 2048 }
+    requires numbers { first + 2 < 2 ^ 64 }
+    ensures values { (i : ℕ) → i < 2 → slice_index_or result.0 i [] ≡ run_cv key.now flags first bytes.now 0 i }
+    ensures before { (i : ℕ) → i < 2
+        → slice_index_or result.1 i [] ≡ value_before_last key.now flags first bytes.now i }
+{
+    let counters = [first, first + 1];
+    let mut values = [*key; 2];
+    let mut before = values;
+    'each_block: for j in 0..16 {
+        let left = two::block_words(bytes, BLOCK_LEN * j);
+        let right = two::block_words(bytes, CHUNK_LEN + BLOCK_LEN * j);
+        let next = two::next_two(
+            &values,
+            &[left, right],
+            &counters,
+            64,
+            block_flags(flags, j),
+        );
+        before = values;
+        values = next;
+    }
+    (
+        padded([values[0], values[1], [0; 8], [0; 8]]),
+        padded([before[0], before[1], [0; 8], [0; 8]]),
+    )
+}
+
 // The chaining values of at most eight whole chunks, by lanes; `before` takes those before the last block of
 // each. Lanes beyond the last chunk read it again.
 fn chunk_lanes(
@@ -174,6 +211,9 @@ pub(crate) fn chunk_values(
     ensures before { (i : ℕ) → i < 8 → 1024 * i + 1024 ≤ length bytes.now
         → slice_index_or result.1 i [] ≡ value_before_last key.now flags first bytes.now i }
 {
+    if bytes.len() == 2 * CHUNK_LEN {
+        return two_chunk_values(key, flags, first, bytes);
+    }
     if bytes.len() <= 4 * CHUNK_LEN {
         return few_chunk_values(key, flags, first, bytes);
     }
