@@ -1,5 +1,5 @@
-//! The same on two inputs, each in rows of its own, which take their rounds in turn: for the two chunks of a short
-//! message, where half of four lanes would do nothing.
+//! BLAKE3's compression of two inputs, each in rows of its own, which take their rounds in turn: for the two chunks
+//! of a short message, where half of four lanes would do nothing.
 
 ghost use Rattle.std.specs.Prelude.{◌≡◌, ℕ, ◌<◌, ◌+◌, slice_index, slice_index_or, [], take, drop, length, ◌≤◌};
 ghost use Rattle.words.specs.Blake3.{compress3, permuted_words, rounds3};
