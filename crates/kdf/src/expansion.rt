@@ -30,11 +30,11 @@ pub fn expand<H: BlockHash>(prk: &[u8], info: &[u8], out: &mut [u8]) -> Result<(
     ensures filled { OnOk result
         (out.new ≡ spec.expand H.hash_of H.BLOCK prk.now info.now (length out.old)) }
 
-    ensures short { IsErrOf result ExpandFault.PrkTooShort ↔ (length prk.now < H.OUT) }
-    ensures long { IsErrOf result ExpandFault.KeyTooLong ↔ (H.LIMIT < length prk.now) }
-    ensures output { IsErrOf result ExpandFault.OutputTooLong ↔ ((H.OUT ≤ length prk.now)
+    ensures prk_too_short { IsErrOf result ExpandFault.PrkTooShort ↔ (length prk.now < H.OUT) }
+    ensures key_too_long { IsErrOf result ExpandFault.KeyTooLong ↔ (H.LIMIT < length prk.now) }
+    ensures output_too_long { IsErrOf result ExpandFault.OutputTooLong ↔ ((H.OUT ≤ length prk.now)
         × (length prk.now ≤ H.LIMIT) × (255 * H.OUT < length out.old)) }
-    ensures info { IsErrOf result ExpandFault.InfoTooLong ↔ ((H.OUT ≤ length prk.now)
+    ensures info_too_long { IsErrOf result ExpandFault.InfoTooLong ↔ ((H.OUT ≤ length prk.now)
         × (length prk.now ≤ H.LIMIT) × (length out.old ≤ 255 * H.OUT)
         × (H.LIMIT < H.BLOCK + H.OUT + length info.now + 1)) }
     ensures refused { OnErr result (out.new ≡ out.old) }
