@@ -3,10 +3,6 @@ pub mod Read
 pub mod Written
 pub mod Pumped
 pub mod Faults
-pub mod Bytes
-pub mod FixedSink
-pub mod VecSink
-pub mod Device
+pub mod Places
 pub mod Digest
-pub mod AnyHash
-pub mod Rooms
+pub mod inside

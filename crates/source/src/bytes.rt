@@ -18,7 +18,7 @@ pub struct Bytes<'a> {
 }
 
 impl<'a> Bytes<'a> {
-    ghost use Rattle.source.specs.Bytes.{bytes_most, bytes_next, bytes_place};
+    ghost use Rattle.source.specs.inside.Bytes.{bytes_most, bytes_next, bytes_place};
 
     /// All of `bytes`, at most `most` of them a read.
     pub fn new(bytes: &'a [u8], most: usize) -> Bytes<'a>
@@ -72,7 +72,8 @@ impl<'a> Bytes<'a> {
 }
 
 impl<'a> Feed for Bytes<'a> {
-    ghost use Rattle.source.specs.Bytes.{bytes_failures, bytes_most, bytes_next, bytes_place, bytes_rest, place_after};
+    ghost use Rattle.source.specs.inside.Bytes.{bytes_failures, bytes_most, bytes_next, bytes_place, bytes_rest};
+    ghost use Rattle.source.specs.Places.{place_after};
 
     ghost failure_count = { λ s. bytes_failures s };
 

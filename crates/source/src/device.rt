@@ -20,7 +20,7 @@ pub struct Device<R> {
 }
 
 impl<R> Device<R> {
-    ghost use Rattle.source.specs.Device.{device_inner, device_failures};
+    ghost use Rattle.source.specs.inside.Device.{device_inner, device_failures};
 
     /// A device over `inner`, with no failure yet.
     pub fn new(inner: R) -> Device<R>
@@ -54,7 +54,7 @@ impl<R> Device<R> {
 }
 
 impl<R: Read> Feed for Device<R> {
-    ghost use Rattle.source.specs.Device.{device_failures, device_inner};
+    ghost use Rattle.source.specs.inside.Device.{device_failures, device_inner};
 
     ghost failure_count = { λ s. device_failures s };
 
@@ -78,7 +78,7 @@ impl<R: Read> Feed for Device<R> {
 }
 
 impl<W: Write> Sink for Device<W> {
-    ghost use Rattle.source.specs.Device.{device_inner, device_shown};
+    ghost use Rattle.source.specs.inside.Device.{device_inner, device_shown};
 
     ghost shown = { λ s. device_shown s };
 

@@ -16,7 +16,7 @@ pub struct FixedSink<'a> {
 }
 
 impl<'a> FixedSink<'a> {
-    ghost use Rattle.source.specs.FixedSink.{fixed_rest, fixed_room};
+    ghost use Rattle.source.specs.inside.FixedSink.{fixed_rest, fixed_room};
 
     /// A sink with room for as many bytes as `buffer` has, and none written.
     pub fn new(buffer: &'a mut [u8]) -> FixedSink<'a>
@@ -41,7 +41,7 @@ impl<'a> FixedSink<'a> {
 }
 
 impl<'a> Sink for FixedSink<'a> {
-    ghost use Rattle.source.specs.FixedSink.{fixed_rest, fixed_room, fixed_shown};
+    ghost use Rattle.source.specs.inside.FixedSink.{fixed_rest, fixed_room, fixed_shown};
 
     ghost shown = { λ s. fixed_shown s };
 

@@ -35,7 +35,7 @@ impl VecSink {
 }
 
 impl Sink for VecSink {
-    ghost use Rattle.source.specs.VecSink.{vec_shown};
+    ghost use Rattle.source.specs.inside.VecSink.{vec_shown};
 
     ghost shown = { λ s. vec_shown s };
 

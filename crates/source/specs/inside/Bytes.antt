@@ -1,5 +1,6 @@
 -- What contracts see of a lent slice as a feed.
-use Rattle.std.specs.Prelude.{ℕ, ◌-◌, List, length, min, Option, None, Some}
+use Rattle.std.specs.Prelude.{ℕ, List, length, min, Option}
+use Rattle.source.specs.Places.{cut_at}
 use Rattle.source.specs.declared.bytes.Bytes.{Bytes}
 
 -- the bytes still to come
@@ -17,16 +18,6 @@ bytes_place s = s.place
 -- how many reads have failed
 abbrev pub bytes_failures : Bytes → ℕ
 bytes_failures s = s.failures
-
--- a number, or the bytes before a place where they are fewer
-abbrev pub cut_at : Option ℕ → ℕ → ℕ
-cut_at None n = n
-cut_at (Some place) n = min n place
-
--- a place that is n bytes nearer
-abbrev pub place_after : Option ℕ → ℕ → Option ℕ
-place_after None n = None
-place_after (Some place) n = Some (place - n)
 
 -- how many bytes the next read into so much room gives, where it does not fail
 abbrev pub bytes_next : Bytes → ℕ → ℕ

@@ -1,0 +1,7 @@
+-- How the clauses see the structs of the code: of use inside alone.
+pub mod Bytes
+pub mod FixedSink
+pub mod VecSink
+pub mod Device
+pub mod AnyHash
+pub mod Rooms
