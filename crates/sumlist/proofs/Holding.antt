@@ -15,8 +15,9 @@ use Rattle.sumlist.specs.declared.checking.CheckFault.{CheckFault}
 use Rattle.sumlist.specs.declared.checking.CheckFault.TheVariants.{ListTooLong}
 use Rattle.sumlist.specs.Lines.{lines, HasNoEnd}
 use Rattle.sumlist.specs.Report.{Files}
-use Rattle.sumlist.specs.Checked.{LineChecked, ListChecked, StepCounts}
-use Rattle.sumlist.specs.Tally.{IsCounted, lines_of, no_lines}
+use Rattle.sumlist.specs.Checked.{ListChecked}
+use Rattle.sumlist.specs.inside.Stepped.{LineChecked, StepCounts}
+use Rattle.sumlist.specs.inside.Marks.{IsCounted, lines_of, no_lines}
 use Rattle.sumlist.specs.inside.Held.{IsHeld, held_after, held_len}
 use Rattle.sumlist.specs.inside.Ahead.{Progress, Partway, Goes, Stops}
 use Rattle.sumlist.proofs.Cutting.{lines-ended, lines-last, HasNoEnd-take}

@@ -14,7 +14,7 @@ use Rattle.source.specs.declared.alg.Alg.{Alg}
 use Rattle.source.specs.declared.alg.Alg.TheVariants.{Sha256 as sha256, Sha512 as sha512, Blake2b as blake2b}
 use Rattle.source.specs.declared.alg.Alg.TheVariants.{Blake2s as blake2s, Blake3 as blake3}
 use Rattle.source.specs.Digest.{tag_len, IsInRange}
-use Rattle.sumlist.specs.Cut.{NotSpace, HasNoSpace}
+use Rattle.sumlist.specs.inside.Cut.{NotSpace, HasNoSpace}
 use Rattle.sumlist.specs.Tagged.{IsLabel, Labelled, opening, closing}
 use Rattle.sumlist.proofs.Untagging.{cut_unique}
 

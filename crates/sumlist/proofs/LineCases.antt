@@ -18,8 +18,8 @@ use Rattle.sumlist.specs.Entry.{Listing, Fits, IsEntry, written_len}
 use Rattle.sumlist.specs.Kinds.{alg_of}
 use Rattle.sumlist.specs.Line.{Parts, HasForm, Stated, IsLine, IsBlank, core, IsSkipped, Spells, IsMalformed}
 use Rattle.hex.specs.Hex.{decode_of, IsBytes}
-use Rattle.sumlist.specs.Cut.{IsCut}
-use Rattle.sumlist.specs.Cut.{NoParts}
+use Rattle.sumlist.specs.inside.Cut.{IsCut}
+use Rattle.sumlist.specs.inside.Cut.{NoParts}
 use Rattle.sumlist.specs.Line.{IsMark}
 use Rattle.sumlist.proofs.Untagging.{parts_cut_at}
 use Rattle.sumlist.proofs.Stating.{SomeStated, NoStated, stated_cases, stated_unique}

@@ -4,9 +4,9 @@ use Rattle.std.proofs.Common.{IsUtf8, slice_index}
 use Rattle.sumlist.specs.declared.kind.Kind.{Kind}
 use Rattle.source.specs.declared.alg.Alg.{Alg}
 use Rattle.sumlist.specs.Entry.{Listing, Fits}
-use Rattle.sumlist.specs.Cut.{IsUnslashed}
-use Rattle.sumlist.specs.Body.{name_of, IsName}
-use Rattle.sumlist.specs.Cut.{HasNoForm, IsUnslashed}
+use Rattle.sumlist.specs.inside.Cut.{IsUnslashed}
+use Rattle.sumlist.specs.inside.Body.{name_of, IsName}
+use Rattle.sumlist.specs.inside.Cut.{HasNoForm, IsUnslashed}
 use Rattle.sumlist.specs.Line.{HasForm, Stated, IsLine, IsBlank, core, Spells, IsMalformed}
 use Rattle.sumlist.proofs.Unescaping.{unescaped-spelled, spelled-unescaped}
 use Rattle.sumlist.proofs.Stating.{listing, form_unique, form_no_slash}

@@ -6,14 +6,15 @@ use Rattle.std.proofs.KnownBytes.{Appends-nil, Appends-trans}
 use Rattle.source.specs.Written.{AppendsPrefix}
 use Rattle.sumlist.proofs.Pieces.{AppendsPrefix-after, AppendsPrefix-more, AppendsPrefix-none}
 use Rattle.sumlist.specs.declared.summary.Summary.{Summary}
-use Rattle.sumlist.specs.Tally.{IsCounted, lines_of, no_lines}
+use Rattle.sumlist.specs.inside.Marks.{IsCounted, lines_of, no_lines}
 use Rattle.sumlist.proofs.Tallying.{number_of-append, number_of-one, IsSummary-start, IsSummary-more, lines_of-summary}
 use Rattle.sumlist.specs.declared.summary.Mark.TheVariants.{Told}
 use Rattle.sumlist.specs.declared.verdict.Verdict.TheVariants.{Unreadable}
 use Rattle.sumlist.specs.Lines.{lines}
 use Rattle.sumlist.specs.inside.Ahead.{Progress}
-use Rattle.sumlist.specs.Report.{Files, Outcome, AllAllowed, text, report_from, unreadable_part, unreadable_count, number_of}
-use Rattle.sumlist.specs.Checked.{LineChecked, ListChecked}
+use Rattle.sumlist.specs.Report.{Files, Outcome, AllAllowed, text, report_from, is_told, unreadable_count, number_of}
+use Rattle.sumlist.specs.Checked.{ListChecked}
+use Rattle.sumlist.specs.inside.Stepped.{LineChecked}
 use Rattle.sumlist.specs.declared.kind.Kind.{Kind}
 use Rattle.sumlist.specs.declared.summary.Mark.{Mark}
 use Rattle.sumlist.specs.declared.checking.CheckFault.{CheckFault}
@@ -33,7 +34,7 @@ report_from-append n (o ∷ os) ps =
     ap (λ l. text n o ++ l) (report_from-append (n + 1) os ps ∙ ap (λ k. report_from (n + 1) os ++ report_from k ps) step) ∙ sym (append_assoc (text n o) (report_from (n + 1) os) (report_from (n + length (o ∷ os)) ps))
 
 unreadable_count-append : (os ps : List Outcome) → unreadable_count (os ++ ps) ≡ unreadable_count os + unreadable_count ps
-unreadable_count-append os ps = number_of-append (Told Unreadable) os ps
+unreadable_count-append os ps = number_of-append (is_told Unreadable) os ps
 
 pub report_from-one : (n : ℕ) (o : Outcome) → report_from n (o ∷ []) ≡ text n o
 unfolding report_from
@@ -43,8 +44,8 @@ pub report_from-cons : (n : ℕ) (o : Outcome) (os : List Outcome) → report_fr
 unfolding report_from
 report_from-cons n o os = refl
 
-unreadable_count-one : (o : Outcome) → unreadable_count (o ∷ []) ≡ unreadable_part o
-unreadable_count-one o = number_of-one (Told Unreadable) o
+unreadable_count-one : (o : Outcome) → unreadable_count (o ∷ []) ≡ is_told Unreadable o
+unreadable_count-one o = number_of-one (is_told Unreadable) o
 
 pub Progress-start : (files : Files) (kind : Kind) (whole : List ℕ) (count : ℕ) (old : Option (List ℕ)) → Progress files kind whole whole no_lines count count old old
 unfolding report_from number_of
@@ -66,7 +67,7 @@ Progress-line files kind whole rest line after s t next k m n a b c mark p cut u
       outcomes = p.outcomes ++ o ∷ [];
       split = p.split ∙ ap (λ ls. p.before ++ ls) cut ∙ sym (append_assoc p.before (line ∷ []) (lines after));
       allowed = AllAllowed-append files kind p.before (line ∷ []) p.outcomes (o ∷ []) p.allowed (l.1.allowed, tt);
-      summed = IsSummary-more s t p.outcomes o mark l.2.0 p.summed more;
+      summed = IsSummary-more p.outcomes o mark l.2.0 s t p.summed more;
       counted = let before = p.counted in let now = l.1.counted in omega (arith, count, one);
       written = subst (Appends a c) (sym text_is) (Appends-trans a b c _ _ p.written l.2.1);
     }

@@ -5,8 +5,8 @@ use Rattle.std.proofs.lemmas.Bool.{cases_eq}
 use Rattle.source.specs.declared.alg.Alg.{Alg}
 use Rattle.sumlist.specs.declared.kind.Kind.{Kind}
 use Rattle.sumlist.specs.Entry.{Listing}
-use Rattle.sumlist.specs.Body.{unescaped}
-use Rattle.sumlist.specs.Cut.{NoParts, NoLabelled, HasNoForm}
+use Rattle.sumlist.specs.inside.Body.{unescaped}
+use Rattle.sumlist.specs.inside.Cut.{NoParts, NoLabelled, HasNoForm}
 use Rattle.sumlist.specs.Line.{Parts, IsMark, HasForm, Stated}
 use Rattle.sumlist.specs.Tagged.{Labelled, opening, closing}
 use Rattle.source.specs.Written.{Shown, Writes}

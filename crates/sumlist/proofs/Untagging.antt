@@ -11,9 +11,9 @@ use Rattle.hex.specs.declared.error.FromHexError.{FromHexError}
 use Rattle.source.specs.declared.alg.Alg.{Alg}
 use Rattle.sumlist.specs.declared.kind.Kind.{Kind}
 use Rattle.sumlist.specs.declared.kind.Kind.TheVariants.{Sha256, Sha512, Blake2b, Blake2s, Blake3}
-use Rattle.sumlist.specs.Cut.{NotSpace, HasNoSpace, IsCut}
+use Rattle.sumlist.specs.inside.Cut.{NotSpace, HasNoSpace, IsCut}
 use Rattle.sumlist.specs.Kinds.{alg_of}
-use Rattle.sumlist.specs.Cut.{NoParts}
+use Rattle.sumlist.specs.inside.Cut.{NoParts}
 use Rattle.sumlist.specs.Line.{Parts}
 
 abbrev IsDigit : ℕ → Type 0

@@ -1,15 +1,12 @@
 pub mod Escape
 pub mod Entry
-pub mod EntryView
 pub mod Kinds
 pub mod Tagged
 pub mod TaggedFaults
 pub mod Line
-pub mod Cut
-pub mod Body
 pub mod Parsed
 pub mod Opening
-pub mod MemoryTree
+pub mod Named
 pub mod Lines
 pub mod Report
 pub mod Tally

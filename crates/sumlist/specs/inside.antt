@@ -3,3 +3,9 @@ pub mod Held
 pub mod BufferView
 pub mod Ahead
 pub mod Labels
+pub mod EntryView
+pub mod Cut
+pub mod Body
+pub mod MemoryTree
+pub mod Marks
+pub mod Stepped

@@ -2,13 +2,13 @@
 
 ghost use Rattle.std.specs.Prelude.{◌≡◌, ◌+◌, ◌-◌, ◌<◌, ◌≤◌, ◌^◌, ◌↔◌, ℕ, List, [], Option, length};
 ghost use Rattle.std.specs.Prelude.{IfOk, IfSome, IsErrOf, MatchResult, OnOk};
-ghost use Rattle.std.specs.Io.KnownBytes.{Consumes};
+ghost use Rattle.std.specs.Io.KnownBytes.{Consumes, IsAtEnd};
 ghost use Rattle.source.specs.Counts.{count_after};
 ghost use Rattle.sumlist.specs.inside.Ahead.{Goes, Partway, Stops};
-ghost use Rattle.sumlist.specs.Checked.{LineChecked, ListChecked, ListCounts, StepCounts, WriteCounts};
+ghost use Rattle.sumlist.specs.Checked.{ListChecked, ListCounts, WriteCounts};
+ghost use Rattle.sumlist.specs.inside.Stepped.{LineChecked, StepCounts};
 ghost use Rattle.sumlist.specs.inside.Held.{IsHeld, held_len};
-ghost use Rattle.sumlist.specs.Report.{part};
-ghost use Rattle.sumlist.specs.Tally.{lines_of};
+ghost use Rattle.sumlist.specs.inside.Marks.{lines_of, part};
 ghost use Rattle.sumlist.specs.declared.checking.CheckFault.TheVariants.{ListRead, OutOfMemory, Write};
 
 use crate::line_buffer::LineBuffer;
@@ -84,6 +84,8 @@ pub fn check<L: Feed, T: Tree, W: Sink>(
     ensures unreadable { IfOk result (λ s. T.failure_count tree.new
         ≡ count_after (T.failure_count tree.old) s.unreadable) }
     ensures kept { T.files tree.new ≡ T.files tree.old }
+
+    ensures end { OnOk result (IsAtEnd (L.remaining list.new)) }
 
     // When each fault comes.
     ensures reads { ListCounts result (L.failure_count list.old) (L.failure_count list.new) }

@@ -3,7 +3,7 @@
 ghost use Rattle.std.specs.Prelude.{◌≡◌, ℕ, ◌*◌, ◌<◌, ◌≤◌, ◌↔◌, IsTrue, MatchOption};
 ghost use Rattle.std.specs.Fmt.{decimal};
 ghost use Rattle.source.specs.Digest.{IsInRange, tag_len};
-ghost use Rattle.sumlist.specs.Cut.{NoLabelled};
+ghost use Rattle.sumlist.specs.inside.Cut.{NoLabelled};
 ghost use Rattle.sumlist.specs.Tagged.{IsLabel, Labelled};
 ghost use Rattle.sumlist.specs.inside.Labels.{Ended, IsNumbered, NotEnded, NotNamed, NotNumbered};
 

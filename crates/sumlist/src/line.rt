@@ -1,7 +1,7 @@
 // Lines as they are read.
 
 ghost use Rattle.std.specs.Prelude.{◌≡◌, ◌<◌, ◌↔◌, length, IsTrue, MatchOption};
-ghost use Rattle.sumlist.specs.Cut.{IsUnslashed, HasNoForm};
+ghost use Rattle.sumlist.specs.inside.Cut.{IsUnslashed, HasNoForm};
 ghost use Rattle.sumlist.specs.Line.{IsLine, IsBlank, HasForm, core as core_of};
 ghost use Rattle.sumlist.specs.Parsed.{Answers};
 ghost use Rattle.sumlist.specs.declared.line.LineFault.TheVariants.{OutOfMemory};

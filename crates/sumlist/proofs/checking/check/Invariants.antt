@@ -3,7 +3,7 @@ use Rattle.std.specs.Io.KnownBytes.{Consumes}
 use Rattle.source.specs.Counts.{count_after}
 use Rattle.sumlist.specs.inside.Ahead.{Partway}
 use Rattle.sumlist.specs.inside.Held.{held_len}
-use Rattle.sumlist.specs.Tally.{lines_of}
+use Rattle.sumlist.specs.inside.Marks.{lines_of}
 use Rattle.sumlist.proofs.checking.check.Given as goal
 
 abbrev pub invariant-loop-held : goal.invariant-loop-held

@@ -1,7 +1,7 @@
 use Rattle.std.proofs.Common.{◌≡◌, ◌+◌, ap}
 use Rattle.std.proofs.lemmas.Bool.{false≢true}
 use Rattle.std.proofs.lemmas.Option.{IfSome_then}
-use Rattle.sumlist.specs.Tally.{lines_of}
+use Rattle.sumlist.specs.inside.Marks.{lines_of}
 use Rattle.sumlist.proofs.Holding.{Partway-last, Partway-last-stop}
 use Rattle.sumlist.proofs.checking.check_last.Goals as goal
 

@@ -2,7 +2,7 @@ use Rattle.std.proofs.Common.{◌≡◌, ◌+◌, ◌<◌, ap, ◌∙◌, drop, 
 use Rattle.std.proofs.lemmas.Option.{IfSome_then}
 use Rattle.std.proofs.lemmas.Result.{MatchResult-from_err}
 use Rattle.sumlist.specs.inside.Held.{held_after}
-use Rattle.sumlist.specs.Tally.{lines_of}
+use Rattle.sumlist.specs.inside.Marks.{lines_of}
 use Rattle.sumlist.proofs.Names.{not_empty}
 use Rattle.sumlist.proofs.Progress.{IfSome-two}
 use Rattle.sumlist.proofs.Tallying.{lines_of-counted}

@@ -2,7 +2,7 @@ use Rattle.std.proofs.Common.{◌≡◌, ◌+◌, ◌≤◌, ℕ, length, IfSome
 use Rattle.source.specs.Counts.{count_after}
 use Rattle.sumlist.specs.inside.Ahead.{Goes}
 use Rattle.sumlist.specs.inside.Held.{held_len}
-use Rattle.sumlist.specs.Tally.{lines_of}
+use Rattle.sumlist.specs.inside.Marks.{lines_of}
 use Rattle.sumlist.proofs.checking.check_piece.Given as goal
 
 abbrev pub invariant-loop-back : goal.invariant-loop-back

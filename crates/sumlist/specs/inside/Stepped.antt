@@ -1,0 +1,32 @@
+-- What the check of one line did.
+use Rattle.std.specs.Prelude.{◌≡◌, ℕ, List, Option, Result, Ok, Err, MatchResult}
+use Rattle.std.specs.Io.KnownBytes.{Appends}
+use Rattle.source.specs.Counts.{count_after, next_count}
+use Rattle.source.specs.Written.{AppendsPrefix}
+use Rattle.sumlist.specs.Report.{Files, Outcome, Allowed, text, is_told}
+use Rattle.sumlist.specs.inside.Marks.{mark_of}
+use Rattle.sumlist.specs.declared.checking.CheckFault.{CheckFault}
+use Rattle.sumlist.specs.declared.checking.CheckFault.TheVariants.{ListRead, Write, OutOfMemory, ListTooLong}
+use Rattle.sumlist.specs.declared.kind.Kind.{Kind}
+use Rattle.sumlist.specs.declared.verdict.Verdict.TheVariants.{Unreadable}
+use Rattle.sumlist.specs.declared.summary.Mark.{Mark}
+
+-- an outcome that may stand for the line, and which the tree counted
+pub record Stepped (files : Files) (kind : Kind) (line : List ℕ) (outcome : Outcome) (count_old count_new : ℕ) : Type 0 where
+  pub allowed : Allowed files kind line outcome
+  pub counted : count_new ≡ count_after count_old (is_told Unreadable outcome)
+
+-- the line of this number has an outcome, and its text was appended, or after a fault a beginning of it
+abbrev pub LineChecked : {E : Type 0} → Files → Kind → List ℕ → ℕ → Result Mark E → ℕ → ℕ → Option (List ℕ) → Option (List ℕ) → Type 0
+LineChecked files kind line number r count_old count_new old new =
+    (o : Outcome) × Stepped files kind line o count_old count_new
+    × MatchResult r (λ mark. (mark_of o ≡ mark) × Appends old new (text number o))
+    (λ _. AppendsPrefix old new (text number o))
+
+-- the same of a part that does not read the list
+abbrev pub StepCounts : {T : Type 0} → Result T CheckFault → ℕ → ℕ → Type 0
+StepCounts (Ok _) old new = new ≡ old
+StepCounts (Err ListRead) old new = ⊥
+StepCounts (Err Write) old new = new ≡ next_count old
+StepCounts (Err OutOfMemory) old new = new ≡ old
+StepCounts (Err ListTooLong) old new = ⊥
