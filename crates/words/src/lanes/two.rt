@@ -22,7 +22,9 @@ pub fn block_words(bytes: &[u8], at: usize) -> [u32; 16]
     words32(&block)
 }
 
-/// The first eight words of `compress_3` of each of two inputs.
+/// The first eight words of `compress_3` of each of two inputs. A call, so that the words of the blocks lie in rows
+/// in memory, from which the compiler picks them by shuffles.
+#[inline(never)]
 #[tactic(auto, unfolding(crate::specs::Blake3::compress3, crate::specs::Blake3::rounds3, crate::specs::Blake3::permuted_words, crate::specs::Mix::round))]
 pub fn next_two(
     h: &[[u32; 8]; 2],
