@@ -93,8 +93,8 @@ fn with_salt_options<'a>(alloc: Global, command: Command<'a>) -> Result<Command<
             alloc,
             "personal",
             "HEX",
-            "The personalization in hexadecimal digits, as long as the\n\
-             salt, for blake2b and blake2s alone [default: zeros]",
+            "The personalization in hexadecimal digits, as long as\n\
+             the salt, for blake2b and blake2s alone [default: zeros]",
         ))
 }
 
@@ -179,13 +179,15 @@ fn with_derivation_options<'a>(
             alloc,
             "salt",
             "HEX",
-            "The salt in hexadecimal digits, not for blake3 [default: none]",
+            "The salt in hexadecimal digits, not for blake3\n\
+             [default: none]",
         ))?
         .arg(text_option(
             alloc,
             "info",
             "HEX",
-            "The info in hexadecimal digits, not for blake3 [default: empty]",
+            "The info in hexadecimal digits, not for blake3\n\
+             [default: empty]",
         ))?
         .arg(text_option(
             alloc,
