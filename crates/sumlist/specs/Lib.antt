@@ -11,4 +11,5 @@ pub mod Lines
 pub mod Report
 pub mod Tally
 pub mod Checked
+pub mod Settled
 pub mod inside
