@@ -8,24 +8,30 @@ use Rattle.std.proofs.lemmas.List.{get_or-take}
 use Rattle.std.proofs.lemmas.Bool.Decides.{nat_tests}
 use Rattle.sumlist.specs.Lines.{lines, without_empty_last, HasNoEnd}
 
-without_empty_last-cons : (x y : List ℕ) (ys : List (List ℕ)) → without_empty_last (x ∷ y ∷ ys) ≡ x ∷ without_empty_last (y ∷ ys)
+without_empty_last-cons : (x y : List ℕ) (ys : List (List ℕ))
+    → without_empty_last (x ∷ y ∷ ys) ≡ x ∷ without_empty_last (y ∷ ys)
 without_empty_last-cons [] y ys = refl
 without_empty_last-cons (c ∷ x) y ys = refl
 
-without_empty_last-more : (x : List ℕ) (ys : List (List ℕ)) → 0 < length ys → without_empty_last (x ∷ ys) ≡ x ∷ without_empty_last ys
+without_empty_last-more : (x : List ℕ) (ys : List (List ℕ)) → 0 < length ys
+    → without_empty_last (x ∷ ys) ≡ x ∷ without_empty_last ys
 without_empty_last-more x [] h = absurd (omega (arith, h))
 without_empty_last-more x (y ∷ ys) h = without_empty_last-cons x y ys
 
 pub lines-ended : (line rest : List ℕ) → HasNoEnd line → lines (line ++ 10 ∷ rest) ≡ line ∷ lines rest
 lines-ended line rest h =
     let more = length-slice_split (λ b. eqb b 10) rest in
-    ap without_empty_last (slice_split_at (λ b. eqb b 10) line 10 rest h refl) ∙ without_empty_last-more line (slice_split (λ b. eqb b 10) rest) (omega (arith, more))
+    ap without_empty_last (slice_split_at (λ b. eqb b 10) line 10 rest h refl)
+    ∙ without_empty_last-more line (slice_split (λ b. eqb b 10) rest) (omega (arith, more))
 
 pub lines-last : (line : List ℕ) → 0 < length line → HasNoEnd line → lines line ≡ line ∷ lines []
 lines-last [] some h = absurd (omega (arith, some))
 lines-last (c ∷ line) some h = ap without_empty_last (slice_split_none (λ b. eqb b 10) (c ∷ line) h)
 
-pub HasNoEnd-take : (xs : List ℕ) (n : ℕ) → n ≤ length xs → ((k : ℕ) → k < n → get_or xs k 0 ≢ 10) → HasNoEnd (take n xs)
+pub HasNoEnd-take : (xs : List ℕ) (n : ℕ) → n ≤ length xs → ((k : ℕ) → k < n → get_or xs k 0 ≢ 10)
+    → HasNoEnd (take n xs)
 HasNoEnd-take xs n fits h =
     let size = length-take-le n xs fits in
-    All-from_get_or (λ x. eqb x 10 ≡ false) (take n xs) 0 (λ k lt. let below : k < n = omega (arith, size) in let same = get_or-take n xs k 0 below in let apart = h k below in grind (arith, nat_tests))
+    All-from_get_or (λ x. eqb x 10 ≡ false) (take n xs) 0
+    (λ k lt. let below : k < n = omega (arith, size) in let same = get_or-take n xs k 0 below in let apart =
+    h k below in grind (arith, nat_tests))

@@ -8,7 +8,6 @@ use Rattle.sumlist.proofs.Pieces.{AppendsPrefix-after, AppendsPrefix-more, Appen
 use Rattle.sumlist.specs.declared.summary.Summary.{Summary}
 use Rattle.sumlist.specs.inside.Marks.{IsCounted, lines_of, no_lines}
 use Rattle.sumlist.proofs.Tallying.{number_of-append, number_of-one, IsSummary-start, IsSummary-more, lines_of-summary}
-use Rattle.sumlist.specs.declared.summary.Mark.TheVariants.{Told}
 use Rattle.sumlist.specs.declared.verdict.Verdict.TheVariants.{Unreadable}
 use Rattle.sumlist.specs.Lines.{lines}
 use Rattle.sumlist.specs.inside.Ahead.{Progress}

@@ -9,7 +9,10 @@ use Rattle.sumlist.proofs.checking.check.Goals as goal
 
 pub returns-in_err-held-clause-checked : goal.returns-in_err-held-clause-checked
 returns-in_err-held-clause-checked g c =
-    IfSome-all (g.L.Feed.remaining c.args.list.now) _ (λ bytes. IfSome-all (g.T.Tree.files c.args.tree.now) _ (λ files. ListChecked-none files c.args.kind bytes _ (g.T.Tree.failure_count c.args.tree.now) (g.W.Sink.shown c.args.out.now).contents c.from_residual.ensures.0))
+    IfSome-all (g.L.Feed.remaining c.args.list.now) _
+    (λ bytes. IfSome-all (g.T.Tree.files c.args.tree.now) _
+    (λ files. ListChecked-none files c.args.kind bytes _ (g.T.Tree.failure_count c.args.tree.now)
+    (g.W.Sink.shown c.args.out.now).contents c.from_residual.ensures.0))
 
 pub loop-held-init : goal.loop-held-init
 loop-held-init g c = record {
