@@ -1,7 +1,7 @@
 -- Parts in a row: all but the last are whole subtrees, so the last one stands where the one-bits of
 -- the number of the chunks before it end, and the tree is folded from the subtrees and the last part.
 use Rattle.std.proofs.Common.{◌≡◌, ℕ, zero, suc, ◌+◌, ◌-◌, ◌*◌, ◌/◌, ◌%◌, ◌^◌, ◌<◌, ◌≤◌, List, ◌++◌, length, take, drop, refl, sym, ap, ◌∙◌, inl, inr, arith, add-zero, pow_pos, pow_mono, pow-add, mul-le-mul_left, length-append, length-drop}
-use Rattle.std.proofs.Math.Nat.{pow-succ', mul-sub, mul-mod_right, mul_assoc, div-add-mod}
+use Rattle.std.proofs.Math.Nat.{pow-succ', mul-sub, mul-mod_right, mul_assoc, mul_comm, div-add-mod}
 use Rattle.std.proofs.lemmas.Bool.{cases_lt}
 use Rattle.std.proofs.lemmas.List.{drop-drop, drop_at, take_all, take_at}
 use Rattle.b3.specs.inside.Subtrees.{subtrees}
@@ -28,7 +28,7 @@ tree_join key flags c e m1 m2 full some fits =
     sym (tree_split key flags c p (m1 ++ m2) cut ∙ rw (left, right) refl)
 
 -- an exponent is less where its power is
-less_power : (e l : ℕ) → 2 ^ e < 2 ^ l → e < l
+pub less_power : (e l : ℕ) → 2 ^ e < 2 ^ l → e < l
 less_power e l h = elim (cases_lt e l) [
   | inl lt ↦ lt
   | inr ge ↦
@@ -37,7 +37,7 @@ less_power e l h = elim (cases_lt e l) [
 ]
 
 -- a power of two is a multiple of the smaller ones
-power_multiple : (e l : ℕ) → e ≤ l → 2 ^ l ≡ 2 ^ e * 2 ^ (l - e)
+pub power_multiple : (e l : ℕ) → e ≤ l → 2 ^ l ≡ 2 ^ e * 2 ^ (l - e)
 power_multiple e l h =
     let is : l ≡ e + (l - e) = omega arith in
     ap (λ (n : ℕ). 2 ^ n) is ∙ pow-add 2 e (l - e)
@@ -119,6 +119,27 @@ place_power c n placed =
 pub whole_place : (c n j : ℕ) → n ≡ 1024 * 2 ^ j → IsPlacedAt c n → c % 2 ^ j ≡ 0
 whole_place c n j whole placed =
     placed.2 (2 ^ j) (j, refl, omega (arith, pow_pos j), omega (arith, pow_pos j))
+
+-- bytes from a multiple of a power of two on, which are at most so many chunks, can be a part
+pub placed_within : (e c n : ℕ) → c % 2 ^ e ≡ 0 → (n ≡ 0 → c ≡ 0) → n ≤ 1024 * 2 ^ e → 1024 * c + n ≤ 2 ^ 64 - 1
+    → IsPlacedAt c n
+placed_within e c n aligned none few limit = (
+  none,
+  limit,
+  λ p least.
+      let f : ℕ = least.0 in
+      let power : p ≡ 2 ^ f = least.1 in
+      let near : p < 2 * ((n - 1) / 1024 + 1) = least.3 in
+      let double : 2 ^ suc e ≡ 2 * 2 ^ e = pow-succ' 2 e in
+      let below : f < suc e = less_power f (suc e) (omega (arith, pow_pos e)) in
+      let up : 2 ^ e ≡ 2 ^ f * 2 ^ (e - f) = power_multiple f e (omega arith) in
+      let start : c / 2 ^ e * 2 ^ e ≡ c = run_start (2 ^ e) c aligned in
+      let is : c ≡ p * (2 ^ (e - f) * (c / 2 ^ e))
+      = sym start ∙ mul_comm (c / 2 ^ e) (2 ^ e)
+      ∙ ap (λ (x : ℕ). x * (c / 2 ^ e)) (up ∙ ap (λ (x : ℕ). x * 2 ^ (e - f)) (sym power))
+      ∙ mul_assoc p (2 ^ (e - f)) (c / 2 ^ e) in
+      rw is (mul-mod_right p (2 ^ (e - f) * (c / 2 ^ e))),
+)
 
 -- the last part was closed, and bytes come behind it
 pub row_push : (key : List ℕ) (flags f : ℕ) (m x value : List ℕ) (old new : List (List ℕ)) (j c : ℕ)

@@ -4,9 +4,9 @@ use std::fmt::Write;
 use std::test::Fail;
 use words::{Absorb, InputTooLong, compress_3, words32};
 
-const KEY: &[u8; 32] = b"whats the Elvish word for friend";
+pub(crate) const KEY: &[u8; 32] = b"whats the Elvish word for friend";
 
-const CONTEXT: &[u8] = b"BLAKE3 2019-12-27 16:29:52 test vectors context";
+pub(crate) const CONTEXT: &[u8] = b"BLAKE3 2019-12-27 16:29:52 test vectors context";
 
 const IV: [u32; 8] = [
     0x6a09_e667,
@@ -20,7 +20,7 @@ const IV: [u32; 8] = [
 ];
 
 // The input of the official BLAKE3 test vectors: the bytes 0, 1, .., 250 over and over.
-fn counting(alloc: Global, length: usize) -> Result<Vec<u8>, AllocError> {
+pub(crate) fn counting(alloc: Global, length: usize) -> Result<Vec<u8>, AllocError> {
     let mut bytes = Vec::new(alloc);
     for i in 0..length {
         bytes.push((i % 251) as u8)?;
@@ -28,7 +28,7 @@ fn counting(alloc: Global, length: usize) -> Result<Vec<u8>, AllocError> {
     Ok(bytes)
 }
 
-fn digits(alloc: Global, bytes: &[u8]) -> Result<String, AllocError> {
+pub(crate) fn digits(alloc: Global, bytes: &[u8]) -> Result<String, AllocError> {
     let mut text = String::new(alloc);
     for byte in bytes {
         write!(text, "{byte:02x}")?;

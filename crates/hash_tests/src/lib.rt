@@ -10,6 +10,8 @@ mod kdf_tests;
 #[cfg(test)]
 mod mac_tests;
 #[cfg(test)]
+mod part_tests;
+#[cfg(test)]
 mod slow;
 #[cfg(test)]
 mod words_tests;

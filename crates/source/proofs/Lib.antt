@@ -1,3 +1,4 @@
 pub mod Writing
 mod Taking
 mod Joining
+pub mod Parting

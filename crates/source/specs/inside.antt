@@ -5,3 +5,4 @@ pub mod VecSink
 pub mod Device
 pub mod AnyHash
 pub mod Rooms
+pub mod Parts

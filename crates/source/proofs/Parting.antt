@@ -1,0 +1,96 @@
+-- Parts of what a feed has to come, one after the other.
+use Rattle.std.proofs.Common.{◌≡◌, ℕ, zero, suc, ◌+◌, ◌-◌, ◌*◌, ◌/◌, ◌%◌, ◌^◌, ◌<◌, ◌≤◌, List, [], ◌++◌, Option, None, Some, IfSome, length, take, refl, ap, sym, subst, ◌∙◌, inl, inr, arith, append-nil, length-append, length-take-le, mul-add, pow_mono, pow_pos}
+use Rattle.std.proofs.Math.Nat.{pow-succ', mul-mod_right, mul_assoc, mul_comm}
+use Rattle.std.proofs.lemmas.Bool.{cases_lt}
+use Rattle.b3.specs.Parts.{IsPlacedAt}
+use Rattle.b3.proofs.Holding.{run_start}
+use Rattle.b3.proofs.Joining.{less_power, placed_within}
+use borrow.Rule.Slice.PartMut.{put_mid}
+use Rattle.std.proofs.Math.Seq.{take-append-add}
+use Rattle.std.proofs.lemmas.List.{take-take}
+use Rattle.std.proofs.lemmas.Slice.{take-put_mid}
+use Rattle.std.specs.Io.KnownBytes.{Consumes, IsAtEnd, prepend_known}
+use Rattle.source.specs.Pumped.{IsLongerThan}
+
+-- what was read ahead is taken, and then more is read ahead
+pub ahead_moved : (a b : Option (List ℕ)) (xs bs : List ℕ) → Consumes a b bs
+    → Consumes (prepend_known xs a) (prepend_known bs b) xs
+ahead_moved None b xs bs given = tt
+ahead_moved (Some x) None xs bs given = absurd given
+ahead_moved (Some x) (Some y) xs bs given = ap (λ (l : List ℕ). xs ++ l) given
+
+-- the bytes that were read ahead alone are more than n
+pub ahead_longer : (a : Option (List ℕ)) (xs : List ℕ) (n : ℕ) → n < length xs → IsLongerThan (prepend_known xs a) n
+ahead_longer None xs n more = tt
+ahead_longer (Some x) xs n more = omega (arith, more, length-append xs x)
+
+-- what is left is too long, and so is the whole
+pub consumes_longer : (a b : Option (List ℕ)) (bs : List ℕ) (n k : ℕ) → Consumes a b bs → IsLongerThan b n
+    → k ≤ n + length bs → IsLongerThan a k
+consumes_longer None b bs n k given more sum = tt
+consumes_longer (Some x) None bs n k given more sum = absurd given
+consumes_longer (Some x) (Some y) bs n k given more sum =
+    omega (arith, ap length given, length-append bs y, more, sum)
+
+-- what was read behind the first n bytes of a buffer is the next of them
+pub filled_more : (run buf : List ℕ) (n k count : ℕ) → n ≤ length run → count ≤ length buf
+    → take (n + count) (put_mid n k run buf) ≡ take n run ++ take count buf
+filled_more run buf n k count within few =
+    let all : List ℕ = put_mid n k run buf in
+    let front : length (take n run) ≡ n = length-take-le n run within in
+    let whole : take (n + length buf) all ≡ take n run ++ buf = take-put_mid n k run buf (n + length buf) refl within in
+    sym (take-take (n + count) (n + length buf) all (omega (arith, few)))
+    ∙ ap (λ (l : List ℕ). take (n + count) l) whole
+    ∙ rw front at (take-append-add (take n run) buf count)
+
+-- what was to come before bytes were read ahead
+pub longer_before : (a b : Option (List ℕ)) (xs : List ℕ) (n : ℕ) → Consumes a b xs
+    → IsLongerThan (prepend_known xs b) n → IsLongerThan a n
+longer_before None b xs n given more = tt
+longer_before (Some x) None xs n given more = absurd given
+longer_before (Some x) (Some y) xs n given more = omega (arith, ap length given, more)
+
+-- bytes after which nothing is left are all that was to come
+pub all_taken : (a b c : Option (List ℕ)) (xs zs bytes : List ℕ) (P : List ℕ → Type 0) → Consumes a b xs
+    → Consumes (prepend_known xs b) (prepend_known zs c) bytes → zs ≡ [] → IsAtEnd c → P bytes → IfSome a P
+all_taken None b c xs zs bytes P first rest none end holds = tt
+all_taken (Some x) None c xs zs bytes P first rest none end holds = absurd first
+all_taken (Some x) (Some y) None xs zs bytes P first rest none end holds = absurd rest
+all_taken (Some x) (Some y) (Some z) xs zs bytes P first rest none end holds =
+    let left : zs ++ z ≡ [] = ap (λ (l : List ℕ). l ++ z) none ∙ end in
+    subst P (sym (first ∙ rest ∙ ap (λ (l : List ℕ). bytes ++ l) left ∙ append-nil bytes)) holds
+
+-- a power of two of chunks that are more than a run is twice such a power, which a run fits in
+pub halved : (chunks len : ℕ) → (k : ℕ) × (len ≡ 1024 * 2 ^ k) → (e : ℕ) × (chunks ≡ 2 ^ e) → len / 1024 < chunks
+    → (d : ℕ) × (chunks / 2 ≡ 2 ^ d) × (chunks ≡ 2 * 2 ^ d) × (len ≤ 1024 * 2 ^ d)
+halved chunks len (k, run) (zero, power) more =
+    absurd (omega (arith, run, power, more, pow_pos k))
+halved chunks len (k, run) (suc d, power) more =
+    let double : 2 ^ suc d ≡ 2 * 2 ^ d = pow-succ' 2 d in
+    let less : k < suc d = less_power k (suc d) (omega (arith, run, power, more)) in
+    let up : 2 ^ k ≤ 2 ^ d = pow_mono (omega (arith, less)) in
+    (d, omega (arith, power, double), omega (arith, power, double), omega (arith, run, up))
+
+-- what begins at a multiple of the double begins at one of the half, and so does what comes behind the half
+pub at_half : (first half : ℕ) → first % (2 * half) ≡ 0 → (first % half ≡ 0) × ((first + half) % half ≡ 0)
+at_half first half aligned =
+    let a : ℕ = first / (2 * half) in
+    let start : a * (2 * half) ≡ first = run_start (2 * half) first aligned in
+    let is : first ≡ half * (2 * a)
+    = sym start ∙ mul_comm a (2 * half) ∙ ap (λ (x : ℕ). x * a) (mul_comm 2 half) ∙ mul_assoc half 2 a in
+    let next : first + half ≡ half * (2 * a + 1) = omega (arith, is, mul-add half (2 * a) 1) in
+    (rw is (mul-mod_right half (2 * a)), rw next (mul-mod_right half (2 * a + 1)))
+
+-- a part that is refused would end after the limit
+pub over_limit : (e first n : ℕ) → first % 2 ^ e ≡ 0 → (n ≡ 0 → first ≡ 0) → n ≤ 1024 * 2 ^ e
+    → (IsPlacedAt first n → ⊥) → 2 ^ 64 - 1 - 1024 * first < n
+over_limit e first n aligned none few refused =
+    elim (cases_lt (2 ^ 64 - 1) (1024 * first + n)) [
+      | inl over ↦ elim (cases_lt 0 n) [
+        | inl some ↦ omega (arith, over, some)
+        | inr empty ↦
+            let zero_first : first ≡ 0 = none (omega (arith, empty)) in
+            absurd (omega (arith, over, empty, zero_first))
+      ]
+      | inr fits ↦ absurd (refused (placed_within e first n aligned none few (omega (arith, fits))))
+    ]

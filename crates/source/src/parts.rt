@@ -1,0 +1,125 @@
+// BLAKE3 of a feed, in parts that are hashed apart and joined.
+
+ghost use Rattle.std.specs.Prelude.{◌≡◌, ℕ, ◌*◌, ◌-◌, ◌/◌, ◌%◌, ◌^◌, ◌<◌, ◌≤◌, length, take, OnOk, IfOk, IfSome, IsErrOf};
+ghost use Rattle.std.specs.Io.KnownBytes.{Consumes, IsAtEnd, prepend_known};
+ghost use Rattle.b3.specs.Modes.{root_of};
+ghost use Rattle.b3.specs.Parts.{mode_parameters};
+ghost use Rattle.b3.specs.inside.Output.{output_root, output_position};
+ghost use Rattle.source.specs.Faults.{PumpCounts};
+ghost use Rattle.source.specs.Pumped.{IsLongerThan};
+ghost use Rattle.source.specs.inside.Parts.{IsFilled, IsTaken};
+
+use crate::{Feed, ReadFailed, SourceFault};
+use b3::{Misplaced, Mode, Output, Part};
+
+// The chunks of the longest message, and a few more: a power of two.
+const MOST_CHUNKS: u64 = 18_014_398_509_481_984;
+
+/// The BLAKE3 output of all that is still to come, at position 0. It is read in runs that fill `run`,
+/// but for the last; each run is hashed as a part, and the parts are joined. `Read` comes exactly
+/// where a read failed; where none did, `TooLong` comes where more than 2^64 - 1 bytes were to come.
+pub fn output_in_parts<F: Feed>(
+    mode: Mode,
+    feed: &mut F,
+    run: &mut [u8],
+) -> Result<Output, SourceFault>
+    requires { (e : ℕ) × (length run.old ≡ 1024 * 2 ^ e) }
+    ensures root { IfOk result (λ output. IfSome (F.remaining feed.old)
+        (λ xs. output_root output ≡ root_of (mode_parameters mode) xs)) }
+    ensures position { IfOk result (λ output. output_position output ≡ 0) }
+    ensures end { OnOk result (IsAtEnd (F.remaining feed.new)) }
+    ensures fits { OnOk result (IfSome (F.remaining feed.old) (λ xs. length xs ≤ 2 ^ 64 - 1)) }
+    ensures too_long { IsErrOf result SourceFault.TooLong
+        → IsLongerThan (F.remaining feed.old) (2 ^ 64 - 1) }
+    ensures count { PumpCounts result (F.failure_count feed.old) (F.failure_count feed.new) }
+{
+    let ahead = fill(feed, run)?;
+    let (part, _ahead) = take_part(mode, 0, MOST_CHUNKS, feed, run, ahead)?;
+    Ok(part.root().unwrap())
+}
+
+// Reads until `run` is full or the feed at its end, and answers how many bytes that is.
+fn fill<F: Feed>(feed: &mut F, run: &mut [u8]) -> Result<usize, SourceFault>
+    ensures filled { IfOk result (λ n. IsFilled F.remaining feed.old feed.new run.new n) }
+    ensures length { length run.new ≡ length run.old }
+    ensures fault { IsErrOf result SourceFault.TooLong → ⊥ }
+    ensures count { PumpCounts result (F.failure_count feed.old) (F.failure_count feed.new) }
+{
+    let mut n = 0;
+    'reads: while n < run.len() {
+        match feed.read(&mut run[n..]) {
+            Ok(0) => return Ok(n),
+            Ok(count) => n += count,
+            Err(ReadFailed) => return Err(SourceFault::Read),
+        }
+    }
+    Ok(n)
+}
+
+// The part from a chunk on of at most `chunks` chunks, of which the next `ahead` bytes were read into `run`
+// and the others come from the feed; and how many bytes of what follows it were then read into `run`.
+fn take_part<F: Feed>(
+    mode: Mode,
+    first: u64,
+    chunks: u64,
+    feed: &mut F,
+    run: &mut [u8],
+    ahead: usize,
+) -> Result<(Part, usize), SourceFault>
+    requires run { (e : ℕ) × (length run.old ≡ 1024 * 2 ^ e) }
+    requires chunks { (e : ℕ) × (chunks ≡ 2 ^ e) }
+    requires room { length run.old ≤ 1024 * chunks }
+    requires aligned { first % chunks ≡ 0 }
+    requires within { ahead ≤ length run.old }
+    requires some { ahead ≡ 0 → first ≡ 0 }
+    requires end { ahead < length run.old → IsAtEnd (F.remaining feed.old) }
+    ensures taken { IfOk result (λ r. IsTaken F.remaining mode first chunks
+        (prepend_known (take ahead run.old) (F.remaining feed.old)) feed.new run.new r.0 r.1) }
+    ensures length { length run.new ≡ length run.old }
+    ensures too_long { IsErrOf result SourceFault.TooLong
+        → IsLongerThan (prepend_known (take ahead run.old) (F.remaining feed.old)) (2 ^ 64 - 1 - 1024 * first) }
+    ensures count { PumpCounts result (F.failure_count feed.old) (F.failure_count feed.new) }
+{
+    if chunks <= (run.len() / 1024) as u64 {
+        return take_run(mode, first, feed, run, ahead);
+    }
+    let half = chunks / 2;
+    let (left, ahead) = take_part(mode, first, half, feed, run, ahead)?;
+    if ahead == 0 {
+        return Ok((left, 0));
+    }
+    let (right, ahead) = take_part(mode, first + half, half, feed, run, ahead)?;
+    Ok((Part::join(left, right).unwrap(), ahead))
+}
+
+// The part of the one run that was read, and how many bytes of the next one were then read.
+fn take_run<F: Feed>(
+    mode: Mode,
+    first: u64,
+    feed: &mut F,
+    run: &mut [u8],
+    ahead: usize,
+) -> Result<(Part, usize), SourceFault>
+    requires run { (e : ℕ) × (length run.old ≡ 1024 * 2 ^ e) × (first % 2 ^ e ≡ 0) }
+    requires within { ahead ≤ length run.old }
+    requires some { ahead ≡ 0 → first ≡ 0 }
+    requires end { ahead < length run.old → IsAtEnd (F.remaining feed.old) }
+    ensures taken { IfOk result (λ r. IsTaken F.remaining mode first (length run.old / 1024)
+        (prepend_known (take ahead run.old) (F.remaining feed.old)) feed.new run.new r.0 r.1) }
+    ensures length { length run.new ≡ length run.old }
+    ensures too_long { IsErrOf result SourceFault.TooLong
+        → IsLongerThan (prepend_known (take ahead run.old) (F.remaining feed.old)) (2 ^ 64 - 1 - 1024 * first) }
+    ensures count { PumpCounts result (F.failure_count feed.old) (F.failure_count feed.new) }
+{
+    match Part::of(mode, first, &run[..ahead]) {
+        Err(Misplaced) => Err(SourceFault::TooLong),
+        Ok(part) => {
+            let next = if ahead < run.len() {
+                0
+            } else {
+                fill(feed, run)?
+            };
+            Ok((part, next))
+        }
+    }
+}
