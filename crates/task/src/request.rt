@@ -2,7 +2,8 @@
 
 ghost use Rattle.std.specs.Prelude.{◌≡◌, ◌≢◌, ◌↔◌, [], Err, IfOk, IsSomeAnd, IsTrue, OnOk, codes, map};
 ghost use Rattle.std.specs.Prelude.{option_map, true, unwrap_or};
-ghost use Rattle.clap.specs.Words.{IsAmong, all_of, fault_of, first_of, found_of, has_subcommand, kind_of, rows_of, subcommand_of, subcommand_rows_of};
+ghost use Rattle.clap.specs.Words.{IsAmong, all_of, fault_of, first_of, found_of, has_subcommand, kind_of};
+ghost use Rattle.clap.specs.Words.{rows_of, subcommand_of, subcommand_rows_of};
 ghost use Rattle.task.specs.CommandLine.{IsGiven, IsRequestOf, OfSums, Reads, sums_app};
 ghost use Rattle.task.specs.declared.request.WordsFault.TheVariants.{OutOfMemory, Words};
 
