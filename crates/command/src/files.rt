@@ -1,6 +1,6 @@
 // The files of the system, by name.
 
-ghost use Rattle.std.specs.Prelude.{None};
+ghost use Rattle.std.specs.Prelude.{◌≡◌, None};
 
 use source::{Device, Feed};
 use std::fs::OpenOptions;
@@ -16,7 +16,10 @@ pub struct FileTree<'r, R: Files> {
 }
 
 impl<'r, R: Files> FileTree<'r, R> {
-    pub fn new(rt: &'r R) -> FileTree<'r, R> {
+    /// The files of the system, of which none has failed yet.
+    pub fn new(rt: &'r R) -> FileTree<'r, R>
+        ensures fresh { ⟦<FileTree<'r, R> as Tree>⟧.failure_count result ≡ 0 }
+    {
         FileTree { rt, failures: 0 }
     }
 }
