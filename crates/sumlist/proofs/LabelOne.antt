@@ -43,41 +43,22 @@ decimal_plain = decimal_by_steps (λ m ds. HasNoSpace ds) (λ m l. one_plain m)
 plain_literal : (l text : List ℕ) → HasNoSpace text → l ≡ text → HasNoSpace l
 plain_literal l text h e = subst HasNoSpace (sym e) h
 
-plain_sha256 : HasNoSpace (codes "SHA256")
-plain_sha256 = plain_all (codes "SHA256") (search rules)
-
-plain_sha512 : HasNoSpace (codes "SHA512")
-plain_sha512 = plain_all (codes "SHA512") (search rules)
-
-plain_blake2b : HasNoSpace (codes "BLAKE2b")
-plain_blake2b = plain_all (codes "BLAKE2b") (search rules)
-
-plain_blake2b_of : HasNoSpace (codes "BLAKE2b-")
-plain_blake2b_of = plain_all (codes "BLAKE2b-") (search rules)
-
-plain_blake2s : HasNoSpace (codes "BLAKE2s")
-plain_blake2s = plain_all (codes "BLAKE2s") (search rules)
-
-plain_blake2s_of : HasNoSpace (codes "BLAKE2s-")
-plain_blake2s_of = plain_all (codes "BLAKE2s-") (search rules)
-
-plain_blake3 : HasNoSpace (codes "BLAKE3")
-plain_blake3 = plain_all (codes "BLAKE3") (search rules)
+plain_numbered : (l front : List ℕ) (n : ℕ) → n < 2 ^ 64 → HasNoSpace front → l ≡ front ++ decimal n → HasNoSpace l
+plain_numbered l front n fits h e =
+    plain_literal l (front ++ decimal n) (All-append NotSpace front (decimal n) h (decimal_plain n fits)) e
 
 pub label_plain : (l : List ℕ) (a : Alg) → IsInRange a → IsLabel l a → HasNoSpace l
-label_plain l sha256 r e = plain_literal l (codes "SHA256") plain_sha256 e
-label_plain l sha512 r e = plain_literal l (codes "SHA512") plain_sha512 e
-label_plain l (blake2b n) r (inl e) = plain_literal l (codes "BLAKE2b") plain_blake2b e.1
+label_plain l sha256 r e = plain_literal l (codes "SHA256") (plain_all (codes "SHA256") (search rules)) e
+label_plain l sha512 r e = plain_literal l (codes "SHA512") (plain_all (codes "SHA512") (search rules)) e
+label_plain l (blake2b n) r (inl e) =
+    plain_literal l (codes "BLAKE2b") (plain_all (codes "BLAKE2b") (search rules)) e.1
 label_plain l (blake2b n) r (inr e) =
-    plain_literal l (codes "BLAKE2b-" ++ decimal (8 * n))
-    (All-append NotSpace (codes "BLAKE2b-") (decimal (8 * n)) plain_blake2b_of
-    (decimal_plain (8 * n) (omega (arith, r.1)))) e
-label_plain l (blake2s n) r (inl e) = plain_literal l (codes "BLAKE2s") plain_blake2s e.1
+    plain_numbered l (codes "BLAKE2b-") (8 * n) (omega (arith, r.1)) (plain_all (codes "BLAKE2b-") (search rules)) e
+label_plain l (blake2s n) r (inl e) =
+    plain_literal l (codes "BLAKE2s") (plain_all (codes "BLAKE2s") (search rules)) e.1
 label_plain l (blake2s n) r (inr e) =
-    plain_literal l (codes "BLAKE2s-" ++ decimal (8 * n))
-    (All-append NotSpace (codes "BLAKE2s-") (decimal (8 * n)) plain_blake2s_of
-    (decimal_plain (8 * n) (omega (arith, r.1)))) e
-label_plain l blake3 r e = plain_literal l (codes "BLAKE3") plain_blake3 e
+    plain_numbered l (codes "BLAKE2s-") (8 * n) (omega (arith, r.1)) (plain_all (codes "BLAKE2s-") (search rules)) e
+label_plain l blake3 r e = plain_literal l (codes "BLAKE3") (plain_all (codes "BLAKE3") (search rules)) e
 
 -- ---- a label names one algorithm
 
