@@ -22,7 +22,8 @@ prk =
 
 pub extract_blake2s : extract hash 64 32
     (Some (0 ∷ 1 ∷ 2 ∷ 3 ∷ 4 ∷ 5 ∷ 6 ∷ 7 ∷ 8 ∷ 9 ∷ 10 ∷ 11 ∷ 12 ∷ [])) (replicate 22 0x0b) ≡ prk
-unfolding g g_at round rounds compress words word_bytes block_len block_count start key_block chain final_value blake2 hmac_of_block_key block_sized_key
+unfolding g g_at round rounds compress words word_bytes block_len block_count start key_block chain final_value blake2
+    hmac_of_block_key block_sized_key
 extract_blake2s = refl
 
 -- T(1) and the beginning of T(2)
@@ -31,5 +32,6 @@ pub expand_blake2s : expand hash 64 prk
     0x14 ∷ 0x72 ∷ 0xc3 ∷ 0x1f ∷ 0x2f ∷ 0xf7 ∷ 0x68 ∷ 0xc7 ∷ 0x1b ∷ 0x19 ∷ 0xf8 ∷ 0x80 ∷ 0x36 ∷ 0x83 ∷ 0xee ∷ 0x3b ∷
     0x13 ∷ 0xc1 ∷ 0xa5 ∷ 0xfb ∷ 0x3e ∷ 0xa5 ∷ 0x9c ∷ 0x0c ∷ 0x3b ∷ 0xf0 ∷ 0xd4 ∷ 0x4a ∷ 0x4a ∷ 0x40 ∷ 0xdc ∷ 0xd4 ∷
     0x32 ∷ 0x9d ∷ 0x9c ∷ 0xd8 ∷ 0x5b ∷ 0xbe ∷ 0x35 ∷ 0xa1 ∷ 0xb3 ∷ 0xe7 ∷ []
-unfolding g g_at round rounds compress words word_bytes block_len block_count start key_block chain final_value blake2 hmac_of_block_key block_sized_key expand_block expand_blocks
+unfolding g g_at round rounds compress words word_bytes block_len block_count start key_block chain final_value blake2
+    hmac_of_block_key block_sized_key expand_block expand_blocks
 expand_blake2s = refl

@@ -1,4 +1,5 @@
 use crate::slow;
+use crate::spelling::is_spelled;
 use blake2::{Blake2b, Blake2s, ParameterFault};
 use std::test::Fail;
 use words::{Absorb, Tag, same};
@@ -132,28 +133,6 @@ fn count_up(bytes: &mut [u8], first: u8) {
     }
 }
 
-fn digit(n: u8) -> u8 {
-    if n < 10 {
-        b'0'.wrapping_add(n)
-    } else {
-        b'a'.wrapping_add(n.wrapping_sub(10))
-    }
-}
-
-// Whether the text spells the tag in hexadecimal.
-fn spells(text: &str, tag: &Tag) -> bool {
-    let (pairs, rest) = text.as_bytes().as_chunks::<2>();
-    if !rest.is_empty() || pairs.len() != tag.bytes().len() {
-        return false;
-    }
-    for (pair, byte) in pairs.iter().zip(tag.bytes()) {
-        if *pair != [digit(byte >> 4), digit(byte & 15)] {
-            return false;
-        }
-    }
-    true
-}
-
 const BLAKE2B_OF_NOTHING: &str = "786a02f742015903c6c6fd852552d272912f4740e15847618a86e217f71f5419\
     d25e1031afee585313896444934eb04b903a685b1448b755d56f701afe9be2ce";
 
@@ -174,16 +153,16 @@ const ABC: [&[&[u8]]; 3] = [
 
 #[test]
 fn digests_of_nothing(rt: HostRuntime) -> Result<(), Fail> {
-    assert!(rt; spells(BLAKE2B_OF_NOTHING, &digest::<Blake2b>(64, b"", &[])?));
-    assert!(rt; spells(BLAKE2S_OF_NOTHING, &digest::<Blake2s>(32, b"", &[])?));
+    assert!(rt; is_spelled(digest::<Blake2b>(64, b"", &[])?.bytes(), BLAKE2B_OF_NOTHING));
+    assert!(rt; is_spelled(digest::<Blake2s>(32, b"", &[])?.bytes(), BLAKE2S_OF_NOTHING));
     Ok(())
 }
 
 #[test]
 fn the_digest_of_abc_is_the_same_in_any_pieces(rt: HostRuntime) -> Result<(), Fail> {
     for pieces in ABC {
-        assert!(rt; spells(BLAKE2B_OF_ABC, &digest::<Blake2b>(64, b"", pieces)?));
-        assert!(rt; spells(BLAKE2S_OF_ABC, &digest::<Blake2s>(32, b"", pieces)?));
+        assert!(rt; is_spelled(digest::<Blake2b>(64, b"", pieces)?.bytes(), BLAKE2B_OF_ABC));
+        assert!(rt; is_spelled(digest::<Blake2s>(32, b"", pieces)?.bytes(), BLAKE2S_OF_ABC));
     }
     Ok(())
 }
@@ -223,10 +202,10 @@ fn self_test<H: Blake2>(digest_lengths: &[u8; 4], input_lengths: &[u16; 6]) -> R
 fn the_self_test_of_the_rfc(rt: HostRuntime) -> Result<(), Fail> {
     let tag = self_test::<Blake2b>(&[20, 32, 48, 64], &[0, 3, 128, 129, 255, 1024])?;
     let expected = "c23a7800d98123bd10f506c61e29da5603d763b8bbad2e737f5e765a7bccd475";
-    assert!(rt; spells(expected, &tag));
+    assert!(rt; is_spelled(tag.bytes(), expected));
     let tag = self_test::<Blake2s>(&[16, 20, 28, 32], &[0, 3, 64, 65, 255, 1024])?;
     let expected = "6a411f08ce25adcdfb02aba641451cec53c598b24f4fc787fbdc88797f4c1dfe";
-    assert!(rt; spells(expected, &tag));
+    assert!(rt; is_spelled(tag.bytes(), expected));
     Ok(())
 }
 
@@ -496,7 +475,7 @@ fn gives<H: Blake2>(row: &Salted, digest_length: u8, key: &[u8], text: &str) -> 
     for piece in message.chunks(50) {
         absorb(&mut hasher, &[piece])?;
     }
-    Ok(spells(text, &whole) && spells(text, &hasher.finish()))
+    Ok(is_spelled(whole.bytes(), text) && is_spelled(hasher.finish().bytes(), text))
 }
 
 #[test]
@@ -537,7 +516,7 @@ fn the_personalized_digests_of_hashlib(rt: HostRuntime) -> Result<(), Fail> {
             .ok()
             .ok_or("refused")?;
         let tag = absorbed(hasher, &[b"the same content"])?;
-        assert!(rt; spells(expected, &tag));
+        assert!(rt; is_spelled(tag.bytes(), expected));
     }
     Ok(())
 }

@@ -1,25 +1,11 @@
 // Keys from outside, the limits, and the refusals in their order.
 
+use crate::spelling::is_spelled;
 use kdf::{ExpandFault, Extract, derive_b3, expand};
 use mac::{Blake2b512, Blake2s256, BlockHash, Hmac, Sha256Stream, Sha512Stream};
 use std::process::Abort;
 use std::test::Fail;
 use words::{Absorb, Tag};
-
-// Whether the hexadecimal digits spell these bytes.
-fn is_spelled(bytes: &[u8], digits: &str) -> bool {
-    let mut left = digits.as_bytes();
-    for &byte in bytes {
-        for nibble in [byte / 16, byte % 16] {
-            match left.split_first() {
-                Some((&digit, rest)) if digit == b"0123456789abcdef"[usize::from(nibble)] => left =
-                    rest,
-                _ => return false,
-            }
-        }
-    }
-    left.is_empty()
-}
 
 // Bytes from a first one on, as many as told, each the one before and `step`.
 #[derive(Clone, Copy)]
@@ -78,11 +64,13 @@ fn cases() -> [Case; 3] {
                 okm: "3cb25f25faacd57a90434f64d0362f2a2d2d0a90cf1a5a4c5db02d56ecc4c5bf34007208d5b887185865",
             },
             sha512: Derived {
-                prk: "665799823737ded04a88e47e54a5890bb2c3d247c7a4254a8e61350723590a26c36238127d8661b88cf80ef802d57e2f7cebcf1e00e083848be19929c61b4237",
+                prk: "665799823737ded04a88e47e54a5890bb2c3d247c7a4254a8e61350723590a26\
+                    c36238127d8661b88cf80ef802d57e2f7cebcf1e00e083848be19929c61b4237",
                 okm: "832390086cda71fb47625bb5ceb168e4c8e26a1a16ed34d9fc7fe92c1481579338da362cb8d9f925d7cb",
             },
             blake2b: Derived {
-                prk: "02fbaa4ced1e659fe2eb8ae358de5be0edc0fd4526dbc7cc68d2ab9273e1b230ab9d6860f65dc7bad92a483c0f90e019ace68b5e4fe65251666eb1e71e57a812",
+                prk: "02fbaa4ced1e659fe2eb8ae358de5be0edc0fd4526dbc7cc68d2ab9273e1b230\
+                    ab9d6860f65dc7bad92a483c0f90e019ace68b5e4fe65251666eb1e71e57a812",
                 okm: "8815e1a85b5e90e6174323fdd180248887a7138af6dc5c8320fde21a60a078808267d6a41b6a938d7b30",
             },
             blake2s: Derived {
@@ -97,19 +85,29 @@ fn cases() -> [Case; 3] {
             length: 82,
             sha256: Derived {
                 prk: "06a6b88c5853361a06104c9ceb35b45cef760014904671014a193f40c15fc244",
-                okm: "b11e398dc80327a1c8e7f78c596a49344f012eda2d4efad8a050cc4c19afa97c59045a99cac7827271cb41c65e590e09da3275600c2f09b8367793a9aca3db71cc30c58179ec3e87c14c01d5c1f3434f1d87",
+                okm: "b11e398dc80327a1c8e7f78c596a49344f012eda2d4efad8a050cc4c19afa97c\
+                    59045a99cac7827271cb41c65e590e09da3275600c2f09b8367793a9aca3db71\
+                    cc30c58179ec3e87c14c01d5c1f3434f1d87",
             },
             sha512: Derived {
-                prk: "35672542907d4e142c00e84499e74e1de08be86535f924e022804ad775dde27ec86cd1e5b7d178c74489bdbeb30712beb82d4f97416c5a94ea81ebdf3e629e4a",
-                okm: "ce6c97192805b346e6161e821ed165673b84f400a2b514b2fe23d84cd189ddf1b695b48cbd1c8388441137b3ce28f16aa64ba33ba466b24df6cfcb021ecff235f6a2056ce3af1de44d572097a8505d9e7a93",
+                prk: "35672542907d4e142c00e84499e74e1de08be86535f924e022804ad775dde27e\
+                    c86cd1e5b7d178c74489bdbeb30712beb82d4f97416c5a94ea81ebdf3e629e4a",
+                okm: "ce6c97192805b346e6161e821ed165673b84f400a2b514b2fe23d84cd189ddf1\
+                    b695b48cbd1c8388441137b3ce28f16aa64ba33ba466b24df6cfcb021ecff235\
+                    f6a2056ce3af1de44d572097a8505d9e7a93",
             },
             blake2b: Derived {
-                prk: "9eddca55c30bd643eb09b91a6a7b2763096333338d4fd2145899d746b415c07422c9ff0aecdefa0fb1cae869492a499ad01f9e0a1a29b13067a97805455ad54f",
-                okm: "bb19eccde3ff3f41a8b3a147eb4fa640599a4e2194aadd98c0458f7ec05ac995238f9b6002d5bcbfa7c67975965de73ff014e55acff823162d6d5c04498501b1acb5e99058466d1a440ffc544f408e89f555",
+                prk: "9eddca55c30bd643eb09b91a6a7b2763096333338d4fd2145899d746b415c074\
+                    22c9ff0aecdefa0fb1cae869492a499ad01f9e0a1a29b13067a97805455ad54f",
+                okm: "bb19eccde3ff3f41a8b3a147eb4fa640599a4e2194aadd98c0458f7ec05ac995\
+                    238f9b6002d5bcbfa7c67975965de73ff014e55acff823162d6d5c04498501b1\
+                    acb5e99058466d1a440ffc544f408e89f555",
             },
             blake2s: Derived {
                 prk: "67ba3b32417ecf634cce8b62ef78dd621c3d5c6f40615b7fa6759a5c54c13745",
-                okm: "9a4d17a2953c7331fecfb23ff13578c4758b4f5ebaac2dae59dd0d2c8457e2f0075434cf17d98cadf4fcfdcd6d818a3f4f99679d3265bd9da9955b901661a974b146aa7e89fbdcc114e6de28b28b38b87c51",
+                okm: "9a4d17a2953c7331fecfb23ff13578c4758b4f5ebaac2dae59dd0d2c8457e2f0\
+                    075434cf17d98cadf4fcfdcd6d818a3f4f99679d3265bd9da9955b901661a974\
+                    b146aa7e89fbdcc114e6de28b28b38b87c51",
             },
         },
         Case {
@@ -122,11 +120,13 @@ fn cases() -> [Case; 3] {
                 okm: "8da4e775a563c18f715f802a063c5a31b8a11f5c5ee1879ec3454e5f3c738d2d9d201395faa4b61a96c8",
             },
             sha512: Derived {
-                prk: "fd200c4987ac491313bd4a2a13287121247239e11c9ef82802044b66ef357e5b194498d0682611382348572a7b1611de54764094286320578a863f36562b0df6",
+                prk: "fd200c4987ac491313bd4a2a13287121247239e11c9ef82802044b66ef357e5b\
+                    194498d0682611382348572a7b1611de54764094286320578a863f36562b0df6",
                 okm: "f5fa02b18298a72a8c23898a8703472c6eb179dc204c03425c970e3b164bf90fff22d04836d0e2343bac",
             },
             blake2b: Derived {
-                prk: "39db468c9289015fd163c86a299ef5a95942835aed7103a2b9f30cc796e2d0586fc284a024c25fb18699c78e47273346fa35f076ac315e5906fe170ba1877c63",
+                prk: "39db468c9289015fd163c86a299ef5a95942835aed7103a2b9f30cc796e2d058\
+                    6fc284a024c25fb18699c78e47273346fa35f076ac315e5906fe170ba1877c63",
                 okm: "817520332f597bd8f557a4b40fddfe7674f1edac6c8a1a36fa0546b649bfae4a2ed3f34d03fdef572d51",
             },
             blake2s: Derived {
@@ -335,14 +335,22 @@ fn keys_of_the_blake3_vectors(rt: HostRuntime) {
     assert!(rt;
         is_spelled(
             &out,
-            "2cc39783c223154fea8dfb7c1b1660f2ac2dcbd1c1de8277b0b0dd39b7e50d7d905630c8be290dfcf3e6842f13bddd573c098c3f17361f1f206b8cad9d088aa4a3f746752c6b0ce6a83b0da81d59649257cdf8eb3e9f7d4998e41021fac119deefb896224ac99f860011f73609e6e0e4540f93b273e56547dfd3aa1a035ba6689d89a0"
+            "2cc39783c223154fea8dfb7c1b1660f2ac2dcbd1c1de8277b0b0dd39b7e50d7d\
+                905630c8be290dfcf3e6842f13bddd573c098c3f17361f1f206b8cad9d088aa4\
+                a3f746752c6b0ce6a83b0da81d59649257cdf8eb3e9f7d4998e41021fac119de\
+                efb896224ac99f860011f73609e6e0e4540f93b273e56547dfd3aa1a035ba668\
+                9d89a0"
         )
     );
     derive_b3(context, &[0], &mut out);
     assert!(rt;
         is_spelled(
             &out,
-            "b3e2e340a117a499c6cf2398a19ee0d29cca2bb7404c73063382693bf66cb06c5827b91bf889b6b97c5477f535361caefca0b5d8c4746441c57617111933158950670f9aa8a05d791daae10ac683cbef8faf897c84e6114a59d2173c3f417023a35d6983f2c7dfa57e7fc559ad751dbfb9ffab39c2ef8c4aafebc9ae973a64f0c76551"
+            "b3e2e340a117a499c6cf2398a19ee0d29cca2bb7404c73063382693bf66cb06c\
+                5827b91bf889b6b97c5477f535361caefca0b5d8c4746441c576171119331589\
+                50670f9aa8a05d791daae10ac683cbef8faf897c84e6114a59d2173c3f417023\
+                a35d6983f2c7dfa57e7fc559ad751dbfb9ffab39c2ef8c4aafebc9ae973a64f0\
+                c76551"
         )
     );
     derive_b3(context, b"", &mut []);

@@ -6,6 +6,8 @@ mod b3_tests;
 #[cfg(test)]
 mod blake2_tests;
 #[cfg(test)]
+mod calling;
+#[cfg(test)]
 mod kdf_tests;
 #[cfg(test)]
 mod mac_tests;
@@ -13,5 +15,7 @@ mod mac_tests;
 mod part_tests;
 #[cfg(test)]
 mod slow;
+#[cfg(test)]
+mod spelling;
 #[cfg(test)]
 mod words_tests;
