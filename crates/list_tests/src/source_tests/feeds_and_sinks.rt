@@ -1,3 +1,5 @@
+ghost use Rattle.std.specs.Prelude.{◌≤◌, IfOk};
+
 use source::{Bytes, Device, Feed, FixedSink, ReadFailed, Sink, VecSink, WriteFailed, write_all};
 use std::io;
 use std::io::{ErrorKind, LineWriter, Read, Write};
@@ -155,7 +157,9 @@ struct Interrupted {
 }
 
 impl Interrupted {
-    fn answer(&mut self, len: usize) -> io::Result<usize> {
+    fn answer(&mut self, len: usize) -> io::Result<usize>
+        ensures { IfOk result (λ n. n ≤ len) }
+    {
         self.calls = self.calls.wrapping_add(1);
         if self.calls % 2 == 1 {
             return Err(io::Error::from(ErrorKind::Interrupted));
