@@ -1,7 +1,8 @@
 -- Where no file failed, the line and the files decide the outcome.
 use Rattle.std.proofs.Common.{◌≡◌, ℕ, List, [], ◌∷◌, Option, Some, None, refl, sym, ap, ◌∙◌, subst, arith}
 use Rattle.sumlist.specs.Entry.{Listing}
-use Rattle.sumlist.specs.Report.{Files, IsAllowed, Allowed, AllAllowed, Outcome, skipped, malformed, told, is_told, number_of}
+use Rattle.sumlist.specs.Report.{Files, IsAllowed, Allowed, AllAllowed, Outcome, skipped, malformed, told, is_told}
+use Rattle.sumlist.specs.Report.{number_of}
 use Rattle.sumlist.specs.Report.{same, unreadable_count}
 use Rattle.sumlist.specs.declared.kind.Kind.{Kind}
 use Rattle.sumlist.specs.declared.verdict.Verdict.{Verdict}
