@@ -72,11 +72,11 @@ files_rule = record file_rule { action = Some Append }
 abbrev pub with_rules : App → List Rule → App
 with_rules = fold with_rule
 
--- `hash -a ALG [-l N] [--seek N] [--salt HEX] [--personal HEX] [--tag] [FILE]..`
+-- `hash -a ALG [-l N] [--seek N] [--parts N] [--salt HEX] [--personal HEX] [--tag] [FILE]..`
 abbrev pub hash_app : NameList → App
 hash_app names = with_rules (new_app (codes "hash"))
-    (algorithm_rule names ∷ length_rule ∷ number_rule (codes "seek") ∷ text_rule (codes "salt")
-    ∷ text_rule (codes "personal") ∷ flag_rule (codes "tag") ∷ files_rule ∷ [])
+    (algorithm_rule names ∷ length_rule ∷ number_rule (codes "seek") ∷ number_rule (codes "parts")
+    ∷ text_rule (codes "salt") ∷ text_rule (codes "personal") ∷ flag_rule (codes "tag") ∷ files_rule ∷ [])
 
 -- `mac -a MAC [--key HEX] [--key-file F] [-l N] [FILE]`
 abbrev pub mac_app : NameList → App
@@ -112,6 +112,7 @@ pub record IsRequestOf (s : Text × List Row) (r : Request) : Type 0 where
   pub algorithm : option_map (λ t. t.now) r.algorithm ≡ first_of (codes "algorithm") s.1
   pub length : option_map (λ t. t.now) r.length ≡ first_of (codes "length") s.1
   pub seek : option_map (λ t. t.now) r.seek ≡ first_of (codes "seek") s.1
+  pub parts : option_map (λ t. t.now) r.parts ≡ first_of (codes "parts") s.1
   pub tag : IsTrue r.tag ↔ IsGiven (codes "tag") s.1
   pub key : option_map (λ t. t.now) r.key ≡ first_of (codes "key") s.1
   pub key_file : option_map (λ t. t.now) r.key_file ≡ first_of (codes "key-file") s.1

@@ -1,11 +1,12 @@
 -- What a request of `hash` has printed, or the first fault of its settings.
-use Rattle.std.specs.Prelude.{ℕ, ◌+◌, ◌-◌, ◌^◌, Bool, true, List, Option, Result, Ok, Err, nat_le, if◌then◌else◌}
+use Rattle.std.specs.Prelude.{ℕ, ◌+◌, ◌-◌, ◌^◌, ◌==◌, Bool, true, List, Option, None, Some, Result, Ok, Err, nat_le, if◌then◌else◌}
+use Rattle.std.specs.Prelude.{count_ones}
 use Rattle.source.specs.declared.alg.Alg.{Alg}
 use Rattle.source.specs.declared.alg.Alg.TheVariants as alg
 use Rattle.sumlist.specs.declared.kind.Kind.{Kind}
 use Rattle.sumlist.specs.declared.kind.Kind.TheVariants as kind
 use Rattle.task.specs.Parameters.{◌>>=◌, ◌>>◌, absent, given, given_bytes, kind_of, needed, number, sized}
-use Rattle.task.specs.declared.fault.Setting.TheVariants.{Algorithm, Length, Personal, Salt, Seek}
+use Rattle.task.specs.declared.fault.Setting.TheVariants.{Algorithm, Length, Parts, Personal, Salt, Seek}
 use Rattle.task.specs.declared.fault.UsageFault.{UsageFault}
 use Rattle.task.specs.declared.fault.UsageFault.TheVariants.{OutOfRange}
 use Rattle.task.specs.declared.hashing.Hash.{Hash}
@@ -31,6 +32,7 @@ sha r a = do
   absent Length (given r.length)
   absent Seek (given r.seek)
   no_salts r
+  absent Parts (given r.parts)
   Ok (whole (Plain a) r.tag)
 
 -- the bytes of salt and personalization: the digits of both are judged before the length of either
@@ -43,6 +45,7 @@ salts r = do
 abbrev pub blake2b_digest : Request → Result Requested UsageFault
 blake2b_digest r = do
   absent Seek (given r.seek)
+  absent Parts (given r.parts)
   n ← number Length (given r.length) 64 1 64
   given ← salts r
   salt ← sized Salt 16 given.0
@@ -52,6 +55,7 @@ blake2b_digest r = do
 abbrev pub blake2s_digest : Request → Result Requested UsageFault
 blake2s_digest r = do
   absent Seek (given r.seek)
+  absent Parts (given r.parts)
   n ← number Length (given r.length) 32 1 32
   given ← salts r
   salt ← sized Salt 8 given.0
@@ -81,6 +85,18 @@ stretch_of r = do
 
 abbrev pub blake3 : Request → Result Requested UsageFault
 blake3 r = if r.tag then tagged_blake3 r else (stretch_of r >>= (λ s. Ok (Output s)))
+
+-- how many chunks a part has: a power of two
+abbrev pub parts_of_number : ℕ → Result (Option ℕ) UsageFault
+parts_of_number n = if count_ones n == 1 then Ok (Some n) else Err (OutOfRange Parts)
+
+-- the parts that files are hashed in, where they are asked for
+abbrev pub parts_of_text : Option (List ℕ) → Result (Option ℕ) UsageFault
+parts_of_text None = Ok None
+parts_of_text (Some text) = number Parts (Some text) 1 1 1024 >>= parts_of_number
+
+abbrev pub parts : Request → Result (Option ℕ) UsageFault
+parts r = parts_of_text (given r.parts)
 
 -- by the hash
 abbrev pub requested_of : Kind → Request → Result Requested UsageFault

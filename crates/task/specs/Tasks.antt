@@ -1,13 +1,13 @@
 -- What a request asks for, or the first fault of its settings.
-use Rattle.std.specs.Prelude.{⊤, List, Vec, [], ◌∷◌, Option, Some, None, Result, Ok, Err, codes, map, if◌then◌else◌}
+use Rattle.std.specs.Prelude.{⊤, ℕ, List, Vec, [], ◌∷◌, Option, Some, None, Result, Ok, Err, IfSome, codes, map, if◌then◌else◌}
 use Rattle.std.specs.Borrow.{Bor}
 use Rattle.std.specs.Str.{bytes_eq}
 use Rattle.clap.specs.Words.{Text}
 use Rattle.sumlist.specs.declared.kind.Kind.{Kind}
 use Rattle.task.specs.Deriving.{Derived, HasKey, derivation, derivation_shown}
-use Rattle.task.specs.Hashing.{requested}
+use Rattle.task.specs.Hashing.{parts, requested}
 use Rattle.task.specs.Parameters.{◌>>=◌, given, kind_of, needed}
-use Rattle.task.specs.Requested.{HasDigest}
+use Rattle.task.specs.Requested.{HasDigest, IsPartSize}
 use Rattle.task.specs.Tagging.{HasTag, KeyText, key, key_shown}
 use Rattle.task.specs.Tagging as tagging
 use Rattle.task.specs.declared.fault.Setting.TheVariants.{Algorithm, Command, IkmFile, List as ListSetting}
@@ -21,7 +21,7 @@ use Rattle.task.specs.declared.tasks.Task.TheVariants as code
 
 -- what a run is to do
 pub data Asked : Type 0 where
-  hashes : Requested → List Text → Asked
+  hashes : Requested → Option ℕ → List Text → Asked
   tags : Mac → KeyText → Text → Asked
   derives : Derived → Text → Asked
   checks : Kind → Text → Asked
@@ -31,7 +31,7 @@ abbrev pub texts_of : {X : Type 0} → Vec (Bor Text) X → List Text
 texts_of names = map (λ n. n.now) names.items
 
 abbrev pub task_shown : Task → Asked
-task_shown (code.Hash wanted files) = hashes wanted (texts_of files)
+task_shown (code.Hash wanted parts files) = hashes wanted parts (texts_of files)
 task_shown (code.Mac mac key file) = tags mac (key_shown key) file.now
 task_shown (code.Kdf derivation material) = derives (derivation_shown derivation) material.now
 task_shown (code.Check kind list) = checks kind list.now
@@ -42,7 +42,10 @@ names_of [] = codes "-" ∷ []
 names_of (name ∷ names) = name ∷ names
 
 abbrev pub hash : Request → Result Asked UsageFault
-hash r = requested r >>= (λ wanted. Ok (hashes wanted (names_of (texts_of r.files))))
+hash r = do
+  wanted ← requested r
+  parts ← parts r
+  Ok (hashes wanted parts (names_of (texts_of r.files)))
 
 -- the one file or list that was named
 abbrev pub first_name : List Text → Option Text
@@ -87,7 +90,7 @@ asked r =
 
 -- there are digests, tags and keys of the lengths that are asked for
 abbrev pub IsPossible : Task → Type 0
-IsPossible (code.Hash wanted files) = HasDigest wanted
+IsPossible (code.Hash wanted parts files) = HasDigest wanted × IfSome parts IsPartSize
 IsPossible (code.Mac mac key file) = HasTag mac
 IsPossible (code.Kdf derivation material) = HasKey (derivation_shown derivation)
 IsPossible (code.Check kind list) = ⊤

@@ -65,6 +65,13 @@ fn hash_command<'a>(alloc: Global, names: &'a [&'a str]) -> Result<Command<'a>, 
         "seek",
         "The first byte of the output that is printed, for blake3\n\
              alone: 0 to 2^64 - 1 less the length [default: 0]",
+    ))?
+    .arg(number_option(
+        alloc,
+        "parts",
+        "Hashes each file in parts of N times 1024 bytes, which are\n\
+             joined, for blake3 alone: a power of two from 1 to 1024.\n\
+             The line is the same for each N and without it",
     ))?;
     with_salt_options(alloc, command)?
         .arg(flag_option(

@@ -18,6 +18,8 @@ pub enum Setting {
     Length,
     /// `--seek`.
     Seek,
+    /// `--parts`.
+    Parts,
     /// `--salt`.
     Salt,
     /// `--personal`.
@@ -83,6 +85,7 @@ impl Display for Setting {
             Setting::Algorithm => "-a",
             Setting::Length => "-l",
             Setting::Seek => "--seek",
+            Setting::Parts => "--parts",
             Setting::Salt => "--salt",
             Setting::Personal => "--personal",
             Setting::Key => "--key",

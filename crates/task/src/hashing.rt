@@ -1,9 +1,9 @@
 // What `hash` is to print of a file.
 
-ghost use Rattle.std.specs.Prelude.{◌≡◌, IfOk, option_map};
+ghost use Rattle.std.specs.Prelude.{◌≡◌, IfOk, IfSome, option_map};
 ghost use Rattle.task.specs.Hashing as spec;
 ghost use Rattle.task.specs.Parameters.{Judges};
-ghost use Rattle.task.specs.Requested.{HasDigest, IsWithin, names_algorithm};
+ghost use Rattle.task.specs.Requested.{HasDigest, IsPartSize, IsWithin, names_algorithm};
 
 use crate::fault::{Setting, TaskFault, UsageFault};
 use crate::parameters::{given_bytes, kind_of, needed, number, refused, sized};
@@ -71,6 +71,7 @@ fn sha(request: &Request<'_>, alg: Alg) -> Result<Requested, UsageFault>
     refused(Setting::Length, request.length)?;
     refused(Setting::Seek, request.seek)?;
     unsalted(request)?;
+    refused(Setting::Parts, request.parts)?;
     Ok(whole(Hash::Plain(alg), request.tag))
 }
 
@@ -86,6 +87,7 @@ fn with_blake2b(alloc: Global, request: &Request<'_>) -> Result<Requested, TaskF
     ensures range { IfOk result HasDigest }
 {
     refused(Setting::Seek, request.seek)?;
+    refused(Setting::Parts, request.parts)?;
     let length = number(Setting::Length, request.length, 64, 1, 64)? as usize;
     let (salt, personal) = salts(alloc, request)?;
     let salt = sized(Setting::Salt, salt)?;
@@ -98,6 +100,7 @@ fn with_blake2s(alloc: Global, request: &Request<'_>) -> Result<Requested, TaskF
     ensures range { IfOk result HasDigest }
 {
     refused(Setting::Seek, request.seek)?;
+    refused(Setting::Parts, request.parts)?;
     let length = number(Setting::Length, request.length, 32, 1, 32)? as usize;
     let (salt, personal) = salts(alloc, request)?;
     let salt = sized(Setting::Salt, salt)?;
@@ -140,4 +143,19 @@ fn stretch_of(request: &Request<'_>) -> Result<Stretch, UsageFault>
         return Err(UsageFault::OutOfRange(Setting::Seek));
     }
     Ok(Stretch { position, length })
+}
+
+/// Of how many chunks the parts are that files are hashed in, where that was asked for.
+pub(crate) fn parts_of(request: &Request<'_>) -> Result<Option<u64>, UsageFault>
+    ensures value { result ≡ spec.parts request.now }
+    ensures power { IfOk result (λ parts. IfSome parts IsPartSize) }
+{
+    if request.parts.is_none() {
+        return Ok(None);
+    }
+    let chunks = number(Setting::Parts, request.parts, 1, 1, 1024)?;
+    if !chunks.is_power_of_two() {
+        return Err(UsageFault::OutOfRange(Setting::Parts));
+    }
+    Ok(Some(chunks))
 }

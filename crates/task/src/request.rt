@@ -40,6 +40,8 @@ pub struct Request<'a> {
     pub length: Option<&'a str>,
     /// The text of `--seek`.
     pub seek: Option<&'a str>,
+    /// The text of `--parts`.
+    pub parts: Option<&'a str>,
     /// Whether `--tag` was given.
     pub tag: bool,
     /// The text of `--key`.
@@ -141,6 +143,7 @@ fn request_of<'a>(
         algorithm: text_of(matches, "algorithm"),
         length: text_of(matches, "length"),
         seek: text_of(matches, "seek"),
+        parts: text_of(matches, "parts"),
         tag: is_given(matches, "tag"),
         key: text_of(matches, "key"),
         key_file: text_of(matches, "key-file"),

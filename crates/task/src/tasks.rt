@@ -7,7 +7,7 @@ ghost use Rattle.task.specs.Tasks.{IsPossible, asked, task_shown, texts_of};
 
 use crate::derivation::Derivation;
 use crate::fault::{Setting, TaskFault, UsageFault};
-use crate::hashing::Requested;
+use crate::hashing::{Requested, parts_of};
 use crate::parameters::{kind_of, needed};
 use crate::request::Request;
 use crate::tagging::{Key, Mac};
@@ -18,9 +18,11 @@ use sumlist::Kind;
 /// are used.
 #[derive(Debug, Drop)]
 pub enum Task<'a> {
-    /// Print this of each file, one at least.
+    /// Print this of each file, one at least, which is hashed in parts of so many chunks where that
+    /// is asked for.
     Hash {
         requested: Requested,
+        parts: Option<u64>,
         files: Vec<&'a str>,
     },
     /// Print the tag of a file under a key.
@@ -63,8 +65,13 @@ fn hash<'a>(alloc: Global, request: Request<'a>) -> Result<Task<'a>, TaskFault>
     ensures possible { IfOk result IsPossible }
 {
     let requested = Requested::of(alloc, &request)?;
+    let parts = parts_of(&request)?;
     let files = names_of(request.files)?;
-    Ok(Task::Hash { requested, files })
+    Ok(Task::Hash {
+        requested,
+        parts,
+        files,
+    })
 }
 
 // Without a file standard input is hashed.

@@ -10,12 +10,14 @@ returns c =
     ∙ ap₂ with_rule c.described.ensures c.algorithm_option.ensures.rule in
     let with_2 = c.in_ok-arg-2.ensures.shape c.length_option.ensures.local
     ∙ ap₂ with_rule with_1 c.length_option.ensures.rule in
-    let with_3 = c.in_ok-command.ensures.shape c.number_option.ensures.local
+    let with_3 = c.in_ok-arg-3.ensures.shape c.number_option.ensures.local
     ∙ ap₂ with_rule with_2 c.number_option.ensures.rule in
+    let with_parts = c.in_ok-command.ensures.shape c.number_option-2.ensures.local
+    ∙ ap₂ with_rule with_3 c.number_option-2.ensures.rule in
     let salts = text_rule (codes "salt") ∷ text_rule (codes "personal") ∷ [] in
-    let with_4 = c.in_ok-with_salt_options.ensures ∙ ap (λ (a : App). with_rules a salts) with_3 in
-    let with_5 = c.in_ok-arg-3.ensures.shape c.flag_option.ensures.local
+    let with_4 = c.in_ok-with_salt_options.ensures ∙ ap (λ (a : App). with_rules a salts) with_parts in
+    let with_5 = c.in_ok-arg-4.ensures.shape c.flag_option.ensures.local
     ∙ ap₂ with_rule with_4 c.flag_option.ensures.rule in
-    IfOk-weaker c.arg-5.result _ _
+    IfOk-weaker c.arg-6.result _ _
     (λ r h. h.shape c.files_argument.ensures.local ∙ ap₂ with_rule with_5 c.files_argument.ensures.rule)
-    c.arg-5.ensures
+    c.arg-6.ensures
