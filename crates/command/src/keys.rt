@@ -54,7 +54,11 @@ impl<'i, 't, 'o, L: Feed, T: Tree, W: Sink> Session<'i, 't, 'o, L, T, W> {
 
     // The key's buffer is not on the stack while a file is hashed.
     #[inline(never)]
-    fn print_expanded<H: BlockHash>(&mut self, hkdf: &Hkdf, prk: &[u8]) -> Result<(), Fault<'static>>
+    fn print_expanded<H: BlockHash>(
+        &mut self,
+        hkdf: &Hkdf,
+        prk: &[u8],
+    ) -> Result<(), Fault<'static>>
         requires { hkdf.now.length ≤ 16320 }
     {
         let mut key = [0; OUTPUT_LIMIT];

@@ -53,7 +53,11 @@ impl<'i, 't, 'o, L: Feed, T: Tree, W: Sink> Session<'i, 't, 'o, L, T, W> {
         err: &mut E,
     ) -> Result<u8, Fault<'n>> {
         match Task::of(self.alloc, request)? {
-            Task::Hash { requested, files } => self.print_digests(requested, files.as_slice(), err),
+            Task::Hash {
+                requested,
+                parts,
+                files,
+            } => self.print_digests(requested, parts, files.as_slice(), err),
             Task::Mac { mac, key, file } => self.print_tag(mac, key, file),
             Task::Kdf {
                 derivation,

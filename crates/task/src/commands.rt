@@ -69,9 +69,9 @@ fn hash_command<'a>(alloc: Global, names: &'a [&'a str]) -> Result<Command<'a>, 
     .arg(number_option(
         alloc,
         "parts",
-        "Hashes each file in parts of N times 1024 bytes, which are\n\
-             joined, for blake3 alone: a power of two from 1 to 1024.\n\
-             The line is the same for each N and without it",
+        "Hashes each file in parts of N times 1024 bytes, which\n\
+             are joined, for blake3 alone: a power of two from 1 to\n\
+             1024. The line is the same for each N and without it",
     ))?;
     with_salt_options(alloc, command)?
         .arg(flag_option(
