@@ -34,8 +34,8 @@ report_from-append n [] ps = ap (λ k. report_from k ps) (omega arith)
 report_from-append n (o ∷ os) ps =
     let step : n + 1 + length os ≡ n + length (o ∷ os) = omega arith in
     ap (λ l. text n o ++ l) (report_from-append (n + 1) os ps
-        ∙ ap (λ k. report_from (n + 1) os ++ report_from k ps) step)
-        ∙ sym (append_assoc (text n o) (report_from (n + 1) os) (report_from (n + length (o ∷ os)) ps))
+    ∙ ap (λ k. report_from (n + 1) os ++ report_from k ps) step)
+    ∙ sym (append_assoc (text n o) (report_from (n + 1) os) (report_from (n + length (o ∷ os)) ps))
 
 unreadable_count-append : (os ps : List Outcome) → unreadable_count
     (os ++ ps) ≡ unreadable_count os + unreadable_count ps
@@ -56,13 +56,21 @@ unreadable_count-one o = number_of-one (is_told Unreadable) o
 pub Progress-start : (files : Files) (kind : Kind) (whole : List ℕ) (count : ℕ) (old : Option (List ℕ))
     → Progress files kind whole whole no_lines count count old old
 unfolding report_from number_of
-Progress-start files kind whole count old = record { before = []; outcomes = []; split = refl; allowed = tt; summed =
-    IsSummary-start; counted = omega arith; written = Appends-nil old }
+Progress-start files kind whole count old = record {
+  before = [];
+  outcomes = [];
+  split = refl;
+  allowed = tt;
+  summed =
+      IsSummary-start;
+  counted = omega arith;
+  written = Appends-nil old;
+}
 
 pub Progress-line : (files : Files) (kind : Kind) (whole rest line after : List ℕ) (s t : Summary) (next : ℕ)
     (k m n : ℕ) (a b c : Option (List ℕ)) (mark : Mark)
     → Progress files kind whole rest s k m a b → lines rest ≡ line ∷ lines after → next ≡ lines_of s + 1
-        → LineChecked {E = CheckFault} files kind line next (Ok mark) m n b c → IsCounted mark s t
+    → LineChecked {E = CheckFault} files kind line next (Ok mark) m n b c → IsCounted mark s t
     → Progress files kind whole after t k n a c
 Progress-line files kind whole rest line after s t next k m n a b c mark p cut up l more =
     let o = l.0 in
@@ -72,7 +80,7 @@ Progress-line files kind whole rest line after s t next k m n a b c mark p cut u
     let at : 1 + length p.outcomes ≡ next = omega (arith, sum, up) in
     let text_is : report_from 1 (p.outcomes ++ o ∷ []) ≡ report_from 1 p.outcomes ++ text next o =
     report_from-append 1 p.outcomes (o ∷ []) ∙ ap (λ j. report_from 1 p.outcomes ++ report_from j (o ∷ [])) at
-        ∙ ap (λ t. report_from 1 p.outcomes ++ t) (report_from-one next o) in
+    ∙ ap (λ t. report_from 1 p.outcomes ++ t) (report_from-one next o) in
     record {
       before = p.before ++ line ∷ [];
       outcomes = p.outcomes ++ o ∷ [];
@@ -85,14 +93,18 @@ Progress-line files kind whole rest line after s t next k m n a b c mark p cut u
 
 pub Progress-end : (files : Files) (kind : Kind) (whole : List ℕ) (s : Summary) (k n : ℕ) (a c : Option (List ℕ))
     → Progress files kind whole [] s k n a c → ListChecked {E = CheckFault} files kind whole (Ok s) k n a c
-Progress-end files kind whole s k n a c p =
-    (p.outcomes, subst (λ ls. AllAllowed files kind ls p.outcomes)
-        (sym (p.split ∙ append-nil p.before)) p.allowed, p.counted, (p.summed, p.written))
+Progress-end files kind whole s k n a c p = (
+  p.outcomes,
+  subst (λ ls. AllAllowed files kind ls p.outcomes)
+      (sym (p.split ∙ append-nil p.before)) p.allowed,
+  p.counted,
+  (p.summed, p.written),
+)
 
 pub Progress-stop : (files : Files) (kind : Kind) (whole rest line after : List ℕ) (s : Summary) (next : ℕ)
     (k m n : ℕ) (a b c : Option (List ℕ)) (fault : CheckFault) (answer : Result Summary CheckFault)
     → Progress files kind whole rest s k m a b → lines rest ≡ line ∷ lines after → next ≡ lines_of s + 1
-        → LineChecked files kind line next (Err fault) m n b c → IsErr answer
+    → LineChecked files kind line next (Err fault) m n b c → IsErr answer
     → ListChecked files kind whole answer k n a c
 Progress-stop files kind whole rest line after s next k m n a b c fault answer p cut up l stopped =
     let o = l.0 in
@@ -104,15 +116,15 @@ Progress-stop files kind whole rest line after s next k m n a b c fault answer p
     let sum = lines_of-summary s p.outcomes p.summed in
     let at : 1 + length p.outcomes ≡ next = omega (arith, sum, up) in
     let text_is : report_from 1 (p.outcomes ++ o ∷ others.0) ≡ report_from 1
-        p.outcomes ++ (text next o ++ report_from (next + 1) others.0) =
+    p.outcomes ++ (text next o ++ report_from (next + 1) others.0) =
     report_from-append 1 p.outcomes (o ∷ others.0) ∙ ap
-        (λ j. report_from 1 p.outcomes ++ report_from j (o ∷ others.0)) at
-        ∙ ap (λ t. report_from 1 p.outcomes ++ t) (report_from-cons next o others.0) in (
+    (λ j. report_from 1 p.outcomes ++ report_from j (o ∷ others.0)) at
+    ∙ ap (λ t. report_from 1 p.outcomes ++ t) (report_from-cons next o others.0) in (
       p.outcomes ++ o ∷ others.0,
       subst (λ ls. AllAllowed files kind ls (p.outcomes ++ o ∷ others.0))
           (sym (p.split ∙ ap (λ ls. p.before ++ ls) cut))
           (AllAllowed-append files kind p.before (line ∷ lines after) p.outcomes (o ∷ others.0) p.allowed
-              (l.1.allowed, others.1)),
+          (l.1.allowed, others.1)),
       (let before = p.counted in let now = l.1.counted in omega (arith, count, split_count, one, none)),
       MatchResult-from_err answer _ _ stopped (λ _. subst (AppendsPrefix a c) (sym text_is)
           (AppendsPrefix-after a b c _ _ p.written (AppendsPrefix-more b c (text next o) _ l.2))),
@@ -133,9 +145,13 @@ pub ListChecked-none : (files : Files) (kind : Kind) (whole : List ℕ) (answer 
     (a : Option (List ℕ)) → IsErr answer → ListChecked files kind whole answer k k a a
 ListChecked-none files kind whole answer k a stopped =
     let d = all_settled files kind (lines whole) in
-    let none = d.2 in
-    (d.0, d.1, omega (arith, none), MatchResult-from_err answer _ _ stopped
-        (λ _. AppendsPrefix-none a (report_from 1 d.0)))
+    let none = d.2 in (
+      d.0,
+      d.1,
+      omega (arith, none),
+      MatchResult-from_err answer _ _ stopped
+          (λ _. AppendsPrefix-none a (report_from 1 d.0)),
+    )
 
 -- the check stops before the next line
 pub Progress-halt : (files : Files) (kind : Kind) (whole rest : List ℕ) (s : Summary) (k n : ℕ) (a c : Option (List ℕ))

@@ -14,8 +14,7 @@ take_part-requires g t c κs within =
     let aligned = rw double at c.requires.aligned in
     let place = (at_half c.args.first (chunks / 2) aligned).0 in
     let room : length c.args.run.now ≤ 1024 * (chunks / 2) = omega (arith, half, split.3) in
-    let less : chunks / 2 < t = omega (arith, pow_pos d, half, split.2, c.decreases) in
-    (
+    let less : chunks / 2 < t = omega (arith, pow_pos d, half, split.2, c.decreases) in (
       less,
       (
         within,
@@ -36,8 +35,7 @@ take_part-requires-2 g t c κs within =
     let place = (at_half c.args.first (chunks / 2) aligned).1 in
     let room : length c.take_part.new.run ≤ 1024 * (chunks / 2) = omega (arith, half, split.3, same) in
     let less : chunks / 2 < t = omega (arith, pow_pos d, half, split.2, c.decreases) in
-    let some : c.in_ok-left.ahead ≡ 0 → c.args.first + chunks / 2 ≡ 0 = λ none. absurd (omega (arith, none)) in
-    (
+    let some : c.in_ok-left.ahead ≡ 0 → c.args.first + chunks / 2 ≡ 0 = λ none. absurd (omega (arith, none)) in (
       less,
       (
         within,
