@@ -1,10 +1,13 @@
 -- Powers of two are the numbers with one bit.
-use Rattle.std.proofs.Common.{◌≡◌, ℕ, zero, suc, ◌+◌, ◌*◌, ◌/◌, ◌%◌, ◌^◌, ◌<◌, ◌≤◌, refl, sym, ap, ◌∙◌, inl, inr, arith, pow_pos, pow_mono}
+use Rattle.std.proofs.Common.{◌≡◌, ℕ, zero, suc, ◌+◌, ◌*◌, ◌/◌, ◌%◌, ◌^◌, ◌<◌, ◌≤◌, max, refl, sym, ap, ◌∙◌, inl, inr}
+use Rattle.std.proofs.Common.{arith, pow_pos, pow_mono}
 use Rattle.std.proofs.Math.Nat.{pow-succ'}
 use Rattle.std.proofs.lemmas.Bool.{cases_lt, cases_order}
 use Rattle.std.proofs.lemmas.Nat.{zero_from_ones}
 use Rattle.std.specs.Int.Count.{ones as count_ones, ones_in, ones_step, ones_cat}
+use Rattle.std.specs.Int.{IsPowerOfTwo}
 use Rattle.b3.specs.Parts.{IsLeastPowerFrom}
+use Rattle.b3.specs.Tree.{IsGreatestPowerBelow}
 
 pub ones_of_zero : count_ones 0 ≡ 0
 unfolding count_ones ones_in
@@ -41,6 +44,17 @@ smaller_power e f n lt a b =
     let up : 2 ^ suc e ≤ 2 ^ f = pow_mono lt in
     let double : 2 ^ suc e ≡ 2 * 2 ^ e = pow-succ' 2 e in
     omega arith
+
+-- what next_power_of_two answers for n is the least power of two from n on
+pub least_from : (p n : ℕ) → IsPowerOfTwo p → n ≤ p → p / 2 < max 1 n → 0 < n → IsLeastPowerFrom p n
+least_from p n power from near some = (power.0, power.1, from, omega arith)
+
+-- and half of it is the greatest power of two below n
+pub greatest_below : (p n : ℕ) → IsPowerOfTwo p → n ≤ p → p / 2 < max 1 n → 1 < n → IsGreatestPowerBelow (p / 2) n
+greatest_below p n (zero, is) from near some = absurd (omega (arith, is))
+greatest_below p n (suc e, is) from near some =
+    let double : 2 ^ suc e ≡ 2 * 2 ^ e = pow-succ' 2 e in
+    (e, omega (arith, is, double), omega arith, omega (arith, is, double))
 
 -- there is one least power of two from n on
 pub least_power_unique : (p q n : ℕ) → IsLeastPowerFrom p n → IsLeastPowerFrom q n → p ≡ q

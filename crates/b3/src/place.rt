@@ -1,7 +1,7 @@
 // Where parts can stand in a message (the BLAKE3 paper, sections 2.1 and 5.3).
 
-ghost use Rattle.std.specs.Prelude.{◌≡◌, ℕ, ◌-◌, ◌*◌, ◌/◌, ◌^◌, ◌<◌, ◌≤◌, ◌↔◌, IsTrue};
-ghost use Rattle.b3.specs.Parts.{IsLeastPowerFrom, IsPlacedAt};
+ghost use Rattle.std.specs.Prelude.{◌≡◌, ℕ, ◌*◌, ◌^◌, ◌↔◌, IsTrue};
+ghost use Rattle.b3.specs.Parts.{IsPlacedAt};
 
 use crate::chunk::CHUNK_LEN;
 
@@ -9,19 +9,6 @@ use crate::chunk::CHUNK_LEN;
 /// subtree of just these bytes, or ends after 2^64 - 1 bytes.
 #[derive(Clone, Copy, Debug, PartialEq, Eq, Drop)]
 pub struct Misplaced;
-
-// The least power of two that is at least `n`.
-fn least_power_from(n: u64) -> u64
-    requires some { 0 < n }
-    requires fits { n ≤ 2 ^ 62 }
-    ensures { IsLeastPowerFrom result n }
-{
-    let mut power = 1;
-    while power < n {
-        power *= 2;
-    }
-    power
-}
 
 /// Whether `len` bytes can be a part from a chunk on.
 pub(crate) fn is_placed(first_chunk: u64, len: u64) -> bool
@@ -33,7 +20,8 @@ pub(crate) fn is_placed(first_chunk: u64, len: u64) -> bool
     if first_chunk > (u64::MAX - len) / CHUNK_LEN as u64 {
         return false;
     }
-    first_chunk % least_power_from(len.saturating_sub(1) / CHUNK_LEN as u64 + 1) == 0
+    let chunks = len.saturating_sub(1) / CHUNK_LEN as u64 + 1;
+    first_chunk % chunks.next_power_of_two() == 0
 }
 
 /// Whether so many bytes are a power of two of full chunks.

@@ -1,7 +1,8 @@
 // The tree over bytes that are all there, from the top (the BLAKE3 paper, section 2.1): in lanes where
 // they are enough.
 
-ghost use Rattle.std.specs.Prelude.{◌≡◌, ℕ, ◌+◌, ◌-◌, ◌*◌, ◌/◌, ◌%◌, ◌^◌, ◌<◌, ◌≤◌, List, [], length, slice_index_or, IfSome};
+ghost use Rattle.std.specs.Prelude.{◌≡◌, ℕ, ◌+◌, ◌-◌, ◌*◌, ◌/◌, ◌%◌, ◌^◌, ◌<◌, ◌≤◌, List, [], length, slice_index_or};
+ghost use Rattle.std.specs.Prelude.{IfSome};
 ghost use Rattle.b3.specs.Node.{cv};
 ghost use Rattle.b3.specs.Tree.{tree, chunk_count, IsGreatestPowerBelow};
 ghost use Rattle.b3.specs.inside.Runs.{run_cv};
@@ -13,14 +14,11 @@ use crate::node::Node;
 
 // The greatest power of two below `n`.
 fn greatest_power_below(n: usize) -> usize
-    requires { 1 < n }
+    requires some { 1 < n }
+    requires bound { n ≤ 2 ^ 63 }
     ensures { IsGreatestPowerBelow result n }
 {
-    let mut power = 1;
-    while power < n - power {
-        power *= 2;
-    }
-    power
+    n.next_power_of_two() / 2
 }
 
 // The level of the run of 8 * 2 ^ level chunks that has so many bytes.
@@ -65,8 +63,8 @@ fn joined_value(key: &[u32; 8], flags: u8, values: &[[u32; 8]]) -> [u32; 8]
 // The chaining values of two to eight chunks, the first of which has the number `first`.
 fn group_values(key: &[u32; 8], flags: u8, first: u64, bytes: &[u8]) -> [[u32; 8]; 8]
     requires some { 1024 < length bytes.now }
-    requires most { length bytes.now ≤ 8192 }
-    requires fits { 1024 * first + length bytes.now ≤ 2 ^ 64 - 1 }
+    requires bound { length bytes.now ≤ 8192 }
+    requires numbers { 1024 * first + length bytes.now ≤ 2 ^ 64 - 1 }
     ensures { (i : ℕ) → i < chunk_count bytes.now
         → slice_index_or result i [] ≡ run_cv key.now flags first bytes.now 0 i }
 {
@@ -84,8 +82,8 @@ fn group_values(key: &[u32; 8], flags: u8, first: u64, bytes: &[u8]) -> [[u32; 8
 // The tree over two to eight chunks, the first of which has the number `first`.
 fn group_over(key: &[u32; 8], flags: u8, first: u64, bytes: &[u8]) -> Node
     requires some { 1024 < length bytes.now }
-    requires most { length bytes.now ≤ 8192 }
-    requires fits { 1024 * first + length bytes.now ≤ 2 ^ 64 - 1 }
+    requires bound { length bytes.now ≤ 8192 }
+    requires numbers { 1024 * first + length bytes.now ≤ 2 ^ 64 - 1 }
     ensures { result ≡ tree key.now flags first bytes.now }
 {
     let values = group_values(key, flags, first, bytes);

@@ -1,11 +1,8 @@
-use Rattle.std.proofs.Common.{ℕ, suc, ◌*◌, arith, sym, ap, ◌∙◌, pow-suc}
+use Rattle.std.proofs.Common.{arith}
+use Rattle.b3.proofs.Powers.{greatest_below}
 use Rattle.b3.proofs.tree.greatest_power_below.Goals as goal
 
-pub loop-power-preserved : goal.loop-power-preserved
-loop-power-preserved c =
-    let e : ℕ = c.loop-power.invariant.power.0 in
-    record {
-      below = omega arith;
-      some = omega arith;
-      power = (suc e, ap (λ (p : ℕ). p * 2) c.loop-power.invariant.power.1 ∙ sym (pow-suc 2 e));
-    }
+pub returns : goal.returns
+returns c =
+    let power = c.next_power_of_two.ensures in
+    greatest_below c.next_power_of_two.result c.args.n power.power power.lower_bound power.upper_bound (omega arith)
