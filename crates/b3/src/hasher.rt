@@ -1,6 +1,7 @@
 // The hasher (the BLAKE3 paper, section 5.1).
 
-ghost use Rattle.std.specs.Prelude.{◌≡◌, ℕ, ◌+◌, ◌-◌, ◌*◌, ◌%◌, ◌^◌, ◌<◌, ◌≤◌, List, [], ◌∷◌, ◌++◌, length, slice_index_or, take, count_ones};
+ghost use Rattle.std.specs.Prelude.{◌≡◌, ℕ, ◌+◌, ◌-◌, ◌*◌, ◌%◌, ◌^◌, ◌<◌, ◌≤◌, List, [], ◌∷◌, ◌++◌, length};
+ghost use Rattle.std.specs.Prelude.{slice_index_or, take, count_ones};
 ghost use Rattle.arrayvec.specs.ArrayVec.{array_vec_len};
 
 use crate::chunk::{CHUNK_LEN, Chunk};
@@ -21,8 +22,8 @@ fn run_level(closed: u64, left: usize) -> u32
     requires aligned { closed % 8 ≡ 0 }
     requires some { 8192 ≤ left }
     ensures aligned { closed % (8 * 2 ^ result) ≡ 0 }
-    ensures within { 8192 * 2 ^ result ≤ left }
-    ensures most { result ≤ 7 }
+    ensures run { 8192 * 2 ^ result ≤ left }
+    ensures bound { result ≤ 7 }
 {
     if closed % 1024 == 0 && left >= 1048576 {
         return 7;
@@ -68,9 +69,9 @@ fn subtree_chunks(level: u32) -> u64
 fn whole_chunks(closed: u64, left: usize) -> usize
     requires { 1024 < left }
     ensures some { 0 < result }
-    ensures most { result ≤ 8192 }
+    ensures bound { result ≤ 8192 }
     ensures whole { result % 1024 ≡ 0 }
-    ensures within { result < left }
+    ensures more { result < left }
 {
     let aligned = 8 - (closed % 8) as usize;
     aligned.min((left - 1) / CHUNK_LEN) * CHUNK_LEN
@@ -157,7 +158,7 @@ impl Blake3 {
     pub fn held(&self) -> usize
         ensures value { (m : List ℕ) → ⟦<Blake3 as Absorb>⟧.holds self.now m
             → result ≡ count_ones (chunk_count m - 1) }
-        ensures most { result ≤ 54 }
+        ensures bound { result ≤ 54 }
     {
         self.stack.len()
     }
@@ -182,7 +183,7 @@ impl Blake3 {
     pub(crate) fn make_room(&mut self)
         requires { hasher_count self.old + 1 < 2 ^ 64 }
         ensures room { self.new.chunk.len < 1024 }
-        ensures parameters { hasher_parameters self.new ≡ hasher_parameters self.old }
+        ensures kept { hasher_parameters self.new ≡ hasher_parameters self.old }
         ensures count { hasher_count self.new ≡ hasher_count self.old }
         ensures split { (m : List ℕ) → IsSplit self.old m → IsSplit self.new m }
     {
@@ -198,7 +199,7 @@ impl Blake3 {
     // Adds a subtree of 2 ^ level chunks by its chaining value; more bytes follow it.
     fn push_value(&mut self, level: u32, value: [u32; 8])
         requires empty { self.old.chunk.len ≡ 0 }
-        requires most { level ≤ 10 }
+        requires bound { level ≤ 10 }
         requires aligned { self.old.closed % 2 ^ level ≡ 0 }
         requires more { 1024 * self.old.closed + 1024 * 2 ^ level + 1 < 2 ^ 64 }
         ensures key { self.new.key ≡ self.old.key }
@@ -222,7 +223,7 @@ impl Blake3 {
     // Adds a run of 8 * 2 ^ level chunks; more bytes follow it.
     fn push_run(&mut self, level: u32, bytes: &[u8])
         requires empty { self.old.chunk.len ≡ 0 }
-        requires most { level ≤ 7 }
+        requires bound { level ≤ 7 }
         requires aligned { self.old.closed % (8 * 2 ^ level) ≡ 0 }
         requires length { length bytes.now ≡ 8192 * 2 ^ level }
         requires more { 1024 * self.old.closed + length bytes.now + 1 < 2 ^ 64 }
@@ -239,7 +240,7 @@ impl Blake3 {
     // Adds a run of 8 * 2 ^ level chunks, of which the last stays open.
     fn open_run(&mut self, level: u32, bytes: &[u8])
         requires empty { self.old.chunk.len ≡ 0 }
-        requires most { level ≤ 7 }
+        requires bound { level ≤ 7 }
         requires aligned { self.old.closed % (8 * 2 ^ level) ≡ 0 }
         requires length { length bytes.now ≡ 8192 * 2 ^ level }
         requires more { 1024 * self.old.closed + length bytes.now < 2 ^ 64 }
@@ -261,7 +262,7 @@ impl Blake3 {
     // Adds the first `n` of at most eight whole chunks by their chaining values; more bytes follow them.
     fn push_values(&mut self, values: &[[u32; 8]; 8], n: usize)
         requires empty { self.old.chunk.len ≡ 0 }
-        requires most { n ≤ 8 }
+        requires bound { n ≤ 8 }
         requires more { 1024 * self.old.closed + 1024 * n + 1 < 2 ^ 64 }
         ensures key { self.new.key ≡ self.old.key }
         ensures flags { self.new.flags ≡ self.old.flags }
@@ -281,7 +282,7 @@ impl Blake3 {
     fn open_chunk(&mut self, before: [u32; 8], bytes: &[u8])
         requires empty { self.old.chunk.len ≡ 0 }
         requires whole { length bytes.now ≡ 1024 }
-        requires fits { 1024 * self.old.closed + 1024 < 2 ^ 64 }
+        requires bound { 1024 * self.old.closed + 1024 < 2 ^ 64 }
         ensures key { self.new.key ≡ self.old.key }
         ensures flags { self.new.flags ≡ self.old.flags }
         ensures closed { self.new.closed ≡ self.old.closed }
@@ -298,7 +299,7 @@ impl Blake3 {
         requires empty { self.old.chunk.len ≡ 0 }
         requires some { 0 < length bytes.now }
         requires whole { length bytes.now % 1024 ≡ 0 }
-        requires most { length bytes.now ≤ 8192 }
+        requires bound { length bytes.now ≤ 8192 }
         requires more { 1024 * self.old.closed + length bytes.now + 1 < 2 ^ 64 }
         ensures key { self.new.key ≡ self.old.key }
         ensures flags { self.new.flags ≡ self.old.flags }
@@ -315,7 +316,7 @@ impl Blake3 {
         requires empty { self.old.chunk.len ≡ 0 }
         requires some { 0 < length bytes.now }
         requires whole { length bytes.now % 1024 ≡ 0 }
-        requires most { length bytes.now ≤ 8192 }
+        requires bound { length bytes.now ≤ 8192 }
         requires more { 1024 * self.old.closed + length bytes.now < 2 ^ 64 }
         ensures key { self.new.key ≡ self.old.key }
         ensures flags { self.new.flags ≡ self.old.flags }
@@ -334,10 +335,10 @@ impl Blake3 {
     pub(crate) fn take_some(&mut self, rest: &[u8]) -> usize
         requires some { 0 < length rest.now }
         requires room { self.old.chunk.len < 1024 }
-        requires fits { hasher_count self.old + length rest.now < 2 ^ 64 }
-        ensures within { result ≤ length rest.now }
-        ensures progress { 0 < result }
-        ensures parameters { hasher_parameters self.new ≡ hasher_parameters self.old }
+        requires bound { hasher_count self.old + length rest.now < 2 ^ 64 }
+        ensures bound { result ≤ length rest.now }
+        ensures some { 0 < result }
+        ensures kept { hasher_parameters self.new ≡ hasher_parameters self.old }
         ensures count { hasher_count self.new ≡ hasher_count self.old + result }
         ensures split { (m : List ℕ) → IsSplit self.old m
             → IsSplit self.new (m ++ take result rest.now) }

@@ -18,7 +18,7 @@ use words::lanes::{
 fn lane_start(i: usize, last: usize) -> usize
     requires { i < 8 }
     ensures own { 1024 * i ≤ last → result ≡ 1024 * i }
-    ensures within { result ≤ last }
+    ensures bound { result ≤ last }
 {
     if 1024 * i <= last { 1024 * i } else { last }
 }
@@ -27,7 +27,7 @@ fn lane_start(i: usize, last: usize) -> usize
 #[inline(always)]
 fn lane_starts(last: usize) -> [usize; 8]
     ensures own { (i : ℕ) → i < 8 → 1024 * i ≤ last → slice_index result i ≡ 1024 * i }
-    ensures within { (i : ℕ) → i < 8 → slice_index result i ≤ last }
+    ensures bound { (i : ℕ) → i < 8 → slice_index result i ≤ last }
 {
     [
         lane_start(0, last),
@@ -75,7 +75,7 @@ fn numbers(first: u64) -> [u64; 8]
 #[inline(always)]
 fn four_starts(last: usize) -> [usize; 4]
     ensures own { (i : ℕ) → i < 4 → 1024 * i ≤ last → slice_index result i ≡ 1024 * i }
-    ensures within { (i : ℕ) → i < 4 → slice_index result i ≤ last }
+    ensures bound { (i : ℕ) → i < 4 → slice_index result i ≤ last }
 {
     [
         lane_start(0, last),
@@ -319,7 +319,7 @@ fn open_lanes(
 ) -> [u32x8; 8]
     requires length { length bytes.now ≡ 8192 * 2 ^ level }
     requires numbers { first + 8 * 2 ^ level < 2 ^ 64 }
-    requires most { level ≤ 7 }
+    requires bound { level ≤ 7 }
     ensures values { (i : ℕ) → i < 8
         → lane8 i result ≡ run_cv key.now flags first bytes.now level (2 ^ level * i) }
     ensures lefts { (j : ℕ) → j < level
@@ -348,7 +348,7 @@ pub(crate) fn open_lefts(
 ) -> ([[u32; 8]; 10], [u32; 8])
     requires length { length bytes.now ≡ 8192 * 2 ^ level }
     requires numbers { first + 8 * 2 ^ level < 2 ^ 64 }
-    requires most { level ≤ 7 }
+    requires bound { level ≤ 7 }
     ensures lefts { (j : ℕ) → j < level + 3
         → slice_index_or result.0 j [] ≡ run_cv key.now flags first bytes.now j (8 * 2 ^ level - 2 * 2 ^ j) }
     ensures before { result.1 ≡ value_before_last key.now flags first bytes.now (8 * 2 ^ level - 1) }

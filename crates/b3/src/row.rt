@@ -1,6 +1,7 @@
 // Parts that were hashed elsewhere, of which only the chaining values are told, in a row.
 
-ghost use Rattle.std.specs.Prelude.{◌≡◌, ℕ, ◌+◌, ◌*◌, ◌^◌, ◌<◌, ◌≤◌, ◌↔◌, List, ◌∷◌, ◌++◌, length, count_ones, IsOk, OnOk, OnErr, IfOk, IsTrue};
+ghost use Rattle.std.specs.Prelude.{◌≡◌, ℕ, ◌+◌, ◌*◌, ◌^◌, ◌<◌, ◌≤◌, ◌↔◌, List, ◌∷◌, ◌++◌, length, count_ones, IsOk};
+ghost use Rattle.std.specs.Prelude.{OnOk, OnErr, IfOk, IsTrue};
 ghost use Rattle.arrayvec.specs.ArrayVec.{array_vec_len};
 ghost use Rattle.words.specs.Words.{words, word_bytes};
 ghost use Rattle.b3.specs.Node.{cv};
@@ -124,7 +125,8 @@ impl Row {
     ghost use Rattle.b3.specs.Modes.{root_of, tree_of};
     ghost use Rattle.b3.specs.inside.Output.{output_root, output_position};
     ghost use Rattle.b3.specs.Parts.{IsNext, mode_parameters};
-    ghost use Rattle.b3.specs.inside.Rows.{HoldsRow, IsValueOf, row_parameters, row_first, row_count, row_closed, row_open, value_first, value_len};
+    ghost use Rattle.b3.specs.inside.Rows.{HoldsRow, IsValueOf, row_parameters, row_first, row_count, row_closed};
+    ghost use Rattle.b3.specs.inside.Rows.{row_open, value_first, value_len};
 
     /// The row of one part.
     pub fn of(mode: Mode, part: PartValue) -> Row
@@ -166,7 +168,7 @@ impl Row {
         ensures count { OnOk result (row_count self.new ≡ row_count self.old + value_len part) }
         ensures closed { OnOk result (0 < row_closed self.new) }
         ensures first { row_first self.new ≡ row_first self.old }
-        ensures parameters { row_parameters self.new ≡ row_parameters self.old }
+        ensures kept { row_parameters self.new ≡ row_parameters self.old }
         ensures refused { OnErr result (self.new ≡ self.old) }
     {
         if !self.is_next(&part) {
@@ -198,7 +200,7 @@ impl Row {
         ensures count { row_count self.new ≡ row_count self.old + value_len part.now }
         ensures closed { 0 < row_closed self.new }
         ensures first { row_first self.new ≡ row_first self.old }
-        ensures parameters { row_parameters self.new ≡ row_parameters self.old }
+        ensures kept { row_parameters self.new ≡ row_parameters self.old }
     {
         let chunks = self.len / CHUNK_LEN as u64;
         self.closed += chunks;
