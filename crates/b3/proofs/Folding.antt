@@ -1,6 +1,8 @@
 -- The recursion of the tree from the top is a fold of its subtrees from the end: over k closed
 -- chunks and a last one, the left subtrees of the recursion are the trees of the one-bits of k.
-use Rattle.std.proofs.Common.{◌≡◌, ℕ, zero, suc, ◌+◌, ◌-◌, ◌*◌, ◌^◌, ◌<◌, ◌≤◌, List, [], ◌∷◌, ◌++◌, length, take, drop, refl, sym, ap, ap₂, ◌∙◌, inl, inr, arith, add-zero, zero-add, pow_pos, pow_mono, length-drop, length-take-le}
+use Rattle.std.proofs.Common.{◌≡◌, ℕ, zero, suc, ◌+◌, ◌-◌, ◌*◌, ◌^◌, ◌<◌, ◌≤◌, List, [], ◌∷◌, ◌++◌, length, take}
+use Rattle.std.proofs.Common.{drop, refl, sym, ap, ap₂, ◌∙◌, inl, inr, arith, add-zero, zero-add, pow_pos, pow_mono}
+use Rattle.std.proofs.Common.{length-drop, length-take-le}
 use Rattle.std.proofs.Math.Nat.{pow-succ'}
 use Rattle.std.proofs.lemmas.Bool.{cases_lt, le-leb, lt-leb}
 use Rattle.std.proofs.lemmas.List.{drop-drop, take-take, drop-take, take-append-le, drop-append-le}

@@ -1,6 +1,8 @@
 -- Parts in a row: all but the last are whole subtrees, so the last one stands where the one-bits of
 -- the number of the chunks before it end, and the tree is folded from the subtrees and the last part.
-use Rattle.std.proofs.Common.{◌≡◌, ℕ, zero, suc, ◌+◌, ◌-◌, ◌*◌, ◌/◌, ◌%◌, ◌^◌, ◌<◌, ◌≤◌, List, ◌++◌, length, take, drop, refl, sym, ap, ◌∙◌, inl, inr, arith, add-zero, pow_pos, pow_mono, pow-add, mul-le-mul_left, length-append, length-drop}
+use Rattle.std.proofs.Common.{◌≡◌, ℕ, zero, suc, ◌+◌, ◌-◌, ◌*◌, ◌/◌, ◌%◌, ◌^◌, ◌<◌, ◌≤◌, List, ◌++◌, length, take}
+use Rattle.std.proofs.Common.{drop, refl, sym, ap, ◌∙◌, inl, inr, arith, add-zero, pow_pos, pow_mono, pow-add}
+use Rattle.std.proofs.Common.{mul-le-mul_left, length-append, length-drop}
 use Rattle.std.proofs.Math.Nat.{pow-succ', mul-sub, mul-mod_right, mul_assoc, mul_comm, div-add-mod}
 use Rattle.std.proofs.lemmas.Bool.{cases_lt}
 use Rattle.std.proofs.lemmas.List.{drop-drop, drop_at, take_all, take_at}

@@ -1,5 +1,6 @@
 -- Blocks of eight chunks that lie one after the other.
-use Rattle.std.proofs.Common.{◌≡◌, ℕ, zero, suc, ◌+◌, ◌-◌, ◌*◌, ◌<◌, ◌≤◌, List, [], ◌++◌, length, take, drop, refl, sym, ap, ◌∙◌, arith, append-nil, length-drop, length-take-le, add-one}
+use Rattle.std.proofs.Common.{◌≡◌, ℕ, zero, suc, ◌+◌, ◌-◌, ◌*◌, ◌<◌, ◌≤◌, List, [], ◌++◌, length, take, drop, refl}
+use Rattle.std.proofs.Common.{sym, ap, ◌∙◌, arith, append-nil, length-drop, length-take-le, add-one}
 use Rattle.std.proofs.lemmas.List.{take-take, drop-take, drop-drop}
 use Rattle.words.specs.Blake3.{compress3}
 use Rattle.words.specs.Words.{words}

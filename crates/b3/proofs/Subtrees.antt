@@ -1,7 +1,8 @@
 -- Pushing the next tree onto a row of subtrees is adding to a binary number: where k is a multiple
 -- of 2 ^ (j + 1), the subtrees of k + 2 ^ j leaves are those of k and then the tree of the
 -- last 2 ^ j.
-use Rattle.std.proofs.Common.{◌≡◌, ℕ, zero, suc, ◌+◌, ◌-◌, ◌*◌, ◌^◌, ◌<◌, ◌≤◌, [], ◌∷◌, ◌++◌, refl, ap, ◌∙◌, inl, inr, arith, add-zero, pow_pos, pow_mono, pow-add, mul-add, mul-le-mul_left}
+use Rattle.std.proofs.Common.{◌≡◌, ℕ, zero, suc, ◌+◌, ◌-◌, ◌*◌, ◌^◌, ◌<◌, ◌≤◌, [], ◌∷◌, ◌++◌, refl, ap, ◌∙◌, inl, inr}
+use Rattle.std.proofs.Common.{arith, add-zero, pow_pos, pow_mono, pow-add, mul-add, mul-le-mul_left}
 use Rattle.std.proofs.Math.Nat.{mul-sub, pow-succ'}
 use Rattle.std.proofs.lemmas.Bool.{cases_lt, lt-ltb, le-ltb}
 use Rattle.b3.specs.inside.Subtrees.{subtrees}

@@ -1,5 +1,6 @@
 -- Chaining values of the chunks of a message, one after the other, cut where the tree is cut.
-use Rattle.std.proofs.Common.{◌≡◌, ℕ, ◌+◌, ◌-◌, ◌*◌, ◌<◌, List, [], take, drop, get_or, refl, sym, ap₂, ◌∙◌, arith, add-zero, length-drop, length-take-le}
+use Rattle.std.proofs.Common.{◌≡◌, ℕ, ◌+◌, ◌-◌, ◌*◌, ◌<◌, List, [], take, drop, get_or, refl, sym, ap₂, ◌∙◌, arith}
+use Rattle.std.proofs.Common.{add-zero, length-drop, length-take-le}
 use Rattle.std.proofs.lemmas.List.{get_or-drop, get_or-take, take_all}
 use Rattle.b3.specs.Node.{cv}
 use Rattle.b3.specs.Tree.{tree, parent, chunk_count, IsGreatestPowerBelow}

@@ -1,4 +1,5 @@
-use Rattle.std.proofs.Common.{◌≡◌, ℕ, suc, ◌-◌, ◌/◌, ◌^◌, List, length, refl, sym, ap, ◌∙◌, arith, pow_pos, length-take-le, length-drop}
+use Rattle.std.proofs.Common.{◌≡◌, ℕ, suc, ◌-◌, ◌/◌, ◌^◌, List, length, refl, sym, ap, ◌∙◌, arith, pow_pos}
+use Rattle.std.proofs.Common.{length-take-le, length-drop}
 use Rattle.std.proofs.lemmas.List.{take_rest}
 use Rattle.b3.proofs.Runs.{doubled, level_zero, parent_values, lefts_more, last_second}
 use Rattle.b3.proofs.lanes.+open_lanes.Goals as goal

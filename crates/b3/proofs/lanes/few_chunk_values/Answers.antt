@@ -1,4 +1,5 @@
-use Rattle.std.proofs.Common.{◌≡◌, ℕ, ◌≤◌, ◌+◌, ◌*◌, List, length, take, drop, arith, sym, ap, ◌∙◌, length-take-le, length-drop, slice_index}
+use Rattle.std.proofs.Common.{◌≡◌, ℕ, ◌≤◌, ◌+◌, ◌*◌, List, length, take, drop, arith, sym, ap, ◌∙◌, length-take-le}
+use Rattle.std.proofs.Common.{length-drop, slice_index}
 use Rattle.b3.specs.Chunk.{value_before}
 use Rattle.b3.proofs.Folding.{run_chunk}
 use Rattle.b3.proofs.Lanes8.{value_more, value_last, lane_read, flag_more}

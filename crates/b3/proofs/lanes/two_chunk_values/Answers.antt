@@ -1,4 +1,5 @@
-use Rattle.std.proofs.Common.{◌≡◌, ℕ, zero, suc, ◌<◌, ◌≤◌, ◌+◌, ◌*◌, List, length, take, drop, arith, refl, sym, ap, ◌∙◌, length-take-le, length-drop}
+use Rattle.std.proofs.Common.{◌≡◌, ℕ, zero, suc, ◌<◌, ◌≤◌, ◌+◌, ◌*◌, List, length, take, drop, arith, refl, sym, ap}
+use Rattle.std.proofs.Common.{◌∙◌, length-take-le, length-drop}
 use Rattle.words.specs.Blake3.{compress3}
 use Rattle.words.specs.Words.{words}
 use Rattle.b3.specs.Chunk.{value_before}

@@ -1,4 +1,5 @@
-use Rattle.std.proofs.Common.{◌≡◌, ℕ, ◌+◌, ◌-◌, ◌*◌, ◌^◌, ◌<◌, ◌≤◌, List, ◌++◌, length, take, drop, refl, sym, ap, ap₂, ◌∙◌, arith, append-nil, length-take-le, length-drop, pow_pos}
+use Rattle.std.proofs.Common.{◌≡◌, ℕ, ◌+◌, ◌-◌, ◌*◌, ◌^◌, ◌<◌, ◌≤◌, List, ◌++◌, length, take, drop, refl, sym, ap}
+use Rattle.std.proofs.Common.{ap₂, ◌∙◌, arith, append-nil, length-take-le, length-drop, pow_pos}
 use Rattle.std.proofs.lemmas.List.{take_all}
 use Rattle.b3.specs.inside.Hasher.{IsSplit}
 use Rattle.b3.proofs.Holding.{IsSplit_same, IsSplit_alike, eight_pow, spine_aligned}

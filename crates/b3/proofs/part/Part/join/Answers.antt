@@ -1,4 +1,5 @@
-use Rattle.std.proofs.Common.{◌≡◌, ℕ, List, suc, ◌%◌, ◌-◌, ◌+◌, ◌*◌, ◌^◌, ◌≤◌, ◌<◌, length, inl, inr, arith, refl, sym, ◌∙◌, length-append, pow_pos}
+use Rattle.std.proofs.Common.{◌≡◌, ℕ, List, suc, ◌%◌, ◌-◌, ◌+◌, ◌*◌, ◌^◌, ◌≤◌, ◌<◌, length, inl, inr, arith, refl}
+use Rattle.std.proofs.Common.{sym, ◌∙◌, length-append, pow_pos}
 use Rattle.std.proofs.lemmas.Bool.{cases_lt}
 use Rattle.std.specs.Prelude.{drop, slice_index}
 use Rattle.b3.specs.Parts.{mode_parameters}

@@ -1,4 +1,5 @@
-use Rattle.std.proofs.Common.{◌≡◌, ℕ, ◌+◌, ◌-◌, ◌*◌, ◌/◌, ◌%◌, ◌^◌, ◌≤◌, ◌++◌, length, drop, sym, ◌∙◌, arith, length-append, pow_pos}
+use Rattle.std.proofs.Common.{◌≡◌, ℕ, ◌+◌, ◌-◌, ◌*◌, ◌/◌, ◌%◌, ◌^◌, ◌≤◌, ◌++◌, length, drop, sym, ◌∙◌, arith}
+use Rattle.std.proofs.Common.{length-append, pow_pos}
 use Rattle.std.proofs.lemmas.List.{drop_at}
 use Rattle.b3.proofs.Holding.{ones-lt, ones_subtrees}
 use Rattle.b3.proofs.Joining.{whole_place, row_push, rest_placed}
