@@ -10,5 +10,5 @@ pub record IsRead {S E : Type 0} (r : Result ℕ E) (remaining : S → Option (L
   pub bound : IfOk r (λ n. n ≤ length buf)
   pub given : IfOk r (λ n. Consumes (remaining old) (remaining new) (take n buf))
   pub end : IfOk r (λ n. n ≡ 0 → 0 < length buf → IsAtEnd (remaining new))
-  pub kept : OnErr r (remaining new ≡ remaining old)
+  pub refused : OnErr r (remaining new ≡ remaining old)
   pub counted : CountsFailure r (failure_count old) (failure_count new)

@@ -14,7 +14,7 @@ pub record IsWrite {E : Type 0} (r : Result ℕ E) (old new : Shown) (bytes : Li
   pub bound : IfOk r (λ n. n ≤ length bytes)
   pub progress : IfOk r (λ n. 0 < length bytes → 0 < n)
   pub appended : IfOk r (λ n. Appends old.contents new.contents (take n bytes))
-  pub kept : OnErr r (new.contents ≡ old.contents)
+  pub refused : OnErr r (new.contents ≡ old.contents)
   pub counted : CountsFailure r old.failures new.failures
 
 -- a list that another one begins with

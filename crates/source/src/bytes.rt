@@ -87,8 +87,8 @@ impl<'a> Feed for Bytes<'a> {
         ensures fails { IsErr result ↔ ((bytes_place self.old ≡ Some 0) × (0 < length buf.old)) }
         ensures reads { IfOk result (λ n. n ≡ bytes_next self.old (length buf.old)) }
         ensures place { IfOk result (λ n. bytes_place self.new ≡ place_after (bytes_place self.old) n) }
-        ensures place_kept { OnErr result (bytes_place self.new ≡ bytes_place self.old) }
-        ensures most { bytes_most self.new ≡ bytes_most self.old }
+        ensures refused { OnErr result (bytes_place self.new ≡ bytes_place self.old) }
+        ensures kept { bytes_most self.new ≡ bytes_most self.old }
     {
         if self.fails_now(buf.len()) {
             self.failures = self.failures.saturating_add(1);

@@ -41,7 +41,7 @@ impl<R> Device<R> {
     fn counted<T, E: Drop>(&mut self, answer: io::Result<T>, failure: E) -> Result<T, E>
         ensures answer { MatchResult answer (λ given. result ≡ Ok given) (λ _. result ≡ Err failure) }
         ensures counted { CountsFailure answer (device_failures self.old) (device_failures self.new) }
-        ensures inner { device_inner self.new ≡ device_inner self.old }
+        ensures kept { device_inner self.new ≡ device_inner self.old }
     {
         match answer {
             Ok(given) => Ok(given),

@@ -54,7 +54,7 @@ pub fn pieces(mut hasher: AnyHash, pieces: &[&[u8]]) -> Result<Tag, SourceFault>
 // Feeds the pieces one after another, up to the first that does not fit.
 fn take_each<A: Absorb>(hasher: &mut A, pieces: &[&[u8]]) -> Result<(), InputTooLong>
     ensures appended { OnOk result (Appended A.holds hasher.old hasher.new (joined pieces.now)) }
-    ensures parameters { A.parameters hasher.new ≡ A.parameters hasher.old }
+    ensures kept { A.parameters hasher.new ≡ A.parameters hasher.old }
     ensures fits { IsOk result ↔ (length (joined pieces.now) ≤ A.room_left hasher.old) }
 {
     for piece in pieces {

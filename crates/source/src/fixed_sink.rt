@@ -53,11 +53,11 @@ impl<'a> Sink for FixedSink<'a> {
         ensures full { IsErr result ↔ ((fixed_room self.old ≡ 0) × (0 < length bytes.now)) }
         ensures takes { IfOk result (λ n. n ≡ min (fixed_room self.old) (length bytes.now)) }
         ensures room { IfOk result (λ n. fixed_room self.new + n ≡ fixed_room self.old) }
-        ensures room_kept { OnErr result (fixed_room self.new ≡ fixed_room self.old) }
 
         // What stands in the slice behind the bytes written stays, but for those that were taken.
         ensures rest { IfOk result (λ n. fixed_rest self.new ≡ drop n (fixed_rest self.old)) }
-        ensures rest_kept { OnErr result (fixed_rest self.new ≡ fixed_rest self.old) }
+        ensures refused { OnErr result ((fixed_room self.new ≡ fixed_room self.old)
+            × (fixed_rest self.new ≡ fixed_rest self.old)) }
     {
         let count = (self.buffer.len() - self.len).min(bytes.len());
         if count == 0 && !bytes.is_empty() {

@@ -70,7 +70,7 @@ fn take_part<F: Feed>(
     requires chunks { (e : ℕ) × (chunks ≡ 2 ^ e) }
     requires room { length run.old ≤ 1024 * chunks }
     requires aligned { first % chunks ≡ 0 }
-    requires within { ahead ≤ length run.old }
+    requires bound { ahead ≤ length run.old }
     requires some { ahead ≡ 0 → first ≡ 0 }
     requires end { ahead < length run.old → IsAtEnd (F.remaining feed.old) }
     ensures taken { IfOk result (λ r. IsTaken F.remaining mode first chunks
@@ -101,7 +101,7 @@ fn take_run<F: Feed>(
     ahead: usize,
 ) -> Result<(Part, usize), SourceFault>
     requires run { (e : ℕ) × (length run.old ≡ 1024 * 2 ^ e) × (first % 2 ^ e ≡ 0) }
-    requires within { ahead ≤ length run.old }
+    requires bound { ahead ≤ length run.old }
     requires some { ahead ≡ 0 → first ≡ 0 }
     requires end { ahead < length run.old → IsAtEnd (F.remaining feed.old) }
     ensures taken { IfOk result (λ r. IsTaken F.remaining mode first (length run.old / 1024)

@@ -36,7 +36,7 @@ pub fn pump<A: Absorb, F: Feed>(hasher: &mut A, feed: &mut F) -> Result<(), Sour
     ensures end { OnOk result (IsAtEnd (F.remaining feed.new)) }
     ensures room { OnOk result (IfSome (F.remaining feed.old)
         (λ xs. A.room_left hasher.new + length xs ≡ A.room_left hasher.old)) }
-    ensures parameters { A.parameters hasher.new ≡ A.parameters hasher.old }
+    ensures kept { A.parameters hasher.new ≡ A.parameters hasher.old }
     ensures too_long { IsErrOf result SourceFault.TooLong
         → IsLongerThan (F.remaining feed.old) (A.room_left hasher.old) }
     ensures count { PumpCounts result (F.failure_count feed.old) (F.failure_count feed.new) }
@@ -67,7 +67,7 @@ fn take_piece<A: Absorb, F: Feed>(
     ensures room { IfOk result
         (λ n. A.room_left hasher.old ≡ A.room_left hasher.new + length (take n buf.new)) }
     ensures length { IfOk result (λ n. length (take n buf.new) ≡ n) }
-    ensures parameters { A.parameters hasher.new ≡ A.parameters hasher.old }
+    ensures kept { A.parameters hasher.new ≡ A.parameters hasher.old }
     ensures too_long { IsErrOf result SourceFault.TooLong
         → IsLongerThan (F.remaining feed.old) (A.room_left hasher.old) }
     ensures count { PumpCounts result (F.failure_count feed.old) (F.failure_count feed.new) }

@@ -1,4 +1,5 @@
-use Rattle.std.proofs.Common.{◌≡◌, ℕ, ◌+◌, ◌*◌, ◌/◌, ◌^◌, ◌<◌, ◌≤◌, ◌++◌, length, sym, ◌∙◌, arith, length-append, pow_pos}
+use Rattle.std.proofs.Common.{◌≡◌, ℕ, ◌+◌, ◌*◌, ◌/◌, ◌^◌, ◌<◌, ◌≤◌, ◌++◌, length, sym, ◌∙◌, arith, length-append}
+use Rattle.std.proofs.Common.{pow_pos}
 use Rattle.std.proofs.lemmas.Result.{IfOk-at_ok}
 use Rattle.std.proofs.KnownBytes.{Consumes-trans}
 use Rattle.source.proofs.Parting.{at_half, halved}
@@ -18,7 +19,7 @@ take_part-requires g t c κs within =
       less,
       (
         within,
-        (c.requires.run, ((d, half), (room, (place, (c.requires.within, (c.requires.some, c.requires.end)))))),
+        (c.requires.run, ((d, half), (room, (place, (c.requires.bound, (c.requires.some, c.requires.end)))))),
       ),
     )
 

@@ -13,6 +13,6 @@ pieces-preserved g c =
       takes = Takes-more g.A.Absorb.holds g.A.Absorb.room_left _ _ _ _ _ before.takes taken.appended taken.room;
       consumes = Consumes-trans _ _ _ _ _ before.consumes taken.given;
       count = taken.count ∙ before.count;
-      parameters = taken.parameters ∙ before.parameters;
+      parameters = taken.kept ∙ before.parameters;
       size = piece.auto.buf ∙ before.size;
     }
