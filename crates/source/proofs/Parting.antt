@@ -1,5 +1,7 @@
 -- Parts of what a feed has to come, one after the other.
-use Rattle.std.proofs.Common.{◌≡◌, ℕ, zero, suc, ◌+◌, ◌-◌, ◌*◌, ◌/◌, ◌%◌, ◌^◌, ◌<◌, ◌≤◌, List, [], ◌++◌, Option, None, Some, IfSome, length, take, refl, ap, sym, subst, ◌∙◌, inl, inr, arith, append-nil, length-append, length-take-le, mul-add, pow_mono, pow_pos}
+use Rattle.std.proofs.Common.{◌≡◌, ℕ, zero, suc, ◌+◌, ◌-◌, ◌*◌, ◌/◌, ◌%◌, ◌^◌, ◌<◌, ◌≤◌, List, [], ◌++◌, Option, None}
+use Rattle.std.proofs.Common.{Some, IfSome, length, take, refl, ap, sym, subst, ◌∙◌, inl, inr, arith, append-nil}
+use Rattle.std.proofs.Common.{length-append, length-take-le, mul-add, pow_mono, pow_pos}
 use Rattle.std.proofs.Math.Nat.{pow-succ', mul-mod_right, mul_assoc, mul_comm}
 use Rattle.std.proofs.lemmas.Bool.{cases_lt}
 use Rattle.b3.specs.Parts.{IsPlacedAt}

@@ -1,5 +1,6 @@
 -- A hasher that takes bytes piece by piece has taken all of them, and lost as much of its room.
-use Rattle.std.proofs.Common.{◌≡◌, ℕ, ◌+◌, List, [], ◌++◌, length, length-append, append_assoc, append-nil, arith, subst, sym}
+use Rattle.std.proofs.Common.{◌≡◌, ℕ, ◌+◌, List, [], ◌++◌, length, length-append, append_assoc, append-nil, arith}
+use Rattle.std.proofs.Common.{subst, sym}
 use Rattle.source.specs.Pumped.{Appended}
 
 -- between two moments, a hasher took these bytes
