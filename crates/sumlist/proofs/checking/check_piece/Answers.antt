@@ -16,7 +16,7 @@ returns-then-is_empty-clause-checked g c =
     (g.T.Tree.failure_count c.args.tree.now) (g.W.Sink.shown c.args.out.now).contents
     c.loop-back.held c.loop-back.rest.now c.split_at.result.0.now c.split_at.result.1.now c.loop-back.summary
     (g.T.Tree.failure_count c.loop-back.tree) (g.W.Sink.shown c.loop-back.out).contents c.find_byte-end.result
-    goes c.find_byte-end.ensures.within c.find_byte-end.ensures.before c.split_at.ensures.front c.split_at.ensures.back
+    goes c.find_byte-end.ensures.bound c.find_byte-end.ensures.before c.split_at.ensures.front c.split_at.ensures.back
     c.if-is_empty.ensures))
 
 pub returns-in_err-mark-clause-checked : goal.returns-in_err-mark-clause-checked
@@ -37,7 +37,7 @@ returns-in_err-mark-clause-checked g c =
     (g.T.Tree.failure_count c.args.tree.now) (g.W.Sink.shown c.args.out.now).contents
     c.loop-back.held c.loop-back.rest.now c.split_at.result.0.now c.split_at.result.1.now c.loop-back.summary
     (g.T.Tree.failure_count c.loop-back.tree) (g.W.Sink.shown c.loop-back.out).contents c.find_byte-end.result
-    goes c.find_byte-end.ensures.within c.find_byte-end.ensures.before c.split_at.ensures.front c.split_at.ensures.back)
+    goes c.find_byte-end.ensures.bound c.find_byte-end.ensures.before c.split_at.ensures.front c.split_at.ensures.back)
     (first_is c.loop-back.rest.now c.split_at.result.1.now c.find_byte-end.result c.split_at.ensures.back some
     (c.find_byte-end.ensures.found fits))
     up l))
@@ -64,7 +64,7 @@ loop-back-preserved g c =
           (g.T.Tree.failure_count c.args.tree.now) (g.W.Sink.shown c.args.out.now).contents
           c.loop-back.held c.loop-back.rest.now c.split_at.result.0.now c.split_at.result.1.now c.loop-back.summary
           (g.T.Tree.failure_count c.loop-back.tree) (g.W.Sink.shown c.loop-back.out).contents c.find_byte-end.result
-          goes c.find_byte-end.ensures.within c.find_byte-end.ensures.before c.split_at.ensures.front
+          goes c.find_byte-end.ensures.bound c.find_byte-end.ensures.before c.split_at.ensures.front
           c.split_at.ensures.back)
           (first_is c.loop-back.rest.now c.split_at.result.1.now c.find_byte-end.result c.split_at.ensures.back some
           (c.find_byte-end.ensures.found fits))
