@@ -6,7 +6,7 @@ ghost use Rattle.sumlist.specs.Line.{IsLine, IsBlank, HasForm, core as core_of};
 ghost use Rattle.sumlist.specs.Parsed.{Answers};
 ghost use Rattle.sumlist.specs.declared.line.LineFault.TheVariants.{OutOfMemory};
 
-use crate::body::{build_name, is_name};
+use crate::body::{build_name, name_text};
 use crate::fitting::LINE_LEN;
 use crate::labels::split_label;
 use crate::lines::find_byte;
@@ -68,10 +68,10 @@ pub fn parse_line(alloc: Global, line: &[u8], kind: Kind) -> Result<Line, LineFa
     let Some((alg, tag, body)) = split_text(text, kind) else {
         return Err(LineFault::Malformed);
     };
-    if !is_name(body, is_escaped, 2 * tag.bytes().len()) {
+    let Some(given) = name_text(body, is_escaped, 2 * tag.bytes().len()) else {
         return Err(LineFault::Malformed);
-    }
-    let name = build_name(alloc, body, is_escaped)?;
+    };
+    let name = build_name(alloc, given)?;
     Ok(Line::Entry(Entry::from_parts(name, alg, tag)))
 }
 
