@@ -7,6 +7,10 @@ use Rattle.words.specs.Words.{words}
 use Rattle.b3.specs.Node.{cv}
 use Rattle.b3.specs.Chunk.{chunk, value_before, block, block_words, last_block, start_flag}
 
+-- a chunk that is whole
+pub chunk_full : (x : List ℕ) (k : ℕ) → 1024 * k + 1024 ≤ length x → length (take 1024 (drop (1024 * k) x)) ≡ 1024
+chunk_full x k h = length-take-le 1024 (drop (1024 * k) x) (omega (arith, length-drop (1024 * k) x))
+
 -- a block of a chunk within the bytes
 pub block_at : (x : List ℕ) (i j : ℕ) → j < 16
     → block (take 1024 (drop (1024 * i) x)) j ≡ take 64 (drop (1024 * i + 64 * j) x)

@@ -1,12 +1,8 @@
-use Rattle.std.proofs.Common.{◌≡◌, ℕ, ◌≤◌, ◌+◌, ◌*◌, List, length, take, drop, arith, sym, ap, ◌∙◌, length-take-le}
-use Rattle.std.proofs.Common.{length-drop, slice_index}
+use Rattle.std.proofs.Common.{◌≡◌, ℕ, ◌+◌, ◌*◌, take, drop, arith, sym, ap, ◌∙◌, slice_index}
 use Rattle.b3.specs.Chunk.{value_before}
 use Rattle.b3.proofs.Folding.{run_chunk}
-use Rattle.b3.proofs.Lanes8.{value_more, value_last, lane_read, flag_more}
+use Rattle.b3.proofs.Lanes8.{chunk_full, value_more, value_last, lane_read, flag_more}
 use Rattle.b3.proofs.lanes.few_chunk_values.Goals as goal
-
-chunk_full : (x : List ℕ) (k : ℕ) → 1024 * k + 1024 ≤ length x → length (take 1024 (drop (1024 * k) x)) ≡ 1024
-chunk_full x k h = length-take-le 1024 (drop (1024 * k) x) (omega (arith, length-drop (1024 * k) x))
 
 pub each_block-init : goal.each_block-init
 unfolding value_before
