@@ -209,6 +209,85 @@ fn the_self_test_of_the_rfc(rt: HostRuntime) -> Result<(), Fail> {
     Ok(())
 }
 
+// The official vectors of BLAKE2 under a key, at some lengths: the key counts up from 0, and so does the message.
+const KEYED_2B: [(usize, &str); 5] = [
+    (
+        0,
+        "10ebb67700b1868efb4417987acf4690ae9d972fb7a590c2f02871799aaa4786\
+        b5e996e8f0f4eb981fc214b005f42d2ff4233499391653df7aefcbc13fc51568",
+    ),
+    (
+        1,
+        "961f6dd1e4dd30f63901690c512e78e4b45e4742ed197c3c5e45c549fd25f2e4\
+        187b0bc9fe30492b16b0d0bc4ef9b0f34c7003fac09a5ef1532e69430234cebd",
+    ),
+    (
+        128,
+        "72065ee4dd91c2d8509fa1fc28a37c7fc9fa7d5b3f8ad3d0d7a25626b57b1b44\
+        788d4caf806290425f9890a3a2a35a905ab4b37acfd0da6e4517b2525c9651e4",
+    ),
+    (
+        129,
+        "64475dfe7600d7171bea0b394e27c9b00d8e74dd1e416a79473682ad3dfdbb70\
+        6631558055cfc8a40e07bd015a4540dcdea15883cbbf31412df1de1cd4152b91",
+    ),
+    (
+        255,
+        "142709d62e28fcccd0af97fad0f8465b971e82201dc51070faa0372aa43e9248\
+        4be1c1e73ba10906d5d1853db6a4106e0a7bf9800d373d6dee2d46d62ef2a461",
+    ),
+];
+
+const KEYED_2S: [(usize, &str); 5] = [
+    (
+        0,
+        "48a8997da407876b3d79c0d92325ad3b89cbb754d86ab71aee047ad345fd2c49",
+    ),
+    (
+        1,
+        "40d15fee7c328830166ac3f918650f807e7e01e177258cdc0a39b11f598066f1",
+    ),
+    (
+        64,
+        "8975b0577fd35566d750b362b0897a26c399136df07bababbde6203ff2954ed4",
+    ),
+    (
+        65,
+        "21fe0ceb0052be7fb0f004187cacd7de67fa6eb0938d927677f2398c132317a8",
+    ),
+    (
+        255,
+        "3fb735061abc519dfe979e54c1ee5bfad0a9d858b3315bad34bde999efd724dd",
+    ),
+];
+
+// Whether the digest of so many bytes that count up, under a key as long as the digest, is the text.
+fn is_official<H: Blake2>(digest_length: u8, length: usize, text: &str) -> Result<bool, Fail> {
+    let mut bytes = [0; 256];
+    count_up(&mut bytes, 0);
+    let key = bytes.get(..digest_length as usize).ok_or("too long a key")?;
+    let message = bytes.get(..length).ok_or("too long a row")?;
+    let tag = digest::<H>(digest_length, key, &[message])?;
+    Ok(is_spelled(tag.bytes(), text))
+}
+
+#[test]
+fn the_official_keyed_vectors(rt: HostRuntime) -> Result<(), Fail> {
+    for (length, text) in KEYED_2B {
+        assert!(rt;
+            is_official::<Blake2b>(64, length, text)?,
+            "BLAKE2b at {length}"
+        );
+    }
+    for (length, text) in KEYED_2S {
+        assert!(rt;
+            is_official::<Blake2s>(32, length, text)?,
+            "BLAKE2s at {length}"
+        );
+    }
+    Ok(())
+}
+
 // Whether the digest is that of the definition, in one piece and byte by byte.
 fn agrees<H: Blake2>(digest_length: u8, key: &[u8], message: &[u8]) -> Result<bool, Fail> {
     let whole = digest::<H>(digest_length, key, &[message])?;
