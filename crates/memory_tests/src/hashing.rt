@@ -1,0 +1,46 @@
+// Digests, by each way to them.
+
+use crate::calls::Lack;
+use source::{Alg, AnyHash, Bytes, Sink, digest_of, pieces, pump, write_all};
+use words::Tag;
+
+/// A way from bytes to their digest.
+#[derive(Clone, Copy, Debug, Drop)]
+pub(crate) enum Way {
+    Pump,
+    DigestOf,
+    Pieces,
+}
+
+const ALGS: [Alg; 5] = [
+    Alg::Sha256,
+    Alg::Sha512,
+    Alg::Blake2b(64),
+    Alg::Blake2s(32),
+    Alg::Blake3,
+];
+
+/// Writes the bytes of the digests of "abc" by each hash.
+pub(crate) fn write_tags<W: Sink>(way: Way, out: &mut W) -> Result<u8, Lack> {
+    for alg in ALGS {
+        let Some(tag) = digest_by(way, alg) else {
+            return Err(Lack::Other);
+        };
+        write_all(out, tag.bytes())?;
+    }
+    Ok(0)
+}
+
+fn digest_by(way: Way, alg: Alg) -> Option<Tag> {
+    let hasher = AnyHash::new(alg).ok()?;
+    match way {
+        Way::Pump => pumped(hasher),
+        Way::DigestOf => digest_of(hasher, &mut Bytes::new(b"abc", 1)).ok(),
+        Way::Pieces => pieces(hasher, &[b"a", b"", b"bc"]).ok(),
+    }
+}
+
+fn pumped(mut hasher: AnyHash) -> Option<Tag> {
+    pump(&mut hasher, &mut Bytes::new(b"abc", 1)).ok()?;
+    Some(hasher.finish())
+}
