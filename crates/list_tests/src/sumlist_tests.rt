@@ -6,6 +6,7 @@ use words::Tag;
 
 mod calling;
 mod checking;
+mod failing;
 mod files;
 mod reading;
 mod tagging;
@@ -44,12 +45,14 @@ pub(crate) fn line_of(alloc: Global, entry: &Entry) -> Result<String, Fail> {
 pub(crate) const NAMES: &[(&str, &str, &str)] = &[
     ("abc.txt", "", "  abc.txt\n"),
     ("a b", "", "  a b\n"),
-    (" a", "", "   a\n"),
-    ("*a", "", "  *a\n"),
-    ("#a", "", "  #a\n"),
+    (" x", "", "   x\n"),
+    ("*x", "", "  *x\n"),
+    ("#x", "", "  #x\n"),
     ("\u{e9}", "", "  \u{e9}\n"),
     ("a\\b\n", "\\", "  a\\\\b\\n\n"),
     ("\\", "\\", "  \\\\\n"),
+    ("\n", "\\", "  \\n\n"),
+    ("\r", "\\", "  \\r\n"),
     ("\n\nn", "\\", "  \\n\\nn\n"),
     ("a\rb", "\\", "  a\\rb\n"),
     ("a) = b", "", "  a) = b\n"),

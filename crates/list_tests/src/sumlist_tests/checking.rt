@@ -1,6 +1,6 @@
 ghost use Rattle.std.specs.Prelude.{◌≤◌, None};
 
-use super::{BLAKE2B_8_EMPTY, BLAKE2S_ABC, SHA256_ABC, entry_of, line_of};
+use super::{BLAKE2B_8_EMPTY, BLAKE2S_ABC, NAMES, SHA256_ABC, entry_of, line_of};
 use source::{Alg, Bytes, Feed, FixedSink, VecSink};
 use std::alloc::Global;
 use std::collections::BTreeMap;
@@ -18,7 +18,7 @@ const BLAKE3_ABC: &str = "6437b3ac38465133ffb63b75273a8db548c558465d79db03fd359c
 
 const BLAKE3_1025: &str = "d00278ae47eb27b34faecf67b4fe263f82d5412916c1ffd97c8cb7fb814b8444";
 
-type Files = BTreeMap<String, Vec<u8>>;
+pub(super) type Files = BTreeMap<String, Vec<u8>>;
 
 fn add(alloc: Global, files: &mut Files, name: &str, content: &[u8]) -> Result<(), Fail> {
     let name = String::from_str(alloc, name)?;
@@ -28,11 +28,12 @@ fn add(alloc: Global, files: &mut Files, name: &str, content: &[u8]) -> Result<(
     Ok(())
 }
 
-fn files(alloc: Global) -> Result<Files, Fail> {
+pub(super) fn files(alloc: Global) -> Result<Files, Fail> {
     let mut files = BTreeMap::new(alloc);
-    add(alloc, &mut files, "abc.txt", b"abc")?;
+    for &(name, ..) in NAMES {
+        add(alloc, &mut files, name, b"abc")?;
+    }
     add(alloc, &mut files, "a\\b", b"abc")?;
-    add(alloc, &mut files, "a\\b\n", b"abc")?;
     add(alloc, &mut files, "empty", b"")?;
     let mut long = Vec::new(alloc);
     for i in 0..1025usize {
@@ -64,7 +65,7 @@ fn report_by_reads(
     requires { 1 ≤ most }
 {
     let files = files(alloc)?;
-    let mut tree = MemoryTree::new(&files, 100);
+    let mut tree = MemoryTree::new(&files, most);
     let mut feed = Bytes::new(list, most);
     let mut out = VecSink::new(alloc);
     let summary = check(alloc, &mut feed, kind, &mut tree, &mut out).map_err(|_| "refused")?;
@@ -74,7 +75,7 @@ fn report_by_reads(
     ))
 }
 
-fn numbers(s: Summary) -> [u64; 7] {
+pub(super) fn numbers(s: Summary) -> [u64; 7] {
     [
         s.ok,
         s.failed,
@@ -147,6 +148,54 @@ fn names_are_reported_in_their_escaped_form(rt: HostRuntime) -> Result<(), Fail>
         "a\\\\b\\n: OK\n",
         "the line as it is written"
     );
+    Ok(())
+}
+
+#[test]
+fn each_name_is_found_as_its_line_spells_it(rt: HostRuntime) -> Result<(), Fail> {
+    let alloc = rt.alloc();
+    for &(name, lead, end) in NAMES {
+        let list = format!(in alloc; "{lead}{SHA256_ABC}{end}")?;
+        let escaped = end
+            .strip_prefix("  ")
+            .and_then(|body| body.strip_suffix("\n"))
+            .ok_or("no end")?;
+        let expected = format!(in alloc; "{escaped}: OK\n")?;
+        let (report, _) = report_of(alloc, Kind::Sha256, list.as_bytes())?;
+        assert_eq!(rt; report, expected, "{name:?}");
+    }
+    // Of two stars the first is the mark.
+    let list = format!(in alloc; "{SHA256_ABC} **x\n")?;
+    let (report, _) = report_of(alloc, Kind::Sha256, list.as_bytes())?;
+    assert_eq!(rt; report.as_str(), "*x: OK\n");
+    Ok(())
+}
+
+// Two bytes of the written line for each backslash: 1 + 64 + 2 + 2 * 32,734 are 65,535.
+#[test]
+fn a_name_of_backslashes_is_measured_as_it_is_written(rt: HostRuntime) -> Result<(), Fail> {
+    let alloc = rt.alloc();
+    let name = "\\".repeat(alloc, 32_734)?;
+    let list = format!(in alloc; "{SHA256_ABC}  {name}\n{SHA256_ABC}  {name}\\\n")?;
+    let (report, summary) = report_of(alloc, Kind::Sha256, list.as_bytes())?;
+    let expected = format!(in alloc; "{name}{name}: MISSING\nline 2: MALFORMED\n")?;
+    assert_eq!(rt; report, expected);
+    assert_eq!(rt; summary, [0, 0, 1, 0, 0, 1, 0]);
+    Ok(())
+}
+
+#[test]
+fn names_that_are_no_text_or_hold_nul_are_malformed(rt: HostRuntime) -> Result<(), Fail> {
+    let alloc = rt.alloc();
+    let mut list = Vec::new(alloc);
+    for end in [b"  \xff\n".as_slice(), b"  \0\n", b"  a\0b\n"] {
+        list.extend_from_slice(SHA256_ABC.as_bytes())?;
+        list.extend_from_slice(end)?;
+    }
+    let (report, summary) = report_of(alloc, Kind::Sha256, &list)?;
+    let expected = "line 1: MALFORMED\nline 2: MALFORMED\nline 3: MALFORMED\n";
+    assert_eq!(rt; report.as_str(), expected);
+    assert_eq!(rt; summary, [0, 0, 0, 0, 0, 3, 0]);
     Ok(())
 }
 
