@@ -42,25 +42,22 @@ salts r = do
   personal ← given_bytes Personal (given r.personal)
   Ok (salt, personal)
 
-abbrev pub blake2b_digest : Request → Result Requested UsageFault
-blake2b_digest r = do
+-- the length of a digest of `most` bytes at most, salt and personalization of n bytes each
+abbrev pub blake2_parameters : Request → ℕ → ℕ → Result (ℕ × List ℕ × List ℕ) UsageFault
+blake2_parameters r most n = do
   absent Seek (given r.seek)
   absent Parts (given r.parts)
-  n ← number Length (given r.length) 64 1 64
+  length ← number Length (given r.length) most 1 most
   given ← salts r
-  salt ← sized Salt 16 given.0
-  personal ← sized Personal 16 given.1
-  Ok (whole (Blake2b n salt personal) r.tag)
+  salt ← sized Salt n given.0
+  personal ← sized Personal n given.1
+  Ok (length, salt, personal)
+
+abbrev pub blake2b_digest : Request → Result Requested UsageFault
+blake2b_digest r = blake2_parameters r 64 16 >>= (λ p. Ok (whole (Blake2b p.0 p.1 p.2) r.tag))
 
 abbrev pub blake2s_digest : Request → Result Requested UsageFault
-blake2s_digest r = do
-  absent Seek (given r.seek)
-  absent Parts (given r.parts)
-  n ← number Length (given r.length) 32 1 32
-  given ← salts r
-  salt ← sized Salt 8 given.0
-  personal ← sized Personal 8 given.1
-  Ok (whole (Blake2s n salt personal) r.tag)
+blake2s_digest r = blake2_parameters r 32 8 >>= (λ p. Ok (whole (Blake2s p.0 p.1 p.2) r.tag))
 
 -- the label of BLAKE3 stands for the first 32 bytes of its output
 abbrev pub tagged_blake3 : Request → Result Requested UsageFault

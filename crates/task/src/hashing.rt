@@ -1,6 +1,6 @@
 // What `hash` is to print of a file.
 
-ghost use Rattle.std.specs.Prelude.{◌≡◌, IfOk, IfSome, option_map};
+ghost use Rattle.std.specs.Prelude.{◌≡◌, ◌≤◌, IfOk, IfSome, option_map};
 ghost use Rattle.task.specs.Hashing as spec;
 ghost use Rattle.task.specs.Parameters.{Judges};
 ghost use Rattle.task.specs.Requested.{HasDigest, IsPartSize, IsWithin, names_algorithm};
@@ -86,12 +86,7 @@ fn with_blake2b(alloc: Global, request: &Request<'_>) -> Result<Requested, TaskF
     ensures judged { Judges (λ r. r) (spec.blake2b_digest request.now) result }
     ensures range { IfOk result HasDigest }
 {
-    refused(Setting::Seek, request.seek)?;
-    refused(Setting::Parts, request.parts)?;
-    let length = number(Setting::Length, request.length, 64, 1, 64)? as usize;
-    let (salt, personal) = salts(alloc, request)?;
-    let salt = sized(Setting::Salt, salt)?;
-    let personal = sized(Setting::Personal, personal)?;
+    let (length, salt, personal) = blake2_parameters(alloc, request, 64)?;
     Ok(whole(Hash::Blake2b(length, salt, personal), request.tag))
 }
 
@@ -99,13 +94,28 @@ fn with_blake2s(alloc: Global, request: &Request<'_>) -> Result<Requested, TaskF
     ensures judged { Judges (λ r. r) (spec.blake2s_digest request.now) result }
     ensures range { IfOk result HasDigest }
 {
+    let (length, salt, personal) = blake2_parameters(alloc, request, 32)?;
+    Ok(whole(Hash::Blake2s(length, salt, personal), request.tag))
+}
+
+// The length of the digest, which has `most` bytes at most, the salt and the personalization.
+fn blake2_parameters<const N: usize>(
+    alloc: Global,
+    request: &Request<'_>,
+    most: usize,
+) -> Result<(usize, [u8; N], [u8; N]), TaskFault>
+    requires { 1 ≤ most }
+    ensures judged { Judges (λ p. p) (spec.blake2_parameters request.now most N) result }
+    ensures low { IfOk result (λ p. 1 ≤ p.0) }
+    ensures high { IfOk result (λ p. p.0 ≤ most) }
+{
     refused(Setting::Seek, request.seek)?;
     refused(Setting::Parts, request.parts)?;
-    let length = number(Setting::Length, request.length, 32, 1, 32)? as usize;
+    let length = number(Setting::Length, request.length, most as u64, 1, most as u64)? as usize;
     let (salt, personal) = salts(alloc, request)?;
     let salt = sized(Setting::Salt, salt)?;
     let personal = sized(Setting::Personal, personal)?;
-    Ok(whole(Hash::Blake2s(length, salt, personal), request.tag))
+    Ok((length, salt, personal))
 }
 
 // The bytes of the salt and of the personalization, where they were given. The digits of both are
