@@ -1,6 +1,8 @@
-//! Tests of feeds, sinks and lists, by values from outside.
+//! Tests of feeds, sinks, lists and lines of parts, by values from outside.
 #![tactic(auto)]
 
+#[cfg(test)]
+mod part_line_tests;
 #[cfg(test)]
 mod source_tests;
 #[cfg(test)]

@@ -1,0 +1,2 @@
+pub mod PartLine
+pub mod Laws

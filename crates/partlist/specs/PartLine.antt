@@ -1,0 +1,18 @@
+-- The line that tells a part of a file: where the part stands, how many bytes it has, and its chaining value.
+use Rattle.std.specs.Prelude.{◌≡◌, ℕ, List, ◌∷◌, ◌++◌, length, codes}
+use Rattle.std.specs.Fmt.{decimal}
+use Rattle.hex.specs.Hex.{IsBytes, encode_lower}
+use Rattle.b3.specs.Parts.{IsPlacedAt}
+
+-- the line without its LF: the form's version, the tree, the number of the first chunk, the number of bytes,
+-- and the bytes of the chaining value, the lowest of each word first
+abbrev pub part_line : ℕ → ℕ → List ℕ → List ℕ
+part_line first len value =
+    codes "sums-part-1 blake3 " ++ (decimal first ++ 32 ∷ (decimal len ++ 32 ∷ encode_lower value))
+
+-- the line tells that so many bytes from this chunk on, which can stand there, have this chaining value
+pub record Tells (line : List ℕ) (first len : ℕ) (value : List ℕ) : Type 0 where
+  pub placed : IsPlacedAt first len
+  pub bytes : IsBytes value
+  pub sized : length value ≡ 32
+  pub text : line ≡ part_line first len value

@@ -1,0 +1,146 @@
+// The line of a part.
+
+ghost use Rattle.std.specs.Prelude.{◌≡◌, ℕ, ◌<◌, ◌^◌, ◌≤◌, List, ◌++◌, ◌∷◌, [], Some, Contains, MatchOption, IsTrue, ◌↔◌, length, drop};
+ghost use Rattle.std.specs.Fmt.{decimal};
+ghost use Rattle.hex.specs.Hex.{IsBytes, encode_lower};
+ghost use Rattle.words.specs.Words.{word_bytes, words};
+ghost use Rattle.b3.specs.inside.Rows.{value_first, value_len, value_words};
+ghost use Rattle.source.specs.Written.{Writes};
+ghost use Rattle.partlist.specs.PartLine.{Tells, part_line};
+
+use b3::PartValue;
+use itoa::Buffer;
+use source::{Sink, WriteFailed, write_all};
+
+const HEAD: [u8; 19] = *b"sums-part-1 blake3 ";
+
+/// Writes the part's one line, with its LF: `sums-part-1 blake3 FIRST LENGTH VALUE`, the number of
+/// its first chunk and that of its bytes in decimal, and the chaining value in 64 lower-case digits.
+pub fn write_part<W: Sink>(part: &PartValue, out: &mut W) -> Result<(), WriteFailed>
+    ensures { Writes result (W.shown out.old) (W.shown out.new)
+        (part_line (value_first part.now) (value_len part.now) (word_bytes 4 (value_words part.now)) ++ 10 ∷ []) }
+{
+    write_all(out, &HEAD)?;
+    write_number(part.first_chunk(), out)?;
+    write_number(part.len(), out)?;
+    write_value(&part.bytes(), out)
+}
+
+// Writes the number and a space.
+fn write_number<W: Sink>(number: u64, out: &mut W) -> Result<(), WriteFailed>
+    ensures { Writes result (W.shown out.old) (W.shown out.new) (decimal number ++ 32 ∷ []) }
+{
+    write_all(out, Buffer::new().format(number).as_bytes())?;
+    write_all(out, b" ")
+}
+
+// Writes the digits of the value and LF.
+fn write_value<W: Sink>(value: &[u8; 32], out: &mut W) -> Result<(), WriteFailed>
+    ensures { Writes result (W.shown out.old) (W.shown out.new) (encode_lower value.now ++ 10 ∷ []) }
+{
+    let mut digits = [0; 64];
+    hex::encode_to_slice(value.as_slice(), &mut digits).unwrap();
+    write_all(out, &digits)?;
+    write_all(out, b"\n")
+}
+
+/// The part that a line tells, which has no LF. A line that is spelt otherwise than `write_part`
+/// spells a part tells none, and neither does one of bytes that cannot stand where it says.
+pub fn parse_part(line: &[u8]) -> Option<PartValue>
+    ensures { MatchOption result
+        ((first len : ℕ) (value : List ℕ) → Tells line.now first len value → ⊥)
+        (λ part. (value : List ℕ) × Tells line.now (value_first part) (value_len part) value
+        × (value_words part ≡ words 4 8 value)) }
+{
+    let rest = after_head(line)?;
+    let (first, rest) = cut_number(rest)?;
+    let (len, digits) = cut_number(rest)?;
+    let value = value_of(digits)?;
+    PartValue::of_bytes(first, len, &value).ok()
+}
+
+// What stands after the head.
+fn after_head(line: &[u8]) -> Option<&[u8]>
+    ensures { MatchOption result ((rest : List ℕ) → line.now ≡ HEAD ++ rest → ⊥)
+        (λ rest. line.now ≡ HEAD ++ rest.now) }
+{
+    if line.len() < HEAD.len() {
+        return None;
+    }
+    let (head, rest) = line.split_at(HEAD.len());
+    if head == HEAD.as_slice() {
+        Some(rest)
+    } else {
+        None
+    }
+}
+
+// A number and a space, and what stands after them.
+fn cut_number(text: &[u8]) -> Option<(u64, &[u8])>
+    ensures { MatchOption result
+        ((n : ℕ) (rest : List ℕ) → n < 2 ^ 64 → text.now ≡ decimal n ++ 32 ∷ rest → ⊥)
+        (λ p. (p.0 < 2 ^ 64) × (text.now ≡ decimal p.0 ++ 32 ∷ p.1.now)) }
+{
+    let (digits, rest) = cut_at_space(text)?;
+    Some((number_of(digits)?, rest))
+}
+
+// What stands before the first space, and what stands after it.
+fn cut_at_space(text: &[u8]) -> Option<(&[u8], &[u8])>
+    ensures { MatchOption result (Contains text.now 32 → ⊥)
+        (λ p. (text.now ≡ p.0.now ++ 32 ∷ p.1.now) × (Contains p.0.now 32 → ⊥)) }
+{
+    let at = text.iter().position(|&byte| byte == b' ')?;
+    Some((&text[..at], &text[at + 1..]))
+}
+
+// The number that decimal digits without a leading zero spell.
+fn number_of(digits: &[u8]) -> Option<u64>
+    ensures { MatchOption result ((n : ℕ) → n < 2 ^ 64 → digits.now ≡ decimal n → ⊥)
+        (λ n. (n < 2 ^ 64) × (digits.now ≡ decimal n)) }
+{
+    let number = read_number(digits)?;
+    if Buffer::new().format(number).as_bytes() == digits {
+        Some(number)
+    } else {
+        None
+    }
+}
+
+// The number that digits spell, however they do.
+fn read_number(digits: &[u8]) -> Option<u64>
+    ensures { (n : ℕ) → n < 2 ^ 64 → digits.now ≡ decimal n → result ≡ Some n }
+{
+    match std::str::from_utf8(digits) {
+        Ok(text) => text.parse::<u64>().ok(),
+        Err(_) => None,
+    }
+}
+
+// The bytes that 64 lower-case digits spell.
+fn value_of(digits: &[u8]) -> Option<[u8; 32]>
+    ensures { MatchOption result
+        ((value : List ℕ) → IsBytes value → length value ≡ 32 → digits.now ≡ encode_lower value → ⊥)
+        (λ value. IsBytes value × (length value ≡ 32) × (digits.now ≡ encode_lower value)) }
+{
+    let value = read_value(digits)?;
+    let mut text = [0; 64];
+    hex::encode_to_slice(value.as_slice(), &mut text).unwrap();
+    if text.as_slice() == digits {
+        Some(value)
+    } else {
+        None
+    }
+}
+
+// The bytes that 64 digits spell, in either case.
+fn read_value(digits: &[u8]) -> Option<[u8; 32]>
+    ensures { (value : List ℕ) → IsBytes value → length value ≡ 32 → digits.now ≡ encode_lower value
+        → result ≡ Some value }
+{
+    let mut value = [0; 32];
+    match hex::decode_to_slice(digits, &mut value) {
+        Ok(()) => Some(value),
+        Err(_) => None,
+    }
+}
