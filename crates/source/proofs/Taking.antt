@@ -1,7 +1,8 @@
 -- A hasher that takes bytes piece by piece has taken all of them, and lost as much of its room.
-use Rattle.std.proofs.Common.{◌≡◌, ℕ, ◌+◌, List, [], ◌++◌, length, length-append, append_assoc, append-nil, arith}
+use Rattle.std.proofs.Common.{◌≡◌, ℕ, ◌+◌, List, [], ◌++◌, Option, length, length-append, append_assoc, append-nil, arith}
 use Rattle.std.proofs.Common.{subst, sym}
-use Rattle.source.specs.Pumped.{Appended}
+use Rattle.std.proofs.KnownBytes.{Consumes-trans}
+use Rattle.source.specs.Pumped.{Appended, Gives}
 
 -- between two moments, a hasher took these bytes
 pub record Takes {A : Type 0} (holds : A → List ℕ → Type 0) (room_left : A → ℕ) (old new : A) (bytes : List ℕ) : Type 0 where
@@ -23,3 +24,7 @@ module _ {A : Type 0} (holds : A → List ℕ → Type 0) (room_left : A → ℕ
     appended = λ m h. subst (holds c) (append_assoc m front piece) (more _ (before.appended m h));
     room = let sum = before.room in omega (arith, length-append front piece);
   }
+
+-- some bytes were given, and then some more
+pub Gives-trans : (a b c : Option (List ℕ)) → Gives a b → Gives b c → Gives a c
+Gives-trans a b c first second = (first.0 ++ second.0, Consumes-trans a b c _ _ first.1 second.1)

@@ -4,7 +4,7 @@ ghost use Rattle.std.specs.Prelude.{◌≡◌, ◌<◌, ◌≤◌, ◌++◌, ◌
 ghost use Rattle.std.specs.Io.KnownBytes.{IsAtEnd};
 ghost use Rattle.source.specs.Digest.{digest, parameters_of, tag_len};
 ghost use Rattle.source.specs.Faults.{PumpCounts};
-ghost use Rattle.source.specs.Pumped.{Appended, IsLongerThan, joined};
+ghost use Rattle.source.specs.Pumped.{Appended, Gives, IsLongerThan, joined};
 
 use crate::{Alg, AnyHash, Feed, SourceFault, pump};
 use words::{Absorb, InputTooLong, Tag};
@@ -25,6 +25,7 @@ pub fn digest_of<F: Feed>(mut hasher: AnyHash, feed: &mut F) -> Result<Tag, Sour
         (λ xs. length xs ≤ ⟦<AnyHash as Absorb>⟧.room_left hasher)) }
     ensures too_long { IsErrOf result SourceFault.TooLong
         → IsLongerThan (F.remaining feed.old) (⟦<AnyHash as Absorb>⟧.room_left hasher) }
+    ensures gave { Gives (F.remaining feed.old) (F.remaining feed.new) }
     ensures count { PumpCounts result (F.failure_count feed.old) (F.failure_count feed.new) }
 {
     pump(&mut hasher, feed)?;

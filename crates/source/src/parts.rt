@@ -6,7 +6,7 @@ ghost use Rattle.b3.specs.Modes.{root_of};
 ghost use Rattle.b3.specs.Parts.{mode_parameters};
 ghost use Rattle.b3.specs.inside.Output.{output_root, output_position};
 ghost use Rattle.source.specs.Faults.{PumpCounts};
-ghost use Rattle.source.specs.Pumped.{IsLongerThan};
+ghost use Rattle.source.specs.Pumped.{Gives, IsLongerThan};
 ghost use Rattle.source.specs.inside.Parts.{IsFilled, IsTaken};
 
 use crate::{Feed, ReadFailed, SourceFault};
@@ -31,6 +31,7 @@ pub fn output_in_parts<F: Feed>(
     ensures fits { OnOk result (IfSome (F.remaining feed.old) (λ xs. length xs ≤ 2 ^ 64 - 1)) }
     ensures too_long { IsErrOf result SourceFault.TooLong
         → IsLongerThan (F.remaining feed.old) (2 ^ 64 - 1) }
+    ensures gave { Gives (F.remaining feed.old) (F.remaining feed.new) }
     ensures count { PumpCounts result (F.failure_count feed.old) (F.failure_count feed.new) }
 {
     let ahead = fill(feed, run)?;
@@ -43,6 +44,7 @@ fn fill<F: Feed>(feed: &mut F, run: &mut [u8]) -> Result<usize, SourceFault>
     ensures filled { IfOk result (λ n. IsFilled F.remaining feed.old feed.new run.new n) }
     ensures length { length run.new ≡ length run.old }
     ensures fault { IsErrOf result SourceFault.TooLong → ⊥ }
+    ensures gave { Gives (F.remaining feed.old) (F.remaining feed.new) }
     ensures count { PumpCounts result (F.failure_count feed.old) (F.failure_count feed.new) }
 {
     let mut n = 0;
@@ -78,6 +80,7 @@ fn take_part<F: Feed>(
     ensures length { length run.new ≡ length run.old }
     ensures too_long { IsErrOf result SourceFault.TooLong
         → IsLongerThan (prepend_known (take ahead run.old) (F.remaining feed.old)) (2 ^ 64 - 1 - 1024 * first) }
+    ensures gave { Gives (F.remaining feed.old) (F.remaining feed.new) }
     ensures count { PumpCounts result (F.failure_count feed.old) (F.failure_count feed.new) }
 {
     if chunks <= (run.len() / 1024) as u64 {
@@ -109,6 +112,7 @@ fn take_run<F: Feed>(
     ensures length { length run.new ≡ length run.old }
     ensures too_long { IsErrOf result SourceFault.TooLong
         → IsLongerThan (prepend_known (take ahead run.old) (F.remaining feed.old)) (2 ^ 64 - 1 - 1024 * first) }
+    ensures gave { Gives (F.remaining feed.old) (F.remaining feed.new) }
     ensures count { PumpCounts result (F.failure_count feed.old) (F.failure_count feed.new) }
 {
     match Part::of(mode, first, &run[..ahead]) {

@@ -3,7 +3,7 @@
 ghost use Rattle.std.specs.Prelude.{◌≡◌, ◌+◌, ◌<◌, length, take, OnOk, IfOk, IfSome, IsErrOf};
 ghost use Rattle.std.specs.Io.KnownBytes.{Consumes, IsAtEnd};
 ghost use Rattle.source.specs.Faults.{PumpCounts};
-ghost use Rattle.source.specs.Pumped.{Appended, IsLongerThan};
+ghost use Rattle.source.specs.Pumped.{Appended, Gives, IsLongerThan};
 
 use crate::{Feed, ReadFailed};
 use thiserror::Error;
@@ -39,6 +39,7 @@ pub fn pump<A: Absorb, F: Feed>(hasher: &mut A, feed: &mut F) -> Result<(), Sour
     ensures kept { A.parameters hasher.new ≡ A.parameters hasher.old }
     ensures too_long { IsErrOf result SourceFault.TooLong
         → IsLongerThan (F.remaining feed.old) (A.room_left hasher.old) }
+    ensures gave { Gives (F.remaining feed.old) (F.remaining feed.new) }
     ensures count { PumpCounts result (F.failure_count feed.old) (F.failure_count feed.new) }
 {
     let mut short = [0; SHORT];
@@ -70,6 +71,7 @@ fn take_piece<A: Absorb, F: Feed>(
     ensures kept { A.parameters hasher.new ≡ A.parameters hasher.old }
     ensures too_long { IsErrOf result SourceFault.TooLong
         → IsLongerThan (F.remaining feed.old) (A.room_left hasher.old) }
+    ensures gave { Gives (F.remaining feed.old) (F.remaining feed.new) }
     ensures count { PumpCounts result (F.failure_count feed.old) (F.failure_count feed.new) }
 {
     match feed.read(buf) {

@@ -1,6 +1,6 @@
 use Rattle.std.proofs.Common.{take, ◌++◌, ◌∙◌}
 use Rattle.std.proofs.KnownBytes.{Consumes-trans}
-use Rattle.source.proofs.Taking.{Takes-more}
+use Rattle.source.proofs.Taking.{Gives-trans, Takes-more}
 use Rattle.source.proofs.pumping.pump.Goals as goal
 
 pub pieces-preserved : goal.pieces-preserved
@@ -16,3 +16,17 @@ pieces-preserved g c =
       parameters = taken.kept ∙ before.parameters;
       size = piece.auto.buf ∙ before.size;
     }
+
+pub returns-in_err-take_piece-2-clause-gave : goal.returns-in_err-take_piece-2-clause-gave
+returns-in_err-take_piece-2-clause-gave g c =
+    Gives-trans _ _ _ c.take_piece.ensures.gave c.take_piece-else-branch-eq0.ensures.gave
+
+pub returns-in_err-take_piece-3-clause-gave : goal.returns-in_err-take_piece-3-clause-gave
+returns-in_err-take_piece-3-clause-gave g c =
+    Gives-trans _ _ _ (Gives-trans _ _ _ c.take_piece.ensures.gave c.take_piece-else-branch-eq0.ensures.gave)
+    (Gives-trans _ _ _ (c.pieces.invariant.front, c.pieces.invariant.consumes) c.take_piece-in-pieces.ensures.gave)
+
+pub returns-then-branch-eq0-3-clause-gave : goal.returns-then-branch-eq0-3-clause-gave
+returns-then-branch-eq0-3-clause-gave g c =
+    Gives-trans _ _ _ (Gives-trans _ _ _ c.take_piece.ensures.gave c.take_piece-else-branch-eq0.ensures.gave)
+    (Gives-trans _ _ _ (c.pieces.invariant.front, c.pieces.invariant.consumes) c.take_piece-in-pieces.ensures.gave)
