@@ -5,3 +5,4 @@ pub mod Hashing
 pub mod Tagging
 pub mod Deriving
 pub mod Tasks
+pub mod Texts

@@ -1,11 +1,10 @@
 // Why a request makes no task.
 
 ghost use Rattle.std.specs.Prelude.{◌≡◌};
+ghost use Rattle.task.specs.Texts.{setting_text, usage_complaint, usage_subject};
 ghost use Rattle.task.specs.declared.fault.TaskFault.TheVariants.{OutOfMemory, Usage};
 
 use std::alloc::AllocError;
-use std::fmt;
-use std::fmt::{Display, Write};
 
 /// What the words of a request set.
 #[derive(Clone, Copy, Debug, PartialEq, Eq)]
@@ -78,9 +77,12 @@ impl From<AllocError> for TaskFault {
     }
 }
 
-impl Display for Setting {
-    fn fmt<W: Write>(&self, f: &mut fmt::Formatter<W>) -> fmt::Result {
-        f.write_str(match self {
+impl Setting {
+    /// The setting as the command line has it.
+    pub fn text(self) -> &'static str
+        ensures { result.now ≡ setting_text self }
+    {
+        match self {
             Setting::Command => "COMMAND",
             Setting::Algorithm => "-a",
             Setting::Length => "-l",
@@ -93,19 +95,36 @@ impl Display for Setting {
             Setting::Info => "--info",
             Setting::Context => "--context",
             Setting::List => "LIST",
-        })
+        }
     }
 }
 
-impl Display for UsageFault {
-    fn fmt<W: Write>(&self, f: &mut fmt::Formatter<W>) -> fmt::Result {
+impl UsageFault {
+    /// What is at fault: a setting, or nothing alone.
+    pub fn subject(self) -> &'static str
+        ensures { result.now ≡ usage_subject self }
+    {
         match self {
-            UsageFault::Needed(setting) => write!(f, "{setting}: needed"),
-            UsageFault::NotForAlgorithm(setting) => write!(f, "{setting}: not for this algorithm"),
-            UsageFault::OutOfRange(setting) => write!(f, "{setting}: out of range"),
-            UsageFault::NotHexadecimal(setting) => write!(f, "{setting}: not hexadecimal"),
-            UsageFault::WrongLength(setting) => write!(f, "{setting}: wrong length"),
-            UsageFault::OneKey => write!(f, "give one of --key and --key-file"),
+            UsageFault::Needed(setting)
+            | UsageFault::NotForAlgorithm(setting)
+            | UsageFault::OutOfRange(setting)
+            | UsageFault::NotHexadecimal(setting)
+            | UsageFault::WrongLength(setting) => setting.text(),
+            UsageFault::OneKey => "",
+        }
+    }
+
+    /// What is said of it: the rest of a line, with its LF.
+    pub fn complaint(self) -> &'static str
+        ensures { result.now ≡ usage_complaint self }
+    {
+        match self {
+            UsageFault::Needed(_) => ": needed\n",
+            UsageFault::NotForAlgorithm(_) => ": not for this algorithm\n",
+            UsageFault::OutOfRange(_) => ": out of range\n",
+            UsageFault::NotHexadecimal(_) => ": not hexadecimal\n",
+            UsageFault::WrongLength(_) => ": wrong length\n",
+            UsageFault::OneKey => "give one of --key and --key-file\n",
         }
     }
 }
