@@ -1,1 +1,12 @@
 pub mod Printing
+pub mod Refused
+pub mod Digits
+pub mod Going
+pub mod Outputs
+pub mod Tagging
+pub mod MacLines
+pub mod Deriving
+pub mod Clean
+pub mod Listing
+pub mod Telling
+pub mod Whole

@@ -1,4 +1,7 @@
 -- What the clauses of private functions say, and how private types are seen: of use inside alone.
-pub mod Digests
-pub mod Opened
 pub mod Faults
+pub mod Reading
+pub mod Printing
+pub mod Streams
+pub mod Keys
+pub mod Listing

@@ -1,21 +1,29 @@
 // The command `hash`: the digest of each file, as a line of a list.
 
-ghost use Rattle.std.specs.Prelude.{◌≡◌, ℕ, ◌*◌, ◌^◌, ◌≤◌, vec_len, IfOk, IfSome, MatchResult, OnOk};
-ghost use Rattle.std.specs.Io.KnownBytes.{Appends};
-ghost use Rattle.source.specs.Digest.{IsInRange, digest, tag_len};
-ghost use Rattle.command.specs.Lines.{IsListable, line_text};
+ghost use Rattle.std.specs.Prelude.{◌≡◌, ◌-◌, ◌*◌, ◌^◌, ◌≤◌, ℕ, [], length, vec_len, Some, true, IfOk, IfSome};
+ghost use Rattle.std.specs.Prelude.{MatchResult, map};
+ghost use Rattle.b3.specs.Modes.{hash_root};
+ghost use Rattle.b3.specs.inside.Output.{output_position, output_root};
+ghost use Rattle.source.specs.Counts.{count_after};
+ghost use Rattle.source.specs.Digest.{IsInRange, digest, input_limit, tag_len};
+ghost use Rattle.sumlist.specs.Entry.{Fits};
 ghost use Rattle.task.specs.Requested.{HasDigest, IsPartSize, IsWithin, alg_of};
-ghost use Rattle.command.specs.inside.Digests.{hash_of};
+ghost use Rattle.command.specs.Course.{Counted, Course, Takes, Tells, all_told};
+ghost use Rattle.command.specs.Hashing.{HashesAll};
+ghost use Rattle.command.specs.Lines.{IsListable, content_of, digest_line, hash_of, is_input, line_text};
+ghost use Rattle.command.specs.inside.Printing.{PrintsLine, PrintsListed};
+ghost use Rattle.command.specs.inside.Reading.{Leaves, Reads, failed};
+ghost use Rattle.command.specs.inside.Streams.{SameStreams};
 ghost use Rattle.command.specs.declared.fault.Fault.TheVariants.{BadName};
 
 use crate::fault::{Fault, tell};
-use crate::output::{named, write_output_line};
-use crate::session::{Session, absorb_feed, opened_or};
+use crate::output::{named, write_line, write_output_line};
+use crate::session::{Session, absorb_feed, open_file};
 use b3::{Blake3, Mode, Output};
 use blake2::{Blake2b, Blake2s};
 use source::{Alg, AnyHash, Feed, Sink, digest_of, output_in_parts};
 use std::alloc::{AllocError, Global};
-use sumlist::{Entry, TaggedFault, Tree, fits, tagged_fits, write_entry, write_tagged};
+use sumlist::{Entry, TaggedFault, Tree, fits, tagged_fits, write_tagged};
 use task::{Form, Hash, Requested, Stretch};
 use words::Tag;
 
@@ -31,6 +39,13 @@ impl<'i, 't, 'o, L: Feed, T: Tree, W: Sink> Session<'i, 't, 'o, L, T, W> {
     ) -> Result<u8, Fault<'n>>
         requires digest { HasDigest requested }
         requires parts { IfSome parts IsPartSize }
+        ensures course { IfSome (L.remaining self.old.input.now) (λ bytes. IfSome (T.files self.old.tree.now) (λ files.
+            (course : Course) × HashesAll (digest_line requested) files bytes (map (λ n. n.now) names.entry.now) course
+            × Takes course result (W.shown self.old.out.now) (W.shown self.new.out.now)
+            × Tells (E.shown err.old) (E.shown err.new) (all_told course.passed)
+            × Counted course.failures (L.failure_count self.old.input.now) (L.failure_count self.new.input.now)
+            (T.failure_count self.old.tree.now) (T.failure_count self.new.tree.now))) }
+        ensures same { SameStreams self.old self.new }
     {
         let mut status = 0;
         for name in names {
@@ -43,6 +58,8 @@ impl<'i, 't, 'o, L: Feed, T: Tree, W: Sink> Session<'i, 't, 'o, L, T, W> {
         Ok(status)
     }
 
+    // The name is judged before the file is opened, and the file read to its end before the first
+    // byte of its line is written.
     fn hash_file<'n>(
         &mut self,
         requested: Requested,
@@ -51,6 +68,19 @@ impl<'i, 't, 'o, L: Feed, T: Tree, W: Sink> Session<'i, 't, 'o, L, T, W> {
     ) -> Result<(), Fault<'n>>
         requires digest { HasDigest requested }
         requires parts { IfSome parts IsPartSize }
+        ensures line { IfSome (L.remaining self.old.input.now) (λ bytes.
+            IfSome (T.files self.old.tree.now) (λ files.
+            PrintsLine (digest_line requested) name.entry.now (content_of name.entry.now bytes files) result
+            (W.shown self.old.out.now) (W.shown self.new.out.now))) }
+        ensures counted { IfSome (L.remaining self.old.input.now) (λ bytes.
+            IfSome (T.files self.old.tree.now) (λ files.
+            Counted (failed (is_input name.entry.now) (content_of name.entry.now bytes files) result)
+            (L.failure_count self.old.input.now) (L.failure_count self.new.input.now)
+            (T.failure_count self.old.tree.now) (T.failure_count self.new.tree.now))) }
+        ensures gave { Leaves (is_input name.entry.now) result
+            (L.remaining self.old.input.now) (L.remaining self.new.input.now) }
+        ensures files { T.files self.new.tree.now ≡ T.files self.old.tree.now }
+        ensures same { SameStreams self.old self.new }
     {
         match requested {
             Requested::Digest(form) => self.hash_whole(form, parts, name),
@@ -58,8 +88,6 @@ impl<'i, 't, 'o, L: Feed, T: Tree, W: Sink> Session<'i, 't, 'o, L, T, W> {
         }
     }
 
-    // The name is judged before the file is opened, and the file read to its end before the first
-    // byte of its line is written.
     fn hash_whole<'n>(
         &mut self,
         form: Form,
@@ -68,13 +96,24 @@ impl<'i, 't, 'o, L: Feed, T: Tree, W: Sink> Session<'i, 't, 'o, L, T, W> {
     ) -> Result<(), Fault<'n>>
         requires digest { IsInRange (alg_of form.hash) }
         requires parts { IfSome parts IsPartSize }
+        ensures line { IfSome (L.remaining self.old.input.now) (λ bytes.
+            IfSome (T.files self.old.tree.now) (λ files.
+            PrintsLine (digest_line (Requested.Digest form)) name.entry.now
+            (content_of name.entry.now bytes files) result
+            (W.shown self.old.out.now) (W.shown self.new.out.now))) }
+        ensures counted { IfSome (L.remaining self.old.input.now) (λ bytes.
+            IfSome (T.files self.old.tree.now) (λ files.
+            Counted (failed (is_input name.entry.now) (content_of name.entry.now bytes files) result)
+            (L.failure_count self.old.input.now) (L.failure_count self.new.input.now)
+            (T.failure_count self.old.tree.now) (T.failure_count self.new.tree.now))) }
+        ensures gave { Leaves (is_input name.entry.now) result
+            (L.remaining self.old.input.now) (L.remaining self.new.input.now) }
+        ensures files { T.files self.new.tree.now ≡ T.files self.old.tree.now }
+        ensures same { SameStreams self.old self.new }
     {
         listable(form, name)?;
-        let mut file = self.open(name)?;
-        let mut feed = opened_or(self.input, &mut file);
-        let answer = print_entry(self.alloc, Whole { form, parts }, name, &mut feed, self.out);
-        self.close(file);
-        answer
+        let tag = self.tag_of(form.hash, parts, name)?;
+        write_listed(self.alloc, form, tag, name, self.out)
     }
 
     // The same of BLAKE3's output, whatever its length: a name that fits beside the digest's 64
@@ -87,38 +126,132 @@ impl<'i, 't, 'o, L: Feed, T: Tree, W: Sink> Session<'i, 't, 'o, L, T, W> {
     ) -> Result<(), Fault<'n>>
         requires digest { IsWithin stretch }
         requires parts { IfSome parts IsPartSize }
+        ensures line { IfSome (L.remaining self.old.input.now) (λ bytes.
+            IfSome (T.files self.old.tree.now) (λ files.
+            PrintsLine (digest_line (Requested.Output stretch)) name.entry.now
+            (content_of name.entry.now bytes files) result
+            (W.shown self.old.out.now) (W.shown self.new.out.now))) }
+        ensures counted { IfSome (L.remaining self.old.input.now) (λ bytes.
+            IfSome (T.files self.old.tree.now) (λ files.
+            Counted (failed (is_input name.entry.now) (content_of name.entry.now bytes files) result)
+            (L.failure_count self.old.input.now) (L.failure_count self.new.input.now)
+            (T.failure_count self.old.tree.now) (T.failure_count self.new.tree.now))) }
+        ensures gave { Leaves (is_input name.entry.now) result
+            (L.remaining self.old.input.now) (L.remaining self.new.input.now) }
+        ensures files { T.files self.new.tree.now ≡ T.files self.old.tree.now }
+        ensures same { SameStreams self.old self.new }
     {
-        let mut output = match parts {
-            Some(chunks) => self.output_of_parts(chunks, name)?,
-            None => self.output_of(name)?,
-        };
+        named(64, name)?;
+        let mut output = self.output_of(parts, name)?;
         output.seek(stretch.position);
-        write_output_line(output, stretch.length, name, self.out)
+        Ok(write_output_line(output, stretch.length, name, self.out)?)
     }
 
-    fn output_of<'n>(&mut self, name: &'n str) -> Result<Output, Fault<'n>> {
+    // The digest of a file, in parts where it is BLAKE3's and they are asked for.
+    fn tag_of<'n>(
+        &mut self,
+        hash: Hash,
+        parts: Option<u64>,
+        name: &'n str,
+    ) -> Result<Tag, Fault<'n>>
+        requires digest { IsInRange (alg_of hash) }
+        requires parts { IfSome parts IsPartSize }
+        ensures digest { IfSome (L.remaining self.old.input.now) (λ bytes.
+            IfSome (T.files self.old.tree.now) (λ files.
+            Reads (input_limit (alg_of hash)) (λ m tag. tag ≡ hash_of hash m) name.entry.now
+            (content_of name.entry.now bytes files) result)) }
+        ensures length { IfOk result (λ tag. length tag ≡ tag_len (alg_of hash)) }
+        ensures counted { IfSome (L.remaining self.old.input.now) (λ bytes.
+            IfSome (T.files self.old.tree.now) (λ files.
+            Counted (failed (is_input name.entry.now) (content_of name.entry.now bytes files) result)
+            (L.failure_count self.old.input.now) (L.failure_count self.new.input.now)
+            (T.failure_count self.old.tree.now) (T.failure_count self.new.tree.now))) }
+        ensures gave { Leaves (is_input name.entry.now) result
+            (L.remaining self.old.input.now) (L.remaining self.new.input.now) }
+        ensures files { T.files self.new.tree.now ≡ T.files self.old.tree.now }
+        ensures same { SameStreams self.old self.new }
+        ensures out { W.shown self.new.out.now ≡ W.shown self.old.out.now }
+    {
+        if name == "-" {
+            return tag_of_feed(self.alloc, hash, parts, name, self.input);
+        }
+        let mut feed = open_file(name, self.tree)?;
+        let answer = tag_of_feed(self.alloc, hash, parts, name, &mut feed);
+        self.tree.close(feed);
+        answer
+    }
+
+    // BLAKE3's output of a file, in parts where they are asked for.
+    fn output_of<'n>(&mut self, parts: Option<u64>, name: &'n str) -> Result<Output, Fault<'n>>
+        requires { IfSome parts IsPartSize }
+        ensures output { IfSome (L.remaining self.old.input.now) (λ bytes.
+            IfSome (T.files self.old.tree.now) (λ files.
+            Reads (2 ^ 64 - 1) (λ m output. output_root output ≡ hash_root m) name.entry.now
+            (content_of name.entry.now bytes files) result)) }
+        ensures counted { IfSome (L.remaining self.old.input.now) (λ bytes.
+            IfSome (T.files self.old.tree.now) (λ files.
+            Counted (failed (is_input name.entry.now) (content_of name.entry.now bytes files) result)
+            (L.failure_count self.old.input.now) (L.failure_count self.new.input.now)
+            (T.failure_count self.old.tree.now) (T.failure_count self.new.tree.now))) }
+        ensures gave { Leaves (is_input name.entry.now) result
+            (L.remaining self.old.input.now) (L.remaining self.new.input.now) }
+        ensures files { T.files self.new.tree.now ≡ T.files self.old.tree.now }
+        ensures same { SameStreams self.old self.new }
+        ensures out { W.shown self.new.out.now ≡ W.shown self.old.out.now }
+    {
+        match parts {
+            Some(chunks) => self.output_of_parts(chunks, name),
+            None => self.output_of_whole(name),
+        }
+    }
+
+    fn output_of_whole<'n>(&mut self, name: &'n str) -> Result<Output, Fault<'n>>
+        ensures output { IfSome (L.remaining self.old.input.now) (λ bytes.
+            IfSome (T.files self.old.tree.now) (λ files.
+            Reads (2 ^ 64 - 1) (λ m output. output_root output ≡ hash_root m) name.entry.now
+            (content_of name.entry.now bytes files) result)) }
+        ensures counted { IfSome (L.remaining self.old.input.now) (λ bytes.
+            IfSome (T.files self.old.tree.now) (λ files.
+            Counted (failed (is_input name.entry.now) (content_of name.entry.now bytes files) result)
+            (L.failure_count self.old.input.now) (L.failure_count self.new.input.now)
+            (T.failure_count self.old.tree.now) (T.failure_count self.new.tree.now))) }
+        ensures gave { Leaves (is_input name.entry.now) result
+            (L.remaining self.old.input.now) (L.remaining self.new.input.now) }
+        ensures files { T.files self.new.tree.now ≡ T.files self.old.tree.now }
+        ensures same { SameStreams self.old self.new }
+        ensures out { W.shown self.new.out.now ≡ W.shown self.old.out.now }
+    {
         let mut hasher = Blake3::new();
-        self.absorb_line(&mut hasher, 64, name)?;
+        self.absorb(&mut hasher, name)?;
         Ok(hasher.output())
     }
 
-    // The name is judged and the buffer of a part made before the file is opened.
+    // The buffer of a part is made before the file is opened.
     fn output_of_parts<'n>(&mut self, chunks: u64, name: &'n str) -> Result<Output, Fault<'n>>
         requires { IsPartSize chunks }
+        ensures output { IfSome (L.remaining self.old.input.now) (λ bytes.
+            IfSome (T.files self.old.tree.now) (λ files.
+            Reads (2 ^ 64 - 1) (λ m output. output_root output ≡ hash_root m) name.entry.now
+            (content_of name.entry.now bytes files) result)) }
+        ensures counted { IfSome (L.remaining self.old.input.now) (λ bytes.
+            IfSome (T.files self.old.tree.now) (λ files.
+            Counted (failed (is_input name.entry.now) (content_of name.entry.now bytes files) result)
+            (L.failure_count self.old.input.now) (L.failure_count self.new.input.now)
+            (T.failure_count self.old.tree.now) (T.failure_count self.new.tree.now))) }
+        ensures gave { Leaves (is_input name.entry.now) result
+            (L.remaining self.old.input.now) (L.remaining self.new.input.now) }
+        ensures files { T.files self.new.tree.now ≡ T.files self.old.tree.now }
+        ensures same { SameStreams self.old self.new }
+        ensures out { W.shown self.new.out.now ≡ W.shown self.old.out.now }
     {
-        named(64, name)?;
         let mut part = part_buffer(self.alloc, chunks)?;
-        let mut file = self.open(name)?;
-        let answer = output_in_parts(
-            Mode::Hash,
-            &mut opened_or(self.input, &mut file),
-            part.as_mut_slice(),
-        );
-        self.close(file);
-        match answer {
-            Ok(output) => Ok(output),
-            Err(fault) => Err(Fault::of_source(fault, name)),
+        if name == "-" {
+            return output_of_feed(part.as_mut_slice(), name, self.input);
         }
+        let mut feed = open_file(name, self.tree)?;
+        let answer = output_of_feed(part.as_mut_slice(), name, &mut feed);
+        self.tree.close(feed);
+        answer
     }
 }
 
@@ -143,35 +276,6 @@ fn listable<'n>(form: Form, name: &'n str) -> Result<(), Fault<'n>>
     Ok(())
 }
 
-// A line of this form, whose file is hashed in parts of so many chunks where that is asked for.
-#[derive(Clone, Copy, Drop)]
-struct Whole {
-    form: Form,
-    parts: Option<u64>,
-}
-
-// Prints the line of a name and the digest of all that its feed gives.
-fn print_entry<'n, F: Feed, W: Sink>(
-    alloc: Global,
-    whole: Whole,
-    name: &'n str,
-    feed: &mut F,
-    out: &mut W,
-) -> Result<(), Fault<'n>>
-    requires digest { IsInRange (alg_of whole.form.hash) }
-    requires parts { IfSome whole.parts IsPartSize }
-    ensures { OnOk result (IfSome (F.remaining feed.old) (λ bytes.
-        Appends (W.shown out.old).contents (W.shown out.new).contents (line_text whole.form.is_tagged
-        (record { name = name.entry.now; alg = alg_of whole.form.hash; tag = hash_of whole.form.hash bytes })))) }
-{
-    let Whole { form, parts } = whole;
-    let tag = tag_of_feed(alloc, form.hash, parts, name, feed)?;
-    match Entry::new(algorithm(form.hash), String::from_str(alloc, name)?, tag) {
-        Ok(entry) => write_listed(&entry, form.is_tagged, name, out),
-        Err(_) => Err(Fault::BadName(name)),
-    }
-}
-
 // The digest of all that a feed gives, in parts where it is BLAKE3's and they are asked for.
 fn tag_of_feed<'n, F: Feed>(
     alloc: Global,
@@ -182,7 +286,12 @@ fn tag_of_feed<'n, F: Feed>(
 ) -> Result<Tag, Fault<'n>>
     requires digest { IsInRange (alg_of hash) }
     requires parts { IfSome parts IsPartSize }
-    ensures { IfOk result (λ tag. IfSome (F.remaining feed.old) (λ bytes. tag ≡ hash_of hash bytes)) }
+    ensures digest { IfSome (F.remaining feed.old) (λ bytes. Reads (input_limit (alg_of hash))
+        (λ m tag. tag ≡ hash_of hash m) name.entry.now (Some bytes) result) }
+    ensures length { IfOk result (λ tag. length tag ≡ tag_len (alg_of hash)) }
+    ensures counted { F.failure_count feed.new
+        ≡ count_after (F.failure_count feed.old) (failed true (Some []) result).input }
+    ensures gave { Leaves true result (F.remaining feed.old) (F.remaining feed.new) }
 {
     match (hash, parts) {
         (Hash::Plain(Alg::Blake3), Some(chunks)) => digest_of_parts(alloc, chunks, name, feed),
@@ -197,15 +306,36 @@ fn digest_of_parts<'n, F: Feed>(
     feed: &mut F,
 ) -> Result<Tag, Fault<'n>>
     requires { IsPartSize chunks }
-    ensures { IfOk result (λ tag. IfSome (F.remaining feed.old) (λ bytes. tag ≡ digest Alg.Blake3 bytes)) }
+    ensures digest { IfSome (F.remaining feed.old) (λ bytes. Reads (2 ^ 64 - 1)
+        (λ m tag. tag ≡ digest Alg.Blake3 m) name.entry.now (Some bytes) result) }
+    ensures length { IfOk result (λ tag. length tag ≡ 32) }
+    ensures counted { F.failure_count feed.new
+        ≡ count_after (F.failure_count feed.old) (failed true (Some []) result).input }
+    ensures gave { Leaves true result (F.remaining feed.old) (F.remaining feed.new) }
 {
     let mut part = part_buffer(alloc, chunks)?;
-    match output_in_parts(Mode::Hash, feed, part.as_mut_slice()) {
-        Ok(mut output) => {
-            let mut digest = [0; 32];
-            output.fill(&mut digest).unwrap();
-            Ok(Tag::of(&digest).unwrap())
-        }
+    let mut output = output_of_feed(part.as_mut_slice(), name, feed)?;
+    let mut digest = [0; 32];
+    output.fill(&mut digest).unwrap();
+    Ok(Tag::of(&digest).unwrap())
+}
+
+// BLAKE3's output of all that a feed gives, in parts as long as the buffer.
+fn output_of_feed<'n, F: Feed>(
+    part: &mut [u8],
+    name: &'n str,
+    feed: &mut F,
+) -> Result<Output, Fault<'n>>
+    requires { (e : ℕ) × (length part.old ≡ 1024 * 2 ^ e) }
+    ensures output { IfSome (F.remaining feed.old) (λ bytes. Reads (2 ^ 64 - 1)
+        (λ m output. output_root output ≡ hash_root m) name.entry.now (Some bytes) result) }
+    ensures position { IfOk result (λ output. output_position output ≡ 0) }
+    ensures counted { F.failure_count feed.new
+        ≡ count_after (F.failure_count feed.old) (failed true (Some []) result).input }
+    ensures gave { Leaves true result (F.remaining feed.old) (F.remaining feed.new) }
+{
+    match output_in_parts(Mode::Hash, feed, part) {
+        Ok(output) => Ok(output),
         Err(fault) => Err(Fault::of_source(fault, name)),
     }
 }
@@ -213,7 +343,12 @@ fn digest_of_parts<'n, F: Feed>(
 // The digest of all that a feed gives.
 fn digest_of_feed<'n, F: Feed>(hash: Hash, name: &'n str, feed: &mut F) -> Result<Tag, Fault<'n>>
     requires { IsInRange (alg_of hash) }
-    ensures { IfOk result (λ tag. IfSome (F.remaining feed.old) (λ bytes. tag ≡ hash_of hash bytes)) }
+    ensures digest { IfSome (F.remaining feed.old) (λ bytes. Reads (input_limit (alg_of hash))
+        (λ m tag. tag ≡ hash_of hash m) name.entry.now (Some bytes) result) }
+    ensures length { IfOk result (λ tag. length tag ≡ tag_len (alg_of hash)) }
+    ensures counted { F.failure_count feed.new
+        ≡ count_after (F.failure_count feed.old) (failed true (Some []) result).input }
+    ensures gave { Leaves true result (F.remaining feed.old) (F.remaining feed.new) }
 {
     match hash {
         Hash::Plain(alg) => plain_digest(alg, name, feed),
@@ -236,7 +371,12 @@ fn digest_of_feed<'n, F: Feed>(hash: Hash, name: &'n str, feed: &mut F) -> Resul
 
 fn plain_digest<'n, F: Feed>(alg: Alg, name: &'n str, feed: &mut F) -> Result<Tag, Fault<'n>>
     requires { IsInRange alg }
-    ensures { IfOk result (λ tag. IfSome (F.remaining feed.old) (λ bytes. tag ≡ digest alg bytes)) }
+    ensures digest { IfSome (F.remaining feed.old) (λ bytes. Reads (input_limit alg)
+        (λ m tag. tag ≡ digest alg m) name.entry.now (Some bytes) result) }
+    ensures length { IfOk result (λ tag. length tag ≡ tag_len alg) }
+    ensures counted { F.failure_count feed.new
+        ≡ count_after (F.failure_count feed.old) (failed true (Some []) result).input }
+    ensures gave { Leaves true result (F.remaining feed.old) (F.remaining feed.new) }
 {
     let Ok(hasher) = AnyHash::new(alg) else {
         unreachable!()
@@ -258,22 +398,31 @@ fn algorithm(hash: Hash) -> Alg
     }
 }
 
+// Writes the line of a digest and a name. Memory is taken for a tagged line alone, before its first byte.
 fn write_listed<'n, W: Sink>(
-    entry: &Entry,
-    is_tagged: bool,
+    alloc: Global,
+    form: Form,
+    tag: Tag,
     name: &'n str,
     out: &mut W,
 ) -> Result<(), Fault<'n>>
-    ensures { OnOk result
-        (Appends (W.shown out.old).contents (W.shown out.new).contents (line_text is_tagged entry.now)) }
+    requires range { IsInRange (alg_of form.hash) }
+    requires length { length tag ≡ tag_len (alg_of form.hash) }
+    requires listable { IsListable form.is_tagged (alg_of form.hash) name.now }
+    ensures { PrintsListed result (W.shown out.old) (W.shown out.new) (line_text form.is_tagged
+        (record { name = name.entry.now; alg = alg_of form.hash; tag = tag })) }
 {
-    if !is_tagged {
-        return Ok(write_entry(entry, out)?);
+    if !form.is_tagged {
+        return Ok(write_line(tag.bytes(), name, out)?);
     }
-    match write_tagged(entry, out) {
+    let name = String::from_str(alloc, name)?;
+    let Ok(entry) = Entry::new(algorithm(form.hash), name, tag) else {
+        unreachable!()
+    };
+    match write_tagged(&entry, out) {
         Ok(()) => Ok(()),
         Err(TaggedFault::Write) => Err(Fault::CannotWrite),
-        Err(TaggedFault::TooLong) => Err(Fault::BadName(name)),
+        Err(TaggedFault::TooLong) => unreachable!(),
     }
 }
 

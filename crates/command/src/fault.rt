@@ -1,7 +1,9 @@
 // What can go wrong in a run: the texts, and the statuses.
 
 ghost use Rattle.std.specs.Prelude.{◌≡◌};
-ghost use Rattle.command.specs.Statuses.{status_of};
+ghost use Rattle.source.specs.Written.{Writes};
+ghost use Rattle.command.specs.Course.{Tells};
+ghost use Rattle.command.specs.Troubles.{complaint, status_of, subject, told, trouble_of};
 ghost use Rattle.command.specs.inside.Faults as spec;
 ghost use Rattle.command.specs.inside.Faults.{of_task};
 ghost use Rattle.command.specs.declared.fault.Fault.TheVariants.{CannotWrite, OutOfMemory};
@@ -57,7 +59,7 @@ impl<'a> Fault<'a> {
 
     /// The status of a run that ends with it.
     pub(crate) fn status(&self) -> u8
-        ensures { result ≡ status_of self.now }
+        ensures { result ≡ status_of (trouble_of self.now) }
     {
         match self {
             Fault::CannotRead(_) | Fault::TooLong(_) | Fault::BadName(_) => 1,
@@ -65,19 +67,32 @@ impl<'a> Fault<'a> {
             Fault::CannotWrite | Fault::OutOfMemory => 3,
         }
     }
-}
 
-impl<'a> Display for Fault<'a> {
-    fn fmt<W: Write>(&self, f: &mut fmt::Formatter<W>) -> fmt::Result {
+    // What is at fault: a setting, a file, or the run.
+    fn subject(&self) -> &'a str
+        ensures { result.now ≡ subject (trouble_of self.now) }
+    {
         match self {
-            Fault::Usage(fault) => write!(f, "{fault}"),
-            Fault::KeyFileTooLong => write!(f, "--key-file: too long"),
-            Fault::KeyLength => write!(f, "key: wrong length"),
-            Fault::CannotRead(name) => write!(f, "{name}: cannot read"),
-            Fault::TooLong(name) => write!(f, "{name}: too long"),
-            Fault::BadName(name) => write!(f, "{name}: bad name"),
-            Fault::CannotWrite => write!(f, "cannot write"),
-            Fault::OutOfMemory => write!(f, "out of memory"),
+            Fault::Usage(fault) => fault.subject(),
+            Fault::KeyFileTooLong => "--key-file",
+            Fault::KeyLength => "key",
+            Fault::CannotRead(name) | Fault::TooLong(name) | Fault::BadName(name) => name,
+            Fault::CannotWrite | Fault::OutOfMemory => "",
+        }
+    }
+
+    // What is said of it, with the LF of its line.
+    fn complaint(&self) -> &'static str
+        ensures { result.now ≡ complaint (trouble_of self.now) }
+    {
+        match self {
+            Fault::Usage(fault) => fault.complaint(),
+            Fault::KeyFileTooLong | Fault::TooLong(_) => ": too long\n",
+            Fault::KeyLength => ": wrong length\n",
+            Fault::CannotRead(_) => ": cannot read\n",
+            Fault::BadName(_) => ": bad name\n",
+            Fault::CannotWrite => "cannot write\n",
+            Fault::OutOfMemory => "out of memory\n",
         }
     }
 }
@@ -140,8 +155,17 @@ pub fn write_text<W: Sink, D: Display>(out: &mut W, value: &D) -> Result<(), Wri
 
 /// Tells a fault on standard error, which may drop it, and answers its status.
 pub fn tell<E: Sink>(err: &mut E, fault: Fault<'_>) -> u8
-    ensures { result ≡ status_of fault.entry }
+    ensures status { result ≡ status_of (trouble_of fault.entry) }
+    ensures told { Tells (E.shown err.old) (E.shown err.new) (told (trouble_of fault.entry)) }
 {
-    let _ = write!(SinkText(err), "sums: {fault}\n");
+    let _ = write_fault(err, fault);
     fault.status()
+}
+
+fn write_fault<E: Sink>(err: &mut E, fault: Fault<'_>) -> Result<(), WriteFailed>
+    ensures { Writes result (E.shown err.old) (E.shown err.new) (told (trouble_of fault.entry)) }
+{
+    write_all(err, b"sums: ")?;
+    write_all(err, fault.subject().as_bytes())?;
+    write_all(err, fault.complaint().as_bytes())
 }

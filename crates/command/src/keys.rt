@@ -1,18 +1,25 @@
 // The command `kdf`: a key that is derived from key material.
 
-ghost use Rattle.std.specs.Prelude.{◌*◌, ◌-◌, ◌^◌, ◌≤◌};
-ghost use Rattle.task.specs.Deriving.{HasKey, derivation_shown};
+ghost use Rattle.std.specs.Prelude.{◌≡◌, ◌*◌, ◌-◌, ◌^◌, ◌≤◌, [], false, length, option_map, IfOk, IfSome};
+ghost use Rattle.source.specs.Counts.{count_after};
+ghost use Rattle.command.specs.Course.{Counted, Course, Takes};
+ghost use Rattle.command.specs.Keying.{KdfRuns, derived_by, expanded};
+ghost use Rattle.command.specs.Keying as spec;
+ghost use Rattle.command.specs.inside.Keys.{Extracts, PrintsDerived, PrintsKey, function_with};
+ghost use Rattle.command.specs.inside.Reading.{failed};
+ghost use Rattle.command.specs.inside.Streams.{SameStreams};
+ghost use Rattle.task.specs.Deriving.{HasKey, by_blake3, derivation_shown};
 
 use crate::fault::Fault;
 use crate::output::{write_digits, write_output};
-use crate::session::{Session, absorb_feed, open_file};
+use crate::session::{Session, absorb_named};
 use b3::Blake3;
 use kdf::{Extract, expand};
-use mac::{Blake2b512, Blake2s256, BlockHash, Sha256Stream, Sha512Stream};
+use mac::{Blake2b512, Blake2s256, BlockHash, Sha256Stream, Sha512Stream, hash_laws};
 use source::{Feed, Sink, write_all};
 use sumlist::Tree;
 use task::{Derivation, Hkdf, HmacHash, Setting, UsageFault};
-use words::{Absorb, Tag};
+use words::Tag;
 
 // The longest output of HKDF: 255 times 64 bytes.
 const OUTPUT_LIMIT: usize = 16320;
@@ -25,20 +32,46 @@ impl<'i, 't, 'o, L: Feed, T: Tree, W: Sink> Session<'i, 't, 'o, L, T, W> {
         material: &'n str,
     ) -> Result<u8, Fault<'n>>
         requires { HasKey (derivation_shown derivation.now) }
+        ensures course { IfSome (L.remaining self.old.input.now) (λ bytes. IfSome (T.files self.old.tree.now) (λ files.
+            (course : Course) × KdfRuns (derivation_shown derivation.now) material.entry.now files course
+            × Takes course result (W.shown self.old.out.now) (W.shown self.new.out.now)
+            × (course.passed ≡ [])
+            × Counted course.failures (L.failure_count self.old.input.now) (L.failure_count self.new.input.now)
+            (T.failure_count self.old.tree.now) (T.failure_count self.new.tree.now))) }
+        ensures same { SameStreams self.old self.new }
     {
-        match derivation {
-            Derivation::Hkdf(hkdf) => match hkdf.hash {
-                HmacHash::Sha256 => self.print_hkdf::<Sha256Stream>(hkdf, material)?,
-                HmacHash::Sha512 => self.print_hkdf::<Sha512Stream>(hkdf, material)?,
-                HmacHash::Blake2b => self.print_hkdf::<Blake2b512>(hkdf, material)?,
-                HmacHash::Blake2s => self.print_hkdf::<Blake2s256>(hkdf, material)?,
-            },
-            Derivation::Blake3 { context, length } => {
-                self.print_derived(context, *length, material)?
-            }
-        }
+        self.print_digits(derivation, material)?;
         write_all(self.out, b"\n")?;
         Ok(0)
+    }
+
+    fn print_digits<'n>(
+        &mut self,
+        derivation: &Derivation<'n>,
+        material: &'n str,
+    ) -> Result<(), Fault<'n>>
+        requires { HasKey (derivation_shown derivation.now) }
+        ensures key { IfSome (T.files self.old.tree.now) (λ files.
+            PrintsDerived (derived_by (derivation_shown derivation.now))
+            material.entry.now (files material.entry.now) result
+            (W.shown self.old.out.now) (W.shown self.new.out.now)) }
+        ensures counted { IfSome (T.files self.old.tree.now) (λ files. T.failure_count self.new.tree.now
+            ≡ count_after (T.failure_count self.old.tree.now) (failed false (files material.entry.now) result).files) }
+        ensures input { self.new.input.now ≡ self.old.input.now }
+        ensures same { SameStreams self.old self.new }
+    {
+        hash_laws();
+        match derivation {
+            Derivation::Hkdf(hkdf) => match hkdf.hash {
+                HmacHash::Sha256 => self.print_hkdf::<Sha256Stream>(hkdf, material),
+                HmacHash::Sha512 => self.print_hkdf::<Sha512Stream>(hkdf, material),
+                HmacHash::Blake2b => self.print_hkdf::<Blake2b512>(hkdf, material),
+                HmacHash::Blake2s => self.print_hkdf::<Blake2s256>(hkdf, material),
+            },
+            Derivation::Blake3 { context, length } => {
+                self.print_derived(context, *length, material)
+            }
+        }
     }
 
     fn print_hkdf<'n, H: BlockHash>(
@@ -46,27 +79,19 @@ impl<'i, 't, 'o, L: Feed, T: Tree, W: Sink> Session<'i, 't, 'o, L, T, W> {
         hkdf: &Hkdf,
         material: &'n str,
     ) -> Result<(), Fault<'n>>
-        requires { hkdf.now.length ≤ 16320 }
+        requires { hkdf.now.length ≤ 255 * H.OUT }
+        ensures key { IfSome (T.files self.old.tree.now) (λ files.
+            PrintsDerived (spec.hkdf (function_with H.BLOCK H.OUT H.LIMIT H.hash_of) hkdf.now.length
+            (option_map (λ v. v.items) hkdf.now.salt) hkdf.now.info.items)
+            material.entry.now (files material.entry.now) result
+            (W.shown self.old.out.now) (W.shown self.new.out.now)) }
+        ensures counted { IfSome (T.files self.old.tree.now) (λ files. T.failure_count self.new.tree.now
+            ≡ count_after (T.failure_count self.old.tree.now) (failed false (files material.entry.now) result).files) }
+        ensures input { self.new.input.now ≡ self.old.input.now }
+        ensures same { SameStreams self.old self.new }
     {
         let prk = self.extracted::<H>(hkdf, material)?;
-        self.print_expanded::<H>(hkdf, prk.bytes())
-    }
-
-    // The key's buffer is not on the stack while a file is hashed.
-    #[inline(never)]
-    fn print_expanded<H: BlockHash>(
-        &mut self,
-        hkdf: &Hkdf,
-        prk: &[u8],
-    ) -> Result<(), Fault<'static>>
-        requires { hkdf.now.length ≤ 16320 }
-    {
-        let mut key = [0; OUTPUT_LIMIT];
-        let (key, _) = key.split_at_mut(hkdf.length);
-        match expand::<H>(prk, hkdf.info.as_slice(), key) {
-            Ok(()) => Ok(write_digits(key, self.out)?),
-            Err(_) => Err(Fault::Usage(UsageFault::OutOfRange(Setting::Info))),
-        }
+        write_expanded::<H, W>(hkdf, prk.bytes(), self.out)
     }
 
     // The pseudorandom key of a file's bytes.
@@ -74,15 +99,21 @@ impl<'i, 't, 'o, L: Feed, T: Tree, W: Sink> Session<'i, 't, 'o, L, T, W> {
         &mut self,
         hkdf: &Hkdf,
         material: &'n str,
-    ) -> Result<Tag, Fault<'n>> {
-        let salt = match &hkdf.salt {
-            Some(salt) => Some(salt.as_slice()),
-            None => None,
-        };
-        let Ok(mut extract) = Extract::<H>::new(salt) else {
+    ) -> Result<Tag, Fault<'n>>
+        ensures prk { IfSome (T.files self.old.tree.now) (λ files.
+            Extracts (function_with H.BLOCK H.OUT H.LIMIT H.hash_of) (option_map (λ v. v.items) hkdf.now.salt)
+            material.entry.now (files material.entry.now) result) }
+        ensures length { IfOk result (λ prk. length prk ≡ H.OUT) }
+        ensures counted { IfSome (T.files self.old.tree.now) (λ files. T.failure_count self.new.tree.now
+            ≡ count_after (T.failure_count self.old.tree.now) (failed false (files material.entry.now) result).files) }
+        ensures input { self.new.input.now ≡ self.old.input.now }
+        ensures out { self.new.out.now ≡ self.old.out.now }
+        ensures same { SameStreams self.old self.new }
+    {
+        let Ok(mut extract) = Extract::<H>::new(salt_of(hkdf)) else {
             return Err(Fault::Usage(UsageFault::OutOfRange(Setting::Salt)));
         };
-        self.absorb_named(&mut extract, material)?;
+        absorb_named(&mut extract, material, self.tree)?;
         Ok(extract.finish())
     }
 
@@ -92,22 +123,48 @@ impl<'i, 't, 'o, L: Feed, T: Tree, W: Sink> Session<'i, 't, 'o, L, T, W> {
         length: u64,
         material: &'n str,
     ) -> Result<(), Fault<'n>>
-        requires { length ≤ 2 ^ 64 - 1 }
+        ensures key { IfSome (T.files self.old.tree.now) (λ files.
+            PrintsDerived (derived_by (by_blake3 context.now length))
+            material.entry.now (files material.entry.now) result
+            (W.shown self.old.out.now) (W.shown self.new.out.now)) }
+        ensures counted { IfSome (T.files self.old.tree.now) (λ files. T.failure_count self.new.tree.now
+            ≡ count_after (T.failure_count self.old.tree.now) (failed false (files material.entry.now) result).files) }
+        ensures input { self.new.input.now ≡ self.old.input.now }
+        ensures same { SameStreams self.old self.new }
     {
         let mut hasher = Blake3::derive(context.as_bytes());
-        self.absorb_named(&mut hasher, material)?;
-        write_output(hasher.output(), length, self.out)
+        absorb_named(&mut hasher, material, self.tree)?;
+        Ok(write_output(hasher.output(), length, self.out)?)
     }
+}
 
-    // Feeds the hasher the whole of the file of this name.
-    fn absorb_named<'n, A: Absorb>(
-        &mut self,
-        hasher: &mut A,
-        name: &'n str,
-    ) -> Result<(), Fault<'n>> {
-        let mut feed = open_file(name, self.tree)?;
-        let answer = absorb_feed(hasher, name, &mut feed);
-        self.tree.close(feed);
-        answer
+fn salt_of(hkdf: &Hkdf) -> Option<&[u8]>
+    ensures { option_map (λ s. s.now) result ≡ option_map (λ v. v.items) hkdf.now.salt }
+{
+    match &hkdf.salt {
+        Some(salt) => Some(salt.as_slice()),
+        None => None,
+    }
+}
+
+// Writes the digits of the key that is expanded of a pseudorandom key. Its buffer is not on the
+// stack while a file is hashed.
+#[inline(never)]
+fn write_expanded<H: BlockHash, W: Sink>(
+    hkdf: &Hkdf,
+    prk: &[u8],
+    out: &mut W,
+) -> Result<(), Fault<'static>>
+    requires length { hkdf.now.length ≤ 255 * H.OUT }
+    requires prk { length prk.now ≡ H.OUT }
+    ensures { PrintsKey (expanded (function_with H.BLOCK H.OUT H.LIMIT H.hash_of)
+        hkdf.now.length hkdf.now.info.items prk.now)
+        result (W.shown out.old) (W.shown out.new) }
+{
+    let mut key = [0; OUTPUT_LIMIT];
+    let (key, _) = key.split_at_mut(hkdf.length);
+    match expand::<H>(prk, hkdf.info.as_slice(), key) {
+        Ok(()) => Ok(write_digits(key, out)?),
+        Err(_) => Err(Fault::Usage(UsageFault::OutOfRange(Setting::Info))),
     }
 }

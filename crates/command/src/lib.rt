@@ -1,13 +1,21 @@
 //! The commands of `sums`: a run over words, streams and files.
 #![tactic(auto)]
 
+ghost use Rattle.std.specs.Prelude.{IfSome, map};
+ghost use Rattle.clap.specs.Words.{kind_of};
+ghost use Rattle.command.specs.Course.{Counted, Course, Takes, Tells, all_told};
+ghost use Rattle.command.specs.Program.{IsAnswered, ProgramRuns, RequestRuns};
+ghost use Rattle.command.specs.inside.Streams.{SameStreams};
+
 pub use fault::{Fault, tell, write_text};
 pub use files::FileTree;
+pub use memory::run_in_memory;
 
 mod digests;
 mod fault;
 mod files;
 mod keys;
+mod memory;
 mod output;
 mod reports;
 mod session;
@@ -28,7 +36,13 @@ pub fn run<L: Feed, T: Tree, W: Sink, E: Sink>(
     tree: &mut T,
     out: &mut W,
     err: &mut E,
-) -> u8 {
+) -> u8
+    ensures { IfSome (L.remaining input.old) (λ bytes. IfSome (T.files tree.old) (λ files.
+        ProgramRuns (map (λ w. w.now) words.entry.now) bytes files result
+        (W.shown out.old) (W.shown out.new) (E.shown err.old) (E.shown err.new)
+        (L.failure_count input.old) (L.failure_count input.new)
+        (T.failure_count tree.old) (T.failure_count tree.new))) }
+{
     let request = match line(alloc, words) {
         Ok(request) => request,
         Err(WordsFault::OutOfMemory) => return tell(err, Fault::OutOfMemory),
@@ -51,7 +65,15 @@ impl<'i, 't, 'o, L: Feed, T: Tree, W: Sink> Session<'i, 't, 'o, L, T, W> {
         &mut self,
         request: Request<'n>,
         err: &mut E,
-    ) -> Result<u8, Fault<'n>> {
+    ) -> Result<u8, Fault<'n>>
+        ensures course { IfSome (L.remaining self.old.input.now) (λ bytes. IfSome (T.files self.old.tree.now) (λ files.
+            (course : Course) × RequestRuns request.entry files bytes course
+            × Takes course result (W.shown self.old.out.now) (W.shown self.new.out.now)
+            × Tells (E.shown err.old) (E.shown err.new) (all_told course.passed)
+            × Counted course.failures (L.failure_count self.old.input.now) (L.failure_count self.new.input.now)
+            (T.failure_count self.old.tree.now) (T.failure_count self.new.tree.now))) }
+        ensures same { SameStreams self.old self.new }
+    {
         match Task::of(self.alloc, request)? {
             Task::Hash {
                 requested,
@@ -69,7 +91,9 @@ impl<'i, 't, 'o, L: Feed, T: Tree, W: Sink> Session<'i, 't, 'o, L, T, W> {
 }
 
 // Help and the version go to standard output, and what is wrong with the words to standard error.
-fn print_clap<W: Sink, E: Sink>(error: &clap::Error, out: &mut W, err: &mut E) -> u8 {
+fn print_clap<W: Sink, E: Sink>(error: &clap::Error, out: &mut W, err: &mut E) -> u8
+    ensures { IsAnswered (kind_of error.now) result (W.shown out.old) (W.shown out.new) }
+{
     if error.use_stderr() {
         let _ = write_text(err, error);
         return 2;

@@ -1,23 +1,58 @@
 // The command `check`: the report on a list.
 
-ghost use Rattle.std.specs.Prelude.{◌≡◌};
+ghost use Rattle.std.specs.Prelude.{◌≡◌, [], IfSome, Some, true};
+ghost use Rattle.source.specs.Counts.{count_after};
+ghost use Rattle.command.specs.Checking.{CheckRuns};
+ghost use Rattle.command.specs.Course.{Counted, Course, Takes};
 ghost use Rattle.command.specs.inside.Faults as spec;
 ghost use Rattle.command.specs.inside.Faults.{of_check};
+ghost use Rattle.command.specs.inside.Listing.{ListTaken};
+ghost use Rattle.command.specs.inside.Reading.{failed};
+ghost use Rattle.command.specs.inside.Streams.{SameStreams};
 
 use crate::fault::Fault;
-use crate::session::{Session, opened_or};
+use crate::session::{Session, open_file};
 use source::{Feed, Sink};
+use std::alloc::Global;
 use sumlist::{CheckFault, Kind, Summary, Tree, check};
 
 impl<'i, 't, 'o, L: Feed, T: Tree, W: Sink> Session<'i, 't, 'o, L, T, W> {
     /// Prints the report, and answers 0 where every line that is not skipped is OK, else 1.
-    pub(crate) fn print_report<'n>(&mut self, kind: Kind, name: &'n str) -> Result<u8, Fault<'n>> {
-        let mut file = self.open(name)?;
-        let mut list = opened_or(self.input, &mut file);
-        let answer = check(self.alloc, &mut list, kind, self.tree, self.out);
-        self.close(file);
-        status_of(answer, name)
+    pub(crate) fn print_report<'n>(&mut self, kind: Kind, name: &'n str) -> Result<u8, Fault<'n>>
+        ensures course { IfSome (L.remaining self.old.input.now) (λ bytes. IfSome (T.files self.old.tree.now) (λ files.
+            (course : Course) × CheckRuns kind name.entry.now files bytes course
+            × Takes course result (W.shown self.old.out.now) (W.shown self.new.out.now)
+            × (course.passed ≡ [])
+            × Counted course.failures (L.failure_count self.old.input.now) (L.failure_count self.new.input.now)
+            (T.failure_count self.old.tree.now) (T.failure_count self.new.tree.now))) }
+        ensures same { SameStreams self.old self.new }
+    {
+        if name == "-" {
+            return check_list(self.alloc, kind, name, self.input, self.tree, self.out);
+        }
+        let mut list = open_file(name, self.tree)?;
+        let answer = check_list(self.alloc, kind, name, &mut list, self.tree, self.out);
+        self.tree.close(list);
+        answer
     }
+}
+
+// Checks the list of this name.
+fn check_list<'n, F: Feed, T: Tree, W: Sink>(
+    alloc: Global,
+    kind: Kind,
+    name: &'n str,
+    list: &mut F,
+    tree: &mut T,
+    out: &mut W,
+) -> Result<u8, Fault<'n>>
+    ensures list { IfSome (F.remaining list.old) (λ bytes. IfSome (T.files tree.old) (λ files.
+        ListTaken files kind name.entry.now bytes result (W.shown out.old) (W.shown out.new)
+        (T.failure_count tree.old) (T.failure_count tree.new))) }
+    ensures counted { IfSome (F.remaining list.old) (λ bytes. F.failure_count list.new
+        ≡ count_after (F.failure_count list.old) (failed true (Some bytes) result).input) }
+{
+    status_of(check(alloc, list, kind, tree, out), name)
 }
 
 fn status_of(answer: Result<Summary, CheckFault>, name: &str) -> Result<u8, Fault<'_>>

@@ -1,11 +1,15 @@
 // What a run reads and writes.
 
-ghost use Rattle.std.specs.Prelude.{◌≡◌, ◌↔◌, IfOk, IfSome, None, OnOk, codes};
-ghost use Rattle.source.specs.Pumped.{Appended};
+ghost use Rattle.std.specs.Prelude.{◌≡◌, [], false, true, IfOk, IfSome, Some};
+ghost use Rattle.source.specs.Counts.{count_after};
+ghost use Rattle.command.specs.Course.{Counted};
+ghost use Rattle.command.specs.Lines.{content_of, is_input};
+ghost use Rattle.command.specs.inside.Reading.{Absorbs, AbsorbsLine, Leaves, OpensFile, failed};
+ghost use Rattle.command.specs.inside.Streams.{SameStreams};
 
 use crate::fault::Fault;
 use crate::output::named;
-use source::{Feed, ReadFailed, Sink, pump};
+use source::{Feed, Sink, pump};
 use std::alloc::Global;
 use sumlist::Tree;
 use words::Absorb;
@@ -19,48 +23,15 @@ pub(crate) struct Session<'i, 't, 'o, L: Feed, T: Tree, W: Sink> {
     pub(crate) out: &'o mut W,
 }
 
-/// Standard input, or a file that was opened.
-#[derive(Drop)]
-pub(crate) enum Opened<'i, L: Feed, F: Feed> {
-    Input(&'i mut L),
-    File(&'i mut F),
-}
-
-impl<'i, L: Feed, F: Feed> Feed for Opened<'i, L, F> {
-    ghost use Rattle.command.specs.inside.Opened.{opened_failures, opened_remaining};
-
-    ghost failure_count = { λ s. opened_failures L.failure_count F.failure_count s };
-
-    ghost remaining = { λ s. opened_remaining L.remaining F.remaining s };
-
-    fn read(&mut self, buf: &mut [u8]) -> Result<usize, ReadFailed> {
-        match self {
-            Opened::Input(input) => input.read(buf),
-            Opened::File(file) => file.read(buf),
-        }
-    }
-
-    fn failures(&self) -> u64 {
-        match self {
-            Opened::Input(input) => input.failures(),
-            Opened::File(file) => file.failures(),
-        }
-    }
-}
-
-/// The file, or standard input where there is none.
-pub(crate) fn opened_or<'i, L: Feed, F: Feed + Drop>(
-    input: &'i mut L,
-    file: &'i mut Option<F>,
-) -> Opened<'i, L, F> {
-    match file {
-        Some(file) => Opened::File(file),
-        None => Opened::Input(input),
-    }
-}
-
 /// Opens a file by its name.
-pub(crate) fn open_file<'n, T: Tree>(name: &'n str, tree: &mut T) -> Result<T::F, Fault<'n>> {
+pub(crate) fn open_file<'n, T: Tree>(name: &'n str, tree: &mut T) -> Result<T::F, Fault<'n>>
+    ensures opened { IfSome (T.files tree.old)
+        (λ files. OpensFile T.F.remaining name.entry.now (files name.entry.now) result) }
+    ensures counted { IfSome (T.files tree.old) (λ files. T.failure_count tree.new
+        ≡ count_after (T.failure_count tree.old) (failed false (files name.entry.now) result).files) }
+    ensures fresh { IfOk result (λ feed. T.F.failure_count feed ≡ 0) }
+    ensures kept { T.files tree.new ≡ T.files tree.old }
+{
     match tree.open(name) {
         Ok(feed) => Ok(feed),
         Err(fault) => Err(Fault::of_open(fault, name)),
@@ -73,9 +44,12 @@ pub(crate) fn absorb_feed<'n, A: Absorb, F: Feed>(
     name: &'n str,
     feed: &mut F,
 ) -> Result<(), Fault<'n>>
-    ensures appended { OnOk result
-        (IfSome (F.remaining feed.old) (Appended A.holds hasher.old hasher.new)) }
-    ensures parameters { A.parameters hasher.new ≡ A.parameters hasher.old }
+    ensures absorbed { IfSome (F.remaining feed.old) (λ bytes.
+        Absorbs A.holds hasher.old hasher.new (A.room_left hasher.old) name.entry.now (Some bytes) result) }
+    ensures counted { F.failure_count feed.new
+        ≡ count_after (F.failure_count feed.old) (failed true (Some []) result).input }
+    ensures gave { Leaves true result (F.remaining feed.old) (F.remaining feed.new) }
+    ensures kept { A.parameters hasher.new ≡ A.parameters hasher.old }
 {
     match pump(hasher, feed) {
         Ok(()) => Ok(()),
@@ -83,24 +57,26 @@ pub(crate) fn absorb_feed<'n, A: Absorb, F: Feed>(
     }
 }
 
+/// Feeds the hasher the whole of the file of this name.
+pub(crate) fn absorb_named<'n, A: Absorb, T: Tree>(
+    hasher: &mut A,
+    name: &'n str,
+    tree: &mut T,
+) -> Result<(), Fault<'n>>
+    ensures absorbed { IfSome (T.files tree.old) (λ files.
+        Absorbs A.holds hasher.old hasher.new (A.room_left hasher.old) name.entry.now (files name.entry.now) result) }
+    ensures counted { IfSome (T.files tree.old) (λ files. T.failure_count tree.new
+        ≡ count_after (T.failure_count tree.old) (failed false (files name.entry.now) result).files) }
+    ensures files { T.files tree.new ≡ T.files tree.old }
+    ensures kept { A.parameters hasher.new ≡ A.parameters hasher.old }
+{
+    let mut feed = open_file(name, tree)?;
+    let answer = absorb_feed(hasher, name, &mut feed);
+    tree.close(feed);
+    answer
+}
+
 impl<'i, 't, 'o, L: Feed, T: Tree, W: Sink> Session<'i, 't, 'o, L, T, W> {
-    /// Opens the file of this name; `-` is no file, but standard input.
-    pub(crate) fn open<'n>(&mut self, name: &'n str) -> Result<Option<T::F>, Fault<'n>>
-        ensures { IfOk result (λ file. (file ≡ None) ↔ (name.entry.now ≡ codes "-")) }
-    {
-        if name == "-" {
-            return Ok(None);
-        }
-        Ok(Some(open_file(name, self.tree)?))
-    }
-
-    /// Takes back what `open` handed out.
-    pub(crate) fn close(&mut self, file: Option<T::F>) {
-        if let Some(file) = file {
-            self.tree.close(file);
-        }
-    }
-
     /// Feeds the hasher the file of a line with so many digits: the name is judged before the file
     /// is opened.
     pub(crate) fn absorb_line<'n, A: Absorb>(
@@ -108,11 +84,52 @@ impl<'i, 't, 'o, L: Feed, T: Tree, W: Sink> Session<'i, 't, 'o, L, T, W> {
         hasher: &mut A,
         digits: usize,
         name: &'n str,
-    ) -> Result<(), Fault<'n>> {
+    ) -> Result<(), Fault<'n>>
+        ensures absorbed { IfSome (L.remaining self.old.input.now) (λ bytes.
+            IfSome (T.files self.old.tree.now) (λ files.
+            AbsorbsLine A.holds hasher.old hasher.new digits (A.room_left hasher.old) name.entry.now
+            (content_of name.entry.now bytes files) result)) }
+        ensures counted { IfSome (L.remaining self.old.input.now) (λ bytes.
+            IfSome (T.files self.old.tree.now) (λ files.
+            Counted (failed (is_input name.entry.now) (content_of name.entry.now bytes files) result)
+            (L.failure_count self.old.input.now) (L.failure_count self.new.input.now)
+            (T.failure_count self.old.tree.now) (T.failure_count self.new.tree.now))) }
+        ensures gave { Leaves (is_input name.entry.now) result
+            (L.remaining self.old.input.now) (L.remaining self.new.input.now) }
+        ensures files { T.files self.new.tree.now ≡ T.files self.old.tree.now }
+        ensures out { W.shown self.new.out.now ≡ W.shown self.old.out.now }
+        ensures same { SameStreams self.old self.new }
+        ensures kept { A.parameters hasher.new ≡ A.parameters hasher.old }
+    {
         named(digits, name)?;
-        let mut file = self.open(name)?;
-        let answer = absorb_feed(hasher, name, &mut opened_or(self.input, &mut file));
-        self.close(file);
-        answer
+        self.absorb(hasher, name)
+    }
+
+    /// Feeds the hasher the whole of the file of this name; `-` is standard input.
+    pub(crate) fn absorb<'n, A: Absorb>(
+        &mut self,
+        hasher: &mut A,
+        name: &'n str,
+    ) -> Result<(), Fault<'n>>
+        ensures absorbed { IfSome (L.remaining self.old.input.now) (λ bytes.
+            IfSome (T.files self.old.tree.now) (λ files.
+            Absorbs A.holds hasher.old hasher.new (A.room_left hasher.old) name.entry.now
+            (content_of name.entry.now bytes files) result)) }
+        ensures counted { IfSome (L.remaining self.old.input.now) (λ bytes.
+            IfSome (T.files self.old.tree.now) (λ files.
+            Counted (failed (is_input name.entry.now) (content_of name.entry.now bytes files) result)
+            (L.failure_count self.old.input.now) (L.failure_count self.new.input.now)
+            (T.failure_count self.old.tree.now) (T.failure_count self.new.tree.now))) }
+        ensures gave { Leaves (is_input name.entry.now) result
+            (L.remaining self.old.input.now) (L.remaining self.new.input.now) }
+        ensures files { T.files self.new.tree.now ≡ T.files self.old.tree.now }
+        ensures out { W.shown self.new.out.now ≡ W.shown self.old.out.now }
+        ensures same { SameStreams self.old self.new }
+        ensures kept { A.parameters hasher.new ≡ A.parameters hasher.old }
+    {
+        if name == "-" {
+            return absorb_feed(hasher, name, self.input);
+        }
+        absorb_named(hasher, name, self.tree)
     }
 }

@@ -1,16 +1,25 @@
 // The command `mac`: the tag of a file under a key.
 
 ghost use Rattle.std.specs.Prelude.{◌≡◌, ◌≢◌, ◌-◌, ◌/◌, ◌^◌, ◌<◌, ◌≤◌, [], length};
-ghost use Rattle.std.specs.Prelude.{IfOk, IfSome, IsErrOf, MatchResult};
-ghost use Rattle.command.specs.declared.fault.Fault.TheVariants.{KeyFileTooLong, KeyLength};
-ghost use Rattle.task.specs.Tagging.{HasTag};
+ghost use Rattle.std.specs.Prelude.{false, true, IfSome, MatchResult, Some};
+ghost use Rattle.source.specs.Counts.{count_after};
+ghost use Rattle.command.specs.declared.fault.Fault.TheVariants.{KeyLength};
+ghost use Rattle.command.specs.Course.{Counted, Course, Takes};
+ghost use Rattle.command.specs.Keying.{IsKey, MacRuns, MayRefuseFile, MayRefuseKey, function_of, hmac_line};
+ghost use Rattle.command.specs.Keying.{key_content, mac_line};
+ghost use Rattle.command.specs.Lines.{content_of, is_input};
+ghost use Rattle.command.specs.Troubles.{trouble_of};
+ghost use Rattle.command.specs.inside.Keys.{PrintsTag, function_with};
+ghost use Rattle.command.specs.inside.Reading.{failed};
+ghost use Rattle.command.specs.inside.Streams.{SameStreams};
+ghost use Rattle.task.specs.Tagging.{HasTag, key_shown};
 
 use crate::fault::Fault;
 use crate::output::{write_line, write_output_line};
 use crate::session::{Session, open_file};
 use b3::Blake3;
 use blake2::{Blake2b, Blake2s};
-use mac::{Blake2b512, Blake2s256, BlockHash, Hmac, Sha256Stream, Sha512Stream};
+use mac::{Blake2b512, Blake2s256, BlockHash, Hmac, Sha256Stream, Sha512Stream, hash_laws};
 use source::{Feed, ReadFailed, Sink};
 use std::alloc::Global;
 use sumlist::Tree;
@@ -28,15 +37,37 @@ impl<'i, 't, 'o, L: Feed, T: Tree, W: Sink> Session<'i, 't, 'o, L, T, W> {
         name: &'n str,
     ) -> Result<u8, Fault<'n>>
         requires { HasTag mac }
+        ensures course { IfSome (L.remaining self.old.input.now) (λ bytes. IfSome (T.files self.old.tree.now) (λ files.
+            (course : Course) × MacRuns mac (key_shown key.entry) name.entry.now files bytes course
+            × Takes course result (W.shown self.old.out.now) (W.shown self.new.out.now)
+            × (course.passed ≡ [])
+            × Counted course.failures (L.failure_count self.old.input.now) (L.failure_count self.new.input.now)
+            (T.failure_count self.old.tree.now) (T.failure_count self.new.tree.now))) }
+        ensures same { SameStreams self.old self.new }
     {
-        let key = self.key_of(key)?;
-        match mac {
-            Mac::Hmac(hash, length) => self.hmac(hash, length, key.as_slice(), name)?,
-            Mac::Blake2b(length) => self.blake2b(length, key.as_slice(), name)?,
-            Mac::Blake2s(length) => self.blake2s(length, key.as_slice(), name)?,
-            Mac::Blake3(length) => self.blake3(length, key.as_slice(), name)?,
-        }
+        let key = key_of(self.alloc, key, self.tree)?;
+        self.print_keyed(mac, key.as_slice(), name)?;
         Ok(0)
+    }
+
+    // Prints the line of the file's tag under a key.
+    fn print_keyed<'n>(&mut self, mac: Mac, key: &[u8], name: &'n str) -> Result<(), Fault<'n>>
+        requires { HasTag mac }
+        ensures line { IfSome (L.remaining self.old.input.now) (λ bytes. IfSome (T.files self.old.tree.now) (λ files.
+            PrintsTag (mac_line mac key.now) name.entry.now (content_of name.entry.now bytes files) result
+            (W.shown self.old.out.now) (W.shown self.new.out.now))) }
+        ensures counted { IfSome (L.remaining self.old.input.now) (λ bytes. IfSome (T.files self.old.tree.now) (λ files.
+            Counted (failed (is_input name.entry.now) (content_of name.entry.now bytes files) result)
+            (L.failure_count self.old.input.now) (L.failure_count self.new.input.now)
+            (T.failure_count self.old.tree.now) (T.failure_count self.new.tree.now))) }
+        ensures same { SameStreams self.old self.new }
+    {
+        match mac {
+            Mac::Hmac(hash, length) => self.hmac(hash, length, key, name),
+            Mac::Blake2b(length) => self.blake2b(length, key, name),
+            Mac::Blake2s(length) => self.blake2s(length, key, name),
+            Mac::Blake3(length) => self.blake3(length, key, name),
+        }
     }
 
     fn hmac<'n>(
@@ -47,7 +78,16 @@ impl<'i, 't, 'o, L: Feed, T: Tree, W: Sink> Session<'i, 't, 'o, L, T, W> {
         name: &'n str,
     ) -> Result<(), Fault<'n>>
         requires { HasTag (Mac.Hmac hash length) }
+        ensures line { IfSome (L.remaining self.old.input.now) (λ bytes. IfSome (T.files self.old.tree.now) (λ files.
+            PrintsTag (hmac_line (function_of hash) length key.now) name.entry.now
+            (content_of name.entry.now bytes files) result (W.shown self.old.out.now) (W.shown self.new.out.now))) }
+        ensures counted { IfSome (L.remaining self.old.input.now) (λ bytes. IfSome (T.files self.old.tree.now) (λ files.
+            Counted (failed (is_input name.entry.now) (content_of name.entry.now bytes files) result)
+            (L.failure_count self.old.input.now) (L.failure_count self.new.input.now)
+            (T.failure_count self.old.tree.now) (T.failure_count self.new.tree.now))) }
+        ensures same { SameStreams self.old self.new }
     {
+        hash_laws();
         match hash {
             HmacHash::Sha256 => self.print_hmac::<Sha256Stream>(length, key, name),
             HmacHash::Sha512 => self.print_hmac::<Sha512Stream>(length, key, name),
@@ -64,6 +104,14 @@ impl<'i, 't, 'o, L: Feed, T: Tree, W: Sink> Session<'i, 't, 'o, L, T, W> {
     ) -> Result<(), Fault<'n>>
         requires half { H.OUT / 2 ≤ length }
         requires whole { length ≤ H.OUT }
+        ensures line { IfSome (L.remaining self.old.input.now) (λ bytes. IfSome (T.files self.old.tree.now) (λ files.
+            PrintsTag (hmac_line (function_with H.BLOCK H.OUT H.LIMIT H.hash_of) length key.now) name.entry.now
+            (content_of name.entry.now bytes files) result (W.shown self.old.out.now) (W.shown self.new.out.now))) }
+        ensures counted { IfSome (L.remaining self.old.input.now) (λ bytes. IfSome (T.files self.old.tree.now) (λ files.
+            Counted (failed (is_input name.entry.now) (content_of name.entry.now bytes files) result)
+            (L.failure_count self.old.input.now) (L.failure_count self.new.input.now)
+            (T.failure_count self.old.tree.now) (T.failure_count self.new.tree.now))) }
+        ensures same { SameStreams self.old self.new }
     {
         let Ok(mut hmac) = Hmac::<H>::new(key) else {
             return Err(Fault::KeyLength);
@@ -72,52 +120,94 @@ impl<'i, 't, 'o, L: Feed, T: Tree, W: Sink> Session<'i, 't, 'o, L, T, W> {
         let Ok(tag) = hmac.finish_left(length) else {
             unreachable!()
         };
-        write_line(tag.bytes(), name, self.out)
+        Ok(write_line(tag.bytes(), name, self.out)?)
     }
 
     fn blake2b<'n>(&mut self, length: usize, key: &[u8], name: &'n str) -> Result<(), Fault<'n>>
-        requires { length ≤ 64 }
+        requires { HasTag (Mac.Blake2b length) }
+        ensures line { IfSome (L.remaining self.old.input.now) (λ bytes. IfSome (T.files self.old.tree.now) (λ files.
+            PrintsTag (mac_line (Mac.Blake2b length) key.now) name.entry.now
+            (content_of name.entry.now bytes files) result (W.shown self.old.out.now) (W.shown self.new.out.now))) }
+        ensures counted { IfSome (L.remaining self.old.input.now) (λ bytes. IfSome (T.files self.old.tree.now) (λ files.
+            Counted (failed (is_input name.entry.now) (content_of name.entry.now bytes files) result)
+            (L.failure_count self.old.input.now) (L.failure_count self.new.input.now)
+            (T.failure_count self.old.tree.now) (T.failure_count self.new.tree.now))) }
+        ensures same { SameStreams self.old self.new }
     {
         let Ok(mut hasher) = Blake2b::keyed(length, some_key(key)?) else {
             return Err(Fault::KeyLength);
         };
         self.absorb_line(&mut hasher, 2 * length, name)?;
-        write_line(hasher.finish().bytes(), name, self.out)
+        Ok(write_line(hasher.finish().bytes(), name, self.out)?)
     }
 
     fn blake2s<'n>(&mut self, length: usize, key: &[u8], name: &'n str) -> Result<(), Fault<'n>>
-        requires { length ≤ 32 }
+        requires { HasTag (Mac.Blake2s length) }
+        ensures line { IfSome (L.remaining self.old.input.now) (λ bytes. IfSome (T.files self.old.tree.now) (λ files.
+            PrintsTag (mac_line (Mac.Blake2s length) key.now) name.entry.now
+            (content_of name.entry.now bytes files) result (W.shown self.old.out.now) (W.shown self.new.out.now))) }
+        ensures counted { IfSome (L.remaining self.old.input.now) (λ bytes. IfSome (T.files self.old.tree.now) (λ files.
+            Counted (failed (is_input name.entry.now) (content_of name.entry.now bytes files) result)
+            (L.failure_count self.old.input.now) (L.failure_count self.new.input.now)
+            (T.failure_count self.old.tree.now) (T.failure_count self.new.tree.now))) }
+        ensures same { SameStreams self.old self.new }
     {
         let Ok(mut hasher) = Blake2s::keyed(length, some_key(key)?) else {
             return Err(Fault::KeyLength);
         };
         self.absorb_line(&mut hasher, 2 * length, name)?;
-        write_line(hasher.finish().bytes(), name, self.out)
+        Ok(write_line(hasher.finish().bytes(), name, self.out)?)
     }
 
     fn blake3<'n>(&mut self, length: u64, key: &[u8], name: &'n str) -> Result<(), Fault<'n>>
-        requires { length ≤ 2 ^ 64 - 1 }
+        requires { HasTag (Mac.Blake3 length) }
+        ensures line { IfSome (L.remaining self.old.input.now) (λ bytes. IfSome (T.files self.old.tree.now) (λ files.
+            PrintsTag (mac_line (Mac.Blake3 length) key.now) name.entry.now
+            (content_of name.entry.now bytes files) result (W.shown self.old.out.now) (W.shown self.new.out.now))) }
+        ensures counted { IfSome (L.remaining self.old.input.now) (λ bytes. IfSome (T.files self.old.tree.now) (λ files.
+            Counted (failed (is_input name.entry.now) (content_of name.entry.now bytes files) result)
+            (L.failure_count self.old.input.now) (L.failure_count self.new.input.now)
+            (T.failure_count self.old.tree.now) (T.failure_count self.new.tree.now))) }
+        ensures same { SameStreams self.old self.new }
     {
         let Some((key, [])) = key.split_first_chunk::<32>() else {
             return Err(Fault::KeyLength);
         };
         let mut hasher = Blake3::keyed(key);
         self.absorb_line(&mut hasher, 64, name)?;
-        write_output_line(hasher.output(), length, name, self.out)
+        Ok(write_output_line(hasher.output(), length, name, self.out)?)
     }
+}
 
-    // The bytes of a key.
-    fn key_of<'n>(&mut self, key: Key<'n>) -> Result<Vec<u8>, Fault<'n>> {
-        match key {
-            Key::Given(key) => Ok(key),
-            Key::File(name) => {
-                let mut feed = open_file(name, self.tree)?;
-                let answer = read_key(self.alloc, name, &mut feed);
-                self.tree.close(feed);
-                answer
-            }
-        }
+// The bytes of a key.
+fn key_of<'n, T: Tree>(alloc: Global, key: Key<'n>, tree: &mut T) -> Result<Vec<u8>, Fault<'n>>
+    ensures key { IfSome (T.files tree.old) (λ files. MatchResult result
+        (λ bytes. IsKey files (key_shown key.entry) bytes.items)
+        (λ fault. MayRefuseKey files (key_shown key.entry) (trouble_of fault))) }
+    ensures counted { IfSome (T.files tree.old) (λ files. T.failure_count tree.new
+        ≡ count_after (T.failure_count tree.old)
+        (failed false (key_content files (key_shown key.entry)) result).files) }
+    ensures files { T.files tree.new ≡ T.files tree.old }
+{
+    match key {
+        Key::Given(key) => Ok(key),
+        Key::File(name) => key_in(alloc, name, tree),
     }
+}
+
+// The bytes of a key file.
+fn key_in<'n, T: Tree>(alloc: Global, name: &'n str, tree: &mut T) -> Result<Vec<u8>, Fault<'n>>
+    ensures key { IfSome (T.files tree.old) (λ files. MatchResult result
+        (λ key. (files name.entry.now ≡ Some key.items) × (length key.items ≤ 65536))
+        (λ fault. MayRefuseFile name.entry.now (files name.entry.now) (trouble_of fault))) }
+    ensures counted { IfSome (T.files tree.old) (λ files. T.failure_count tree.new
+        ≡ count_after (T.failure_count tree.old) (failed false (files name.entry.now) result).files) }
+    ensures files { T.files tree.new ≡ T.files tree.old }
+{
+    let mut feed = open_file(name, tree)?;
+    let answer = read_key(alloc, name, &mut feed);
+    tree.close(feed);
+    answer
 }
 
 // A key that is not empty: under an empty one BLAKE2 is a hash.
@@ -134,10 +224,11 @@ fn some_key(key: &[u8]) -> Result<&[u8], Fault<'static>>
 // Reads the whole of a key file. Its buffer is not on the stack while a file is hashed.
 #[inline(never)]
 fn read_key<'n, F: Feed>(alloc: Global, name: &'n str, feed: &mut F) -> Result<Vec<u8>, Fault<'n>>
-    ensures whole { IfOk result (λ key. IfSome (F.remaining feed.old)
-        (λ bytes. (key.items ≡ bytes) × (length bytes ≤ 65536))) }
-    ensures too_long { IsErrOf result KeyFileTooLong
-        → IfSome (F.remaining feed.old) (λ bytes. 65536 < length bytes) }
+    ensures key { IfSome (F.remaining feed.old) (λ bytes. MatchResult result
+        (λ key. (key.items ≡ bytes) × (length bytes ≤ 65536))
+        (λ fault. MayRefuseFile name.entry.now (Some bytes) (trouble_of fault))) }
+    ensures counted { F.failure_count feed.new
+        ≡ count_after (F.failure_count feed.old) (failed true (Some []) result).input }
 {
     let mut key = Vec::new(alloc);
     let mut piece = [0; 4096];

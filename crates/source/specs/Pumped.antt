@@ -1,6 +1,7 @@
 -- What goes from a feed into a hasher.
 use Rattle.std.specs.Prelude.{ℕ, ◌<◌, List, ◌++◌, length, Option, None, Some, ⊤}
 use Rattle.std.specs.Borrow.{Bor}
+use Rattle.std.specs.Io.KnownBytes.{Consumes}
 use Rattle.std.specs.List.{flat_map}
 
 -- a hasher that had taken a list has then taken it followed by `bytes`
@@ -15,3 +16,7 @@ IsLongerThan (Some xs) n = n < length xs
 -- lent pieces, one after another
 abbrev pub joined : List (Bor (List ℕ)) → List ℕ
 joined pieces = flat_map (λ piece. piece.now) pieces
+
+-- some of the bytes to come were given
+abbrev pub Gives : Option (List ℕ) → Option (List ℕ) → Type 0
+Gives old new = (given : List ℕ) × Consumes old new given

@@ -1,0 +1,191 @@
+-- The course of a run is that of its request, with the last trouble told.
+use Rattle.std.proofs.Common.{◌≡◌, ℕ, List, [], ◌++◌, Option, Some, None, Result, Ok, Err, IfSome, MatchResult, refl}
+use Rattle.std.proofs.Common.{sym, ap, ◌∙◌, inl, inr, subst, append-nil, arith}
+use Rattle.std.specs.Prelude.{IsErrAnd}
+use Rattle.std.proofs.KnownBytes.{Appends-nil}
+use Rattle.std.proofs.lemmas.Result.{err_from_is_err_and}
+use Rattle.clap.specs.Words.{IsAmong, Text, fault_of}
+use Rattle.clap.specs.declared.error.ErrorKind.{ErrorKind}
+use Rattle.source.specs.Written.{Shown}
+use Rattle.sumlist.specs.Report.{Files}
+use Rattle.task.specs.CommandLine.{OfSums, Reads}
+use Rattle.task.specs.Parameters.{Judges}
+use Rattle.task.specs.Tasks.{Asked, asked, task_shown}
+use Rattle.task.specs.declared.fault.TaskFault.{TaskFault}
+use Rattle.task.specs.declared.fault.TaskFault.TheVariants as task
+use Rattle.task.specs.declared.fault.UsageFault.{UsageFault}
+use Rattle.task.specs.declared.request.Request.{Request}
+use Rattle.command.specs.Course.{Counted, Course, Printed, Runs, Takes, Tells, all_told, ending_told, no_failures}
+use Rattle.command.specs.Course.{refused_by, status_at}
+use Rattle.command.specs.Program.{IsAnswered, ProgramRuns, RequestRuns, TaskRuns}
+use Rattle.command.specs.Troubles.{Trouble, out_of_memory, status_of, told, trouble_of, usage}
+use Rattle.command.specs.declared.fault.Fault.{Fault}
+use Rattle.command.specs.declared.fault.Fault.TheVariants.{OutOfMemory, Usage}
+use Rattle.command.specs.inside.Faults.{of_task}
+use Rattle.command.proofs.Telling.{Tells-more, Tells-none}
+
+Counted-none : (i u : ℕ) → Counted no_failures i i u u
+Counted-none i u = (omega arith, omega arith)
+
+Runs-done : (course : Course) (status : ℕ) (out_old out_new err_old err_new : Shown)
+    → Takes course (Ok status) out_old out_new → Tells err_old err_new (all_told course.passed)
+    → Runs course status out_old out_new err_old err_new
+Runs-done course status out_old out_new err_old err_new takes tells = record {
+  status = sym (ap status_at takes.ending);
+  out = takes.out;
+  err = subst (Tells err_old err_new) (sym (ap (λ l. all_told course.passed ++ l) (ap ending_told takes.ending) ∙
+      append-nil (all_told course.passed))) tells;
+}
+
+Runs-stopped : (course : Course) (f : Fault) (status : ℕ) (out_old out_new err_old err_mid err_new : Shown)
+    → Takes course (Err f) out_old out_new → Tells err_old err_mid (all_told course.passed)
+    → status ≡ status_of (trouble_of f) → Tells err_mid err_new (told (trouble_of f))
+    → Runs course status out_old out_new err_old err_new
+Runs-stopped course f status out_old out_new err_old err_mid err_new takes tells is last = record {
+  status = is ∙ sym (ap status_at takes.ending);
+  out = takes.out;
+  err = subst (Tells err_old err_new) (sym (ap (λ l. all_told course.passed ++ l) (ap ending_told takes.ending)))
+      (Tells-more err_old err_mid err_new (all_told course.passed) (told (trouble_of f)) tells last);
+}
+
+module _ (first : Option (List ℕ)) (tree : Option Files) where
+  -- what was done of a request
+  abbrev pub Requested : Request → Result ℕ Fault → (out_old out_new err_old err_new : Shown) → (i j u v : ℕ) → Type 0
+  Requested r answer out_old out_new err_old err_new i j u v =
+      IfSome first (λ bytes. IfSome tree (λ files. (course : Course) × RequestRuns r files bytes course × Takes course
+      answer out_old out_new × Tells err_old err_new (all_told course.passed) × Counted course.failures i j u v))
+
+  -- what was done of a task by a command that passes over nothing
+  abbrev pub Quietly : Asked → Result ℕ Fault → (out_old out_new : Shown) → (i j u v : ℕ) → Type 0
+  Quietly asked answer out_old out_new i j u v =
+      IfSome first (λ bytes. IfSome tree (λ files. (course : Course) × TaskRuns asked files bytes course × Takes
+      course answer out_old out_new × (course.passed ≡ []) × Counted course.failures i j u v))
+
+  -- and by one that tells what it passes over
+  abbrev pub Tellingly : Asked → Result ℕ Fault → (out_old out_new err_old err_new : Shown) → (i j u v : ℕ) → Type 0
+  Tellingly asked answer out_old out_new err_old err_new i j u v =
+      IfSome first (λ bytes. IfSome tree (λ files. (course : Course) × TaskRuns asked files bytes course × Takes
+      course answer out_old out_new × Tells err_old err_new (all_told course.passed) × Counted course.failures i j
+      u v))
+
+  -- what a run did
+  abbrev pub Program : List Text → ℕ → (out_old out_new err_old err_new : Shown) → (i j u v : ℕ) → Type 0
+  Program words status out_old out_new err_old err_new i j u v =
+      IfSome first (λ bytes. IfSome tree (λ files. ProgramRuns words bytes files status out_old out_new err_old
+      err_new i j u v))
+
+requested : (r : Request) (task : Asked) (files : Files) (bytes : List ℕ) (course : Course) → asked r ≡ Ok task
+    → TaskRuns task files bytes course → RequestRuns r files bytes course
+requested r task files bytes course is runs = inl (rw is runs)
+
+pub told_task : (first : Option (List ℕ)) (tree : Option Files) (r : Request) (task : Asked) (answer : Result ℕ Fault)
+    (out_old out_new err_old err_new : Shown) (i j u v : ℕ)
+    → asked r ≡ Ok task → Tellingly first tree task answer out_old out_new err_old err_new i j u v
+    → Requested first tree r answer out_old out_new err_old err_new i j u v
+told_task None tree r task answer out_old out_new err_old err_new i j u v is h = tt
+told_task (Some bytes) None r task answer out_old out_new err_old err_new i j u v is h = tt
+told_task (Some bytes) (Some files) r task answer out_old out_new err_old err_new i j u v is h =
+    (h.0, requested r task files bytes h.0 is h.1, h.2, h.3, h.4)
+
+pub quiet_task : (first : Option (List ℕ)) (tree : Option Files) (r : Request) (task : Asked)
+    (answer : Result ℕ Fault) (out_old out_new err : Shown) (i j u v : ℕ)
+    → asked r ≡ Ok task → Quietly first tree task answer out_old out_new i j u v
+    → Requested first tree r answer out_old out_new err err i j u v
+quiet_task None tree r task answer out_old out_new err i j u v is h = tt
+quiet_task (Some bytes) None r task answer out_old out_new err i j u v is h = tt
+quiet_task (Some bytes) (Some files) r task answer out_old out_new err i j u v is h =
+    (h.0, requested r task files bytes h.0 is h.1, h.2, rw h.3 (Tells-none err), h.4)
+
+refused : (r : Request) (e : TaskFault) (files : Files) (bytes : List ℕ) → Judges task_shown (asked r) (Err e)
+    → RequestRuns r files bytes (refused_by (trouble_of (of_task e)) no_failures)
+refused r (task.Usage fault) files bytes judged = inl (rw judged refl)
+refused r task.OutOfMemory files bytes judged = inr refl
+
+nothing_printed : (e : TaskFault) (s : Shown) → Printed (Err (trouble_of (of_task e))) s s []
+nothing_printed (task.Usage fault) s = (refl, Appends-nil s.contents)
+nothing_printed task.OutOfMemory s = (refl, Appends-nil s.contents)
+
+pub no_task : (first : Option (List ℕ)) (tree : Option Files) (r : Request) (e : TaskFault) (answer : Result ℕ Fault)
+    (out err : Shown) (i u : ℕ)
+    → IsErrAnd answer (λ g. g ≡ of_task e) → Judges task_shown (asked r) (Err e)
+    → Requested first tree r answer out out err err i i u u
+no_task None tree r e answer out err i u stop judged = tt
+no_task (Some bytes) None r e answer out err i u stop judged = tt
+no_task (Some bytes) (Some files) r e answer out err i u stop judged =
+    let s = err_from_is_err_and answer stop in (
+      refused_by (trouble_of (of_task e)) no_failures,
+      refused r e files bytes judged,
+      rw (s.1, s.2) (record { ending = refl; out = nothing_printed e out }),
+      Tells-none err,
+      Counted-none i u,
+    )
+
+module _ (words : List Text) where
+  pub run_done : (first : Option (List ℕ)) (tree : Option Files) (r : Request) (status : ℕ)
+      (out_old out_new err_old err_new : Shown) (i j u v : ℕ)
+      → OfSums (λ app. fault_of app words ≡ []) → OfSums (λ app. Reads app words r)
+      → Requested first tree r (Ok status) out_old out_new err_old err_new i j u v
+      → Program first tree words status out_old out_new err_old err_new i j u v
+  run_done None tree r status out_old out_new err_old err_new i j u v passes read h = tt
+  run_done (Some bytes) None r status out_old out_new err_old err_new i j u v passes read h = tt
+  run_done (Some bytes) (Some files) r status out_old out_new err_old err_new i j u v passes read h =
+      inl (h.0, Runs-done h.0 status out_old out_new err_old err_new h.2 h.3, h.4, inl (r, passes, read, h.1))
+
+  pub run_stopped : (first : Option (List ℕ)) (tree : Option Files) (r : Request) (f : Fault) (status : ℕ)
+      (out_old out_new err_old err_mid err_new : Shown) (i j u v : ℕ)
+      → OfSums (λ app. fault_of app words ≡ []) → OfSums (λ app. Reads app words r)
+      → Requested first tree r (Err f) out_old out_new err_old err_mid i j u v
+      → status ≡ status_of (trouble_of f) → Tells err_mid err_new (told (trouble_of f))
+      → Program first tree words status out_old out_new err_old err_new i j u v
+  run_stopped None tree r f status out_old out_new err_old err_mid err_new i j u v passes read h is last = tt
+  run_stopped (Some bytes) None r f status out_old out_new err_old err_mid err_new i j u v passes read h is last = tt
+  run_stopped (Some bytes) (Some files) r f status out_old out_new err_old err_mid err_new i j u v passes read h is last =
+      inl (
+        h.0,
+        Runs-stopped h.0 f status out_old out_new err_old err_mid err_new h.2 h.3 is last,
+        h.4,
+        inl (r, passes, read, h.1),
+      )
+
+  pub run_without_memory : (first : Option (List ℕ)) (tree : Option Files) (status : ℕ) (out err_old err_new : Shown)
+      (i u : ℕ)
+      → status ≡ 3 → Tells err_old err_new (told out_of_memory)
+      → Program first tree words status out out err_old err_new i i u u
+  run_without_memory None tree status out err_old err_new i u is last = tt
+  run_without_memory (Some bytes) None status out err_old err_new i u is last = tt
+  run_without_memory (Some bytes) (Some files) status out err_old err_new i u is last =
+      inl (
+        refused_by out_of_memory no_failures,
+        record { status = is; out = (refl, Appends-nil out.contents); err = last },
+        Counted-none i u,
+        inr refl,
+      )
+
+  pub run_answered : (first : Option (List ℕ)) (tree : Option Files) (kind : ErrorKind) (status : ℕ)
+      (out_old out_new err_old err_new : Shown) (i u : ℕ)
+      → OfSums (λ app. IsAmong kind (fault_of app words)) → IsAnswered kind status out_old out_new
+      → Program first tree words status out_old out_new err_old err_new i i u u
+  run_answered None tree kind status out_old out_new err_old err_new i u among h = tt
+  run_answered (Some bytes) None kind status out_old out_new err_old err_new i u among h = tt
+  run_answered (Some bytes) (Some files) kind status out_old out_new err_old err_new i u among h = inr
+      (kind, among, h, Counted-none i u)
+
+  -- the streams are handed back as the session left them
+  pub handed_back : {L T W : Type 0} (shown : W → Shown) (reads : L → ℕ) (opens : T → ℕ) (first : Option (List ℕ))
+      (tree : Option Files) (status : ℕ)
+      → (out_old err_old err_new : Shown) (i u : ℕ) (out out_end : W) (input input_end : L) (files files_end : T)
+      → out_end ≡ out → input_end ≡ input → files_end ≡ files
+      → Program first tree words status out_old (shown out) err_old err_new i (reads input) u (opens files)
+      → Program first tree words status out_old (shown out_end) err_old err_new i (reads input_end) u (opens files_end)
+  handed_back shown reads opens first tree status out_old err_old err_new i u out out_end input input_end files
+      files_end o p q h = rw (o, p, q) h
+
+-- a run where standard input and the files are told, and nothing has failed before
+pub in_memory : (words : List Text) (first : Option (List ℕ)) (tree : Option Files) (bytes : List ℕ) (files : Files)
+    (status : ℕ) (out_old out_new err_old err_new : Shown) (i j u v : ℕ)
+    → Program first tree words status out_old out_new err_old err_new i j u v
+    → first ≡ Some bytes → tree ≡ Some files → i ≡ 0 → u ≡ 0
+    → (reads : ℕ) × (opens : ℕ)
+    × ProgramRuns words bytes files status out_old out_new err_old err_new 0 reads 0 opens
+in_memory words first tree bytes files status out_old out_new err_old err_new i j u v runs p q r s =
+    (j, v, rw (p, q, r, s) at runs)

@@ -1,0 +1,16 @@
+use Rattle.std.proofs.Common.{◌≡◌, ap}
+use Rattle.sumlist.specs.Entry.{Listing}
+use Rattle.task.specs.Requested.{alg_of}
+use Rattle.task.specs.declared.hashing.Requested.TheVariants.{Digest}
+use Rattle.command.specs.Lines.{digest_line, hash_of, line_text}
+use Rattle.command.proofs.Printing.{line_listed}
+use Rattle.command.proofs.session.Session.hash_whole.Goals as goal
+
+pub returns-clause-line : goal.returns-clause-line
+returns-clause-line g c =
+    let form = c.args.form in
+    line_listed (digest_line (Digest form)) c.args.name.now (λ m tag. tag ≡ hash_of form.hash m) c.in_ok-tag.tag
+    (line_text form.is_tagged (record { name = c.args.name.now; alg = alg_of form.hash; tag = c.in_ok-tag.tag }))
+    _ _ _ _ _ _ c.in_ok-listable.ensures c.in_ok-tag.ensures.digest
+    (λ m is. ap (λ t. let e : Listing = record { name = c.args.name.now; alg = alg_of form.hash; tag = t } in line_text form.is_tagged e) is)
+    c.tag_of.ensures.out c.write_listed.ensures

@@ -1,0 +1,21 @@
+use Rattle.command.proofs.Whole.{no_task, quiet_task, told_task}
+use Rattle.command.proofs.session.Session.run_request.Goals as goal
+
+pub returns-in_err-requested-clause-course : goal.returns-in_err-requested-clause-course
+returns-in_err-requested-clause-course g c =
+    no_task _ _ c.args.request _ _ _ _ _ _ c.from_residual.ensures.1 c.in_err-requested.ensures.judged
+
+pub returns-in-Hash-clause-course : goal.returns-in-Hash-clause-course
+returns-in-Hash-clause-course g c =
+    told_task _ _ c.args.request _ _ _ _ _ _ _ _ _ _ (rw c.in-Hash.is at c.in_ok-requested.ensures.judged)
+    (rw c.as_slice.ensures.value at c.print_digests.ensures.course)
+
+pub returns-in-Mac-clause-course : goal.returns-in-Mac-clause-course
+returns-in-Mac-clause-course g c =
+    quiet_task _ _ c.args.request _ _ _ _ _ _ _ _ _ (rw c.in-Mac.is at c.in_ok-requested.ensures.judged)
+    c.print_tag.ensures.course
+
+pub returns-in-Kdf-clause-course : goal.returns-in-Kdf-clause-course
+returns-in-Kdf-clause-course g c =
+    quiet_task _ _ c.args.request _ _ _ _ _ _ _ _ _ (rw c.in-Kdf.is at c.in_ok-requested.ensures.judged)
+    c.print_key.ensures.course

@@ -1,0 +1,52 @@
+-- What a run of the program prints, tells and answers, by its words, standard input and files.
+use Rattle.std.specs.Prelude.{◌⊎◌, ◌≡◌, ◌≢◌, ℕ, List, [], MatchResult}
+use Rattle.clap.specs.Words.{IsAmong, Text, fault_of}
+use Rattle.clap.specs.declared.error.ErrorKind.{ErrorKind}
+use Rattle.clap.specs.declared.error.ErrorKind.TheVariants as clap
+use Rattle.source.specs.Written.{Shown}
+use Rattle.sumlist.specs.Report.{Files}
+use Rattle.task.specs.CommandLine.{OfSums, Reads}
+use Rattle.task.specs.Tasks.{Asked, asked, checks, derives, hashes, tags}
+use Rattle.task.specs.declared.request.Request.{Request}
+use Rattle.command.specs.Checking.{CheckRuns}
+use Rattle.command.specs.Course.{Counted, Course, Failures, Runs, no_failures, refused_by}
+use Rattle.command.specs.Hashing.{HashesAll}
+use Rattle.command.specs.Keying.{KdfRuns, MacRuns}
+use Rattle.command.specs.Lines.{digest_line}
+use Rattle.command.specs.Troubles.{out_of_memory, usage}
+
+-- the course of a task; in how many parts a file is hashed makes no difference
+abbrev pub TaskRuns : Asked → Files → List ℕ → Course → Type 0
+TaskRuns (hashes wanted parts names) files input course = HashesAll (digest_line wanted) files input names course
+TaskRuns (tags mac key name) files input course = MacRuns mac key name files input course
+TaskRuns (derives derived name) files input course = KdfRuns derived name files course
+TaskRuns (checks kind name) files input course = CheckRuns kind name files input course
+
+-- the course of a request: its task's, or the first fault of its settings, or want of memory before either
+abbrev pub RequestRuns : Request → Files → List ℕ → Course → Type 0
+RequestRuns r files input course =
+    MatchResult (asked r) (λ task. TaskRuns task files input course)
+    (λ fault. course ≡ refused_by (usage fault) no_failures)
+    ⊎ (course ≡ refused_by out_of_memory no_failures)
+
+-- words that are wrong, and no call for help or the version
+abbrev pub IsWrong : ErrorKind → Type 0
+IsWrong kind = (kind ≢ clap.DisplayHelp) × (kind ≢ clap.DisplayVersion)
+
+-- wrong words print nothing, with status 2; help is printed, or status 3 told
+abbrev pub IsAnswered : ErrorKind → ℕ → Shown → Shown → Type 0
+IsAnswered kind status old new =
+    (IsWrong kind → (status ≡ 2) × (new ≡ old))
+    × ((IsWrong kind → ⊥) → (status ≡ 0) ⊎ (status ≡ 3))
+
+-- what a run of the program may be, where standard input has these bytes and the files these contents: what
+-- standard output and standard error show before and after it, and the counts of failed reads
+abbrev pub ProgramRuns : List Text → List ℕ → Files → ℕ → (out_old out_new err_old err_new : Shown)
+    → (input_old input_new files_old files_new : ℕ) → Type 0
+ProgramRuns words input files status out_old out_new err_old err_new i j f g =
+    ((course : Course) × Runs course status out_old out_new err_old err_new × Counted course.failures i j f g
+    × (((r : Request) × OfSums (λ app. fault_of app words ≡ []) × OfSums (λ app. Reads app words r)
+    × RequestRuns r files input course)
+    ⊎ (course ≡ refused_by out_of_memory no_failures)))
+    ⊎ ((kind : ErrorKind) × OfSums (λ app. IsAmong kind (fault_of app words))
+    × IsAnswered kind status out_old out_new × Counted no_failures i j f g)

@@ -1,0 +1,65 @@
+-- Why a run ends, or passes a file over: what is told on standard error, and the status.
+use Rattle.std.specs.Prelude.{ℕ, [], ◌++◌, codes}
+use Rattle.clap.specs.Words.{Text}
+use Rattle.task.specs.Texts.{usage_complaint, usage_subject}
+use Rattle.task.specs.declared.fault.UsageFault.{UsageFault}
+use Rattle.command.specs.declared.fault.Fault.{Fault}
+use Rattle.command.specs.declared.fault.Fault.TheVariants as code
+
+-- a name is that of a file
+pub data Trouble : Type 0 where
+  usage : UsageFault → Trouble
+  key_file_too_long : Trouble
+  key_length : Trouble
+  cannot_read : Text → Trouble
+  too_long : Text → Trouble
+  bad_name : Text → Trouble
+  cannot_write : Trouble
+  out_of_memory : Trouble
+
+-- the code's fault as one of these
+abbrev pub trouble_of : Fault → Trouble
+trouble_of (code.Usage fault) = usage fault
+trouble_of code.KeyFileTooLong = key_file_too_long
+trouble_of code.KeyLength = key_length
+trouble_of (code.CannotRead name) = cannot_read name.now
+trouble_of (code.TooLong name) = too_long name.now
+trouble_of (code.BadName name) = bad_name name.now
+trouble_of code.CannotWrite = cannot_write
+trouble_of code.OutOfMemory = out_of_memory
+
+-- what is at fault, and what is said of it
+abbrev pub subject : Trouble → Text
+subject (usage fault) = usage_subject fault
+subject key_file_too_long = codes "--key-file"
+subject key_length = codes "key"
+subject (cannot_read name) = name
+subject (too_long name) = name
+subject (bad_name name) = name
+subject cannot_write = []
+subject out_of_memory = []
+
+abbrev pub complaint : Trouble → Text
+complaint (usage fault) = usage_complaint fault
+complaint key_file_too_long = codes ": too long\n"
+complaint key_length = codes ": wrong length\n"
+complaint (cannot_read name) = codes ": cannot read\n"
+complaint (too_long name) = codes ": too long\n"
+complaint (bad_name name) = codes ": bad name\n"
+complaint cannot_write = codes "cannot write\n"
+complaint out_of_memory = codes "out of memory\n"
+
+-- the line on standard error
+abbrev pub told : Trouble → Text
+told t = codes "sums: " ++ (subject t ++ complaint t)
+
+-- the status of a run that ends with it: 1 for a file or a list, 2 for what was asked, 3 for a sink or memory
+abbrev pub status_of : Trouble → ℕ
+status_of (cannot_read name) = 1
+status_of (too_long name) = 1
+status_of (bad_name name) = 1
+status_of (usage fault) = 2
+status_of key_file_too_long = 2
+status_of key_length = 2
+status_of cannot_write = 3
+status_of out_of_memory = 3

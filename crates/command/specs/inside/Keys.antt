@@ -1,0 +1,49 @@
+-- What `mac` and `kdf` printed, by the answer of a function.
+use Rattle.std.specs.Prelude.{◌⊎◌, ◌≡◌, ◌≤◌, ◌-◌, ℕ, List, Option, Ok, Err, Result, MatchResult, IsSomeAnd, length}
+use Rattle.clap.specs.Words.{Text}
+use Rattle.hex.specs.Hex.{encode_lower}
+use Rattle.kdf.specs.Hkdf.{extract, salt_or_zeros}
+use Rattle.source.specs.Written.{Shown}
+use Rattle.task.specs.declared.fault.Setting.TheVariants.{Salt}
+use Rattle.task.specs.declared.fault.UsageFault.TheVariants.{OutOfRange}
+use Rattle.command.specs.Keying.{Deriving, Function}
+use Rattle.command.specs.Lines.{Lining, MayRefuse}
+use Rattle.command.specs.Troubles.{Trouble, trouble_of, usage}
+use Rattle.command.specs.declared.fault.Fault.{Fault}
+use Rattle.command.specs.inside.Printing.{PrintsLine, PrintsText}
+
+-- a hash function by its parts
+abbrev pub function_with : ℕ → ℕ → ℕ → (List ℕ → List ℕ) → Function
+function_with block out limit hash = record { block = block; out = out; limit = limit; hash = hash }
+
+-- a trouble was told, and nothing printed
+abbrev pub Refuses : {T : Type 0} → Trouble → Result T Fault → Shown → Shown → Type 0
+Refuses t r old new = MatchResult r (λ _. ⊥) (λ fault. trouble_of fault ≡ t) × (new ≡ old)
+
+-- the line of a tag was printed, or what is wrong with the key told
+abbrev pub PrintsTag : {T : Type 0} → Result Lining Trouble → Text → Option (List ℕ) → Result T Fault
+    → Shown → Shown → Type 0
+PrintsTag (Ok l) name content r old new = PrintsLine l name content r old new
+PrintsTag (Err t) name content r old new = Refuses t r old new
+
+-- the digits of a key were printed, or the trouble told that comes in its place
+abbrev pub PrintsKey : {T : Type 0} → Result (List ℕ) Trouble → Result T Fault → Shown → Shown → Type 0
+PrintsKey (Ok key) r old new = PrintsText r old new (encode_lower key)
+PrintsKey (Err t) r old new = Refuses t r old new
+
+-- a pseudorandom key was extracted of what a name gives, or a fault tells why not
+abbrev pub Extracts : Function → Option (List ℕ) → Text → Option (List ℕ) → Result (List ℕ) Fault → Type 0
+Extracts f salt name content r =
+    ((length (salt_or_zeros f.out salt) ≤ f.limit) × MatchResult r
+    (λ prk. IsSomeAnd content (λ m. (length m ≤ f.limit - f.block) × (prk ≡ extract f.hash f.block f.out salt m)))
+    (λ fault. MayRefuse (f.limit - f.block) name content (trouble_of fault)))
+    ⊎ ((length (salt_or_zeros f.out salt) ≤ f.limit → ⊥) × MatchResult r (λ _. ⊥)
+    (λ fault. trouble_of fault ≡ usage (OutOfRange Salt)))
+
+-- the digits of the key that is derived of what a name gives were printed, or a fault tells why not
+abbrev pub PrintsDerived : {T : Type 0} → Result Deriving Trouble → Text → Option (List ℕ) → Result T Fault
+    → Shown → Shown → Type 0
+PrintsDerived (Ok d) name content r old new =
+    IsSomeAnd content (λ m. (length m ≤ d.limit) × PrintsKey (d.key m) r old new)
+    ⊎ (MatchResult r (λ _. ⊥) (λ fault. MayRefuse d.limit name content (trouble_of fault)) × (new ≡ old))
+PrintsDerived (Err t) name content r old new = Refuses t r old new
