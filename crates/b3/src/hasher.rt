@@ -81,13 +81,13 @@ fn whole_chunks(closed: u64, left: usize) -> usize
 /// bytes in all, takes no memory, and holds at most 54 chaining values.
 #[derive(Drop)]
 pub struct Blake3 {
-    key: [u32; 8],
-    flags: u8,
+    pub(crate) key: [u32; 8],
+    pub(crate) flags: u8,
     // the chaining values of the subtrees of closed chunks
-    stack: ArrayVec<[u32; 8], 54>,
+    pub(crate) stack: ArrayVec<[u32; 8], 54>,
     // how many chunks are closed, which is the number of the open one
-    closed: u64,
-    chunk: Chunk,
+    pub(crate) closed: u64,
+    pub(crate) chunk: Chunk,
     ghost one_bits: { array_vec_len stack ≡ count_ones closed },
     ghost length_fits: { 1024 * closed + chunk.len ≤ 2 ^ 64 - 1 },
 }

@@ -21,6 +21,7 @@ pub use output::{EndOfOutput, Output};
 pub use part::{NotNeighbours, NotWhole, Part};
 pub use place::Misplaced;
 pub use row::{NotNext, PartValue, Row};
+pub use state::Blake3State;
 
 mod absorb;
 mod chunk;
@@ -34,4 +35,5 @@ mod part;
 mod place;
 mod row;
 mod stack;
+mod state;
 mod tree;

@@ -3,3 +3,4 @@ pub mod Listed
 pub mod Held
 pub mod Hashers
 pub mod Rooms
+pub mod States

@@ -15,7 +15,7 @@ use words::{Absorb, InputTooLong, Tag};
 /// key's block among them, never wraps.
 #[derive(Drop)]
 pub struct Blake2b {
-    hasher: Hasher<Chain2b, 128, 16>,
+    pub(crate) hasher: Hasher<Chain2b, 128, 16>,
 }
 
 impl Blake2b {

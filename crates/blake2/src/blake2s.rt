@@ -15,7 +15,7 @@ use words::{Absorb, InputTooLong, Tag};
 /// key's block among them, never wraps.
 #[derive(Drop)]
 pub struct Blake2s {
-    hasher: Hasher<Chain2s, 64, 8>,
+    pub(crate) hasher: Hasher<Chain2s, 64, 8>,
 }
 
 impl Blake2s {

@@ -8,3 +8,12 @@ pub enum ParameterFault {
     /// The key has more bytes than the function takes: 64 for BLAKE2b, 32 for BLAKE2s.
     KeyLength,
 }
+
+/// Why a hasher's plain numbers take no piece.
+#[derive(Clone, Copy, Debug, PartialEq, Eq, Drop)]
+pub enum StateFault {
+    /// They are those of no hasher.
+    NotBegun,
+    /// The message would pass its limit.
+    TooLong,
+}

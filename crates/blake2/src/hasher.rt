@@ -1,6 +1,6 @@
 // A hasher under its parameters, over the chaining value of either function.
 
-ghost use Rattle.std.specs.Prelude.{◌≡◌, ◌≤◌, ◌+◌, ◌-◌, ◌*◌, ◌++◌, ◌↔◌, [], ℕ, List, length, Some, None, MatchResult};
+ghost use Rattle.std.specs.Prelude.{◌≡◌, ◌≤◌, ◌<◌, ◌+◌, ◌-◌, ◌*◌, ◌++◌, ◌↔◌, [], ℕ, List, length, Some, None, MatchResult};
 ghost use Rattle.std.specs.Prelude.{IsOk, OnOk, OnErr};
 ghost use Rattle.blake2.specs.Blake2.{Parameters, blake2, salted, start, word_len};
 ghost use Rattle.blake2.specs.Faults.{parameter_fault};
@@ -67,6 +67,7 @@ pub(crate) struct Hasher<C: Chain<N>, const N: usize, const S: usize> {
     pub(crate) key: Tag,
     pub(crate) salt: [u8; S],
     pub(crate) personal: [u8; S],
+    ghost digest_some: { 0 < digest_length },
     ghost digest_fits: { digest_length ≤ C.OUT },
     ghost key_fits: { length key ≤ C.OUT },
     ghost salt_whole: { length salt ≡ 2 * word_len C.variant },

@@ -14,8 +14,10 @@
 
 pub use blake2b::Blake2b;
 pub use blake2s::Blake2s;
-pub use fault::ParameterFault;
+pub use fault::{ParameterFault, StateFault};
 pub use laws::parameter_laws;
+pub use state2b::Blake2bState;
+pub use state2s::Blake2sState;
 
 mod blake2b;
 mod blake2s;
@@ -23,4 +25,6 @@ mod chain;
 mod fault;
 mod hasher;
 mod laws;
+mod state2b;
+mod state2s;
 mod stream;

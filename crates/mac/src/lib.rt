@@ -15,7 +15,7 @@
 pub use blake2_hash::{Blake2b512, Blake2s256};
 pub use block_hash::BlockHash;
 pub use hmac::{Hmac, TagLength};
-pub use key::KeyTooLong;
+pub use key::{KeyTooLong, block_sized_key, xor_each};
 pub use laws::hash_laws;
 pub use sha2_stream::{Sha256Stream, Sha512Stream};
 

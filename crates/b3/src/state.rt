@@ -1,0 +1,98 @@
+// A hasher as plain numbers.
+
+ghost use Rattle.std.specs.Prelude.{◌≡◌, ◌↔◌, ℕ, List, IsTrue, IsSome, IfSome};
+ghost use Rattle.b3.specs.inside.States.{IsBegun, IsKept, StateHolds};
+
+use crate::chunk::Chunk;
+use crate::hasher::Blake3;
+use arrayvec::ArrayVec;
+use words::Absorb;
+
+/// What a BLAKE3 hasher keeps between two calls, as plain numbers of a fixed layout. Each content of
+/// this memory is a value of the type: one that no hasher left is refused, or holds no message that is
+/// known, and no call reads outside it. It holds no pointer, and may be copied. It is for the memory of
+/// one process, and no format: its fields can change.
+#[repr(C)]
+#[derive(Drop)]
+pub struct Blake3State {
+    key: [u32; 8],
+    value: [u32; 8],
+    closed: u64,
+    len: u64,
+    // one more than the flag, so that zeros are no hasher's
+    mode: u64,
+    block: [u8; 64],
+    // of which as many are in use as `closed` has one-bits
+    stack: [[u32; 8]; 54],
+}
+
+#[tactic(auto, unfolding(crate::specs::inside::States::IsBegun, crate::specs::inside::States::StateHolds))]
+impl Blake3State {
+    /// Keeps what `hasher` has taken.
+    pub fn save(&mut self, hasher: &Blake3)
+        ensures { (m : List ℕ) → ⟦<Blake3 as Absorb>⟧.holds hasher.now m
+            → StateHolds self.new (⟦<Blake3 as Absorb>⟧.parameters hasher.now) m }
+    {
+        self.keep(hasher);
+    }
+
+    /// The hasher that these are the numbers of. It is `None` exactly where they are those of none.
+    pub fn resume(&self) -> Option<Blake3>
+        ensures begun { IsSome result ↔ IsBegun self.now }
+        ensures held { (p m : List ℕ) → StateHolds self.now p m → IsSome result }
+        ensures parameters { IfSome result (λ hasher. (p m : List ℕ) → StateHolds self.now p m
+            → ⟦<Blake3 as Absorb>⟧.parameters hasher ≡ p) }
+        ensures holds { IfSome result (λ hasher. (p m : List ℕ) → StateHolds self.now p m
+            → ⟦<Blake3 as Absorb>⟧.holds hasher m) }
+    {
+        if !self.is_begun() {
+            return None;
+        }
+        Some(self.hasher())
+    }
+
+    fn is_begun(&self) -> bool
+        ensures { IsTrue result ↔ IsBegun self.now }
+    {
+        0 < self.mode
+            && self.mode <= 256
+            && self.len <= 1024
+            && self.closed < 0x40_0000_0000_0000
+            && 1024 * self.closed <= u64::MAX - self.len
+            && self.closed.count_ones() <= 54
+    }
+
+    fn hasher(&self) -> Blake3
+        requires { IsBegun self.now }
+        ensures { IsKept self.now result }
+    {
+        let held = self.closed.count_ones() as usize;
+        let mut stack = ArrayVec::new();
+        stack.try_extend_from_slice(&self.stack[..held]).unwrap();
+        Blake3 {
+            key: self.key,
+            flags: (self.mode - 1) as u8,
+            stack,
+            closed: self.closed,
+            chunk: Chunk {
+                value: self.value,
+                block: self.block,
+                len: self.len as usize,
+            },
+        }
+    }
+
+    fn keep(&mut self, hasher: &Blake3)
+        ensures begun { IsBegun self.new }
+        ensures kept { IsKept self.new hasher.now }
+    {
+        let stack = hasher.stack.as_slice();
+        self.stack[..stack.len()].copy_from_slice(stack);
+        self.key = hasher.key;
+        self.mode = u64::from(hasher.flags) + 1;
+        self.closed = hasher.closed;
+        self.value = hasher.chunk.value;
+        self.block = hasher.chunk.block;
+        self.len = hasher.chunk.len as u64;
+    }
+}
