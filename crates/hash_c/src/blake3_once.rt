@@ -1,0 +1,74 @@
+// BLAKE3 of a message that lies in memory as a whole.
+
+ghost use Rattle.std.specs.Prelude.{◌≡◌, ◌<◌, ℕ, List, length};
+ghost use Rattle.b3.specs.Bytes.{slice};
+ghost use Rattle.b3.specs.Modes.{derive_root, hash_root, keyed_root, root_of};
+ghost use Rattle.hash_c.specs.Statuses.{output_status};
+
+use b3::Blake3;
+use words::Absorb;
+
+/// Fills `out` with the bytes of the hasher's output from `position` on: 5 where they would end after
+/// position 2^64 - 1 (the BLAKE3 paper, section 2.6).
+pub fn output_into(hasher: &Blake3, position: u64, out: &mut [u8]) -> u32
+    ensures status { result ≡ output_status position (length out.old) }
+    ensures bytes { (m : List ℕ) → ⟦<Blake3 as Absorb>⟧.holds hasher.now m → result ≡ 0
+        → out.new ≡ slice (root_of (⟦<Blake3 as Absorb>⟧.parameters hasher.now) m) position (length out.old) }
+    ensures kept { 0 < result → out.new ≡ out.old }
+{
+    let mut output = hasher.output();
+    output.seek(position);
+    match output.fill(out) {
+        Ok(()) => 0,
+        Err(_) => 5,
+    }
+}
+
+/// Fills `out` with the bytes of BLAKE3's hash of `input` from `position` on (the BLAKE3 paper,
+/// sections 2.3 and 2.6): 5 where they would end after position 2^64 - 1.
+#[unsafe(no_mangle)]
+pub extern "C" fn sums_blake3(out: &mut [u8], position: u64, input: &[u8]) -> u32
+    ensures status { result ≡ output_status position (length out.old) }
+    ensures bytes { result ≡ 0 → out.new ≡ slice (hash_root input.now) position (length out.old) }
+    ensures kept { 0 < result → out.new ≡ out.old }
+{
+    let mut hasher = Blake3::new();
+    hasher.update(input).unwrap();
+    output_into(&hasher, position, out)
+}
+
+/// The same under a key of 32 bytes.
+#[unsafe(no_mangle)]
+pub extern "C" fn sums_blake3_keyed(
+    out: &mut [u8],
+    position: u64,
+    input: &[u8],
+    key: &[u8; 32],
+) -> u32
+    ensures status { result ≡ output_status position (length out.old) }
+    ensures bytes { result ≡ 0 → out.new ≡ slice (keyed_root key.now input.now) position (length out.old) }
+    ensures kept { 0 < result → out.new ≡ out.old }
+{
+    let mut hasher = Blake3::keyed(key);
+    hasher.update(input).unwrap();
+    output_into(&hasher, position, out)
+}
+
+/// The same of what is derived from key material under a context, a text that is meant for one use
+/// alone.
+#[unsafe(no_mangle)]
+pub extern "C" fn sums_blake3_derive(
+    out: &mut [u8],
+    position: u64,
+    material: &[u8],
+    context: &[u8],
+) -> u32
+    ensures status { result ≡ output_status position (length out.old) }
+    ensures bytes { result ≡ 0
+        → out.new ≡ slice (derive_root context.now material.now) position (length out.old) }
+    ensures kept { 0 < result → out.new ≡ out.old }
+{
+    let mut hasher = Blake3::derive(context);
+    hasher.update(material).unwrap();
+    output_into(&hasher, position, out)
+}

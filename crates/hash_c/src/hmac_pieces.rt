@@ -1,0 +1,162 @@
+// HMAC over BLAKE2 of a text that comes in pieces (RFC 2104). The state lies in the caller's memory: two hashers, of
+// which one has taken the key with the inner pad and then the text, the other the key with the outer pad.
+
+ghost use Rattle.std.specs.Prelude.{◌≡◌, ◌<◌, ◌+◌, ◌-◌, ◌^◌, ◌++◌, ◌↔◌, [], ℕ, List, length, take};
+ghost use Rattle.words.specs.Blake2.{blake2b, blake2s};
+ghost use Rattle.blake2.specs.Blake2.{blake2, unsalted};
+ghost use Rattle.blake2.specs.inside.States.{IsBegun2b, IsBegun2s};
+ghost use Rattle.mac.specs.Hmac.{block_sized_key, hmac_of_block_key};
+ghost use Rattle.states.specs.Macs.{IsMac};
+ghost use Rattle.hash_c.specs.Macs.{IsMac2b, IsMac2s};
+ghost use Rattle.hash_c.specs.Statuses.{input_status, key_status, tag_status};
+
+use crate::tags::state_status;
+use blake2::{Blake2bState, Blake2sState};
+use mac::{Blake2b512, Blake2s256, BlockHash};
+use states::{StateOf, begin_hmac, finish_hmac};
+
+// Begins a MAC under a key.
+fn begin<H: BlockHash, S: StateOf<H>>(inner: &mut S, outer: &mut S, key: &[u8]) -> u32
+    ensures status { result ≡ key_status H.LIMIT (length key.now) }
+    ensures begun { result ≡ 0
+        → IsMac S.holds H.BLOCK (block_sized_key H.hash_of H.BLOCK key.now) inner.new outer.new [] }
+    ensures inner_kept { 0 < result → inner.new ≡ inner.old }
+    ensures outer_kept { 0 < result → outer.new ≡ outer.old }
+{
+    match begin_hmac::<H, S>(inner, outer, key) {
+        Ok(()) => 0,
+        Err(_) => 2,
+    }
+}
+
+// Adds a piece to the text, which is the inner hasher's.
+fn update<H: BlockHash, S: StateOf<H>>(inner: &mut S, piece: &[u8]) -> u32
+    ensures status { (m : List ℕ) → S.holds inner.old m
+        → result ≡ input_status H.LIMIT (length m + length piece.now) }
+    ensures appended { (m : List ℕ) → S.holds inner.old m → result ≡ 0
+        → S.holds inner.new (m ++ piece.now) }
+    ensures not_begun { (result ≡ 4) ↔ (S.is_begun inner.old → ⊥) }
+    ensures kept { 0 < result → inner.new ≡ inner.old }
+{
+    match inner.update(piece) {
+        Ok(()) => 0,
+        Err(fault) => state_status(fault),
+    }
+}
+
+// Fills `out` with the first bytes of the tag.
+fn finish<H: BlockHash, S: StateOf<H>>(inner: &S, outer: &S, out: &mut [u8]) -> u32
+    ensures status { (k m : List ℕ) → IsMac S.holds H.BLOCK k inner.now outer.now m
+        → result ≡ tag_status H.OUT (length out.old) }
+    ensures tag { (k m : List ℕ) → IsMac S.holds H.BLOCK k inner.now outer.now m → result ≡ 0
+        → out.new ≡ take (length out.old) (hmac_of_block_key H.hash_of k m) }
+    ensures inner_not_begun { (S.is_begun inner.now → ⊥) → result ≡ 4 }
+    ensures outer_not_begun { (S.is_begun outer.now → ⊥) → result ≡ 4 }
+    ensures kept { 0 < result → out.new ≡ out.old }
+{
+    let Some(tag) = finish_hmac::<H, S>(inner, outer) else {
+        return 4;
+    };
+    let bytes = tag.bytes();
+    if out.len() < H::OUT / 2 || out.len() > bytes.len() {
+        return 1;
+    }
+    out.copy_from_slice(&bytes[..out.len()]);
+    0
+}
+
+/// An HMAC over BLAKE2b with digests of 64 bytes between two calls.
+#[repr(C)]
+#[derive(Drop)]
+pub struct HmacBlake2bState {
+    inner: Blake2bState,
+    outer: Blake2bState,
+}
+
+/// Begins the HMAC of a text under `key` over BLAKE2b with digests of 64 bytes: 2 where the key is longer than
+/// 2^128 - 1 bytes.
+#[unsafe(no_mangle)]
+pub extern "C" fn sums_hmac_blake2b_init(state: &mut HmacBlake2bState, key: &[u8]) -> u32
+    ensures status { result ≡ key_status (2 ^ 128 - 1) (length key.now) }
+    ensures begun { result ≡ 0
+        → IsMac2b state.new (block_sized_key (blake2 blake2b (unsalted blake2b 64 [])) 128 key.now) [] }
+    ensures kept { 0 < result → state.new ≡ state.old }
+{
+    begin::<Blake2b512, Blake2bState>(&mut state.inner, &mut state.outer, key)
+}
+
+/// Adds a piece to the text: 4 where `state` was never begun, and else 3 where the text would be longer
+/// than 2^128 - 129 bytes.
+#[unsafe(no_mangle)]
+pub extern "C" fn sums_hmac_blake2b_update(state: &mut HmacBlake2bState, piece: &[u8]) -> u32
+    ensures status { (k m : List ℕ) → IsMac2b state.old k m
+        → result ≡ input_status (2 ^ 128 - 1 - 128) (length m + length piece.now) }
+    ensures appended { (k m : List ℕ) → IsMac2b state.old k m → result ≡ 0
+        → IsMac2b state.new k (m ++ piece.now) }
+    ensures not_begun { (result ≡ 4) ↔ (IsBegun2b state.old.inner → ⊥) }
+    ensures kept { 0 < result → state.new ≡ state.old }
+{
+    update::<Blake2b512, Blake2bState>(&mut state.inner, piece)
+}
+
+/// Fills `out` with the first bytes of the tag (RFC 2104, section 5): 4 where `state` was never begun,
+/// and else 1 where `out` has fewer than 32 bytes or more than 64. The text can go on.
+#[unsafe(no_mangle)]
+pub extern "C" fn sums_hmac_blake2b_finish(state: &HmacBlake2bState, out: &mut [u8]) -> u32
+    ensures status { (k m : List ℕ) → IsMac2b state.now k m → result ≡ tag_status 64 (length out.old) }
+    ensures tag { (k m : List ℕ) → IsMac2b state.now k m → result ≡ 0
+        → out.new ≡ take (length out.old) (hmac_of_block_key (blake2 blake2b (unsalted blake2b 64 [])) k m) }
+    ensures inner_not_begun { (IsBegun2b state.now.inner → ⊥) → result ≡ 4 }
+    ensures outer_not_begun { (IsBegun2b state.now.outer → ⊥) → result ≡ 4 }
+    ensures kept { 0 < result → out.new ≡ out.old }
+{
+    finish::<Blake2b512, Blake2bState>(&state.inner, &state.outer, out)
+}
+
+/// An HMAC over BLAKE2s with digests of 32 bytes between two calls.
+#[repr(C)]
+#[derive(Drop)]
+pub struct HmacBlake2sState {
+    inner: Blake2sState,
+    outer: Blake2sState,
+}
+
+/// Begins the HMAC of a text under `key` over BLAKE2s with digests of 32 bytes: 2 where the key is longer than
+/// 2^64 - 1 bytes.
+#[unsafe(no_mangle)]
+pub extern "C" fn sums_hmac_blake2s_init(state: &mut HmacBlake2sState, key: &[u8]) -> u32
+    ensures status { result ≡ key_status (2 ^ 64 - 1) (length key.now) }
+    ensures begun { result ≡ 0
+        → IsMac2s state.new (block_sized_key (blake2 blake2s (unsalted blake2s 32 [])) 64 key.now) [] }
+    ensures kept { 0 < result → state.new ≡ state.old }
+{
+    begin::<Blake2s256, Blake2sState>(&mut state.inner, &mut state.outer, key)
+}
+
+/// Adds a piece to the text: 4 where `state` was never begun, and else 3 where the text would be longer
+/// than 2^64 - 65 bytes.
+#[unsafe(no_mangle)]
+pub extern "C" fn sums_hmac_blake2s_update(state: &mut HmacBlake2sState, piece: &[u8]) -> u32
+    ensures status { (k m : List ℕ) → IsMac2s state.old k m
+        → result ≡ input_status (2 ^ 64 - 1 - 64) (length m + length piece.now) }
+    ensures appended { (k m : List ℕ) → IsMac2s state.old k m → result ≡ 0
+        → IsMac2s state.new k (m ++ piece.now) }
+    ensures not_begun { (result ≡ 4) ↔ (IsBegun2s state.old.inner → ⊥) }
+    ensures kept { 0 < result → state.new ≡ state.old }
+{
+    update::<Blake2s256, Blake2sState>(&mut state.inner, piece)
+}
+
+/// Fills `out` with the first bytes of the tag (RFC 2104, section 5): 4 where `state` was never begun,
+/// and else 1 where `out` has fewer than 16 bytes or more than 32. The text can go on.
+#[unsafe(no_mangle)]
+pub extern "C" fn sums_hmac_blake2s_finish(state: &HmacBlake2sState, out: &mut [u8]) -> u32
+    ensures status { (k m : List ℕ) → IsMac2s state.now k m → result ≡ tag_status 32 (length out.old) }
+    ensures tag { (k m : List ℕ) → IsMac2s state.now k m → result ≡ 0
+        → out.new ≡ take (length out.old) (hmac_of_block_key (blake2 blake2s (unsalted blake2s 32 [])) k m) }
+    ensures inner_not_begun { (IsBegun2s state.now.inner → ⊥) → result ≡ 4 }
+    ensures outer_not_begun { (IsBegun2s state.now.outer → ⊥) → result ≡ 4 }
+    ensures kept { 0 < result → out.new ≡ out.old }
+{
+    finish::<Blake2s256, Blake2sState>(&state.inner, &state.outer, out)
+}

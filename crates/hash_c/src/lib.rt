@@ -1,0 +1,16 @@
+//! The hashers for callers that are not Rattle: each call is one function of a static library.
+//!
+//! A slice is a pointer and then a length in bytes. A status of 0 says that all was done; any other
+//! says why nothing was, and then what the caller lent is as it was.
+#![tactic(auto, unfolding(crate::specs::Statuses::parameter_status, crate::specs::Statuses::fault_status))]
+
+mod blake2_once;
+mod blake2b_pieces;
+mod blake2s_pieces;
+mod blake3_once;
+mod blake3_pieces;
+mod hkdf_once;
+mod hmac_once;
+mod hmac_pieces;
+mod sha2_once;
+mod tags;

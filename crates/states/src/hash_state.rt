@@ -1,0 +1,80 @@
+// What HMAC asks of a hasher that is kept as plain numbers.
+
+ghost use Rattle.std.specs.Prelude.{◌≡◌, ◌<◌, ◌≤◌, ◌+◌, ◌++◌, ◌↔◌, [], ℕ, List, length, IsOk, IsSome, IfSome, OnOk};
+ghost use Rattle.std.specs.Prelude.{OnErr, IsErrOf};
+ghost use Rattle.words.specs.Blake2.{blake2b, blake2s};
+ghost use Rattle.blake2.specs.Blake2.{unsalted};
+ghost use Rattle.blake2.specs.inside.States.{IsBegun2b, IsBegun2s, StateHolds2b, StateHolds2s};
+
+use blake2::{Blake2b, Blake2bState, Blake2s, Blake2sState, StateFault};
+use mac::{Blake2b512, Blake2s256, BlockHash};
+use words::Tag;
+
+/// The plain numbers of a hasher of the function `H`. Each content is a value; what no hasher left is
+/// refused, or holds no message that is known.
+pub trait StateOf<H: BlockHash>: Copy {
+    // The hasher has taken these bytes.
+    ghost holds: { Self → List ℕ → Type 0 };
+
+    // These can be the numbers of a hasher.
+    ghost is_begun: { Self → Type 0 };
+
+    /// Begins a message.
+    fn begin(&mut self)
+        ensures { holds self.new [] };
+
+    /// Takes `piece` after what was taken before. It is refused where these are the numbers of no hasher,
+    /// and else where the message would pass `H::LIMIT` bytes.
+    fn update(&mut self, piece: &[u8]) -> Result<(), StateFault>
+        ensures fits { (m : List ℕ) → holds self.old m
+            → IsOk result ↔ (length m + length piece.now ≤ H.LIMIT) }
+        ensures appended { OnOk result ((m : List ℕ) → holds self.old m → holds self.new (m ++ piece.now)) }
+        ensures too_long { (m : List ℕ) → holds self.old m → IsErrOf result StateFault.TooLong
+            ↔ (H.LIMIT < length m + length piece.now) }
+        ensures not_begun { IsErrOf result StateFault.NotBegun ↔ (is_begun self.old → ⊥) }
+        ensures refused { OnErr result (self.new ≡ self.old) };
+
+    /// The digest of the message, which can go on. It is `None` exactly where these are the numbers of no
+    /// hasher.
+    fn finish(&self) -> Option<Tag>
+        ensures begun { IsSome result ↔ is_begun self.now }
+        ensures held { (m : List ℕ) → holds self.now m → IsSome result }
+        ensures digest { IfSome result (λ tag. (m : List ℕ) → holds self.now m → tag ≡ H.hash_of m) }
+        ensures length { IfSome result (λ tag. (m : List ℕ) → holds self.now m → length tag ≡ H.OUT) };
+}
+
+impl StateOf<Blake2b512> for Blake2bState {
+    ghost holds = { λ s m. StateHolds2b s (unsalted blake2b 64 []) m };
+
+    ghost is_begun = { λ s. IsBegun2b s };
+
+    fn begin(&mut self) {
+        self.save(&Blake2b::new(64).unwrap());
+    }
+
+    fn update(&mut self, piece: &[u8]) -> Result<(), StateFault> {
+        Blake2bState::update(self, piece)
+    }
+
+    fn finish(&self) -> Option<Tag> {
+        Blake2bState::finish(self)
+    }
+}
+
+impl StateOf<Blake2s256> for Blake2sState {
+    ghost holds = { λ s m. StateHolds2s s (unsalted blake2s 32 []) m };
+
+    ghost is_begun = { λ s. IsBegun2s s };
+
+    fn begin(&mut self) {
+        self.save(&Blake2s::new(32).unwrap());
+    }
+
+    fn update(&mut self, piece: &[u8]) -> Result<(), StateFault> {
+        Blake2sState::update(self, piece)
+    }
+
+    fn finish(&self) -> Option<Tag> {
+        Blake2sState::finish(self)
+    }
+}
