@@ -1,0 +1,181 @@
+/* BLAKE2b, BLAKE2s (RFC 7693), BLAKE3, SHA-256, SHA-512 (FIPS 180-4), HMAC (RFC 2104) and HKDF (RFC 5869), each
+ * proved against its definition. No call allocates, keeps a global, sets errno or starts a thread.
+ *
+ * What the caller owes:
+ * - A buffer is a pointer and then its length in bytes, below 2^63. Where the length is 0 the pointer may be null;
+ *   else it is valid for that many bytes. An array such as key[32] and a state are never null.
+ * - An output and a state overlap nothing else of the call, and are initialised memory: zeros will do.
+ * - A state serves one thread at a time. Calls on different states may run side by side.
+ * - 32 KiB of stack.
+ *
+ * What the caller gets: a status. Any status but 0 says that the call wrote nothing: outputs and state are as they
+ * were. Nothing is wiped, and no constant time is claimed. */
+#ifndef SUMS_HASH_H
+#define SUMS_HASH_H
+
+#include <stddef.h>
+#include <stdint.h>
+
+#ifdef __cplusplus
+extern "C" {
+#endif
+
+enum {
+    SUMS_OK = 0,             /* all is done */
+    SUMS_DIGEST_LENGTH = 1,  /* the function has no output of that length */
+    SUMS_KEY_LENGTH = 2,     /* the function takes no key or salt of that length */
+    SUMS_INPUT_TOO_LONG = 3, /* the message is longer than the function takes */
+    SUMS_NOT_BEGUN = 4,      /* the state was never begun, or holds numbers that no call leaves */
+    SUMS_END_OF_OUTPUT = 5   /* the output has no such bytes */
+};
+
+/* ---- BLAKE2, whole messages
+ *
+ * Write a digest of out_len bytes: 1 to 64 of BLAKE2b, 1 to 32 of BLAKE2s. A key has up to 64 and up to 32 bytes; one
+ * of no bytes is no key. Without a salt and a personalization both are zeros.
+ * Answer SUMS_OK, SUMS_DIGEST_LENGTH, or else SUMS_KEY_LENGTH. */
+uint32_t sums_blake2b(uint8_t *out, size_t out_len, const uint8_t *input, size_t input_len,
+                      const uint8_t *key, size_t key_len);
+uint32_t sums_blake2b_salted(uint8_t *out, size_t out_len, const uint8_t *input, size_t input_len,
+                             const uint8_t *key, size_t key_len,
+                             const uint8_t salt[16], const uint8_t personal[16]);
+uint32_t sums_blake2s(uint8_t *out, size_t out_len, const uint8_t *input, size_t input_len,
+                      const uint8_t *key, size_t key_len);
+uint32_t sums_blake2s_salted(uint8_t *out, size_t out_len, const uint8_t *input, size_t input_len,
+                             const uint8_t *key, size_t key_len,
+                             const uint8_t salt[8], const uint8_t personal[8]);
+
+/* ---- BLAKE3, whole messages
+ *
+ * Write out_len bytes of the output, any number of them, from a position in bytes on; a digest is the first 32.
+ * Answer SUMS_OK, or SUMS_END_OF_OUTPUT where position + out_len is above 2^64 - 1. */
+uint32_t sums_blake3(uint8_t *out, size_t out_len, uint64_t position, const uint8_t *input, size_t input_len);
+uint32_t sums_blake3_keyed(uint8_t *out, size_t out_len, uint64_t position, const uint8_t *input, size_t input_len,
+                           const uint8_t key[32]);
+/* derive_key: the bytes are derived from key material for a context, which is a text of the application. */
+uint32_t sums_blake3_derive(uint8_t *out, size_t out_len, uint64_t position,
+                            const uint8_t *material, size_t material_len,
+                            const uint8_t *context, size_t context_len);
+
+/* ---- SHA-2, whole messages. Write a digest, and refuse nothing. */
+void sums_sha256(uint8_t out[32], const uint8_t *input, size_t input_len);
+void sums_sha512(uint8_t out[64], const uint8_t *input, size_t input_len);
+
+/* ---- HMAC, whole messages, over SHA-256, SHA-512, BLAKE2b of 64 bytes and BLAKE2s of 32
+ *
+ * Write the first out_len bytes of the tag: half of it at least and the whole at most, which is 16 to 32 of SHA-256
+ * and BLAKE2s and 32 to 64 of SHA-512 and BLAKE2b. A key has any length.
+ * Answer SUMS_OK, SUMS_DIGEST_LENGTH, or else SUMS_KEY_LENGTH and SUMS_INPUT_TOO_LONG for a key and a message that are
+ * longer than the hash takes, as nothing in memory is: 2^61 - 1 bytes of SHA-256, 2^125 - 1 of SHA-512, 2^128 - 1 of
+ * BLAKE2b and 2^64 - 1 of BLAKE2s, and for the message a block less (64 bytes for SHA-256 and BLAKE2s, 128 for the
+ * other two). */
+uint32_t sums_hmac_sha256(uint8_t *out, size_t out_len, const uint8_t *input, size_t input_len,
+                          const uint8_t *key, size_t key_len);
+uint32_t sums_hmac_sha512(uint8_t *out, size_t out_len, const uint8_t *input, size_t input_len,
+                          const uint8_t *key, size_t key_len);
+uint32_t sums_hmac_blake2b(uint8_t *out, size_t out_len, const uint8_t *input, size_t input_len,
+                           const uint8_t *key, size_t key_len);
+uint32_t sums_hmac_blake2s(uint8_t *out, size_t out_len, const uint8_t *input, size_t input_len,
+                           const uint8_t *key, size_t key_len);
+
+/* ---- HKDF over the same hashes
+ *
+ * Write a key of out_len bytes: up to 255 digests, which is 8,160 bytes of SHA-256 and BLAKE2s and 16,320 of SHA-512
+ * and BLAKE2b. A salt of no bytes is none.
+ * Answer SUMS_OK, SUMS_END_OF_OUTPUT for more bytes, and SUMS_KEY_LENGTH and SUMS_INPUT_TOO_LONG for a salt, and for
+ * material or info, that are longer than the hash takes, as nothing in memory is. */
+uint32_t sums_hkdf_sha256(uint8_t *out, size_t out_len, const uint8_t *material, size_t material_len,
+                          const uint8_t *salt, size_t salt_len, const uint8_t *info, size_t info_len);
+uint32_t sums_hkdf_sha512(uint8_t *out, size_t out_len, const uint8_t *material, size_t material_len,
+                          const uint8_t *salt, size_t salt_len, const uint8_t *info, size_t info_len);
+uint32_t sums_hkdf_blake2b(uint8_t *out, size_t out_len, const uint8_t *material, size_t material_len,
+                           const uint8_t *salt, size_t salt_len, const uint8_t *info, size_t info_len);
+uint32_t sums_hkdf_blake2s(uint8_t *out, size_t out_len, const uint8_t *material, size_t material_len,
+                           const uint8_t *salt, size_t salt_len, const uint8_t *info, size_t info_len);
+
+/* Its first step writes a pseudorandom key, as long as a digest. Answers SUMS_OK, and SUMS_KEY_LENGTH and
+ * SUMS_INPUT_TOO_LONG as above. */
+uint32_t sums_hkdf_extract_sha256(uint8_t prk[32], const uint8_t *material, size_t material_len,
+                                  const uint8_t *salt, size_t salt_len);
+uint32_t sums_hkdf_extract_sha512(uint8_t prk[64], const uint8_t *material, size_t material_len,
+                                  const uint8_t *salt, size_t salt_len);
+uint32_t sums_hkdf_extract_blake2b(uint8_t prk[64], const uint8_t *material, size_t material_len,
+                                   const uint8_t *salt, size_t salt_len);
+uint32_t sums_hkdf_extract_blake2s(uint8_t prk[32], const uint8_t *material, size_t material_len,
+                                   const uint8_t *salt, size_t salt_len);
+/* Its second step takes a pseudorandom key as long as a digest, or longer. Answers SUMS_OK, SUMS_KEY_LENGTH for a
+ * shorter one, or else as above. */
+uint32_t sums_hkdf_expand_sha256(uint8_t *out, size_t out_len, const uint8_t *prk, size_t prk_len,
+                                 const uint8_t *info, size_t info_len);
+uint32_t sums_hkdf_expand_sha512(uint8_t *out, size_t out_len, const uint8_t *prk, size_t prk_len,
+                                 const uint8_t *info, size_t info_len);
+uint32_t sums_hkdf_expand_blake2b(uint8_t *out, size_t out_len, const uint8_t *prk, size_t prk_len,
+                                  const uint8_t *info, size_t info_len);
+uint32_t sums_hkdf_expand_blake2s(uint8_t *out, size_t out_len, const uint8_t *prk, size_t prk_len,
+                                  const uint8_t *info, size_t info_len);
+
+/* ---- Messages in pieces: BLAKE2, BLAKE3, and HMAC over BLAKE2
+ *
+ * A state is plain memory of the caller's: begin it as zeros (= {0}), call init, update for each piece, and then
+ * finish or output, after which the message can go on. init begins anew at any time. A state may be copied by
+ * assignment, holds no pointer and needs no release. Its fields are the library's own, and no format to keep: they may
+ * change with the version of the library. Whatever bytes a state has, a call reads and writes nothing outside it: one
+ * that something else has written into is refused, or gives a digest of no meaning.
+ *
+ * init      begins a message; answers as the calls on whole messages do, of those lengths that it is given
+ * update    adds a piece; answers SUMS_OK, SUMS_NOT_BEGUN, or else SUMS_INPUT_TOO_LONG where the message would be
+ *           longer than the function takes: 2^128 - 1 bytes of BLAKE2b and 2^64 - 1 of BLAKE2s, each less a block
+ *           under a key and in HMAC (128 and 64 bytes); 2^64 - 1 of BLAKE3
+ * finish    writes the digest or the tag; answers SUMS_OK, SUMS_NOT_BEGUN, or else SUMS_DIGEST_LENGTH */
+
+/* BLAKE2. finish wants the out_len that init was given as digest_len. */
+typedef struct {
+    uint64_t h[8];
+    uint64_t compressed_low, compressed_high, used, digest_length;
+    uint8_t buffer[128];
+} sums_blake2b_state; /* 224 bytes */
+uint32_t sums_blake2b_init(sums_blake2b_state *state, size_t digest_len, const uint8_t *key, size_t key_len);
+uint32_t sums_blake2b_init_salted(sums_blake2b_state *state, size_t digest_len, const uint8_t *key, size_t key_len,
+                                  const uint8_t salt[16], const uint8_t personal[16]);
+uint32_t sums_blake2b_update(sums_blake2b_state *state, const uint8_t *piece, size_t piece_len);
+uint32_t sums_blake2b_finish(const sums_blake2b_state *state, uint8_t *out, size_t out_len);
+
+typedef struct {
+    uint32_t h[8];
+    uint64_t compressed, used, digest_length;
+    uint8_t buffer[64];
+} sums_blake2s_state; /* 120 bytes */
+uint32_t sums_blake2s_init(sums_blake2s_state *state, size_t digest_len, const uint8_t *key, size_t key_len);
+uint32_t sums_blake2s_init_salted(sums_blake2s_state *state, size_t digest_len, const uint8_t *key, size_t key_len,
+                                  const uint8_t salt[8], const uint8_t personal[8]);
+uint32_t sums_blake2s_update(sums_blake2s_state *state, const uint8_t *piece, size_t piece_len);
+uint32_t sums_blake2s_finish(const sums_blake2s_state *state, uint8_t *out, size_t out_len);
+
+/* BLAKE3: the hash, under a key, and derive_key, whose pieces are the key material. output writes out_len bytes from a
+ * position on; answers SUMS_OK, SUMS_NOT_BEGUN, or else SUMS_END_OF_OUTPUT. */
+typedef struct {
+    uint32_t key[8], value[8];
+    uint64_t closed, len, mode;
+    uint8_t block[64];
+    uint32_t stack[54][8];
+} sums_blake3_state; /* 1,880 bytes */
+void sums_blake3_init(sums_blake3_state *state);
+void sums_blake3_init_keyed(sums_blake3_state *state, const uint8_t key[32]);
+void sums_blake3_init_derive(sums_blake3_state *state, const uint8_t *context, size_t context_len);
+uint32_t sums_blake3_update(sums_blake3_state *state, const uint8_t *piece, size_t piece_len);
+uint32_t sums_blake3_output(const sums_blake3_state *state, uint64_t position, uint8_t *out, size_t out_len);
+
+/* HMAC over BLAKE2b of 64 bytes and BLAKE2s of 32. finish takes the out_len that the calls on whole messages do. */
+typedef struct { sums_blake2b_state inner, outer; } sums_hmac_blake2b_state; /* 448 bytes */
+typedef struct { sums_blake2s_state inner, outer; } sums_hmac_blake2s_state; /* 240 bytes */
+uint32_t sums_hmac_blake2b_init(sums_hmac_blake2b_state *state, const uint8_t *key, size_t key_len);
+uint32_t sums_hmac_blake2b_update(sums_hmac_blake2b_state *state, const uint8_t *piece, size_t piece_len);
+uint32_t sums_hmac_blake2b_finish(const sums_hmac_blake2b_state *state, uint8_t *out, size_t out_len);
+uint32_t sums_hmac_blake2s_init(sums_hmac_blake2s_state *state, const uint8_t *key, size_t key_len);
+uint32_t sums_hmac_blake2s_update(sums_hmac_blake2s_state *state, const uint8_t *piece, size_t piece_len);
+uint32_t sums_hmac_blake2s_finish(const sums_hmac_blake2s_state *state, uint8_t *out, size_t out_len);
+
+#ifdef __cplusplus
+}
+#endif
+#endif

@@ -1,0 +1,17 @@
+"""Prints digests of "abc" and a tag: python3 bindings/python/example.py"""
+
+import sums_hash
+
+print("blake2s", sums_hash.blake2s(b"abc").hexdigest())
+
+hasher = sums_hash.blake3()
+for piece in (b"a", b"b", b"c"):
+    hasher.update(piece)
+print("blake3 ", hasher.hexdigest())
+
+print("tag    ", sums_hash.hmac_sha256(b"key", b"abc").hex())
+
+try:
+    sums_hash.blake2b(b"abc", digest_size=65)
+except sums_hash.Refused as refused:
+    print("refused:", refused)

@@ -1,0 +1,32 @@
+//! Prints digests of "abc" and a tag:
+//! rustc --edition 2024 -O -L native=lib bindings/rust/example.rs && ./example
+
+mod sums_hash;
+
+use sums_hash::{Blake2b, Blake3, Refusal};
+
+fn print(name: &str, bytes: &[u8]) {
+    let digits: String = bytes.iter().map(|byte| format!("{byte:02x}")).collect();
+    println!("{name} {digits}");
+}
+
+fn main() -> Result<(), Refusal> {
+    let mut digest = [0; 32];
+    sums_hash::blake2s(&mut digest, b"abc", b"")?;
+    print("blake2s", &digest);
+
+    let mut hasher = Blake3::new();
+    for piece in [b"a", b"b", b"c"] {
+        hasher.update(piece)?;
+    }
+    hasher.output(0, &mut digest)?;
+    print("blake3 ", &digest);
+
+    sums_hash::hmac_sha256(&mut digest, b"abc", b"key")?;
+    print("tag    ", &digest);
+
+    if let Err(refusal) = Blake2b::new(65, b"") {
+        println!("refused: {refusal}");
+    }
+    Ok(())
+}

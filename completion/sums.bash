@@ -1,0 +1,61 @@
+# Completion for bash of the program sums: its commands, their options, names of algorithms, files.
+
+# Offers those of the words that begin with the one that is being written.
+_sums_words() {
+    mapfile -t COMPREPLY < <(compgen -W "$1" -- "$2")
+}
+
+# Leaves the rest to readline's completion of file names.
+_sums_files() {
+    compopt -o default
+}
+
+_sums() {
+    local word=${COMP_WORDS[COMP_CWORD]} before=${COMP_WORDS[COMP_CWORD - 1]} command=${COMP_WORDS[1]} i
+    local hashes='sha256 sha512 blake2b blake2s blake3'
+    local macs='hmac-sha256 hmac-sha512 hmac-blake2b hmac-blake2s blake2b blake2s blake3'
+    COMPREPLY=()
+    if ((COMP_CWORD == 1)); then
+        _sums_words 'hash mac kdf check help -h --help -V --version' "$word"
+        return
+    fi
+    # --key-file=F comes as three words
+    if [[ $word == = ]]; then
+        word=
+    elif [[ $before == = ]]; then
+        before=${COMP_WORDS[COMP_CWORD - 2]}
+    fi
+    if [[ $command == help ]]; then
+        if ((COMP_CWORD == 2)); then _sums_words 'hash mac kdf check help' "$word"; fi
+        return
+    fi
+    # behind -- all words are files
+    for ((i = 2; i < COMP_CWORD; i++)); do
+        if [[ ${COMP_WORDS[i]} == -- ]]; then
+            _sums_files
+            return
+        fi
+    done
+    case $before in
+        -a)
+            if [[ $command == mac ]]; then _sums_words "$macs" "$word"; else _sums_words "$hashes" "$word"; fi
+            return ;;
+        --parts)
+            _sums_words '1 2 4 8 16 32 64 128 256 512 1024' "$word"
+            return ;;
+        --key-file | --ikm-file)
+            _sums_files
+            return ;;
+        -l | --seek | --salt | --personal | --key | --info | --context)
+            return ;;
+    esac
+    case $command:$word in
+        hash:-*) _sums_words '-a -l --seek --parts --salt --personal --tag -h --help' "$word" ;;
+        mac:-*) _sums_words '-a -l --key --key-file -h --help' "$word" ;;
+        kdf:-* | kdf:) _sums_words '-a -l --ikm-file --salt --info --context -h --help' "$word" ;;
+        check:-*) _sums_words '-a -h --help' "$word" ;;
+        hash:* | mac:* | check:*) _sums_files ;;
+    esac
+}
+
+complete -F _sums sums
