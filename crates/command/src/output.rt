@@ -1,6 +1,6 @@
 // What a command prints: digits, and lines that end in a name.
 
-ghost use Rattle.std.specs.Prelude.{◌≡◌, ◌+◌, ◌-◌, ◌^◌, ◌≤◌, ◌++◌, length, MatchResult};
+ghost use Rattle.std.specs.Prelude.{◌≡◌, ◌+◌, ◌*◌, ◌-◌, ◌^◌, ◌≤◌, ◌++◌, length, MatchResult};
 ghost use Rattle.b3.specs.Bytes.{slice};
 ghost use Rattle.b3.specs.inside.Output.{output_position, output_root};
 ghost use Rattle.hex.specs.Hex.{encode_lower};
@@ -14,8 +14,10 @@ use b3::Output;
 use source::{Sink, WriteFailed, write_all};
 use sumlist::{WriteFault, fits, write_end, write_lead};
 
-// So many bytes are written as digits at a time.
+// So many bytes are written as digits at a time, and of a tag, whose buffer costs less, up to so many.
 const PIECE: usize = 4096;
+
+const TAG: usize = 64;
 
 /// Refuses a name that cannot stand after so many digits.
 pub(crate) fn named(digits: usize, name: &str) -> Result<(), Fault<'_>>
@@ -33,6 +35,9 @@ pub(crate) fn named(digits: usize, name: &str) -> Result<(), Fault<'_>>
 pub(crate) fn write_digits<W: Sink>(bytes: &[u8], out: &mut W) -> Result<(), WriteFailed>
     ensures { Writes result (W.shown out.old) (W.shown out.new) (encode_lower bytes.now) }
 {
+    if bytes.len() <= TAG {
+        return write_tag(bytes, out);
+    }
     let mut rest = bytes;
     while !rest.is_empty() {
         let (piece, after) = rest.split_at(rest.len().min(PIECE));
@@ -42,12 +47,28 @@ pub(crate) fn write_digits<W: Sink>(bytes: &[u8], out: &mut W) -> Result<(), Wri
     Ok(())
 }
 
+// The same of so few bytes as a tag has.
+fn write_tag<W: Sink>(bytes: &[u8], out: &mut W) -> Result<(), WriteFailed>
+    requires { length bytes.now ≤ TAG }
+    ensures { Writes result (W.shown out.old) (W.shown out.new) (encode_lower bytes.now) }
+{
+    write_within(bytes, &mut [0; 2 * TAG], out)
+}
+
 // The same of so few bytes that they are one piece.
+#[inline(never)] // its buffer is on the stack only while it is used
 fn write_piece<W: Sink>(bytes: &[u8], out: &mut W) -> Result<(), WriteFailed>
     requires { length bytes.now ≤ PIECE }
     ensures { Writes result (W.shown out.old) (W.shown out.new) (encode_lower bytes.now) }
 {
-    let mut digits = [0; 2 * PIECE];
+    write_within(bytes, &mut [0; 2 * PIECE], out)
+}
+
+// The same through a buffer for their digits.
+fn write_within<W: Sink>(bytes: &[u8], digits: &mut [u8], out: &mut W) -> Result<(), WriteFailed>
+    requires { 2 * length bytes.now ≤ length digits.old }
+    ensures { Writes result (W.shown out.old) (W.shown out.new) (encode_lower bytes.now) }
+{
     let (digits, _) = digits.split_at_mut(2 * bytes.len());
     hex::encode_to_slice(bytes, digits).unwrap();
     write_all(out, digits)
@@ -111,5 +132,5 @@ fn write_next<W: Sink>(output: &mut Output, count: usize, out: &mut W) -> Result
     let mut bytes = [0; PIECE];
     let (bytes, _) = bytes.split_at_mut(count);
     output.fill(bytes).unwrap();
-    write_piece(bytes, out)
+    write_digits(bytes, out)
 }
