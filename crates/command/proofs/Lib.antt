@@ -1,4 +1,5 @@
 pub mod Printing
+pub mod Reading
 pub mod Refused
 pub mod Digits
 pub mod Going

@@ -126,10 +126,3 @@ module _ {V : Type 0} (l : Lining) (name : Text) (is : List ℕ → V → Type 0
       PrintsLine l name (content_of name input files) r a c))
   line_done first tree nothing a b c stands read same shown done =
       line_listed first tree (Ok nothing) a b c stands read same shown (inl done)
-
--- what is left of standard input after its end, whatever comes then
-pub Leaves-after : {T S : Type 0} (b : Bool) (value : T) (r : Result S Fault) (old new : Option (List ℕ))
-    → (let s : Result T Fault = Ok value in Leaves b s old new) → Leaves b r old new
-Leaves-after true value (Ok x) old new p = p
-Leaves-after true value (Err f) old new p = (p.0, tt)
-Leaves-after false value r old new p = p

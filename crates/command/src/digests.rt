@@ -6,19 +6,18 @@ ghost use Rattle.b3.specs.Modes.{hash_root};
 ghost use Rattle.b3.specs.inside.Output.{output_position, output_root};
 ghost use Rattle.source.specs.Counts.{count_after};
 ghost use Rattle.source.specs.Digest.{IsInRange, digest, input_limit, tag_len};
-ghost use Rattle.sumlist.specs.Entry.{Fits};
 ghost use Rattle.task.specs.Requested.{HasDigest, IsPartSize, IsWithin, alg_of};
-ghost use Rattle.command.specs.Course.{Counted, Course, Takes, Tells, all_told};
+ghost use Rattle.command.specs.Course.{Tells, all_told};
 ghost use Rattle.command.specs.Hashing.{HashesAll};
-ghost use Rattle.command.specs.Lines.{IsListable, content_of, digest_line, hash_of, is_input, line_text};
+ghost use Rattle.command.specs.Lines.{IsListable, digest_line, hash_of, line_text};
 ghost use Rattle.command.specs.inside.Printing.{PrintsLine, PrintsListed};
 ghost use Rattle.command.specs.inside.Reading.{Leaves, Reads, failed};
-ghost use Rattle.command.specs.inside.Streams.{SameStreams};
+ghost use Rattle.command.specs.inside.Streams.{AfterReading, IfContent, SameStreams, TakesCourse};
 ghost use Rattle.command.specs.declared.fault.Fault.TheVariants.{BadName};
 
 use crate::fault::{Fault, tell};
 use crate::output::{named, write_line, write_output_line};
-use crate::session::{Session, absorb_feed, open_file};
+use crate::session::{Session, Streams, absorb_feed, open_file};
 use b3::{Blake3, Mode, Output};
 use blake2::{Blake2b, Blake2s};
 use source::{Alg, AnyHash, Feed, Sink, digest_of, output_in_parts};
@@ -39,12 +38,9 @@ impl<'i, 't, 'o, L: Feed, T: Tree, W: Sink> Session<'i, 't, 'o, L, T, W> {
     ) -> Result<u8, Fault<'n>>
         requires digest { HasDigest requested }
         requires parts { IfSome parts IsPartSize }
-        ensures course { IfSome (L.remaining self.old.input.now) (λ bytes. IfSome (T.files self.old.tree.now) (λ files.
-            (course : Course) × HashesAll (digest_line requested) files bytes (map (λ n. n.now) names.entry.now) course
-            × Takes course result (W.shown self.old.out.now) (W.shown self.new.out.now)
-            × Tells (E.shown err.old) (E.shown err.new) (all_told course.passed)
-            × Counted course.failures (L.failure_count self.old.input.now) (L.failure_count self.new.input.now)
-            (T.failure_count self.old.tree.now) (T.failure_count self.new.tree.now))) }
+        ensures course { TakesCourse (λ bytes files. HashesAll (digest_line requested) files bytes (map (λ n. n.now) names.entry.now))
+            (λ troubles. Tells (E.shown err.old) (E.shown err.new) (all_told troubles))
+            result (⟦<Self as Streams>⟧.seen self.old) (⟦<Self as Streams>⟧.seen self.new) }
         ensures same { SameStreams self.old self.new }
     {
         let mut status = 0;
@@ -68,18 +64,11 @@ impl<'i, 't, 'o, L: Feed, T: Tree, W: Sink> Session<'i, 't, 'o, L, T, W> {
     ) -> Result<(), Fault<'n>>
         requires digest { HasDigest requested }
         requires parts { IfSome parts IsPartSize }
-        ensures line { IfSome (L.remaining self.old.input.now) (λ bytes.
-            IfSome (T.files self.old.tree.now) (λ files.
-            PrintsLine (digest_line requested) name.entry.now (content_of name.entry.now bytes files) result
-            (W.shown self.old.out.now) (W.shown self.new.out.now))) }
-        ensures counted { IfSome (L.remaining self.old.input.now) (λ bytes.
-            IfSome (T.files self.old.tree.now) (λ files.
-            Counted (failed (is_input name.entry.now) (content_of name.entry.now bytes files) result)
-            (L.failure_count self.old.input.now) (L.failure_count self.new.input.now)
-            (T.failure_count self.old.tree.now) (T.failure_count self.new.tree.now))) }
-        ensures gave { Leaves (is_input name.entry.now) result
-            (L.remaining self.old.input.now) (L.remaining self.new.input.now) }
-        ensures files { T.files self.new.tree.now ≡ T.files self.old.tree.now }
+        ensures line { IfContent name.entry.now (⟦<Self as Streams>⟧.seen self.old) (λ content.
+            PrintsLine (digest_line requested) name.entry.now content result
+            (W.shown self.old.out.now) (W.shown self.new.out.now)) }
+        ensures read { AfterReading name.entry.now result (⟦<Self as Streams>⟧.seen self.old)
+            (⟦<Self as Streams>⟧.seen self.new) }
         ensures same { SameStreams self.old self.new }
     {
         match requested {
@@ -96,19 +85,11 @@ impl<'i, 't, 'o, L: Feed, T: Tree, W: Sink> Session<'i, 't, 'o, L, T, W> {
     ) -> Result<(), Fault<'n>>
         requires digest { IsInRange (alg_of form.hash) }
         requires parts { IfSome parts IsPartSize }
-        ensures line { IfSome (L.remaining self.old.input.now) (λ bytes.
-            IfSome (T.files self.old.tree.now) (λ files.
-            PrintsLine (digest_line (Requested.Digest form)) name.entry.now
-            (content_of name.entry.now bytes files) result
-            (W.shown self.old.out.now) (W.shown self.new.out.now))) }
-        ensures counted { IfSome (L.remaining self.old.input.now) (λ bytes.
-            IfSome (T.files self.old.tree.now) (λ files.
-            Counted (failed (is_input name.entry.now) (content_of name.entry.now bytes files) result)
-            (L.failure_count self.old.input.now) (L.failure_count self.new.input.now)
-            (T.failure_count self.old.tree.now) (T.failure_count self.new.tree.now))) }
-        ensures gave { Leaves (is_input name.entry.now) result
-            (L.remaining self.old.input.now) (L.remaining self.new.input.now) }
-        ensures files { T.files self.new.tree.now ≡ T.files self.old.tree.now }
+        ensures line { IfContent name.entry.now (⟦<Self as Streams>⟧.seen self.old) (λ content.
+            PrintsLine (digest_line (Requested.Digest form)) name.entry.now content result
+            (W.shown self.old.out.now) (W.shown self.new.out.now)) }
+        ensures read { AfterReading name.entry.now result (⟦<Self as Streams>⟧.seen self.old)
+            (⟦<Self as Streams>⟧.seen self.new) }
         ensures same { SameStreams self.old self.new }
     {
         listable(form, name)?;
@@ -126,19 +107,11 @@ impl<'i, 't, 'o, L: Feed, T: Tree, W: Sink> Session<'i, 't, 'o, L, T, W> {
     ) -> Result<(), Fault<'n>>
         requires digest { IsWithin stretch }
         requires parts { IfSome parts IsPartSize }
-        ensures line { IfSome (L.remaining self.old.input.now) (λ bytes.
-            IfSome (T.files self.old.tree.now) (λ files.
-            PrintsLine (digest_line (Requested.Output stretch)) name.entry.now
-            (content_of name.entry.now bytes files) result
-            (W.shown self.old.out.now) (W.shown self.new.out.now))) }
-        ensures counted { IfSome (L.remaining self.old.input.now) (λ bytes.
-            IfSome (T.files self.old.tree.now) (λ files.
-            Counted (failed (is_input name.entry.now) (content_of name.entry.now bytes files) result)
-            (L.failure_count self.old.input.now) (L.failure_count self.new.input.now)
-            (T.failure_count self.old.tree.now) (T.failure_count self.new.tree.now))) }
-        ensures gave { Leaves (is_input name.entry.now) result
-            (L.remaining self.old.input.now) (L.remaining self.new.input.now) }
-        ensures files { T.files self.new.tree.now ≡ T.files self.old.tree.now }
+        ensures line { IfContent name.entry.now (⟦<Self as Streams>⟧.seen self.old) (λ content.
+            PrintsLine (digest_line (Requested.Output stretch)) name.entry.now content result
+            (W.shown self.old.out.now) (W.shown self.new.out.now)) }
+        ensures read { AfterReading name.entry.now result (⟦<Self as Streams>⟧.seen self.old)
+            (⟦<Self as Streams>⟧.seen self.new) }
         ensures same { SameStreams self.old self.new }
     {
         named(64, name)?;
@@ -156,21 +129,13 @@ impl<'i, 't, 'o, L: Feed, T: Tree, W: Sink> Session<'i, 't, 'o, L, T, W> {
     ) -> Result<Tag, Fault<'n>>
         requires digest { IsInRange (alg_of hash) }
         requires parts { IfSome parts IsPartSize }
-        ensures digest { IfSome (L.remaining self.old.input.now) (λ bytes.
-            IfSome (T.files self.old.tree.now) (λ files.
-            Reads (input_limit (alg_of hash)) (λ m tag. tag ≡ hash_of hash m) name.entry.now
-            (content_of name.entry.now bytes files) result)) }
+        ensures digest { IfContent name.entry.now (⟦<Self as Streams>⟧.seen self.old) (λ content.
+            Reads (input_limit (alg_of hash)) (λ m tag. tag ≡ hash_of hash m) name.entry.now content result) }
         ensures length { IfOk result (λ tag. length tag ≡ tag_len (alg_of hash)) }
-        ensures counted { IfSome (L.remaining self.old.input.now) (λ bytes.
-            IfSome (T.files self.old.tree.now) (λ files.
-            Counted (failed (is_input name.entry.now) (content_of name.entry.now bytes files) result)
-            (L.failure_count self.old.input.now) (L.failure_count self.new.input.now)
-            (T.failure_count self.old.tree.now) (T.failure_count self.new.tree.now))) }
-        ensures gave { Leaves (is_input name.entry.now) result
-            (L.remaining self.old.input.now) (L.remaining self.new.input.now) }
-        ensures files { T.files self.new.tree.now ≡ T.files self.old.tree.now }
+        ensures read { AfterReading name.entry.now result (⟦<Self as Streams>⟧.seen self.old)
+            (⟦<Self as Streams>⟧.seen self.new) }
         ensures same { SameStreams self.old self.new }
-        ensures out { W.shown self.new.out.now ≡ W.shown self.old.out.now }
+        ensures out { (⟦<Self as Streams>⟧.seen self.new).out ≡ (⟦<Self as Streams>⟧.seen self.old).out }
     {
         if name == "-" {
             return tag_of_feed(self.alloc, hash, parts, name, self.input);
@@ -184,20 +149,12 @@ impl<'i, 't, 'o, L: Feed, T: Tree, W: Sink> Session<'i, 't, 'o, L, T, W> {
     // BLAKE3's output of a file, in parts where they are asked for.
     fn output_of<'n>(&mut self, parts: Option<u64>, name: &'n str) -> Result<Output, Fault<'n>>
         requires { IfSome parts IsPartSize }
-        ensures output { IfSome (L.remaining self.old.input.now) (λ bytes.
-            IfSome (T.files self.old.tree.now) (λ files.
-            Reads (2 ^ 64 - 1) (λ m output. output_root output ≡ hash_root m) name.entry.now
-            (content_of name.entry.now bytes files) result)) }
-        ensures counted { IfSome (L.remaining self.old.input.now) (λ bytes.
-            IfSome (T.files self.old.tree.now) (λ files.
-            Counted (failed (is_input name.entry.now) (content_of name.entry.now bytes files) result)
-            (L.failure_count self.old.input.now) (L.failure_count self.new.input.now)
-            (T.failure_count self.old.tree.now) (T.failure_count self.new.tree.now))) }
-        ensures gave { Leaves (is_input name.entry.now) result
-            (L.remaining self.old.input.now) (L.remaining self.new.input.now) }
-        ensures files { T.files self.new.tree.now ≡ T.files self.old.tree.now }
+        ensures output { IfContent name.entry.now (⟦<Self as Streams>⟧.seen self.old) (λ content.
+            Reads (2 ^ 64 - 1) (λ m output. output_root output ≡ hash_root m) name.entry.now content result) }
+        ensures read { AfterReading name.entry.now result (⟦<Self as Streams>⟧.seen self.old)
+            (⟦<Self as Streams>⟧.seen self.new) }
         ensures same { SameStreams self.old self.new }
-        ensures out { W.shown self.new.out.now ≡ W.shown self.old.out.now }
+        ensures out { (⟦<Self as Streams>⟧.seen self.new).out ≡ (⟦<Self as Streams>⟧.seen self.old).out }
     {
         match parts {
             Some(chunks) => self.output_of_parts(chunks, name),
@@ -206,20 +163,12 @@ impl<'i, 't, 'o, L: Feed, T: Tree, W: Sink> Session<'i, 't, 'o, L, T, W> {
     }
 
     fn output_of_whole<'n>(&mut self, name: &'n str) -> Result<Output, Fault<'n>>
-        ensures output { IfSome (L.remaining self.old.input.now) (λ bytes.
-            IfSome (T.files self.old.tree.now) (λ files.
-            Reads (2 ^ 64 - 1) (λ m output. output_root output ≡ hash_root m) name.entry.now
-            (content_of name.entry.now bytes files) result)) }
-        ensures counted { IfSome (L.remaining self.old.input.now) (λ bytes.
-            IfSome (T.files self.old.tree.now) (λ files.
-            Counted (failed (is_input name.entry.now) (content_of name.entry.now bytes files) result)
-            (L.failure_count self.old.input.now) (L.failure_count self.new.input.now)
-            (T.failure_count self.old.tree.now) (T.failure_count self.new.tree.now))) }
-        ensures gave { Leaves (is_input name.entry.now) result
-            (L.remaining self.old.input.now) (L.remaining self.new.input.now) }
-        ensures files { T.files self.new.tree.now ≡ T.files self.old.tree.now }
+        ensures output { IfContent name.entry.now (⟦<Self as Streams>⟧.seen self.old) (λ content.
+            Reads (2 ^ 64 - 1) (λ m output. output_root output ≡ hash_root m) name.entry.now content result) }
+        ensures read { AfterReading name.entry.now result (⟦<Self as Streams>⟧.seen self.old)
+            (⟦<Self as Streams>⟧.seen self.new) }
         ensures same { SameStreams self.old self.new }
-        ensures out { W.shown self.new.out.now ≡ W.shown self.old.out.now }
+        ensures out { (⟦<Self as Streams>⟧.seen self.new).out ≡ (⟦<Self as Streams>⟧.seen self.old).out }
     {
         let mut hasher = Blake3::new();
         self.absorb(&mut hasher, name)?;
@@ -229,20 +178,12 @@ impl<'i, 't, 'o, L: Feed, T: Tree, W: Sink> Session<'i, 't, 'o, L, T, W> {
     // The buffer of a part is made before the file is opened.
     fn output_of_parts<'n>(&mut self, chunks: u64, name: &'n str) -> Result<Output, Fault<'n>>
         requires { IsPartSize chunks }
-        ensures output { IfSome (L.remaining self.old.input.now) (λ bytes.
-            IfSome (T.files self.old.tree.now) (λ files.
-            Reads (2 ^ 64 - 1) (λ m output. output_root output ≡ hash_root m) name.entry.now
-            (content_of name.entry.now bytes files) result)) }
-        ensures counted { IfSome (L.remaining self.old.input.now) (λ bytes.
-            IfSome (T.files self.old.tree.now) (λ files.
-            Counted (failed (is_input name.entry.now) (content_of name.entry.now bytes files) result)
-            (L.failure_count self.old.input.now) (L.failure_count self.new.input.now)
-            (T.failure_count self.old.tree.now) (T.failure_count self.new.tree.now))) }
-        ensures gave { Leaves (is_input name.entry.now) result
-            (L.remaining self.old.input.now) (L.remaining self.new.input.now) }
-        ensures files { T.files self.new.tree.now ≡ T.files self.old.tree.now }
+        ensures output { IfContent name.entry.now (⟦<Self as Streams>⟧.seen self.old) (λ content.
+            Reads (2 ^ 64 - 1) (λ m output. output_root output ≡ hash_root m) name.entry.now content result) }
+        ensures read { AfterReading name.entry.now result (⟦<Self as Streams>⟧.seen self.old)
+            (⟦<Self as Streams>⟧.seen self.new) }
         ensures same { SameStreams self.old self.new }
-        ensures out { W.shown self.new.out.now ≡ W.shown self.old.out.now }
+        ensures out { (⟦<Self as Streams>⟧.seen self.new).out ≡ (⟦<Self as Streams>⟧.seen self.old).out }
     {
         let mut part = part_buffer(self.alloc, chunks)?;
         if name == "-" {

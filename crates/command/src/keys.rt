@@ -1,18 +1,15 @@
 // The command `kdf`: a key that is derived from key material.
 
-ghost use Rattle.std.specs.Prelude.{◌≡◌, ◌*◌, ◌-◌, ◌^◌, ◌≤◌, [], false, length, option_map, IfOk, IfSome};
-ghost use Rattle.source.specs.Counts.{count_after};
-ghost use Rattle.command.specs.Course.{Counted, Course, Takes};
+ghost use Rattle.std.specs.Prelude.{◌≡◌, ◌*◌, ◌-◌, ◌≤◌, [], length, option_map, IfOk, IfSome};
 ghost use Rattle.command.specs.Keying.{KdfRuns, derived_by, expanded};
 ghost use Rattle.command.specs.Keying as spec;
 ghost use Rattle.command.specs.inside.Keys.{Extracts, PrintsDerived, PrintsKey, function_with};
-ghost use Rattle.command.specs.inside.Reading.{failed};
-ghost use Rattle.command.specs.inside.Streams.{SameStreams};
+ghost use Rattle.command.specs.inside.Streams.{AfterFile, SameStreams, TakesCourse};
 ghost use Rattle.task.specs.Deriving.{HasKey, by_blake3, derivation_shown};
 
 use crate::fault::Fault;
 use crate::output::{write_digits, write_output};
-use crate::session::{Session, absorb_named};
+use crate::session::{Session, Streams, absorb_named};
 use b3::Blake3;
 use kdf::{Extract, expand};
 use mac::{Blake2b512, Blake2s256, BlockHash, Sha256Stream, Sha512Stream, hash_laws};
@@ -32,12 +29,9 @@ impl<'i, 't, 'o, L: Feed, T: Tree, W: Sink> Session<'i, 't, 'o, L, T, W> {
         material: &'n str,
     ) -> Result<u8, Fault<'n>>
         requires { HasKey (derivation_shown derivation.now) }
-        ensures course { IfSome (L.remaining self.old.input.now) (λ bytes. IfSome (T.files self.old.tree.now) (λ files.
-            (course : Course) × KdfRuns (derivation_shown derivation.now) material.entry.now files course
-            × Takes course result (W.shown self.old.out.now) (W.shown self.new.out.now)
-            × (course.passed ≡ [])
-            × Counted course.failures (L.failure_count self.old.input.now) (L.failure_count self.new.input.now)
-            (T.failure_count self.old.tree.now) (T.failure_count self.new.tree.now))) }
+        ensures course { TakesCourse (λ bytes files. KdfRuns (derivation_shown derivation.now) material.entry.now files)
+            (λ troubles. troubles ≡ [])
+            result (⟦<Self as Streams>⟧.seen self.old) (⟦<Self as Streams>⟧.seen self.new) }
         ensures same { SameStreams self.old self.new }
     {
         self.print_digits(derivation, material)?;
@@ -55,9 +49,8 @@ impl<'i, 't, 'o, L: Feed, T: Tree, W: Sink> Session<'i, 't, 'o, L, T, W> {
             PrintsDerived (derived_by (derivation_shown derivation.now))
             material.entry.now (files material.entry.now) result
             (W.shown self.old.out.now) (W.shown self.new.out.now)) }
-        ensures counted { IfSome (T.files self.old.tree.now) (λ files. T.failure_count self.new.tree.now
-            ≡ count_after (T.failure_count self.old.tree.now) (failed false (files material.entry.now) result).files) }
-        ensures input { self.new.input.now ≡ self.old.input.now }
+        ensures read { AfterFile material.entry.now result (⟦<Self as Streams>⟧.seen self.old)
+            (⟦<Self as Streams>⟧.seen self.new) }
         ensures same { SameStreams self.old self.new }
     {
         hash_laws();
@@ -85,9 +78,8 @@ impl<'i, 't, 'o, L: Feed, T: Tree, W: Sink> Session<'i, 't, 'o, L, T, W> {
             (option_map (λ v. v.items) hkdf.now.salt) hkdf.now.info.items)
             material.entry.now (files material.entry.now) result
             (W.shown self.old.out.now) (W.shown self.new.out.now)) }
-        ensures counted { IfSome (T.files self.old.tree.now) (λ files. T.failure_count self.new.tree.now
-            ≡ count_after (T.failure_count self.old.tree.now) (failed false (files material.entry.now) result).files) }
-        ensures input { self.new.input.now ≡ self.old.input.now }
+        ensures read { AfterFile material.entry.now result (⟦<Self as Streams>⟧.seen self.old)
+            (⟦<Self as Streams>⟧.seen self.new) }
         ensures same { SameStreams self.old self.new }
     {
         let prk = self.extracted::<H>(hkdf, material)?;
@@ -104,9 +96,8 @@ impl<'i, 't, 'o, L: Feed, T: Tree, W: Sink> Session<'i, 't, 'o, L, T, W> {
             Extracts (function_with H.BLOCK H.OUT H.LIMIT H.hash_of) (option_map (λ v. v.items) hkdf.now.salt)
             material.entry.now (files material.entry.now) result) }
         ensures length { IfOk result (λ prk. length prk ≡ H.OUT) }
-        ensures counted { IfSome (T.files self.old.tree.now) (λ files. T.failure_count self.new.tree.now
-            ≡ count_after (T.failure_count self.old.tree.now) (failed false (files material.entry.now) result).files) }
-        ensures input { self.new.input.now ≡ self.old.input.now }
+        ensures read { AfterFile material.entry.now result (⟦<Self as Streams>⟧.seen self.old)
+            (⟦<Self as Streams>⟧.seen self.new) }
         ensures out { self.new.out.now ≡ self.old.out.now }
         ensures same { SameStreams self.old self.new }
     {
@@ -127,9 +118,8 @@ impl<'i, 't, 'o, L: Feed, T: Tree, W: Sink> Session<'i, 't, 'o, L, T, W> {
             PrintsDerived (derived_by (by_blake3 context.now length))
             material.entry.now (files material.entry.now) result
             (W.shown self.old.out.now) (W.shown self.new.out.now)) }
-        ensures counted { IfSome (T.files self.old.tree.now) (λ files. T.failure_count self.new.tree.now
-            ≡ count_after (T.failure_count self.old.tree.now) (failed false (files material.entry.now) result).files) }
-        ensures input { self.new.input.now ≡ self.old.input.now }
+        ensures read { AfterFile material.entry.now result (⟦<Self as Streams>⟧.seen self.old)
+            (⟦<Self as Streams>⟧.seen self.new) }
         ensures same { SameStreams self.old self.new }
     {
         let mut hasher = Blake3::derive(context.as_bytes());

@@ -3,9 +3,9 @@
 
 ghost use Rattle.std.specs.Prelude.{IfSome, map};
 ghost use Rattle.clap.specs.Words.{kind_of};
-ghost use Rattle.command.specs.Course.{Counted, Course, Takes, Tells, all_told};
+ghost use Rattle.command.specs.Course.{Tells, all_told};
 ghost use Rattle.command.specs.Program.{IsAnswered, ProgramRuns, RequestRuns};
-ghost use Rattle.command.specs.inside.Streams.{SameStreams};
+ghost use Rattle.command.specs.inside.Streams.{SameStreams, TakesCourse};
 
 pub use fault::{Fault, tell, write_text};
 pub use files::FileTree;
@@ -21,7 +21,7 @@ mod reports;
 mod session;
 mod tags;
 
-use session::Session;
+use session::{Session, Streams};
 use source::{Feed, Sink};
 use std::alloc::Global;
 use sumlist::Tree;
@@ -66,12 +66,9 @@ impl<'i, 't, 'o, L: Feed, T: Tree, W: Sink> Session<'i, 't, 'o, L, T, W> {
         request: Request<'n>,
         err: &mut E,
     ) -> Result<u8, Fault<'n>>
-        ensures course { IfSome (L.remaining self.old.input.now) (λ bytes. IfSome (T.files self.old.tree.now) (λ files.
-            (course : Course) × RequestRuns request.entry files bytes course
-            × Takes course result (W.shown self.old.out.now) (W.shown self.new.out.now)
-            × Tells (E.shown err.old) (E.shown err.new) (all_told course.passed)
-            × Counted course.failures (L.failure_count self.old.input.now) (L.failure_count self.new.input.now)
-            (T.failure_count self.old.tree.now) (T.failure_count self.new.tree.now))) }
+        ensures course { TakesCourse (λ bytes files. RequestRuns request.entry files bytes)
+            (λ troubles. Tells (E.shown err.old) (E.shown err.new) (all_told troubles))
+            result (⟦<Self as Streams>⟧.seen self.old) (⟦<Self as Streams>⟧.seen self.new) }
         ensures same { SameStreams self.old self.new }
     {
         match Task::of(self.alloc, request)? {

@@ -3,15 +3,14 @@
 ghost use Rattle.std.specs.Prelude.{◌≡◌, [], IfSome, Some, true};
 ghost use Rattle.source.specs.Counts.{count_after};
 ghost use Rattle.command.specs.Checking.{CheckRuns};
-ghost use Rattle.command.specs.Course.{Counted, Course, Takes};
 ghost use Rattle.command.specs.inside.Faults as spec;
 ghost use Rattle.command.specs.inside.Faults.{of_check};
 ghost use Rattle.command.specs.inside.Listing.{ListTaken};
 ghost use Rattle.command.specs.inside.Reading.{failed};
-ghost use Rattle.command.specs.inside.Streams.{SameStreams};
+ghost use Rattle.command.specs.inside.Streams.{SameStreams, TakesCourse};
 
 use crate::fault::Fault;
-use crate::session::{Session, open_file};
+use crate::session::{Session, Streams, open_file};
 use source::{Feed, Sink};
 use std::alloc::Global;
 use sumlist::{CheckFault, Kind, Summary, Tree, check};
@@ -19,12 +18,9 @@ use sumlist::{CheckFault, Kind, Summary, Tree, check};
 impl<'i, 't, 'o, L: Feed, T: Tree, W: Sink> Session<'i, 't, 'o, L, T, W> {
     /// Prints the report, and answers 0 where every line that is not skipped is OK, else 1.
     pub(crate) fn print_report<'n>(&mut self, kind: Kind, name: &'n str) -> Result<u8, Fault<'n>>
-        ensures course { IfSome (L.remaining self.old.input.now) (λ bytes. IfSome (T.files self.old.tree.now) (λ files.
-            (course : Course) × CheckRuns kind name.entry.now files bytes course
-            × Takes course result (W.shown self.old.out.now) (W.shown self.new.out.now)
-            × (course.passed ≡ [])
-            × Counted course.failures (L.failure_count self.old.input.now) (L.failure_count self.new.input.now)
-            (T.failure_count self.old.tree.now) (T.failure_count self.new.tree.now))) }
+        ensures course { TakesCourse (λ bytes files. CheckRuns kind name.entry.now files bytes)
+            (λ troubles. troubles ≡ [])
+            result (⟦<Self as Streams>⟧.seen self.old) (⟦<Self as Streams>⟧.seen self.new) }
         ensures same { SameStreams self.old self.new }
     {
         if name == "-" {

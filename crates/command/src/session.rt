@@ -2,10 +2,8 @@
 
 ghost use Rattle.std.specs.Prelude.{◌≡◌, [], false, true, IfOk, IfSome, Some};
 ghost use Rattle.source.specs.Counts.{count_after};
-ghost use Rattle.command.specs.Course.{Counted};
-ghost use Rattle.command.specs.Lines.{content_of, is_input};
 ghost use Rattle.command.specs.inside.Reading.{Absorbs, AbsorbsLine, Leaves, OpensFile, failed};
-ghost use Rattle.command.specs.inside.Streams.{SameStreams};
+ghost use Rattle.command.specs.inside.Streams.{AfterReading, IfContent, SameStreams, Seen};
 
 use crate::fault::Fault;
 use crate::output::named;
@@ -21,6 +19,21 @@ pub(crate) struct Session<'i, 't, 'o, L: Feed, T: Tree, W: Sink> {
     pub(crate) input: &'i mut L,
     pub(crate) tree: &'t mut T,
     pub(crate) out: &'o mut W,
+}
+
+/// What clauses see of a session.
+pub(crate) trait Streams {
+    ghost seen: { Self → Seen };
+}
+
+impl<'i, 't, 'o, L: Feed, T: Tree, W: Sink> Streams for Session<'i, 't, 'o, L, T, W> {
+    ghost seen = { λ s. record {
+      bytes = L.remaining s.input.now;
+      files = T.files s.tree.now;
+      input_failures = L.failure_count s.input.now;
+      file_failures = T.failure_count s.tree.now;
+      out = W.shown s.out.now;
+    } };
 }
 
 /// Opens a file by its name.
@@ -85,19 +98,11 @@ impl<'i, 't, 'o, L: Feed, T: Tree, W: Sink> Session<'i, 't, 'o, L, T, W> {
         digits: usize,
         name: &'n str,
     ) -> Result<(), Fault<'n>>
-        ensures absorbed { IfSome (L.remaining self.old.input.now) (λ bytes.
-            IfSome (T.files self.old.tree.now) (λ files.
-            AbsorbsLine A.holds hasher.old hasher.new digits (A.room_left hasher.old) name.entry.now
-            (content_of name.entry.now bytes files) result)) }
-        ensures counted { IfSome (L.remaining self.old.input.now) (λ bytes.
-            IfSome (T.files self.old.tree.now) (λ files.
-            Counted (failed (is_input name.entry.now) (content_of name.entry.now bytes files) result)
-            (L.failure_count self.old.input.now) (L.failure_count self.new.input.now)
-            (T.failure_count self.old.tree.now) (T.failure_count self.new.tree.now))) }
-        ensures gave { Leaves (is_input name.entry.now) result
-            (L.remaining self.old.input.now) (L.remaining self.new.input.now) }
-        ensures files { T.files self.new.tree.now ≡ T.files self.old.tree.now }
-        ensures out { W.shown self.new.out.now ≡ W.shown self.old.out.now }
+        ensures absorbed { IfContent name.entry.now (⟦<Self as Streams>⟧.seen self.old) (λ content.
+            AbsorbsLine A.holds hasher.old hasher.new digits (A.room_left hasher.old) name.entry.now content result) }
+        ensures read { AfterReading name.entry.now result (⟦<Self as Streams>⟧.seen self.old)
+            (⟦<Self as Streams>⟧.seen self.new) }
+        ensures out { (⟦<Self as Streams>⟧.seen self.new).out ≡ (⟦<Self as Streams>⟧.seen self.old).out }
         ensures same { SameStreams self.old self.new }
         ensures kept { A.parameters hasher.new ≡ A.parameters hasher.old }
     {
@@ -111,19 +116,11 @@ impl<'i, 't, 'o, L: Feed, T: Tree, W: Sink> Session<'i, 't, 'o, L, T, W> {
         hasher: &mut A,
         name: &'n str,
     ) -> Result<(), Fault<'n>>
-        ensures absorbed { IfSome (L.remaining self.old.input.now) (λ bytes.
-            IfSome (T.files self.old.tree.now) (λ files.
-            Absorbs A.holds hasher.old hasher.new (A.room_left hasher.old) name.entry.now
-            (content_of name.entry.now bytes files) result)) }
-        ensures counted { IfSome (L.remaining self.old.input.now) (λ bytes.
-            IfSome (T.files self.old.tree.now) (λ files.
-            Counted (failed (is_input name.entry.now) (content_of name.entry.now bytes files) result)
-            (L.failure_count self.old.input.now) (L.failure_count self.new.input.now)
-            (T.failure_count self.old.tree.now) (T.failure_count self.new.tree.now))) }
-        ensures gave { Leaves (is_input name.entry.now) result
-            (L.remaining self.old.input.now) (L.remaining self.new.input.now) }
-        ensures files { T.files self.new.tree.now ≡ T.files self.old.tree.now }
-        ensures out { W.shown self.new.out.now ≡ W.shown self.old.out.now }
+        ensures absorbed { IfContent name.entry.now (⟦<Self as Streams>⟧.seen self.old)
+            (λ content. Absorbs A.holds hasher.old hasher.new (A.room_left hasher.old) name.entry.now content result) }
+        ensures read { AfterReading name.entry.now result (⟦<Self as Streams>⟧.seen self.old)
+            (⟦<Self as Streams>⟧.seen self.new) }
+        ensures out { (⟦<Self as Streams>⟧.seen self.new).out ≡ (⟦<Self as Streams>⟧.seen self.old).out }
         ensures same { SameStreams self.old self.new }
         ensures kept { A.parameters hasher.new ≡ A.parameters hasher.old }
     {

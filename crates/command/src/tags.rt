@@ -1,22 +1,20 @@
 // The command `mac`: the tag of a file under a key.
 
-ghost use Rattle.std.specs.Prelude.{◌≡◌, ◌≢◌, ◌-◌, ◌/◌, ◌^◌, ◌<◌, ◌≤◌, [], length};
+ghost use Rattle.std.specs.Prelude.{◌≡◌, ◌≢◌, ◌-◌, ◌/◌, ◌<◌, ◌≤◌, [], length};
 ghost use Rattle.std.specs.Prelude.{false, true, IfSome, MatchResult, Some};
 ghost use Rattle.source.specs.Counts.{count_after};
 ghost use Rattle.command.specs.declared.fault.Fault.TheVariants.{KeyLength};
-ghost use Rattle.command.specs.Course.{Counted, Course, Takes};
 ghost use Rattle.command.specs.Keying.{IsKey, MacRuns, MayRefuseFile, MayRefuseKey, function_of, hmac_line};
 ghost use Rattle.command.specs.Keying.{key_content, mac_line};
-ghost use Rattle.command.specs.Lines.{content_of, is_input};
 ghost use Rattle.command.specs.Troubles.{trouble_of};
 ghost use Rattle.command.specs.inside.Keys.{PrintsTag, function_with};
 ghost use Rattle.command.specs.inside.Reading.{failed};
-ghost use Rattle.command.specs.inside.Streams.{SameStreams};
+ghost use Rattle.command.specs.inside.Streams.{AfterReading, IfContent, SameStreams, TakesCourse};
 ghost use Rattle.task.specs.Tagging.{HasTag, key_shown};
 
 use crate::fault::Fault;
 use crate::output::{write_line, write_output_line};
-use crate::session::{Session, open_file};
+use crate::session::{Session, Streams, open_file};
 use b3::Blake3;
 use blake2::{Blake2b, Blake2s};
 use mac::{Blake2b512, Blake2s256, BlockHash, Hmac, Sha256Stream, Sha512Stream, hash_laws};
@@ -37,12 +35,9 @@ impl<'i, 't, 'o, L: Feed, T: Tree, W: Sink> Session<'i, 't, 'o, L, T, W> {
         name: &'n str,
     ) -> Result<u8, Fault<'n>>
         requires { HasTag mac }
-        ensures course { IfSome (L.remaining self.old.input.now) (λ bytes. IfSome (T.files self.old.tree.now) (λ files.
-            (course : Course) × MacRuns mac (key_shown key.entry) name.entry.now files bytes course
-            × Takes course result (W.shown self.old.out.now) (W.shown self.new.out.now)
-            × (course.passed ≡ [])
-            × Counted course.failures (L.failure_count self.old.input.now) (L.failure_count self.new.input.now)
-            (T.failure_count self.old.tree.now) (T.failure_count self.new.tree.now))) }
+        ensures course { TakesCourse (λ bytes files. MacRuns mac (key_shown key.entry) name.entry.now files bytes)
+            (λ troubles. troubles ≡ [])
+            result (⟦<Self as Streams>⟧.seen self.old) (⟦<Self as Streams>⟧.seen self.new) }
         ensures same { SameStreams self.old self.new }
     {
         let key = key_of(self.alloc, key, self.tree)?;
@@ -53,13 +48,11 @@ impl<'i, 't, 'o, L: Feed, T: Tree, W: Sink> Session<'i, 't, 'o, L, T, W> {
     // Prints the line of the file's tag under a key.
     fn print_keyed<'n>(&mut self, mac: Mac, key: &[u8], name: &'n str) -> Result<(), Fault<'n>>
         requires { HasTag mac }
-        ensures line { IfSome (L.remaining self.old.input.now) (λ bytes. IfSome (T.files self.old.tree.now) (λ files.
-            PrintsTag (mac_line mac key.now) name.entry.now (content_of name.entry.now bytes files) result
-            (W.shown self.old.out.now) (W.shown self.new.out.now))) }
-        ensures counted { IfSome (L.remaining self.old.input.now) (λ bytes. IfSome (T.files self.old.tree.now) (λ files.
-            Counted (failed (is_input name.entry.now) (content_of name.entry.now bytes files) result)
-            (L.failure_count self.old.input.now) (L.failure_count self.new.input.now)
-            (T.failure_count self.old.tree.now) (T.failure_count self.new.tree.now))) }
+        ensures line { IfContent name.entry.now (⟦<Self as Streams>⟧.seen self.old) (λ content.
+            PrintsTag (mac_line mac key.now) name.entry.now content result
+            (W.shown self.old.out.now) (W.shown self.new.out.now)) }
+        ensures read { AfterReading name.entry.now result (⟦<Self as Streams>⟧.seen self.old)
+            (⟦<Self as Streams>⟧.seen self.new) }
         ensures same { SameStreams self.old self.new }
     {
         match mac {
@@ -78,13 +71,11 @@ impl<'i, 't, 'o, L: Feed, T: Tree, W: Sink> Session<'i, 't, 'o, L, T, W> {
         name: &'n str,
     ) -> Result<(), Fault<'n>>
         requires { HasTag (Mac.Hmac hash length) }
-        ensures line { IfSome (L.remaining self.old.input.now) (λ bytes. IfSome (T.files self.old.tree.now) (λ files.
-            PrintsTag (hmac_line (function_of hash) length key.now) name.entry.now
-            (content_of name.entry.now bytes files) result (W.shown self.old.out.now) (W.shown self.new.out.now))) }
-        ensures counted { IfSome (L.remaining self.old.input.now) (λ bytes. IfSome (T.files self.old.tree.now) (λ files.
-            Counted (failed (is_input name.entry.now) (content_of name.entry.now bytes files) result)
-            (L.failure_count self.old.input.now) (L.failure_count self.new.input.now)
-            (T.failure_count self.old.tree.now) (T.failure_count self.new.tree.now))) }
+        ensures line { IfContent name.entry.now (⟦<Self as Streams>⟧.seen self.old) (λ content.
+            PrintsTag (hmac_line (function_of hash) length key.now) name.entry.now content result
+            (W.shown self.old.out.now) (W.shown self.new.out.now)) }
+        ensures read { AfterReading name.entry.now result (⟦<Self as Streams>⟧.seen self.old)
+            (⟦<Self as Streams>⟧.seen self.new) }
         ensures same { SameStreams self.old self.new }
     {
         hash_laws();
@@ -104,13 +95,11 @@ impl<'i, 't, 'o, L: Feed, T: Tree, W: Sink> Session<'i, 't, 'o, L, T, W> {
     ) -> Result<(), Fault<'n>>
         requires half { H.OUT / 2 ≤ length }
         requires whole { length ≤ H.OUT }
-        ensures line { IfSome (L.remaining self.old.input.now) (λ bytes. IfSome (T.files self.old.tree.now) (λ files.
-            PrintsTag (hmac_line (function_with H.BLOCK H.OUT H.LIMIT H.hash_of) length key.now) name.entry.now
-            (content_of name.entry.now bytes files) result (W.shown self.old.out.now) (W.shown self.new.out.now))) }
-        ensures counted { IfSome (L.remaining self.old.input.now) (λ bytes. IfSome (T.files self.old.tree.now) (λ files.
-            Counted (failed (is_input name.entry.now) (content_of name.entry.now bytes files) result)
-            (L.failure_count self.old.input.now) (L.failure_count self.new.input.now)
-            (T.failure_count self.old.tree.now) (T.failure_count self.new.tree.now))) }
+        ensures line { IfContent name.entry.now (⟦<Self as Streams>⟧.seen self.old) (λ content.
+            PrintsTag (hmac_line (function_with H.BLOCK H.OUT H.LIMIT H.hash_of) length key.now) name.entry.now content result
+            (W.shown self.old.out.now) (W.shown self.new.out.now)) }
+        ensures read { AfterReading name.entry.now result (⟦<Self as Streams>⟧.seen self.old)
+            (⟦<Self as Streams>⟧.seen self.new) }
         ensures same { SameStreams self.old self.new }
     {
         let Ok(mut hmac) = Hmac::<H>::new(key) else {
@@ -125,13 +114,11 @@ impl<'i, 't, 'o, L: Feed, T: Tree, W: Sink> Session<'i, 't, 'o, L, T, W> {
 
     fn blake2b<'n>(&mut self, length: usize, key: &[u8], name: &'n str) -> Result<(), Fault<'n>>
         requires { HasTag (Mac.Blake2b length) }
-        ensures line { IfSome (L.remaining self.old.input.now) (λ bytes. IfSome (T.files self.old.tree.now) (λ files.
-            PrintsTag (mac_line (Mac.Blake2b length) key.now) name.entry.now
-            (content_of name.entry.now bytes files) result (W.shown self.old.out.now) (W.shown self.new.out.now))) }
-        ensures counted { IfSome (L.remaining self.old.input.now) (λ bytes. IfSome (T.files self.old.tree.now) (λ files.
-            Counted (failed (is_input name.entry.now) (content_of name.entry.now bytes files) result)
-            (L.failure_count self.old.input.now) (L.failure_count self.new.input.now)
-            (T.failure_count self.old.tree.now) (T.failure_count self.new.tree.now))) }
+        ensures line { IfContent name.entry.now (⟦<Self as Streams>⟧.seen self.old) (λ content.
+            PrintsTag (mac_line (Mac.Blake2b length) key.now) name.entry.now content result
+            (W.shown self.old.out.now) (W.shown self.new.out.now)) }
+        ensures read { AfterReading name.entry.now result (⟦<Self as Streams>⟧.seen self.old)
+            (⟦<Self as Streams>⟧.seen self.new) }
         ensures same { SameStreams self.old self.new }
     {
         let Ok(mut hasher) = Blake2b::keyed(length, some_key(key)?) else {
@@ -143,13 +130,11 @@ impl<'i, 't, 'o, L: Feed, T: Tree, W: Sink> Session<'i, 't, 'o, L, T, W> {
 
     fn blake2s<'n>(&mut self, length: usize, key: &[u8], name: &'n str) -> Result<(), Fault<'n>>
         requires { HasTag (Mac.Blake2s length) }
-        ensures line { IfSome (L.remaining self.old.input.now) (λ bytes. IfSome (T.files self.old.tree.now) (λ files.
-            PrintsTag (mac_line (Mac.Blake2s length) key.now) name.entry.now
-            (content_of name.entry.now bytes files) result (W.shown self.old.out.now) (W.shown self.new.out.now))) }
-        ensures counted { IfSome (L.remaining self.old.input.now) (λ bytes. IfSome (T.files self.old.tree.now) (λ files.
-            Counted (failed (is_input name.entry.now) (content_of name.entry.now bytes files) result)
-            (L.failure_count self.old.input.now) (L.failure_count self.new.input.now)
-            (T.failure_count self.old.tree.now) (T.failure_count self.new.tree.now))) }
+        ensures line { IfContent name.entry.now (⟦<Self as Streams>⟧.seen self.old) (λ content.
+            PrintsTag (mac_line (Mac.Blake2s length) key.now) name.entry.now content result
+            (W.shown self.old.out.now) (W.shown self.new.out.now)) }
+        ensures read { AfterReading name.entry.now result (⟦<Self as Streams>⟧.seen self.old)
+            (⟦<Self as Streams>⟧.seen self.new) }
         ensures same { SameStreams self.old self.new }
     {
         let Ok(mut hasher) = Blake2s::keyed(length, some_key(key)?) else {
@@ -161,13 +146,11 @@ impl<'i, 't, 'o, L: Feed, T: Tree, W: Sink> Session<'i, 't, 'o, L, T, W> {
 
     fn blake3<'n>(&mut self, length: u64, key: &[u8], name: &'n str) -> Result<(), Fault<'n>>
         requires { HasTag (Mac.Blake3 length) }
-        ensures line { IfSome (L.remaining self.old.input.now) (λ bytes. IfSome (T.files self.old.tree.now) (λ files.
-            PrintsTag (mac_line (Mac.Blake3 length) key.now) name.entry.now
-            (content_of name.entry.now bytes files) result (W.shown self.old.out.now) (W.shown self.new.out.now))) }
-        ensures counted { IfSome (L.remaining self.old.input.now) (λ bytes. IfSome (T.files self.old.tree.now) (λ files.
-            Counted (failed (is_input name.entry.now) (content_of name.entry.now bytes files) result)
-            (L.failure_count self.old.input.now) (L.failure_count self.new.input.now)
-            (T.failure_count self.old.tree.now) (T.failure_count self.new.tree.now))) }
+        ensures line { IfContent name.entry.now (⟦<Self as Streams>⟧.seen self.old) (λ content.
+            PrintsTag (mac_line (Mac.Blake3 length) key.now) name.entry.now content result
+            (W.shown self.old.out.now) (W.shown self.new.out.now)) }
+        ensures read { AfterReading name.entry.now result (⟦<Self as Streams>⟧.seen self.old)
+            (⟦<Self as Streams>⟧.seen self.new) }
         ensures same { SameStreams self.old self.new }
     {
         let Some((key, [])) = key.split_first_chunk::<32>() else {

@@ -31,7 +31,7 @@ returns-in-Err-2-clause-course g c =
     let b : Seen = seen_of g.L.Feed.remaining g.L.Feed.failure_count g.T.Tree.files g.T.Tree.failure_count g.W.Sink.shown g.E.Sink.shown c.loop-name.self c.loop-name.err in
     let d : Seen = seen_of g.L.Feed.remaining g.L.Feed.failure_count g.T.Tree.files g.T.Tree.failure_count g.W.Sink.shown g.E.Sink.shown c.hash_file.new.self c.loop-name.err in
     goes-stop (digest_line c.args.requested) a b d _ _ _ _ _ _ (all_names c.args.names.now c.loop-name.name-index _ c.loop-name-test.true)
-    c.loop-name.invariant.goes c.in-Err.ensures.counted c.in-Err.ensures.line (λ one. c.if-status-eq1.false (c.status.ensures ∙ one)) refl
+    c.loop-name.invariant.goes c.in-Err.ensures.read.counted c.in-Err.ensures.line (λ one. c.if-status-eq1.false (c.status.ensures ∙ one)) refl
 
 pub loop-name-preserved : goal.loop-name-preserved
 loop-name-preserved g c =
@@ -44,7 +44,7 @@ loop-name-preserved g c =
           rw (w.err-is, w.status-is) (record {
             same = same;
             goes = goes-line (digest_line c.args.requested) a b d _ _ _ (one_more c.args.names.now c.loop-name.name-index _ c.loop-name-test.true)
-                c.hash_file.ensures.files _ w.in-Ok.field-0 c.loop-name.invariant.goes w.in-Ok.ensures.counted w.in-Ok.ensures.line w.in-Ok.ensures.gave refl;
+                c.hash_file.ensures.read.files _ w.in-Ok.field-0 c.loop-name.invariant.goes w.in-Ok.ensures.read.counted w.in-Ok.ensures.line w.in-Ok.ensures.read.gave refl;
           })
       | in-Err w ↦
           let d : Seen = seen_of g.L.Feed.remaining g.L.Feed.failure_count g.T.Tree.files g.T.Tree.failure_count g.W.Sink.shown g.E.Sink.shown c.hash_file.new.self w.tell-status.new.err in
@@ -52,7 +52,7 @@ loop-name-preserved g c =
           rw (w.err-is, w.status-is) (record {
             same = same;
             goes = goes-told (digest_line c.args.requested) a b d _ _ _ (one_more c.args.names.now c.loop-name.name-index _ c.loop-name-test.true)
-                c.hash_file.ensures.files _ _ w.in-Err.fault c.loop-name.invariant.goes w.in-Err.ensures.counted w.in-Err.ensures.line w.in-Err.ensures.gave
+                c.hash_file.ensures.read.files _ _ w.in-Err.fault c.loop-name.invariant.goes w.in-Err.ensures.read.counted w.in-Err.ensures.line w.in-Err.ensures.read.gave
                 (w.tell-status.ensures.status ∙ light) light w.tell-status.ensures.told;
           })
     ]

@@ -21,10 +21,12 @@ returns-clause-key g c =
     c.write_expanded.result _ _ _ c.in_ok-prk.ensures.prk (ap g.W.Sink.shown c.extracted.ensures.out)
     (rw c.bytes.ensures.value at c.write_expanded.ensures)
 
-pub returns-clause-counted : goal.returns-clause-counted
-returns-clause-counted g c =
+pub returns-clause-read : goal.returns-clause-read
+returns-clause-read g c =
     let by = c.args.hkdf.now in
-    expanded_counted (function_with g.H.BlockHash.BLOCK g.H.BlockHash.OUT g.H.BlockHash.LIMIT g.H.BlockHash.hash_of)
+    let read = c.in_ok-prk.ensures.read in
+    let counted = expanded_counted (function_with g.H.BlockHash.BLOCK g.H.BlockHash.OUT g.H.BlockHash.LIMIT g.H.BlockHash.hash_of)
     by.length
     by.info.items c.bytes.result.now c.args.material.now _ c.write_expanded.result _ _ _ _
-    c.in_ok-prk.ensures.counted c.write_expanded.ensures
+    read.counted c.write_expanded.ensures in
+    record { counted = counted; bytes = read.bytes; input_failures = read.input_failures }

@@ -16,7 +16,7 @@ returns-in_err-print_keyed-clause-course g c =
     tags_keyed c.args.mac (key_shown c.args.key) c.args.name.now {T = Unit {0}} _ _ _ _ key.key.items
     (Err c.in_err-print_keyed.field-0.0) _ _ _ _ _ _ _ _ _ _ c.from_residual-in_err-print_keyed.ensures.1
     refl c.key_of.ensures.files refl refl key.ensures.key key.ensures.counted (only_length c.args.mac key.key.items)
-    told c.in_err-print_keyed.ensures.counted
+    told c.in_err-print_keyed.ensures.read.counted
 
 pub returns-clause-course : goal.returns-clause-course
 returns-clause-course g c =
@@ -25,4 +25,4 @@ returns-clause-course g c =
     tags_keyed c.args.mac (key_shown c.args.key) c.args.name.now {T = Unit {0}} _ _ _ _ key.key.items
     (Ok tt) _ _ _ _ _ _ _ _ _ _ refl
     refl c.key_of.ensures.files refl refl key.ensures.key key.ensures.counted (only_length c.args.mac key.key.items)
-    printed c.in_ok-print_keyed.ensures.counted
+    printed c.in_ok-print_keyed.ensures.read.counted
