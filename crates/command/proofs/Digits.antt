@@ -1,5 +1,6 @@
 -- Digits that are written piece by piece.
-use Rattle.std.proofs.Common.{◌≡◌, ℕ, zero, suc, ◌+◌, ◌≤◌, List, [], ◌∷◌, ◌++◌, length, take, drop, refl, sym, ap, ◌∙◌, arith, add-zero, take-append-drop}
+use Rattle.std.proofs.Common.{◌≡◌, ℕ, zero, suc, ◌+◌, ◌≤◌, List, [], ◌∷◌, ◌++◌, length, take, drop, refl, sym, ap, ◌∙◌}
+use Rattle.std.proofs.Common.{arith, add-zero, take-append-drop}
 use Rattle.std.specs.List.{range_with_len}
 use Rattle.std.specs.Prelude.{true, slice_index, ◌/◌, ◌%◌, ◌==◌}
 use Rattle.std.proofs.lemmas.Bool.Decides.{nat_tests}
@@ -34,13 +35,15 @@ range-append a (suc n) k =
 
 slice-append : (root : Node) (o n k : ℕ) → slice root o (n + k) ≡ slice root o n ++ slice root (o + n) k
 unfolding slice
-slice-append root o n k = rw (range-append o n k) (map-append (byte root) (range_with_len o n) (range_with_len (o + n) k))
+slice-append root o n k =
+    rw (range-append o n k) (map-append (byte root) (range_with_len o n) (range_with_len (o + n) k))
 
 -- the digits of the next n bytes of an output, and of those after them
 pub encode_lower-slice : (root : Node) (o p all n k : ℕ) → all ≡ n + k → p ≡ o + n
     → encode_lower (slice root o all) ≡ encode_lower (slice root o n) ++ encode_lower (slice root p k)
 encode_lower-slice root o p all n k whole next =
-    rw (whole, next) (ap encode_lower (slice-append root o n k) ∙ encode_lower-append (slice root o n) (slice root (o + n) k))
+    rw (whole, next) (ap encode_lower (slice-append root o n k)
+    ∙ encode_lower-append (slice root o n) (slice root (o + n) k))
 
 -- no byte is left
 pub Writing-digits : (old new : Shown) (text rest : List ℕ) → (length rest == 0) ≡ true

@@ -1,6 +1,6 @@
 -- The course of `check`: its list is standard input, or a file that opens or does not.
-use Rattle.std.proofs.Common.{◌≡◌, ℕ, ◌-◌, ◌^◌, ◌<◌, List, [], ◌++◌, length, Option, Some, None, Bool, true, false}
-use Rattle.std.proofs.Common.{Result, Ok, Err, IfSome, refl, sym, ap, ap₂, ◌∙◌, arith, inl, inr, subst, length-append}
+use Rattle.std.proofs.Common.{◌≡◌, ℕ, ◌-◌, ◌^◌, ◌<◌, List, [], length, Option, Some, None, Bool, true, false}
+use Rattle.std.proofs.Common.{Result, Ok, Err, IfSome, refl, sym, ap, ap₂, arith, inl, inr, length-append}
 use Rattle.std.proofs.Common.{append-nil}
 use Rattle.std.specs.Prelude.{IsErrAnd, IsErrOf, ◌↔◌, if◌then◌else◌}
 use Rattle.std.specs.Borrow.{Bor}
@@ -18,10 +18,10 @@ use Rattle.sumlist.specs.declared.checking.CheckFault.{CheckFault}
 use Rattle.sumlist.specs.declared.checking.CheckFault.TheVariants as check
 use Rattle.sumlist.specs.declared.kind.Kind.{Kind}
 use Rattle.sumlist.specs.declared.summary.Summary.{Summary}
-use Rattle.command.specs.Checking.{CheckRuns, ChecksContent, ChecksList, MayStop, report_status, unread}
+use Rattle.command.specs.Checking.{CheckRuns, ChecksContent, MayStop, report_status, unread}
 use Rattle.command.specs.Course.{Counted, Course, Failures, Printed, Takes, behind, failures_from, failures_of, plus}
 use Rattle.command.specs.Course.{refused_by}
-use Rattle.command.specs.Lines.{MayRefuse, content_of, is_input}
+use Rattle.command.specs.Lines.{MayRefuse, is_input}
 use Rattle.command.specs.Troubles.{Trouble, bad_name, cannot_read, cannot_write, key_file_too_long, key_length}
 use Rattle.command.specs.Troubles.{out_of_memory, too_long, trouble_of, usage}
 use Rattle.command.specs.declared.fault.Fault.{Fault}

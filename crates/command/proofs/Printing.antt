@@ -1,6 +1,9 @@
 -- A line is printed of what a name gives, or a fault comes before it.
-use Rattle.std.proofs.Common.{◌≡◌, ◌∙◌, ℕ, ◌-◌, ◌^◌, ◌≤◌, Bool, true, false, List, [], ◌∷◌, ◌++◌, length, Option, None, Some, Result, Ok, Err, IfSome, sym, ap, ap₂, inl, inr, append_assoc}
+use Rattle.std.proofs.Common.{◌≡◌, ◌∙◌, ℕ, ◌-◌, ◌^◌, ◌≤◌, Bool, false, List, [], ◌∷◌, ◌++◌, length, Option, None}
+use Rattle.std.proofs.Common.{Some}
+use Rattle.std.proofs.Common.{Result, Ok, IfSome, sym, ap, ap₂, inl, inr, append_assoc}
 use Rattle.std.specs.Prelude.{IsErrAnd, IsSomeAnd}
+use Rattle.std.proofs.lemmas.Option.{IfSome_then}
 use Rattle.std.proofs.lemmas.Result.{err_from_is_err_and}
 use Rattle.b3.specs.Bytes.{slice}
 use Rattle.b3.specs.Modes.{hash_parameters, hash_root, root_of}
@@ -16,16 +19,18 @@ use Rattle.source.specs.Digest.{digest}
 use Rattle.source.specs.Pumped.{Appended}
 use Rattle.source.specs.Written.{Done, Failed, Shown}
 use Rattle.source.specs.declared.alg.Alg.{Alg}
-use Rattle.sumlist.specs.Entry.{Listing, ending, written}
+use Rattle.sumlist.specs.Entry.{Fits, Listing, ending, written}
 use Rattle.sumlist.specs.Escape.{escaped, lead}
 use Rattle.sumlist.specs.Report.{Files}
+use Rattle.task.specs.declared.hashing.Requested.TheVariants as requested
+use Rattle.task.specs.declared.hashing.Stretch.{Stretch}
 use Rattle.words.specs.Mix.{Variant}
-use Rattle.command.specs.Lines.{Lining, Stands, content_of, line_text}
+use Rattle.command.specs.Lines.{Lining, Stands, content_of, digest_line, line_text}
 use Rattle.command.specs.Troubles.{trouble_of}
 use Rattle.command.specs.declared.fault.Fault.{Fault}
 use Rattle.command.specs.declared.fault.Fault.TheVariants.{CannotWrite}
 use Rattle.command.specs.inside.Printing.{PrintsLine, PrintsListed, PrintsText}
-use Rattle.command.specs.inside.Reading.{Leaves, Reads}
+use Rattle.command.specs.inside.Reading.{Reads}
 
 -- the plain line of an entry, piece by piece
 pub written_pieces : (e : Listing) → lead e.name ++ (encode_lower e.tag ++ ending e.name) ≡ written e
@@ -63,12 +68,14 @@ plain_digest_is None alg tag Under Takes digested under empty = tt
 plain_digest_is (Some bytes) alg tag Under Takes digested under empty = digested alg [] under empty
 
 -- the same of BLAKE2 under the parameters p, which a hasher has as the list l
-pub salted_made : (coming : Option (List ℕ)) (k : Variant) (p : Parameters) (l tag : List ℕ) (name : Text) (most room : ℕ)
+pub salted_made : (coming : Option (List ℕ)) (k : Variant) (p : Parameters) (l tag : List ℕ) (name : Text)
+    (most room : ℕ)
     → (Before After : List ℕ → Type 0)
     → IfSome coming (λ bytes. (length bytes ≤ room) × ((m : List ℕ) → Before m → After (m ++ bytes))) → room ≡ most
     → Before [] → ((m : List ℕ) → After m → tag ≡ blake2 k (from_list k l) m) → l ≡ listed p
     → from_list k (listed p) ≡ p
-    → IfSome coming (λ bytes. let r : Result (List ℕ) Fault = Ok tag in Reads most (λ m t. t ≡ blake2 k p m) name (Some bytes) r)
+    → IfSome coming (λ bytes. let r : Result (List ℕ) Fault = Ok tag in
+    Reads most (λ m t. t ≡ blake2 k p m) name (Some bytes) r)
 salted_made None k p l tag name most room Before After taken same empty digested under back = tt
 salted_made (Some bytes) k p l tag name most room Before After taken same empty digested under back =
     let parameters : from_list k l ≡ p = ap (λ (x : List ℕ). from_list k x) under ∙ back in
@@ -76,14 +83,14 @@ salted_made (Some bytes) k p l tag name most room Before After taken same empty 
 
 -- the output of a hasher of nothing that then took what a name gave
 pub output_made : (first : Option (List ℕ)) (tree : Option Files) (h k : Blake3) (o : Output) (name : Text) (room : ℕ)
-    → IfSome first (λ input. IfSome tree (λ files. IsSomeAnd (content_of name input files) (λ m. (length m ≤ room) × Appended Holds h k m)))
+    → IfSome first (λ input. IfSome tree (λ files.
+    IsSomeAnd (content_of name input files) (λ m. (length m ≤ room) × Appended Holds h k m)))
     → room ≡ 2 ^ 64 - 1 → hasher_parameters h ≡ hash_parameters → hasher_parameters k ≡ hasher_parameters h → Holds h []
     → ((m : List ℕ) → Holds k m → output_root o ≡ root_of (hasher_parameters k) m)
     → IfSome first (λ input. IfSome tree (λ files. let r : Result Output Fault = Ok o in
     Reads (2 ^ 64 - 1) (λ m x. output_root x ≡ hash_root m) name (content_of name input files) r))
-output_made None tree h k o name room read same under kept empty root = tt
-output_made (Some input) None h k o name room read same under kept empty root = tt
-output_made (Some input) (Some files) h k o name room read same under kept empty root = of_content (content_of name input files) read
+output_made first tree h k o name room read same under kept empty root =
+    IfSome_then first read (λ input. λ told. IfSome_then tree told (λ files. of_content (content_of name input files)))
   where
     of_content : (content : Option (List ℕ)) → IsSomeAnd content (λ m. (length m ≤ room) × Appended Holds h k m)
         → IsSomeAnd content (λ m. (length m ≤ 2 ^ 64 - 1) × (output_root o ≡ hash_root m))
@@ -108,21 +115,36 @@ module _ {V : Type 0} (l : Lining) (name : Text) (is : List ℕ → V → Type 0
   of_content (Some m) r a b stands there same (inl p) = inl (text, (stands, (there.0, same m there.1)), p)
   of_content (Some m) r a b stands there same (inr p) = inr (rw p.0 (stands, tt), p.1)
 
+  -- what a value was made of, where it is told
+  abbrev pub Made : Option (List ℕ) → Option Files → Type 0
+  Made first tree = IfSome first (λ input. IfSome tree (λ files. let made : Result V Fault = Ok value in
+      Reads l.limit is name (content_of name input files) made))
+
   pub line_listed : (first : Option (List ℕ)) (tree : Option Files) (r : Result (Unit {0}) Fault) (a b c : Shown)
-      → Stands l.place name
-      → IfSome first (λ input. IfSome tree (λ files. let made : Result V Fault = Ok value in Reads l.limit is name (content_of name input files) made))
-      → ((m : List ℕ) → is m value → text ≡ l.text name m) → b ≡ a → PrintsListed r b c text
+      → Stands l.place name → Made first tree → ((m : List ℕ) → is m value → text ≡ l.text name m) → b ≡ a
+      → PrintsListed r b c text
       → IfSome first (λ input. IfSome tree (λ files. PrintsLine l name (content_of name input files) r a c))
-  line_listed None tree r a b c stands read same shown p = tt
-  line_listed (Some input) None r a b c stands read same shown p = tt
-  line_listed (Some input) (Some files) r a b c stands read same shown p =
-      of_content (content_of name input files) r a c stands read same (rw shown at p)
+  line_listed first tree r a b c stands read same shown p =
+      IfSome_then first read (λ input. λ told. IfSome_then tree told (λ files. λ made.
+      of_content (content_of name input files) r a c stands made same (rw shown at p)))
 
   pub line_done : (first : Option (List ℕ)) (tree : Option Files) (nothing : Unit {0}) (a b c : Shown)
-      → Stands l.place name
-      → IfSome first (λ input. IfSome tree (λ files. let made : Result V Fault = Ok value in Reads l.limit is name (content_of name input files) made))
-      → ((m : List ℕ) → is m value → text ≡ l.text name m) → b ≡ a → Done b c text
+      → Stands l.place name → Made first tree → ((m : List ℕ) → is m value → text ≡ l.text name m) → b ≡ a
+      → Done b c text
       → IfSome first (λ input. IfSome tree (λ files. let r : Result (Unit {0}) Fault = Ok nothing in
       PrintsLine l name (content_of name input files) r a c))
   line_done first tree nothing a b c stands read same shown done =
       line_listed first tree (Ok nothing) a b c stands read same shown (inl done)
+
+-- the line of a stretch of the output that was made of what a name gives
+pub stretch_listed : (s : Stretch) (name : Text) (o q : Output) (first : Option (List ℕ)) (tree : Option Files)
+    (r : Result (Unit {0}) Fault) (a b c : Shown) → Fits 64 name
+    → Made (digest_line (requested.Output s)) name (λ m x. output_root x ≡ hash_root m) o [] first tree
+    → output_root q ≡ output_root o → output_position q ≡ s.position → b ≡ a
+    → PrintsText r b c (lead name ++ (encode_lower (slice (output_root q) (output_position q) s.length) ++ ending name))
+    → IfSome first (λ input. IfSome tree (λ files.
+    PrintsLine (digest_line (requested.Output s)) name (content_of name input files) r a c))
+stretch_listed s name o q first tree r a b c fits read root at shown p =
+    line_listed (digest_line (requested.Output s)) name (λ m x. output_root x ≡ hash_root m) o
+    (lead name ++ (encode_lower (slice (output_root q) (output_position q) s.length) ++ ending name))
+    first tree r a b c fits read (λ m is. stretch_text name o q s.position s.length m root at is) shown (inl p)

@@ -1,5 +1,6 @@
 -- What the reading of a name leaves, by the answer that comes after it.
-use Rattle.std.proofs.Common.{◌≡◌, ℕ, List, [], Option, None, Some, Bool, true, false, Result, Ok, Err, IfSome, refl, sym}
+use Rattle.std.proofs.Common.{◌≡◌, ℕ, List, [], Option, None, Some, Bool, true, false, Result, Ok, Err, IfSome, refl}
+use Rattle.std.proofs.Common.{sym}
 use Rattle.std.proofs.Common.{inl, inr, subst, arith}
 use Rattle.std.specs.Prelude.{IsErrAnd}
 use Rattle.std.proofs.lemmas.Option.{IfSome_then}
@@ -9,7 +10,7 @@ use Rattle.source.specs.Written.{Shown}
 use Rattle.sumlist.specs.Report.{Files}
 use Rattle.command.specs.Course.{Counted, behind, failures_from}
 use Rattle.command.specs.Lines.{content_of, is_input}
-use Rattle.command.specs.Troubles.{Trouble, trouble_of}
+use Rattle.command.specs.Troubles.{Trouble}
 use Rattle.command.specs.declared.fault.Fault.{Fault}
 use Rattle.command.specs.declared.fault.Fault.TheVariants.{CannotWrite}
 use Rattle.command.specs.inside.Printing.{PrintsListed}
@@ -66,7 +67,8 @@ read_on name value r old mid new quiet bytes files input_failures file_failures 
 
 -- nothing of it was read
 pub unread : (T : Type 0) (name : Text) (fault : Fault) (old : Seen)
-    → (let r : Result T Fault = Err fault in IsQuiet r) → (let r : Result T Fault = Err fault in AfterReading name r old old)
+    → (let r : Result T Fault = Err fault in IsQuiet r)
+    → (let r : Result T Fault = Err fault in AfterReading name r old old)
 unread T name fault old quiet = record {
   counted = told_always old (λ bytes files. subst (λ (n : ℕ). Counted (failures_from (is_input name) n)
       old.input_failures old.input_failures old.file_failures old.file_failures)
@@ -75,7 +77,8 @@ unread T name fault old quiet = record {
   files = refl;
 }
   where
-    none : (b : Bool) → Counted (failures_from b 0) old.input_failures old.input_failures old.file_failures old.file_failures
+    none : (b : Bool)
+        → Counted (failures_from b 0) old.input_failures old.input_failures old.file_failures old.file_failures
     none true = (omega arith, omega arith)
     none false = (omega arith, omega arith)
 

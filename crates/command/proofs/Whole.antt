@@ -1,5 +1,5 @@
 -- The course of a run is that of its request, with the last trouble told.
-use Rattle.std.proofs.Common.{◌≡◌, ℕ, List, [], ◌++◌, Option, Some, None, Result, Ok, Err, IfSome, MatchResult, refl}
+use Rattle.std.proofs.Common.{◌≡◌, ℕ, List, [], ◌++◌, Option, Some, None, Result, Ok, Err, IfSome, refl}
 use Rattle.std.proofs.Common.{sym, ap, ◌∙◌, inl, inr, subst, append-nil, arith}
 use Rattle.std.specs.Prelude.{IsErrAnd}
 use Rattle.std.proofs.KnownBytes.{Appends-nil}
@@ -13,14 +13,12 @@ use Rattle.task.specs.Parameters.{Judges}
 use Rattle.task.specs.Tasks.{Asked, asked, task_shown}
 use Rattle.task.specs.declared.fault.TaskFault.{TaskFault}
 use Rattle.task.specs.declared.fault.TaskFault.TheVariants as task
-use Rattle.task.specs.declared.fault.UsageFault.{UsageFault}
 use Rattle.task.specs.declared.request.Request.{Request}
 use Rattle.command.specs.Course.{Counted, Course, Printed, Runs, Takes, Tells, all_told, ending_told, no_failures}
 use Rattle.command.specs.Course.{refused_by, status_at}
 use Rattle.command.specs.Program.{IsAnswered, ProgramRuns, RequestRuns, TaskRuns}
-use Rattle.command.specs.Troubles.{Trouble, out_of_memory, status_of, told, trouble_of, usage}
+use Rattle.command.specs.Troubles.{out_of_memory, status_of, told, trouble_of}
 use Rattle.command.specs.declared.fault.Fault.{Fault}
-use Rattle.command.specs.declared.fault.Fault.TheVariants.{OutOfMemory, Usage}
 use Rattle.command.specs.inside.Faults.{of_task}
 use Rattle.command.proofs.Telling.{Tells-more, Tells-none}
 
@@ -139,7 +137,8 @@ module _ (words : List Text) where
       → Program first tree words status out_old out_new err_old err_new i j u v
   run_stopped None tree r f status out_old out_new err_old err_mid err_new i j u v passes read h is last = tt
   run_stopped (Some bytes) None r f status out_old out_new err_old err_mid err_new i j u v passes read h is last = tt
-  run_stopped (Some bytes) (Some files) r f status out_old out_new err_old err_mid err_new i j u v passes read h is last =
+  run_stopped (Some bytes) (Some files) r f status out_old out_new err_old err_mid err_new i j u v passes read h is
+      last =
       inl (
         h.0,
         Runs-stopped h.0 f status out_old out_new err_old err_mid err_new h.2 h.3 is last,

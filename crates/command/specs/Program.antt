@@ -9,7 +9,7 @@ use Rattle.task.specs.CommandLine.{OfSums, Reads}
 use Rattle.task.specs.Tasks.{Asked, asked, checks, derives, hashes, tags}
 use Rattle.task.specs.declared.request.Request.{Request}
 use Rattle.command.specs.Checking.{CheckRuns}
-use Rattle.command.specs.Course.{Counted, Course, Failures, Runs, no_failures, refused_by}
+use Rattle.command.specs.Course.{Counted, Course, Runs, no_failures, refused_by}
 use Rattle.command.specs.Hashing.{HashesAll}
 use Rattle.command.specs.Keying.{KdfRuns, MacRuns}
 use Rattle.command.specs.Lines.{digest_line}

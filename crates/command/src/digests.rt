@@ -38,7 +38,8 @@ impl<'i, 't, 'o, L: Feed, T: Tree, W: Sink> Session<'i, 't, 'o, L, T, W> {
     ) -> Result<u8, Fault<'n>>
         requires digest { HasDigest requested }
         requires parts { IfSome parts IsPartSize }
-        ensures course { TakesCourse (λ bytes files. HashesAll (digest_line requested) files bytes (map (λ n. n.now) names.entry.now))
+        ensures course { TakesCourse (λ bytes files.
+            HashesAll (digest_line requested) files bytes (map (λ n. n.now) names.entry.now))
             (λ troubles. Tells (E.shown err.old) (E.shown err.new) (all_told troubles))
             result (⟦<Self as Streams>⟧.seen self.old) (⟦<Self as Streams>⟧.seen self.new) }
         ensures same { SameStreams self.old self.new }

@@ -3,7 +3,7 @@
 ghost use Rattle.std.specs.Prelude.{◌≡◌, [], false, true, IfOk, IfSome, Some};
 ghost use Rattle.source.specs.Counts.{count_after};
 ghost use Rattle.command.specs.inside.Reading.{Absorbs, AbsorbsLine, Leaves, OpensFile, failed};
-ghost use Rattle.command.specs.inside.Streams.{AfterReading, IfContent, SameStreams, Seen};
+ghost use Rattle.command.specs.inside.Streams.{AfterReading, IfContent, SameStreams, Seen, seen_of};
 
 use crate::fault::Fault;
 use crate::output::named;
@@ -27,13 +27,7 @@ pub(crate) trait Streams {
 }
 
 impl<'i, 't, 'o, L: Feed, T: Tree, W: Sink> Streams for Session<'i, 't, 'o, L, T, W> {
-    ghost seen = { λ s. record {
-      bytes = L.remaining s.input.now;
-      files = T.files s.tree.now;
-      input_failures = L.failure_count s.input.now;
-      file_failures = T.failure_count s.tree.now;
-      out = W.shown s.out.now;
-    } };
+    ghost seen = { seen_of L.remaining L.failure_count T.files T.failure_count W.shown };
 }
 
 /// Opens a file by its name.

@@ -96,8 +96,8 @@ impl<'i, 't, 'o, L: Feed, T: Tree, W: Sink> Session<'i, 't, 'o, L, T, W> {
         requires half { H.OUT / 2 ≤ length }
         requires whole { length ≤ H.OUT }
         ensures line { IfContent name.entry.now (⟦<Self as Streams>⟧.seen self.old) (λ content.
-            PrintsTag (hmac_line (function_with H.BLOCK H.OUT H.LIMIT H.hash_of) length key.now) name.entry.now content result
-            (W.shown self.old.out.now) (W.shown self.new.out.now)) }
+            PrintsTag (hmac_line (function_with H.BLOCK H.OUT H.LIMIT H.hash_of) length key.now) name.entry.now
+            content result (W.shown self.old.out.now) (W.shown self.new.out.now)) }
         ensures read { AfterReading name.entry.now result (⟦<Self as Streams>⟧.seen self.old)
             (⟦<Self as Streams>⟧.seen self.new) }
         ensures same { SameStreams self.old self.new }

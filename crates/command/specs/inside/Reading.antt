@@ -1,5 +1,6 @@
 -- What the opening and the reading of a file or of standard input leave, and what they answer.
-use Rattle.std.specs.Prelude.{◌≡◌, ◌≤◌, ℕ, List, Option, Some, Bool, true, false, Result, Ok, Err, MatchResult, IsSomeAnd, OnOk, length}
+use Rattle.std.specs.Prelude.{◌≡◌, ◌≤◌, ℕ, List, Option, Some, Bool, true, false, Result, Ok, Err, MatchResult}
+use Rattle.std.specs.Prelude.{IsSomeAnd, OnOk, length}
 use Rattle.std.specs.Io.KnownBytes.{IsAtEnd}
 use Rattle.clap.specs.Words.{Text}
 use Rattle.source.specs.Pumped.{Appended, Gives}

@@ -20,6 +20,17 @@ pub record Seen : Type 0 where
   pub file_failures : ℕ
   pub out : Shown
 
+module _ {L T W F : Type 0} (remaining : L → Option (List ℕ)) (input_failures : L → ℕ) (files : T → Option Files)
+    (file_failures : T → ℕ) (out : W → Shown) where
+  abbrev pub seen_of : Session L T W F → Seen
+  seen_of s = record {
+    bytes = remaining s.input.now;
+    files = files s.tree.now;
+    input_failures = input_failures s.input.now;
+    file_failures = file_failures s.tree.now;
+    out = out s.out.now;
+  }
+
 -- where the bytes and the files are told
 abbrev pub IfTold : Seen → (List ℕ → Files → Type 0) → Type 0
 IfTold s p = IfSome s.bytes (λ bytes. IfSome s.files (p bytes))

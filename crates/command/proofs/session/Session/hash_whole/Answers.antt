@@ -1,4 +1,4 @@
-use Rattle.std.proofs.Common.{◌≡◌, ap, refl}
+use Rattle.std.proofs.Common.{◌≡◌, ℕ, List, ap, refl}
 use Rattle.sumlist.specs.Entry.{Listing}
 use Rattle.task.specs.Requested.{alg_of}
 use Rattle.task.specs.declared.hashing.Requested.TheVariants.{Digest}
@@ -10,10 +10,11 @@ use Rattle.command.proofs.session.Session.hash_whole.Goals as goal
 pub returns-clause-line : goal.returns-clause-line
 returns-clause-line g c =
     let form = c.args.form in
+    let text : List ℕ → List ℕ = λ t.
+        let e : Listing = record { name = c.args.name.now; alg = alg_of form.hash; tag = t } in
+        line_text form.is_tagged e in
     line_listed (digest_line (Digest form)) c.args.name.now (λ m tag. tag ≡ hash_of form.hash m) c.in_ok-tag.tag
-    (line_text form.is_tagged (record { name = c.args.name.now; alg = alg_of form.hash; tag = c.in_ok-tag.tag }))
-    _ _ _ _ _ _ c.in_ok-listable.ensures c.in_ok-tag.ensures.digest
-    (λ m is. ap (λ t. let e : Listing = record { name = c.args.name.now; alg = alg_of form.hash; tag = t } in line_text form.is_tagged e) is)
+    (text c.in_ok-tag.tag) _ _ _ _ _ _ c.in_ok-listable.ensures c.in_ok-tag.ensures.digest (λ m is. ap text is)
     c.tag_of.ensures.out c.write_listed.ensures
 
 pub returns-clause-read : goal.returns-clause-read

@@ -1,14 +1,14 @@
 use Rattle.std.proofs.Common.{map, take}
 use Rattle.command.specs.Lines.{digest_line}
-use Rattle.command.specs.inside.Streams.{SameStreams}
-use Rattle.command.proofs.Going.{Goes, seen_of}
+use Rattle.command.specs.inside.Streams.{SameStreams, seen_of}
+use Rattle.command.proofs.Going.{Goes}
 use Rattle.command.proofs.session.Session.print_digests.Given as goal
 
 abbrev pub invariant-loop-name : goal.invariant-loop-name
-invariant-loop-name g l = record {
-  same : SameStreams l.initial.self l.self;
-  goes : Goes (digest_line l.requested)
-      (seen_of g.L.Feed.remaining g.L.Feed.failure_count g.T.Tree.files g.T.Tree.failure_count g.W.Sink.shown g.E.Sink.shown l.initial.self l.initial.err)
-      (map (λ n. n.now) (take l.name-index l.names)) l.status
-      (seen_of g.L.Feed.remaining g.L.Feed.failure_count g.T.Tree.files g.T.Tree.failure_count g.W.Sink.shown g.E.Sink.shown l.self l.err);
-}
+invariant-loop-name g l =
+    let see = seen_of g.L.Feed.remaining g.L.Feed.failure_count g.T.Tree.files g.T.Tree.failure_count g.W.Sink.shown in
+    record {
+      same : SameStreams l.initial.self l.self;
+      goes : Goes (digest_line l.requested) (see l.initial.self) (g.E.Sink.shown l.initial.err)
+          (map (λ n. n.now) (take l.name-index l.names)) l.status (see l.self) (g.E.Sink.shown l.err);
+    }
