@@ -178,13 +178,3 @@ module _ (words : List Text) where
       → Program first tree words status out_old (shown out_end) err_old err_new i (reads input_end) u (opens files_end)
   handed_back shown reads opens first tree status out_old err_old err_new i u out out_end input input_end files
       files_end o p q h = rw (o, p, q) h
-
--- a run where standard input and the files are told, and nothing has failed before
-pub in_memory : (words : List Text) (first : Option (List ℕ)) (tree : Option Files) (bytes : List ℕ) (files : Files)
-    (status : ℕ) (out_old out_new err_old err_new : Shown) (i j u v : ℕ)
-    → Program first tree words status out_old out_new err_old err_new i j u v
-    → first ≡ Some bytes → tree ≡ Some files → i ≡ 0 → u ≡ 0
-    → (reads : ℕ) × (opens : ℕ)
-    × ProgramRuns words bytes files status out_old out_new err_old err_new 0 reads 0 opens
-in_memory words first tree bytes files status out_old out_new err_old err_new i j u v runs p q r s =
-    (j, v, rw (p, q, r, s) at runs)

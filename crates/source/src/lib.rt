@@ -33,4 +33,5 @@ mod fixed_sink;
 mod parts;
 mod pumping;
 mod sink;
+mod slice;
 mod vec_sink;

@@ -35,6 +35,7 @@ mod laws;
 mod line;
 mod line_buffer;
 mod lines;
+mod map;
 mod memory;
 mod parts;
 mod report;

@@ -27,5 +27,5 @@ returns-clause-read g c =
     let read = c.in_ok-prk.ensures.read in
     let by_hash = function_with g.H.BlockHash.BLOCK g.H.BlockHash.OUT g.H.BlockHash.LIMIT g.H.BlockHash.hash_of in
     let counted = expanded_counted by_hash by.length by.info.items c.bytes.result.now c.args.material.now _
-        c.write_expanded.result _ _ _ _ read.counted c.write_expanded.ensures in
+    c.write_expanded.result _ _ _ _ read.counted c.write_expanded.ensures in
     record { counted = counted; bytes = read.bytes; input_failures = read.input_failures }
