@@ -8,7 +8,7 @@ ghost use Rattle.sumlist.specs.Tagged.{IsLabel, Labelled};
 ghost use Rattle.sumlist.specs.inside.Labels.{Ended, IsNumbered, NotEnded, NotNamed, NotNumbered};
 
 use crate::parts::{cut_at_space, decode_tag};
-use crate::report::place_digits;
+use itoa::Buffer;
 use source::Alg;
 use words::Tag;
 
@@ -119,13 +119,11 @@ fn find_len(digits: &[u8], most: usize) -> Option<usize>
         ((n : ℕ) → 0 < n → n ≤ most → digits.now ≡ decimal (8 * n) → ⊥)
         (λ n. (0 < n) × (n ≤ most) × (digits.now ≡ decimal (8 * n))) }
 {
+    let mut buffer = Buffer::new();
     let mut n = 0;
     while n < most {
         n += 1;
-        let mut buffer = [0; 20];
-        let start = place_digits(8 * n as u64, &mut buffer);
-        let (_, text) = buffer.split_at(start);
-        if is_same(text, digits) {
+        if is_same(buffer.format(8 * n).as_bytes(), digits) {
             return Some(n);
         }
     }

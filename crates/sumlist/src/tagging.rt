@@ -13,9 +13,9 @@ ghost use Rattle.sumlist.specs.declared.kind.Kind.{Kind};
 
 use crate::escaping::write_name;
 use crate::fitting::tagged_fits;
-use crate::report::place_digits;
 use crate::writing::{write_digits, write_lead};
 use crate::{Entry, WriteFault};
+use itoa::Buffer;
 use source::{Alg, Sink, WriteFailed, write_all};
 use thiserror::Error;
 use words::Tag;
@@ -101,9 +101,6 @@ fn write_numbered<W: Sink>(front: &[u8], len: usize, out: &mut W) -> Result<(), 
     requires { len ≤ 64 }
     ensures { Writes result (W.shown out.old) (W.shown out.new) (front.now ++ decimal (8 * len)) }
 {
-    let mut digits = [0; 20];
-    let start = place_digits(8 * len as u64, &mut digits);
-    let (_, text) = digits.split_at(start);
     write_all(out, front)?;
-    write_all(out, text)
+    write_all(out, Buffer::new().format(8 * len).as_bytes())
 }
