@@ -14,25 +14,10 @@ use Rattle.std.proofs.lemmas.Slice.{take-put_mid}
 use Rattle.std.specs.Io.KnownBytes.{Consumes, IsAtEnd, prepend_known}
 use Rattle.source.specs.Pumped.{IsLongerThan}
 
--- what was read ahead is taken, and then more is read ahead
-pub ahead_moved : (a b : Option (List ℕ)) (xs bs : List ℕ) → Consumes a b bs
-    → Consumes (prepend_known xs a) (prepend_known bs b) xs
-ahead_moved None b xs bs given = tt
-ahead_moved (Some x) None xs bs given = absurd given
-ahead_moved (Some x) (Some y) xs bs given = ap (λ (l : List ℕ). xs ++ l) given
-
 -- the bytes that were read ahead alone are more than n
 pub ahead_longer : (a : Option (List ℕ)) (xs : List ℕ) (n : ℕ) → n < length xs → IsLongerThan (prepend_known xs a) n
 ahead_longer None xs n more = tt
 ahead_longer (Some x) xs n more = omega (arith, more, length-append xs x)
-
--- what is left is too long, and so is the whole
-pub consumes_longer : (a b : Option (List ℕ)) (bs : List ℕ) (n k : ℕ) → Consumes a b bs → IsLongerThan b n
-    → k ≤ n + length bs → IsLongerThan a k
-consumes_longer None b bs n k given more sum = tt
-consumes_longer (Some x) None bs n k given more sum = absurd given
-consumes_longer (Some x) (Some y) bs n k given more sum =
-    omega (arith, ap length given, length-append bs y, more, sum)
 
 -- what was read behind the first n bytes of a buffer is the next of them
 pub filled_more : (run buf : List ℕ) (n k count : ℕ) → n ≤ length run → count ≤ length buf
@@ -44,23 +29,6 @@ filled_more run buf n k count within few =
     sym (take-take (n + count) (n + length buf) all (omega (arith, few)))
     ∙ ap (λ (l : List ℕ). take (n + count) l) whole
     ∙ rw front at (take-append-add (take n run) buf count)
-
--- what was to come before bytes were read ahead
-pub longer_before : (a b : Option (List ℕ)) (xs : List ℕ) (n : ℕ) → Consumes a b xs
-    → IsLongerThan (prepend_known xs b) n → IsLongerThan a n
-longer_before None b xs n given more = tt
-longer_before (Some x) None xs n given more = absurd given
-longer_before (Some x) (Some y) xs n given more = omega (arith, ap length given, more)
-
--- bytes after which nothing is left are all that was to come
-pub all_taken : (a b c : Option (List ℕ)) (xs zs bytes : List ℕ) (P : List ℕ → Type 0) → Consumes a b xs
-    → Consumes (prepend_known xs b) (prepend_known zs c) bytes → zs ≡ [] → IsAtEnd c → P bytes → IfSome a P
-all_taken None b c xs zs bytes P first rest none end holds = tt
-all_taken (Some x) None c xs zs bytes P first rest none end holds = absurd first
-all_taken (Some x) (Some y) None xs zs bytes P first rest none end holds = absurd rest
-all_taken (Some x) (Some y) (Some z) xs zs bytes P first rest none end holds =
-    let left : zs ++ z ≡ [] = ap (λ (l : List ℕ). l ++ z) none ∙ end in
-    subst P (sym (first ∙ rest ∙ ap (λ (l : List ℕ). bytes ++ l) left ∙ append-nil bytes)) holds
 
 -- a power of two of chunks that are more than a run is twice such a power, which a run fits in
 pub halved : (chunks len : ℕ) → (k : ℕ) × (len ≡ 1024 * 2 ^ k) → (e : ℕ) × (chunks ≡ 2 ^ e) → len / 1024 < chunks

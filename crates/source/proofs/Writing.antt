@@ -10,9 +10,6 @@ pub record Writing (old new : Shown) (text rest : List ℕ) : Type 0 where
   pub whole : text ≡ front ++ rest
   pub done : Done old new front
 
-pub Writing-start : (old : Shown) (text : List ℕ) → Writing old old text text
-Writing-start old text = record { front = []; whole = refl; done = (refl, Appends-nil old.contents) }
-
 -- a piece of what was left was written
 pub Writing-step : (a b c : Shown) (text rest piece left : List ℕ)
     → rest ≡ piece ++ left → Writing a b text rest → Done b c piece → Writing a c text left
@@ -30,7 +27,3 @@ Writing-more a b c text rest n w p =
 
 pub Writing-end : (old new : Shown) (text : List ℕ) → Writing old new text [] → Done old new text
 Writing-end old new text w = rw (w.whole ∙ append-nil w.front) w.done
-
-pub Writing-begun : (a b : Shown) (text rest : List ℕ) → Writing a b text rest
-    → AppendsPrefix a.contents b.contents text
-Writing-begun a b text rest w = (w.front, w.done.1, (rest, w.whole))

@@ -3,7 +3,7 @@ use Rattle.std.proofs.Common.{◌≡◌, ◌≢◌, ℕ, ◌+◌, ◌<◌, ◌�
 use Rattle.std.proofs.Common.{get_or, take, drop, refl, sym, ap, ◌∙◌, subst, append_assoc, append-nil, Option, Some}
 use Rattle.std.proofs.Common.{None, IfSome, IfErr, IsErr, Result, Ok, Err, arith, rules, eqb, cond, take-append-drop}
 use Rattle.std.specs.Prelude.{nat_le, nat_eq}
-use Rattle.std.specs.Io.KnownBytes.{Consumes, IsAtEnd}
+use Rattle.std.specs.Io.KnownBytes.{Consumes}
 use Rattle.std.proofs.lemmas.Bool.Decides.{nat_tests}
 use Rattle.std.proofs.lemmas.List.{get_or-drop}
 use Rattle.std.proofs.lemmas.List.Elements.{All-append, All-nil}
@@ -44,11 +44,6 @@ len_or_not bytes piece true e = let size = length-append bytes piece in omega (a
 len_or_not bytes piece false e =
     let long : 65536 < length (bytes ++ piece) = grind (arith, nat_tests) in
     let size = length-append bytes piece in omega (arith, size, long)
-
-pub held_len-after : (held : Option (List ℕ)) (piece : List ℕ)
-    → held_len (held_after held piece) ≤ held_len held + length piece
-held_len-after (Some bytes) piece = len_or_not bytes piece (nat_le (length (bytes ++ piece)) 65536) refl
-held_len-after None piece = omega arith
 
 pub Partway-start : (files : Files) (kind : Kind) (whole : List ℕ) (count : ℕ) (old : Option (List ℕ))
     → Partway files kind whole (Some []) whole no_lines count count old old
@@ -134,23 +129,11 @@ Partway-last-stop files kind whole held s next k n o a c d fault answer apart p 
     Progress-stop files kind whole (p.front ++ []) p.front [] s next k n o a c d fault answer p.progress
     (last_line files kind whole held s k n a c apart p) up (checked p.front p.is_held) stopped
 
-pub Partway-end : (files : Files) (kind : Kind) (whole : List ℕ) (held : Option (List ℕ)) (s : Summary) (k n : ℕ)
-    (a c : Option (List ℕ)) → held ≡ Some [] → Partway files kind whole held [] s k n a c
-    → ListChecked {E = CheckFault} files kind whole (Ok s) k n a c
-Partway-end files kind whole held s k n a c same p =
-    let none : p.front ≡ [] = subst (λ h. IsHeld h p.front) same p.is_held in
-    Progress-end files kind whole s k n a c (subst (λ l. Progress files kind whole l s k n a c) (append-nil p.front
-    ∙ none) p.progress)
-
 length-zero : (xs : List ℕ) → length xs ≡ 0 → xs ≡ []
 length-zero [] e = refl
 length-zero (x ∷ xs) e = absurd (omega (arith, e))
 
 -- ---- from one moment to another
-
-pub Goes-none : (files : Files) (kind : Kind) (held : Option (List ℕ)) (ahead : List ℕ) (s : Summary) (m : ℕ)
-    (b : Option (List ℕ)) → Goes files kind held ahead s m b held ahead s m b
-Goes-none files kind held ahead s m b whole more k a p = p
 
 pub Goes-more : (files : Files) (kind : Kind) (held : Option (List ℕ)) (ahead : List ℕ) (s : Summary) (m : ℕ)
     (b : Option (List ℕ)) (now : Option (List ℕ)) (rest front back : List ℕ) (t : Summary) (n : ℕ)
@@ -265,25 +248,6 @@ Coming-halt None r kind rest held t k m a b answer p stopped = search rules
 Coming-halt (Some bytes) None kind rest held t k m a b answer p stopped = search rules
 Coming-halt (Some bytes) (Some files) kind rest held t k m a b answer p stopped =
     Partway-halt files kind bytes held p.0 t k m a b answer p.2 stopped
-
--- nothing more was to come
-pub Coming-end : (whole : Option (List ℕ)) (r s : Option Files) (kind : Kind) (rest after held : Option (List ℕ))
-    (piece : List ℕ) (t : Summary) (answer : Result Summary CheckFault) (k m n : ℕ) (a b c : Option (List ℕ)) → s ≡ r
-    → IfSome whole (λ bytes. IfSome r (λ files. (more : List ℕ) × (rest ≡ Some more)
-    × Partway files kind bytes held more t k m a b)) → Consumes rest after piece → length piece ≡ 0 → IsAtEnd after
-    → IfSome s (λ files. (whole : List ℕ) (k : ℕ) (a : Option (List ℕ)) → Partway files kind whole held [] t k m a b
-    → ListChecked files kind whole answer k n a c)
-    → IfSome whole (λ bytes. IfSome r (λ files. ListChecked files kind bytes answer k n a c))
-Coming-end None r s kind rest after held piece t answer k m n a b c same p q none end g = search rules
-Coming-end (Some bytes) None s kind rest after held piece t answer k m n a b c same p q none end g = search rules
-Coming-end (Some bytes) (Some files) s kind rest None held piece t answer k m n a b c same p q none end g =
-    absurd (subst (λ o. Consumes o None piece) p.1 q)
-Coming-end (Some bytes) (Some files) s kind rest (Some more) held piece t answer k m n a b c same p q none end g =
-    let step = subst (λ o. IfSome o (λ files. (whole : List ℕ) (k : ℕ) (a : Option (List ℕ))
-    → Partway files kind whole held [] t k m a b → ListChecked files kind whole answer k n a c)) same g in
-    let cut : p.0 ≡ piece ++ more = subst (λ o. Consumes o (Some more) piece) p.1 q in
-    let empty : p.0 ≡ [] = cut ∙ ap (λ l. l ++ more) (length-zero piece none) ∙ end in
-    step bytes k a (subst (λ l. Partway files kind bytes held l t k m a b) empty p.2)
 
 fault_is : {S : Type 0} (e f : CheckFault) (r : Result S CheckFault) → r ≡ Err e → r ≡ Err f → e ≡ f
 fault_is e f r same is = IfErr-at_err (λ y. e ≡ y) is (subst (λ s. IfErr s (λ y. e ≡ y)) (sym same) refl)

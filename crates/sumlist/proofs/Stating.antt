@@ -1,19 +1,25 @@
--- No core states two entries, and whether it states one.
-use Rattle.std.proofs.Common.{◌≡◌, ◌⊎◌, inl, inr, ℕ, List, [], ◌∷◌, ◌++◌, refl, sym, ap, ◌∙◌, subst, get_or, Option}
-use Rattle.std.proofs.Common.{Some, None, Result, MatchOption, append_assoc, arith}
+-- No core states two entries, and whether it states one can be told: a core is a text, or a backslash and a text.
+use Rattle.std.proofs.Common.{◌≡◌, ◌⊎◌, inl, inr, ℕ, Bool, true, false, List, [], ◌∷◌, ◌++◌, refl, sym, ap, ◌∙◌}
+use Rattle.std.proofs.Common.{subst, slice_index, length, Option, Some, None, Result, MatchOption, append_assoc, arith}
 use Rattle.std.proofs.lemmas.Bool.{cases_eq}
+use Rattle.hex.specs.Hex.{IsBytes}
+use Rattle.hex.proofs.HexLemmas.{decode_of-ok}
+use Rattle.source.specs.Digest.{tag_len, IsInRange}
 use Rattle.source.specs.declared.alg.Alg.{Alg}
+use Rattle.source.specs.Written.{Shown, Writes}
 use Rattle.sumlist.specs.declared.kind.Kind.{Kind}
 use Rattle.sumlist.specs.Entry.{Listing}
-use Rattle.sumlist.specs.inside.Body.{unescaped}
-use Rattle.sumlist.specs.inside.Cut.{NoParts, NoLabelled, HasNoForm}
+use Rattle.sumlist.specs.inside.Body.{name_of}
+use Rattle.sumlist.specs.inside.Cut.{NoParts, NoLabelled, HasNoForm, IsUnslashed}
 use Rattle.sumlist.specs.Line.{Parts, IsMark, HasForm, Stated}
 use Rattle.sumlist.specs.Tagged.{Labelled, opening, closing}
-use Rattle.source.specs.Written.{Shown, Writes}
 use Rattle.sumlist.proofs.Unescaping.{unescaped-spelled, spelled-unescaped}
-use Rattle.sumlist.proofs.Untagging.{cut_unique, parts_no_space, parts_unique, parts_no_slash, parts_cases}
-use Rattle.sumlist.proofs.LabelOne.{label_plain, labelled_unique, labelled_no_slash}
+use Rattle.sumlist.proofs.Words.{cut_word, digits_word, label_word, no_slash, word_cut}
+use Rattle.sumlist.proofs.Untagging.{parts_cases, parts_fit, parts_unique}
+use Rattle.sumlist.proofs.LabelOne.{labelled_unique}
 use Rattle.sumlist.proofs.Labelling.{labelled_cases}
+
+-- ---- the two forms of a text
 
 no_bracket : (m : ℕ) → IsMark m → m ≡ 40 → ⊥
 no_bracket m (inl a) e = omega (arith, a, e)
@@ -23,106 +29,106 @@ no_bracket m (inr a) e = omega (arith, a, e)
 not_both : (text : List ℕ) (kind : Kind) (a b : Alg) (s t x y : List ℕ) → Parts text kind a s x → Labelled text b t y
     → ⊥
 not_both text kind a b s t x y p q =
-    let r = cut_unique p.digits q.label (p.mark ∷ x) (40 ∷ (y ++ closing q.digits)) (parts_no_space p)
-    (label_plain q.label b q.range q.names) (sym p.whole ∙ q.whole) in
-    no_bracket p.mark p.marked (ap (λ l. get_or l 0 0) r.1)
+    let c = word_cut text p.digits (p.mark ∷ x) (digits_word p.digits s p.tag_is) p.whole in
+    let r = cut_word c q.label (40 ∷ (y ++ closing q.digits)) (label_word q.label b q.range q.names) q.whole in
+    no_bracket p.mark p.marked (ap (λ l. slice_index l 1) r.1)
 
-pub form_unique : (text : List ℕ) (kind : Kind) (a b : Alg) (s t x y : List ℕ) → HasForm text kind a s x
-    → HasForm text kind b t y → (a ≡ b) × (s ≡ t) × (x ≡ y)
-form_unique text kind a b s t x y (inl p) (inl q) = parts_unique text kind a b s t x y p q
-form_unique text kind a b s t x y (inl p) (inr q) = absurd (not_both text kind a b s t x y p q)
-form_unique text kind a b s t x y (inr p) (inl q) = absurd (not_both text kind b a t s y x q p)
-form_unique text kind a b s t x y (inr p) (inr q) = labelled_unique text a b s t x y p q
+module _ (text : List ℕ) (kind : Kind) where
+  pub form_unique : (a b : Alg) (s t x y : List ℕ) → HasForm text kind a s x → HasForm text kind b t y
+      → (a ≡ b) × (s ≡ t) × (x ≡ y)
+  form_unique a b s t x y (inl p) (inl q) = parts_unique text kind a b s t x y p q
+  form_unique a b s t x y (inl p) (inr q) = absurd (not_both text kind a b s t x y p q)
+  form_unique a b s t x y (inr p) (inl q) = absurd (not_both text kind b a t s y x q p)
+  form_unique a b s t x y (inr p) (inr q) = labelled_unique text a b s t x y p q
 
-pub form_no_slash : (text : List ℕ) (kind : Kind) (a : Alg) (t x : List ℕ) → HasForm (92 ∷ text) kind a t x → ⊥
-form_no_slash text kind a t x (inl p) = parts_no_slash text kind a t x p
-form_no_slash text kind a t x (inr p) = labelled_no_slash text a t x p
+  form_no_slash : (a : Alg) (t x : List ℕ) → HasForm (92 ∷ text) kind a t x → ⊥
+  form_no_slash a t x (inl p) = no_slash p.digits text (p.mark ∷ x) (digits_word p.digits t p.tag_is) p.whole
+  form_no_slash a t x (inr p) =
+      no_slash p.label text (40 ∷ (x ++ closing p.digits)) (label_word p.label a p.range p.names) p.whole
 
-pub no_form : (text : List ℕ) (kind : Kind) → NoParts text kind → NoLabelled text → (a : Alg) (t x : List ℕ)
-    → HasForm text kind a t x → ⊥
-no_form text kind p q a t x (inl r) = p a t x r
-no_form text kind p q a t x (inr r) = q a t x r
+  no_form : NoParts text kind → NoLabelled text → HasNoForm text kind
+  no_form p q a t x (inl r) = p a t x r
+  no_form p q a t x (inr r) = q a t x r
 
-pub none_or_labelled : {R : Type 0} (text : List ℕ) (kind : Kind) (alg : R → Alg) (tag body : R
-    → List ℕ) (r : Option R) → NoParts text kind
-    → MatchOption r (NoLabelled text) (λ p. Labelled text (alg p) (tag p) (body p))
-    → MatchOption r (HasNoForm text kind) (λ p. HasForm text kind (alg p) (tag p) (body p))
-none_or_labelled text kind alg tag body None none other = no_form text kind none other
-none_or_labelled text kind alg tag body (Some p) none q = inr q
+  pub none_or_labelled : {R : Type 0} (alg : R → Alg) (tag body : R → List ℕ) (r : Option R) → NoParts text kind
+      → MatchOption r (NoLabelled text) (λ p. Labelled text (alg p) (tag p) (body p))
+      → MatchOption r (HasNoForm text kind) (λ p. HasForm text kind (alg p) (tag p) (body p))
+  none_or_labelled alg tag body None none other = no_form none other
+  none_or_labelled alg tag body (Some p) none q = inr q
 
-abbrev pub SomeForm : List ℕ → Kind → Type 0
-SomeForm text kind = (a : Alg) × (t : List ℕ) × (x : List ℕ) × HasForm text kind a t x
+  form_cases : ((a : Alg) × (t : List ℕ) × (x : List ℕ) × HasForm text kind a t x) ⊎ HasNoForm text kind
+  form_cases = elim (parts_cases text kind) [
+    | inl p ↦ inl (p.0, p.1, p.2, inl p.3)
+    | inr none ↦ elim (labelled_cases text)
+        [ inl q ↦ inl (q.0, q.1, q.2, inr q.3) | inr other ↦ inr (no_form none other) ]
+  ]
 
-pub form_cases : (text : List ℕ) (kind : Kind) → SomeForm text kind ⊎ HasNoForm text kind
-form_cases text kind = elim (parts_cases text kind) [
-  | inl p ↦ inl (p.0, p.1, p.2, inl p.3)
-  | inr none ↦ elim (labelled_cases text)
-      [ inl q ↦ inl (q.0, q.1, q.2, inr q.3) | inr other ↦ inr (no_form text kind none other) ]
-]
+  pub form_fit : (a : Alg) (t x : List ℕ) → HasForm text kind a t x → IsInRange a × (length t ≡ tag_len a) × IsBytes t
+  form_fit a t x (inl p) = parts_fit p
+  form_fit a t x (inr p) = let d = decode_of-ok p.digits t p.tag_is in (p.range, omega (arith, p.sized, d.2), d.3)
+
+-- ---- a core
 
 abbrev pub listing : List ℕ → Alg → List ℕ → Listing
 listing name alg tag = record { name = name; alg = alg; tag = tag }
 
-same_listing : (d e : Listing) → d.alg ≡ e.alg → d.tag ≡ e.tag → d.name ≡ e.name → d ≡ e
-same_listing d e p q r = ap (λ a. listing d.name a d.tag) p ∙ ap (λ t. listing d.name e.alg t) q
-    ∙ ap (λ n. listing n e.alg e.tag) r
+abbrev Core : List ℕ → Type 0
+Core core = (b : Bool) × (text : List ℕ) × IsUnslashed core b text
 
--- no core spells two entries
-pub stated_unique : (core : List ℕ) (kind : Kind) (d e : Listing) → Stated core kind d → Stated core kind e → d ≡ e
-stated_unique core kind d e (inl p) (inl q) = let u =
-    form_unique core kind d.alg e.alg d.tag e.tag d.name e.name p q in same_listing d e u.0 u.1 u.2
-stated_unique core kind d e (inl p) (inr q) =
-    absurd (form_no_slash q.0 kind d.alg d.tag d.name (subst (λ c. HasForm c kind d.alg d.tag d.name) q.2 p))
-stated_unique core kind d e (inr p) (inl q) =
-    absurd (form_no_slash p.0 kind e.alg e.tag e.name (subst (λ c. HasForm c kind e.alg e.tag e.name) p.2 q))
-stated_unique core kind d e (inr p) (inr q) =
-    let texts : q.0 ≡ p.0 = cc in
-    let u = form_unique p.0 kind d.alg e.alg d.tag e.tag p.1 q.1 p.3
-    (subst (λ t. HasForm t kind e.alg e.tag q.1) texts q.3) in
-    let names : Some d.name ≡ Some e.name = sym (unescaped-spelled p.1 d.name p.4) ∙ ap unescaped u.2
-    ∙ unescaped-spelled q.1 e.name q.4 in
-    same_listing d e u.0 u.1 cc
+unslashed : (core : List ℕ) → Core core
+unslashed [] = (false, [], (refl, λ e. omega (arith, e)))
+unslashed (c ∷ text) = elim (cases_eq c 92)
+    [ inl same ↦ (true, text, ap (λ k. k ∷ text) same) | inr apart ↦ (false, c ∷ text, (refl, apart)) ]
 
-abbrev pub SomeStated : List ℕ → Kind → Type 0
-SomeStated core kind = (e : Listing) × Stated core kind e
+-- a form of the text and a name of its body state an entry
+pub stated_by : (core : List ℕ) (kind : Kind) (b : Bool) (text : List ℕ) (a : Alg) (t x name : List ℕ)
+    → IsUnslashed core b text → HasForm text kind a t x → name_of b x ≡ Some name → Stated core kind (listing name a t)
+stated_by core kind true text a t x name u p e = inr (text, x, u, p, spelled-unescaped x name e)
+stated_by core kind false text a t x name u p e =
+    let same : x ≡ name = cc in
+    inl (subst (λ n. HasForm core kind a t n) same (subst (λ c. HasForm c kind a t x) (sym u.0) p))
 
-abbrev pub NoStated : List ℕ → Kind → Type 0
-NoStated core kind = (e : Listing) → Stated core kind e → ⊥
+-- and nothing else does
+pub stated_parts : (core : List ℕ) (kind : Kind) (b : Bool) (text : List ℕ) (e : Listing)
+    → IsUnslashed core b text → Stated core kind e → (body : List ℕ) × HasForm text kind e.alg e.tag body
+    × (name_of b body ≡ Some e.name)
+stated_parts core kind true text e u (inl p) =
+    absurd (form_no_slash text kind e.alg e.tag e.name (subst (λ c. HasForm c kind e.alg e.tag e.name) u p))
+stated_parts core kind true text e u (inr q) =
+    let texts : q.0 ≡ text = (let l = sym q.2 ∙ u in cc) in
+    (q.1, subst (λ c. HasForm c kind e.alg e.tag q.1) texts q.3, unescaped-spelled q.1 e.name q.4)
+stated_parts core kind false text e u (inl p) =
+    (e.name, subst (λ c. HasForm c kind e.alg e.tag e.name) u.0 p, refl)
+stated_parts core kind false text e u (inr q) = absurd (u.1 (ap (λ c. slice_index c 0) q.2))
 
-named : (text : List ℕ) (kind : Kind) → HasNoForm (92 ∷ text) kind → (a : Alg) (t x : List ℕ) → HasForm text kind a t x
-    → (n : Option (List ℕ)) → unescaped x ≡ n
-    → SomeStated (92 ∷ text) kind ⊎ NoStated (92 ∷ text) kind
-named text kind none a t x p (Some name) h = inl (listing name a t, inr (text, x, refl, p, spelled-unescaped x name h))
-named text kind none a t x p None h = inr (λ e u. elim u [
-  | inl q ↦ none e.alg e.tag e.name q
-  | inr q ↦
-      let texts : q.0 ≡ text = (let l = q.2 in cc) in
-      let same = form_unique text kind e.alg a e.tag t q.1 x (subst (λ k. HasForm k kind e.alg e.tag q.1) texts q.3) p
-      in
-      let bad : Some e.name ≡ None = sym (unescaped-spelled q.1 e.name q.4) ∙ ap unescaped same.2 ∙ h in cc
-])
+module _ (core : List ℕ) (kind : Kind) where
+  -- no core states two entries
+  pub stated_unique : (d e : Listing) → Stated core kind d → Stated core kind e → d ≡ e
+  stated_unique d e p q =
+      let c = unslashed core in
+      let r = stated_parts core kind c.0 c.1 d c.2 p in
+      let s = stated_parts core kind c.0 c.1 e c.2 q in
+      let u = form_unique c.1 kind d.alg e.alg d.tag e.tag r.0 s.0 r.1 s.1 in
+      let names : Some d.name ≡ Some e.name = sym r.2 ∙ ap (name_of c.0) u.2 ∙ s.2 in
+      let same : d.name ≡ e.name = cc in
+      ap (λ a. listing d.name a d.tag) u.0 ∙ ap (λ t. listing d.name e.alg t) u.1 ∙ ap (λ n. listing n e.alg e.tag) same
 
-escaped_cases : (core : List ℕ) (kind : Kind) → HasNoForm core kind → SomeStated core kind ⊎ NoStated core kind
-escaped_cases [] kind none = inr (λ e u. elim u [ inl q ↦ none e.alg e.tag e.name q | inr q ↦ let bad = q.2 in cc ])
-escaped_cases (c ∷ text) kind none = elim (cases_eq c 92) [
-  | inl same ↦ subst (λ k. SomeStated (k ∷ text) kind ⊎ NoStated (k ∷ text) kind) (sym same)
-      (elim (form_cases text kind) [
-        | inl p ↦
-            let escaped_none : HasNoForm (92 ∷ text) kind =
-            λ a t x. subst (λ k. HasForm (k ∷ text) kind a t x → ⊥) same (none a t x) in
-            named text kind escaped_none p.0 p.1 p.2 p.3 (unescaped p.2) refl
-        | inr other ↦ inr (λ e u. elim u [
-          | inl q ↦ form_no_slash text kind e.alg e.tag e.name q
-          | inr q ↦ (let texts : q.0 ≡ text =
-              (let l = q.2 in cc) in other e.alg e.tag q.1 (subst (λ k. HasForm k kind e.alg e.tag q.1) texts q.3))
-        ])
-      ])
-  | inr apart ↦ inr (λ e u. elim u [ inl q ↦ none e.alg e.tag e.name q | inr q ↦ apart (let l = q.2 in cc) ])
-]
+  abbrev pub StatedOrNot : Type 0
+  StatedOrNot = ((e : Listing) × Stated core kind e) ⊎ ((e : Listing) → Stated core kind e → ⊥)
 
-pub stated_cases : (core : List ℕ) (kind : Kind) → SomeStated core kind ⊎ NoStated core kind
-stated_cases core kind = elim (form_cases core kind)
-    [ inl p ↦ inl (listing p.2 p.0 p.1, inl p.3) | inr none ↦ escaped_cases core kind none ]
+  named : (b : Bool) (text : List ℕ) → IsUnslashed core b text → (a : Alg) (t x : List ℕ) → HasForm text kind a t x
+      → (name : Option (List ℕ)) → name_of b x ≡ name → StatedOrNot
+  named b text u a t x p (Some name) h = inl (listing name a t, stated_by core kind b text a t x name u p h)
+  named b text u a t x p None h = inr (λ e s.
+      let r = stated_parts core kind b text e u s in
+      let same = (form_unique text kind e.alg a e.tag t r.0 x r.1 p).2 in
+      let bad : Some e.name ≡ None = sym r.2 ∙ ap (name_of b) same ∙ h in cc)
+
+  pub stated_cases : StatedOrNot
+  stated_cases = let c = unslashed core in elim (form_cases c.1 kind) [
+    | inl p ↦ named c.0 c.1 c.2 p.0 p.1 p.2 p.3 (name_of c.0 p.2) refl
+    | inr none ↦ inr (λ e s. let r = stated_parts core kind c.0 c.1 e c.2 s in none e.alg e.tag r.0 r.1)
+  ]
 
 -- the name in brackets is written in one piece, and the digits in another
 pub Writes-named : {T E : Type 0} (r : Result T E) (a b : Shown) (name digits : List ℕ)

@@ -1,0 +1,142 @@
+-- What stands before the first space of a core is a word, digits or a label: a word has no byte that a line
+-- treats otherwise.
+use Rattle.std.proofs.Common.{◌≡◌, ◌≢◌, inl, inr, ℕ, ◌+◌, ◌*◌, ◌<◌, ◌≤◌, ◌^◌, ◌%◌, Bool, true, false, ◌&&◌, List, []}
+use Rattle.std.proofs.Common.{◌∷◌, ◌++◌, slice_index, length, drop, append-nil, refl, sym, ap, ◌∙◌, subst, eqb, leb, arith, rules, codes}
+use Rattle.std.specs.Prelude.{not}
+use Rattle.std.specs.List.{All, AllPass}
+use Rattle.std.specs.Fmt.{decimal}
+use Rattle.std.proofs.lemmas.Fmt.{decimal_by_steps}
+use Rattle.std.proofs.lemmas.List.Elements.{All-append, All-cons, All-head, All-nil, All-tail, All-weaker}
+use Rattle.std.proofs.lemmas.Bool.{false≢true, cases_lt}
+use Rattle.std.proofs.lemmas.Bool.Decides.{nat_tests}
+use Rattle.hex.specs.Hex.{decode_of, is_hex_digit}
+use Rattle.hex.proofs.HexLemmas.{decode_of-ok}
+use Rattle.source.specs.declared.alg.Alg.{Alg}
+use Rattle.source.specs.declared.alg.Alg.TheVariants.{Sha256, Sha512, Blake2b, Blake2s, Blake3}
+use Rattle.source.specs.Digest.{IsInRange}
+use Rattle.std.specs.Prelude.{Ok}
+use Rattle.sumlist.specs.inside.Cut.{NotSpace, HasNoSpace, IsCut}
+use Rattle.sumlist.specs.Tagged.{IsLabel}
+
+-- above a space, `#` and `*`, and no backslash
+abbrev pub InWord : ℕ → Type 0
+InWord c = (45 ≤ c) × (c ≢ 92)
+
+abbrev pub IsWord : List ℕ → Type 0
+IsWord xs = All InWord xs
+
+-- ---- what is a word
+
+literal : (text l : List ℕ) → AllPass (λ c. leb 45 c && not (eqb c 92)) text → l ≡ text → IsWord l
+literal text l h e = subst IsWord (sym e)
+    (All-weaker (λ c. leb 45 c && not (eqb c 92) ≡ true) InWord (λ c t. grind (arith, nat_tests)) text h)
+
+one_digit : (d : ℕ) → d < 10 → IsWord ((48 + d) ∷ [])
+one_digit d small = All-cons InWord (48 + d) [] (omega arith, λ e. omega (arith, small, e)) (All-nil InWord)
+
+decimal_word : (n : ℕ) → n < 2 ^ 64 → IsWord (decimal n)
+decimal_word = decimal_by_steps (λ m ds. IsWord ds) one_digit
+    (λ m ds l h. All-append InWord ds ((48 + m % 10) ∷ []) h (one_digit (m % 10) (omega arith)))
+
+numbered : (front l : List ℕ) (n : ℕ) → n ≤ 64 → AllPass (λ c. leb 45 c && not (eqb c 92)) front
+    → l ≡ front ++ decimal (8 * n) → IsWord l
+numbered front l n fits h e = subst IsWord (sym e)
+    (All-append InWord front (decimal (8 * n)) (literal front front h refl) (decimal_word (8 * n) (omega (arith, fits))))
+
+pub label_word : (l : List ℕ) (a : Alg) → IsInRange a → IsLabel l a → IsWord l
+label_word l Sha256 r e = literal (codes "SHA256") l (search rules) e
+label_word l Sha512 r e = literal (codes "SHA512") l (search rules) e
+label_word l (Blake2b n) r (inl e) = literal (codes "BLAKE2b") l (search rules) e.1
+label_word l (Blake2b n) r (inr e) = numbered (codes "BLAKE2b-") l n r.1 (search rules) e
+label_word l (Blake2s n) r (inl e) = literal (codes "BLAKE2s") l (search rules) e.1
+label_word l (Blake2s n) r (inr e) = numbered (codes "BLAKE2s-") l n (omega (arith, r.1)) (search rules) e
+label_word l Blake3 r e = literal (codes "BLAKE3") l (search rules) e
+
+low_digit : (c : ℕ) → is_hex_digit c ≡ true → c < 45 → ⊥
+low_digit c h low =
+    let a : leb 65 c ≡ false = grind (arith, nat_tests) in
+    let b : leb 97 c ≡ false = grind (arith, nat_tests) in
+    let d : leb 48 c ≡ false = grind (arith, nat_tests) in
+    false≢true (rw (a, b, d) at h)
+
+in_word_digit : (c : ℕ) → is_hex_digit c ≡ true → InWord c
+in_word_digit c h = (
+  elim (cases_lt c 45) [ inl low ↦ absurd (low_digit c h low) | inr big ↦ big ],
+  λ e. false≢true (sym (ap is_hex_digit e) ∙ h),
+)
+
+pub digits_word : (digits tag : List ℕ) → decode_of digits ≡ Ok tag → IsWord digits
+digits_word digits tag e =
+    All-weaker (λ c. is_hex_digit c ≡ true) InWord in_word_digit digits (decode_of-ok digits tag e).1
+
+-- ---- what a word is not
+
+pub no_slash : (word text rest : List ℕ) → IsWord word → 92 ∷ text ≡ word ++ 32 ∷ rest → ⊥
+no_slash [] text rest w e = let h = ap (λ l. slice_index l 0) e in omega (arith, h)
+no_slash (x ∷ word) text rest w e = (All-head InWord x word w).1 (sym (ap (λ l. slice_index l 0) e))
+
+pub no_comment : (word rest : List ℕ) → IsWord word → slice_index (word ++ 32 ∷ rest) 0 ≢ 35
+no_comment [] rest w e = omega (arith, e)
+no_comment (x ∷ word) rest w e = let above = (All-head InWord x word w).0 in omega (arith, e, above)
+
+no_space : (word : List ℕ) → IsWord word → HasNoSpace word
+no_space word w = All-weaker InWord NotSpace (λ c h. let above = h.0 in grind (arith, nat_tests)) word w
+
+-- ---- the first space
+
+spaced : (xs rest : List ℕ) → HasNoSpace (xs ++ 32 ∷ rest) → ⊥
+spaced [] rest h = false≢true (sym (All-head NotSpace 32 rest h))
+spaced (x ∷ xs) rest h = spaced xs rest (All-tail NotSpace x (xs ++ 32 ∷ rest) h)
+
+-- it is at one place
+one_cut : (xs ys ms ns : List ℕ) → HasNoSpace xs → HasNoSpace ys → xs ++ 32 ∷ ms ≡ ys ++ 32 ∷ ns
+    → (xs ≡ ys) × (ms ≡ ns)
+one_cut [] [] ms ns p q e = (refl, cc)
+one_cut [] (y ∷ ys) ms ns p q e =
+    absurd (let same : y ≡ 32 = cc in false≢true (sym (All-head NotSpace y ys q) ∙ ap (λ k. eqb k 32) same))
+one_cut (x ∷ xs) [] ms ns p q e =
+    absurd (let same : x ≡ 32 = cc in false≢true (sym (All-head NotSpace x xs p) ∙ ap (λ k. eqb k 32) same))
+one_cut (x ∷ xs) (y ∷ ys) ms ns p q e =
+    let head : x ≡ y = cc in
+    let r = one_cut xs ys ms ns (All-tail NotSpace x xs p) (All-tail NotSpace y ys q) cc in
+    (ap (λ k. k ∷ xs) head ∙ ap (λ l. y ∷ l) r.0, r.1)
+
+-- a word and a space are what a text is cut into
+pub cut_word : {text front rest : List ℕ} → IsCut text front rest → (word more : List ℕ) → IsWord word
+    → text ≡ word ++ 32 ∷ more → (front ≡ word) × (rest ≡ 32 ∷ more)
+cut_word {text} {front} {rest = []} c word more w e =
+    absurd (spaced word more (subst HasNoSpace (sym (c.whole ∙ append-nil front) ∙ e) c.free))
+cut_word {text} {front} {rest = m ∷ rest} c word more w e =
+    let same : m ≡ 32 = elim c.first [ inl none ↦ absurd cc | inr e ↦ e ] in
+    let whole : front ++ 32 ∷ rest ≡ text = ap (λ k. front ++ k ∷ rest) (sym same) ∙ sym c.whole in
+    let r = one_cut front word rest more c.free (no_space word w) (whole ∙ e) in
+    (r.0, ap (λ k. k ∷ rest) same ∙ ap (λ l. 32 ∷ l) r.1)
+
+-- the space is the first byte of the rest, if it has one
+pub first_space : {text front rest : List ℕ} → IsCut text front rest → 2 ≤ length rest
+    → text ≡ front ++ 32 ∷ slice_index rest 1 ∷ drop 2 rest
+first_space {rest = []} c some = absurd (omega (arith, some))
+first_space {rest = j ∷ []} c some = absurd (omega (arith, some))
+first_space {front} {rest = j ∷ k ∷ rest} c some =
+    let same : j ≡ 32 = elim c.first [ inl none ↦ absurd cc | inr e ↦ e ] in
+    c.whole ∙ ap (λ x. front ++ x ∷ k ∷ rest) same
+
+pub word_cut : (text word more : List ℕ) → IsWord word → text ≡ word ++ 32 ∷ more → IsCut text word (32 ∷ more)
+word_cut text word more w e = record { whole = e; free = no_space word w; first = inr refl }
+
+abbrev Cut : List ℕ → Type 0
+Cut text = (front : List ℕ) × (rest : List ℕ) × IsCut text front rest
+
+-- each text is cut somewhere
+pub cut : (text : List ℕ) → Cut text
+cut [] = ([], [], record { whole = refl; free = All-nil NotSpace; first = inl refl })
+cut (c ∷ text) = go (eqb c 32) refl (cut text)
+  where
+    go : (b : Bool) → eqb c 32 ≡ b → Cut text → Cut (c ∷ text)
+    go true e r = let same : c ≡ 32 = grind (arith, nat_tests) in
+        ([], c ∷ text, record { whole = refl; free = All-nil NotSpace; first = inr same })
+    go false e r = (
+      c ∷ r.0,
+      r.1,
+      record { whole = ap (λ l. c ∷ l) r.2.whole; free = All-cons NotSpace c r.0 e r.2.free; first = r.2.first },
+    )
