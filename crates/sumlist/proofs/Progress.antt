@@ -1,8 +1,7 @@
 -- The lines before the rest of a list have outcomes, whose report was appended; a line more is an outcome more.
 use Rattle.std.proofs.Common.{◌≡◌, ℕ, ◌+◌, List, [], ◌∷◌, ◌++◌, length, refl, sym, ap, ◌∙◌, append_assoc, append-nil}
-use Rattle.std.proofs.Common.{Option, Some, None, IfSome, IsErr, Result, Ok, Err, arith, rules, subst}
+use Rattle.std.proofs.Common.{Option, Some, None, IfSome, IsErr, Result, Ok, arith, rules, subst}
 use Rattle.std.proofs.lemmas.Result.{MatchResult-from_err}
-use Rattle.std.specs.Io.KnownBytes.{Appends}
 use Rattle.std.proofs.KnownBytes.{Appends-nil, Appends-trans}
 use Rattle.source.specs.Written.{AppendsPrefix}
 use Rattle.sumlist.proofs.Pieces.{AppendsPrefix-after, AppendsPrefix-more, AppendsPrefix-none}
@@ -14,7 +13,8 @@ use Rattle.sumlist.specs.Lines.{lines}
 use Rattle.sumlist.specs.inside.Ahead.{Progress}
 use Rattle.sumlist.specs.Report.{Files, Outcome, AllAllowed, text, report_from, is_told, unreadable_count, number_of}
 use Rattle.sumlist.specs.Checked.{ListChecked}
-use Rattle.sumlist.specs.inside.Stepped.{LineChecked}
+use Rattle.source.specs.Counts.{count_after}
+use Rattle.sumlist.specs.inside.Stepped.{LineChecked, Stepped}
 use Rattle.sumlist.specs.declared.kind.Kind.{Kind}
 use Rattle.sumlist.specs.declared.summary.Mark.{Mark}
 use Rattle.sumlist.specs.declared.checking.CheckFault.{CheckFault}
@@ -67,68 +67,91 @@ Progress-start files kind whole count old = record {
   written = Appends-nil old;
 }
 
-pub Progress-line : (files : Files) (kind : Kind) (whole rest line after : List ℕ) (s t : Summary) (next : ℕ)
-    (k m n : ℕ) (a b c : Option (List ℕ)) (mark : Mark)
-    → Progress files kind whole rest s k m a b → lines rest ≡ line ∷ lines after → next ≡ lines_of s + 1
-    → LineChecked {E = CheckFault} files kind line next (Ok mark) m n b c → IsCounted mark s t
-    → Progress files kind whole after t k n a c
-Progress-line files kind whole rest line after s t next k m n a b c mark p cut up l more =
-    let o = l.0 in
-    let count = unreadable_count-append p.outcomes (o ∷ []) in
-    let one = unreadable_count-one o in
-    let sum = lines_of-summary s p.outcomes p.summed in
-    let at : 1 + length p.outcomes ≡ next = omega (arith, sum, up) in
-    let text_is : report_from 1 (p.outcomes ++ o ∷ []) ≡ report_from 1 p.outcomes ++ text next o =
-    report_from-append 1 p.outcomes (o ∷ []) ∙ ap (λ j. report_from 1 p.outcomes ++ report_from j (o ∷ [])) at
-    ∙ ap (λ t. report_from 1 p.outcomes ++ t) (report_from-one next o) in
-    record {
-      before = p.before ++ line ∷ [];
-      outcomes = p.outcomes ++ o ∷ [];
-      split = p.split ∙ ap (λ ls. p.before ++ ls) cut ∙ sym (append_assoc p.before (line ∷ []) (lines after));
-      allowed = AllAllowed-append files kind p.before (line ∷ []) p.outcomes (o ∷ []) p.allowed (l.1.allowed, tt);
-      summed = IsSummary-more p.outcomes o mark l.2.0 s t p.summed more;
-      counted = let before = p.counted in let now = l.1.counted in omega (arith, count, one);
-      written = subst (Appends a c) (sym text_is) (Appends-trans a b c _ _ p.written l.2.1);
-    }
+-- what was done with a line that was told of, and with one at which the check stopped
+abbrev pub LineDone : Files → Kind → List ℕ → ℕ → Mark → ℕ → ℕ → Option (List ℕ) → Option (List ℕ) → Type 0
+LineDone files kind line number mark m n b c = LineChecked {E = CheckFault} files kind line number (Ok mark) m n b c
 
-pub Progress-end : (files : Files) (kind : Kind) (whole : List ℕ) (s : Summary) (k n : ℕ) (a c : Option (List ℕ))
-    → Progress files kind whole [] s k n a c → ListChecked {E = CheckFault} files kind whole (Ok s) k n a c
-Progress-end files kind whole s k n a c p = (
-  p.outcomes,
-  subst (λ ls. AllAllowed files kind ls p.outcomes)
-      (sym (p.split ∙ append-nil p.before)) p.allowed,
-  p.counted,
-  (p.summed, p.written),
-)
+abbrev pub LineStopped : Files → Kind → List ℕ → ℕ → ℕ → ℕ → Option (List ℕ) → Option (List ℕ) → Type 0
+LineStopped files kind line number m n b c =
+    (o : Outcome) × Stepped files kind line o m n × AppendsPrefix b c (text number o)
 
-pub Progress-stop : (files : Files) (kind : Kind) (whole rest line after : List ℕ) (s : Summary) (next : ℕ)
-    (k m n : ℕ) (a b c : Option (List ℕ)) (fault : CheckFault) (answer : Result Summary CheckFault)
-    → Progress files kind whole rest s k m a b → lines rest ≡ line ∷ lines after → next ≡ lines_of s + 1
-    → LineChecked files kind line next (Err fault) m n b c → IsErr answer
-    → ListChecked files kind whole answer k n a c
-Progress-stop files kind whole rest line after s next k m n a b c fault answer p cut up l stopped =
-    let o = l.0 in
-    let others = all_settled files kind (lines after) in
-    let count = unreadable_count-append p.outcomes (o ∷ others.0) in
-    let split_count = unreadable_count-append (o ∷ []) others.0 in
-    let one = unreadable_count-one o in
-    let none = others.2 in
-    let sum = lines_of-summary s p.outcomes p.summed in
-    let at : 1 + length p.outcomes ≡ next = omega (arith, sum, up) in
-    let text_is : report_from 1 (p.outcomes ++ o ∷ others.0) ≡ report_from 1
-    p.outcomes ++ (text next o ++ report_from (next + 1) others.0) =
-    report_from-append 1 p.outcomes (o ∷ others.0) ∙ ap
-    (λ j. report_from 1 p.outcomes ++ report_from j (o ∷ others.0)) at
-    ∙ ap (λ t. report_from 1 p.outcomes ++ t) (report_from-cons next o others.0) in (
-      p.outcomes ++ o ∷ others.0,
-      subst (λ ls. AllAllowed files kind ls (p.outcomes ++ o ∷ others.0))
-          (sym (p.split ∙ ap (λ ls. p.before ++ ls) cut))
-          (AllAllowed-append files kind p.before (line ∷ lines after) p.outcomes (o ∷ others.0) p.allowed
-          (l.1.allowed, others.1)),
-      (let before = p.counted in let now = l.1.counted in omega (arith, count, split_count, one, none)),
-      MatchResult-from_err answer _ _ stopped (λ _. subst (AppendsPrefix a c) (sym text_is)
-          (AppendsPrefix-after a b c _ _ p.written (AppendsPrefix-more b c (text next o) _ l.2))),
-    )
+module _ {files : Files} {kind : Kind} {whole rest : List ℕ} {s : Summary} {k m : ℕ} {a b : Option (List ℕ)}
+    (p : Progress files kind whole rest s k m a b) where
+  -- the number of the next line
+  next_is : {next : ℕ} → next ≡ lines_of s + 1 → 1 + length p.outcomes ≡ next
+  next_is up = let sum = lines_of-summary s p.outcomes p.summed in omega (arith, sum, up)
+
+  pub Progress-line : (line after : List ℕ) (t : Summary) (next n : ℕ) (c : Option (List ℕ)) (mark : Mark)
+      → lines rest ≡ line ∷ lines after → next ≡ lines_of s + 1 → LineDone files kind line next mark m n b c
+      → IsCounted mark s t → Progress files kind whole after t k n a c
+  Progress-line line after t next n c mark cut up l more =
+      let o = l.0 in
+      let count = unreadable_count-append p.outcomes (o ∷ []) in
+      let one = unreadable_count-one o in
+      record {
+        before = p.before ++ line ∷ [];
+        outcomes = p.outcomes ++ o ∷ [];
+        split = p.split ∙ ap (λ ls. p.before ++ ls) cut ∙ sym (append_assoc p.before (line ∷ []) (lines after));
+        allowed = AllAllowed-append files kind p.before (line ∷ []) p.outcomes (o ∷ []) p.allowed (l.1.allowed, tt);
+        summed = IsSummary-more p.outcomes o mark l.2.0 s t p.summed more;
+        counted = let before = p.counted in let now = l.1.counted in omega (arith, count, one);
+        written = rw (report_from-append 1 p.outcomes (o ∷ []), next_is up, report_from-one next o)
+            (Appends-trans a b c _ _ p.written l.2.1);
+      }
+
+  pub Progress-end : rest ≡ [] → ListChecked {E = CheckFault} files kind whole (Ok s) k m a b
+  Progress-end none = (
+    p.outcomes,
+    subst (λ ls. AllAllowed files kind ls p.outcomes)
+        (sym (p.split ∙ ap (λ l. p.before ++ lines l) none ∙ append-nil p.before)) p.allowed,
+    p.counted,
+    (p.summed, p.written),
+  )
+
+  -- the check stops: the lines of the rest have these outcomes, and a beginning of their report was appended
+  stops : (os : List Outcome) (n : ℕ) (c : Option (List ℕ)) (answer : Result Summary CheckFault) → IsErr answer
+      → AllAllowed files kind (lines rest) os → n ≡ count_after m (unreadable_count os)
+      → AppendsPrefix b c (report_from (1 + length p.outcomes) os) → ListChecked files kind whole answer k n a c
+  stops os n c answer stopped allowed counted written =
+      let count = unreadable_count-append p.outcomes os in
+      let before = p.counted in (
+        p.outcomes ++ os,
+        subst (λ ls. AllAllowed files kind ls (p.outcomes ++ os)) (sym p.split)
+            (AllAllowed-append files kind p.before (lines rest) p.outcomes os p.allowed allowed),
+        omega (arith, count, before, counted),
+        MatchResult-from_err answer _ _ stopped (λ _. subst (AppendsPrefix a c)
+            (sym (report_from-append 1 p.outcomes os)) (AppendsPrefix-after a b c _ _ p.written written)),
+      )
+
+  -- at a line
+  pub Progress-stop : (line after : List ℕ) (next n : ℕ) (c : Option (List ℕ)) (answer : Result Summary CheckFault)
+      → lines rest ≡ line ∷ lines after → next ≡ lines_of s + 1 → LineStopped files kind line next m n b c
+      → IsErr answer → ListChecked files kind whole answer k n a c
+  Progress-stop line after next n c answer cut up l stopped =
+      let others = all_settled files kind (lines after) in
+      let one = unreadable_count-append (l.0 ∷ []) others.0 in
+      let first = unreadable_count-one l.0 in
+      let none = others.2 in
+      let now = l.1.counted in
+      stops (l.0 ∷ others.0) n c answer stopped
+      (subst (λ ls. AllAllowed files kind ls (l.0 ∷ others.0)) (sym cut) (l.1.allowed, others.1))
+      (omega (arith, one, first, none, now)) (rw (next_is up, report_from-cons next l.0 others.0)
+      (AppendsPrefix-more b c (text next l.0) (report_from (next + 1) others.0) l.2))
+
+  -- before the next line
+  pub Progress-halt : (answer : Result Summary CheckFault) → IsErr answer → ListChecked files kind whole answer k m a b
+  Progress-halt answer stopped =
+      let others = all_settled files kind (lines rest) in
+      let none = others.2 in
+      stops others.0 m b answer stopped others.1 (omega (arith, none)) (AppendsPrefix-none b _)
+
+-- nothing was written, and no line was checked
+pub ListChecked-none : (files : Files) (kind : Kind) (whole : List ℕ) (answer : Result Summary CheckFault) (k : ℕ)
+    (a : Option (List ℕ)) → IsErr answer → ListChecked files kind whole answer k k a a
+ListChecked-none files kind whole answer k a stopped =
+    Progress-halt (Progress-start files kind whole k a) answer stopped
+
+-- ---- what is told
 
 pub IfSome-all : {X : Type 0} (r : Option X) (P : X → Type 0) → ((x : X) → P x) → IfSome r P
 IfSome-all None P h = search rules
@@ -139,33 +162,3 @@ pub IfSome-two : {X : Type 0} (r s : Option X) (P Q R : X → Type 0) → s ≡ 
     → ((x : X) → P x → Q x → R x) → IfSome r R
 IfSome-two None s P Q R same p q h = search rules
 IfSome-two {X} (Some x) s P Q R same p q h = h x p (subst (λ o. IfSome o Q) same q)
-
--- nothing was written, and no line was checked
-pub ListChecked-none : (files : Files) (kind : Kind) (whole : List ℕ) (answer : Result Summary CheckFault) (k : ℕ)
-    (a : Option (List ℕ)) → IsErr answer → ListChecked files kind whole answer k k a a
-ListChecked-none files kind whole answer k a stopped =
-    let d = all_settled files kind (lines whole) in
-    let none = d.2 in (
-      d.0,
-      d.1,
-      omega (arith, none),
-      MatchResult-from_err answer _ _ stopped
-          (λ _. AppendsPrefix-none a (report_from 1 d.0)),
-    )
-
--- the check stops before the next line
-pub Progress-halt : (files : Files) (kind : Kind) (whole rest : List ℕ) (s : Summary) (k n : ℕ) (a c : Option (List ℕ))
-    (answer : Result Summary CheckFault)
-    → Progress files kind whole rest s k n a c → IsErr answer → ListChecked files kind whole answer k n a c
-Progress-halt files kind whole rest s k n a c answer p stopped =
-    let others = all_settled files kind (lines rest) in
-    let count = unreadable_count-append p.outcomes others.0 in
-    let none = others.2 in (
-      p.outcomes ++ others.0,
-      subst (λ ls. AllAllowed files kind ls (p.outcomes ++ others.0)) (sym p.split)
-          (AllAllowed-append files kind p.before (lines rest) p.outcomes others.0 p.allowed others.1),
-      (let before = p.counted in omega (arith, count, none)),
-      MatchResult-from_err answer _ _ stopped
-          (λ _. subst (AppendsPrefix a c) (sym (report_from-append 1 p.outcomes others.0))
-          (AppendsPrefix-after a c c _ _ p.written (AppendsPrefix-none c _))),
-    )

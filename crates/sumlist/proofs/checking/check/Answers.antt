@@ -8,11 +8,9 @@ use Rattle.sumlist.proofs.Holding.{no_too_long, Coming-start, Coming-piece, Comi
 use Rattle.sumlist.proofs.checking.check.Goals as goal
 
 pub returns-in_err-held-clause-checked : goal.returns-in_err-held-clause-checked
-returns-in_err-held-clause-checked g c =
-    IfSome-all (g.L.Feed.remaining c.args.list.now) _
-    (λ bytes. IfSome-all (g.T.Tree.files c.args.tree.now) _
-    (λ files. ListChecked-none files c.args.kind bytes _ (g.T.Tree.failure_count c.args.tree.now)
-    (g.W.Sink.shown c.args.out.now).contents c.from_residual.ensures.0))
+returns-in_err-held-clause-checked g c = IfSome-all (g.L.Feed.remaining c.args.list.now) _ (λ bytes.
+    IfSome-all (g.T.Tree.files c.args.tree.now) _ (λ files. ListChecked-none files c.args.kind bytes _
+    (g.T.Tree.failure_count c.args.tree.now) (g.W.Sink.shown c.args.out.now).contents c.from_residual.ensures.0))
 
 pub loop-held-init : goal.loop-held-init
 loop-held-init g c = record {
@@ -31,19 +29,13 @@ loop-held-init g c = record {
 
 pub returns-in_err-count-clause-checked : goal.returns-in_err-count-clause-checked
 returns-in_err-count-clause-checked g c =
-    Coming-halt (g.L.Feed.remaining c.args.list.now) (g.T.Tree.files c.args.tree.now) c.args.kind
-    (g.L.Feed.remaining c.loop-held.list) c.loop-held.held c.loop-held.summary
-    (g.T.Tree.failure_count c.args.tree.now) (g.T.Tree.failure_count c.loop-held.tree)
-    (g.W.Sink.shown c.args.out.now).contents (g.W.Sink.shown c.loop-held.out).contents _ c.loop-held.invariant.progress
-    c.from_residual-in_err-count.ensures.0
+    Coming-halt (g.L.Feed.remaining c.args.list.now) (g.T.Tree.files c.args.tree.now) _ _ _ _ _ _ _ _ _
+    c.from_residual-in_err-count.ensures.0 c.loop-held.invariant.progress
 
 pub returns-in_default-clause-checked : goal.returns-in_default-clause-checked
 returns-in_default-clause-checked g c =
-    Coming-halt (g.L.Feed.remaining c.args.list.now) (g.T.Tree.files c.args.tree.now) c.args.kind
-    (g.L.Feed.remaining c.loop-held.list) c.loop-held.held c.loop-held.summary
-    (g.T.Tree.failure_count c.args.tree.now) (g.T.Tree.failure_count c.loop-held.tree)
-    (g.W.Sink.shown c.args.out.now).contents (g.W.Sink.shown c.loop-held.out).contents (Err ListTooLong)
-    c.loop-held.invariant.progress refl
+    Coming-halt (g.L.Feed.remaining c.args.list.now) (g.T.Tree.files c.args.tree.now) _ _ _ _ _ _ _ _ (Err ListTooLong)
+    refl c.loop-held.invariant.progress
 
 pub returns-in_default-clause-gave : goal.returns-in_default-clause-gave
 returns-in_default-clause-gave g c =
@@ -66,20 +58,12 @@ loop-held-preserved g c =
     length-take-le c.in_ok-count.count c.read.new.buf c.in_ok-count.ensures.bound in
     let sum = c.in-Some.ensures in
     record {
-      progress = Coming-piece (g.L.Feed.remaining c.args.list.now) (g.T.Tree.files c.args.tree.now)
-          (g.T.Tree.files c.loop-held.tree) c.args.kind (g.L.Feed.remaining c.loop-held.list)
-          (g.L.Feed.remaining c.read.new.self) c.loop-held.held c.check_piece.new.held piece c.loop-held.summary
-          c.check_piece.new.summary
-          (g.T.Tree.failure_count c.args.tree.now) (g.T.Tree.failure_count c.loop-held.tree)
-          (g.T.Tree.failure_count c.check_piece.new.tree) (g.W.Sink.shown c.args.out.now).contents
-          (g.W.Sink.shown c.loop-held.out).contents (g.W.Sink.shown c.check_piece.new.out).contents
-          c.loop-held.invariant.kept c.loop-held.invariant.progress c.in_ok-count.ensures.given
-          c.in_ok-check_piece.ensures.checked;
+      progress = Coming-piece (g.L.Feed.remaining c.args.list.now) (g.T.Tree.files c.args.tree.now) _ _ _ _ _ _ _ _
+          (g.T.Tree.files c.loop-held.tree) _ _ piece _ _ _ c.loop-held.invariant.kept c.in_ok-count.ensures.given
+          c.in_ok-check_piece.ensures.checked c.loop-held.invariant.progress;
       consumed = (
         c.loop-held.invariant.consumed.0 ++ piece,
-        Consumes-trans (g.L.Feed.remaining c.args.list.now) (g.L.Feed.remaining c.loop-held.list)
-            (g.L.Feed.remaining c.read.new.self) c.loop-held.invariant.consumed.0 piece
-            c.loop-held.invariant.consumed.1 c.in_ok-count.ensures.given,
+        Consumes-trans _ _ _ _ _ c.loop-held.invariant.consumed.1 c.in_ok-count.ensures.given,
         (let parts = length-append c.loop-held.invariant.consumed.0 piece in
             omega (arith, parts, sum.1, size, c.loop-held.invariant.consumed.2)),
       );
@@ -94,15 +78,10 @@ loop-held-preserved g c =
 
 pub returns-in_err-check_piece-clause-checked : goal.returns-in_err-check_piece-clause-checked
 returns-in_err-check_piece-clause-checked g c =
-    let piece = take c.in_ok-count.count c.read.new.buf in
-    Coming-stop (g.L.Feed.remaining c.args.list.now) (g.T.Tree.files c.args.tree.now) (g.T.Tree.files c.loop-held.tree)
-    c.args.kind (g.L.Feed.remaining c.loop-held.list) (g.L.Feed.remaining c.read.new.self) c.loop-held.held piece
-    c.loop-held.summary
-    (g.T.Tree.failure_count c.args.tree.now) (g.T.Tree.failure_count c.loop-held.tree)
-    (g.T.Tree.failure_count c.check_piece.new.tree) (g.W.Sink.shown c.args.out.now).contents
-    (g.W.Sink.shown c.loop-held.out).contents (g.W.Sink.shown c.check_piece.new.out).contents _
-    c.loop-held.invariant.kept c.loop-held.invariant.progress c.in_ok-count.ensures.given
-    c.in_err-check_piece.ensures.checked c.from_residual-in_err-check_piece.ensures.0
+    Coming-stop (g.L.Feed.remaining c.args.list.now) (g.T.Tree.files c.args.tree.now) _ _ _ _ _ _ _ _
+    (g.T.Tree.files c.loop-held.tree) _ (take c.in_ok-count.count c.read.new.buf) _ _ _ c.loop-held.invariant.kept
+    c.in_ok-count.ensures.given c.in_err-check_piece.ensures.checked c.from_residual-in_err-check_piece.ensures.0
+    c.loop-held.invariant.progress
 
 pub returns-in_err-check_piece-clause-gave : goal.returns-in_err-check_piece-clause-gave
 returns-in_err-check_piece-clause-gave g c =
