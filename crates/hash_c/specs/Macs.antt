@@ -1,11 +1,20 @@
--- An HMAC in the caller's memory, over BLAKE2b and BLAKE2s: under a key that is one block, a text.
+-- An HMAC in the caller's memory, over each of four hash functions: under a key that is one block, a text.
 use Rattle.std.specs.Prelude.{ℕ, List, []}
 use Rattle.words.specs.Blake2.{blake2b, blake2s}
 use Rattle.blake2.specs.Blake2.{unsalted}
 use Rattle.blake2.specs.inside.States.{StateHolds2b, StateHolds2s}
+use Rattle.sha2_state.specs.inside.States.{StateHolds256, StateHolds512}
 use Rattle.states.specs.Macs.{IsMac}
 use Rattle.hash_c.specs.declared.hmac_pieces.HmacBlake2bState.{HmacBlake2bState}
 use Rattle.hash_c.specs.declared.hmac_pieces.HmacBlake2sState.{HmacBlake2sState}
+use Rattle.hash_c.specs.declared.hmac_pieces.HmacSha256State.{HmacSha256State}
+use Rattle.hash_c.specs.declared.hmac_pieces.HmacSha512State.{HmacSha512State}
+
+abbrev pub IsMac256 : HmacSha256State → List ℕ → List ℕ → Type 0
+IsMac256 s key text = IsMac (λ h m. StateHolds256 h m) 64 key s.inner s.outer text
+
+abbrev pub IsMac512 : HmacSha512State → List ℕ → List ℕ → Type 0
+IsMac512 s key text = IsMac (λ h m. StateHolds512 h m) 128 key s.inner s.outer text
 
 abbrev pub IsMac2b : HmacBlake2bState → List ℕ → List ℕ → Type 0
 IsMac2b s key text = IsMac (λ h m. StateHolds2b h (unsalted blake2b 64 []) m) 128 key s.inner s.outer text

@@ -1,18 +1,22 @@
-// HMAC over BLAKE2 of a text that comes in pieces (RFC 2104). The state lies in the caller's memory: two hashers, of
+// HMAC of a text that comes in pieces (RFC 2104). The state lies in the caller's memory: two hashers, of
 // which one has taken the key with the inner pad and then the text, the other the key with the outer pad.
 
 ghost use Rattle.std.specs.Prelude.{◌≡◌, ◌<◌, ◌+◌, ◌-◌, ◌^◌, ◌++◌, ◌↔◌, [], ℕ, List, length, take};
+ghost use Rattle.sha2.specs.Sha256.{sha256};
+ghost use Rattle.sha2.specs.Sha512.{sha512};
+ghost use Rattle.sha2_state.specs.inside.States.{IsBegun256, IsBegun512};
 ghost use Rattle.words.specs.Blake2.{blake2b, blake2s};
 ghost use Rattle.blake2.specs.Blake2.{blake2, unsalted};
 ghost use Rattle.blake2.specs.inside.States.{IsBegun2b, IsBegun2s};
 ghost use Rattle.mac.specs.Hmac.{block_sized_key, hmac_of_block_key};
 ghost use Rattle.states.specs.Macs.{IsMac};
-ghost use Rattle.hash_c.specs.Macs.{IsMac2b, IsMac2s};
+ghost use Rattle.hash_c.specs.Macs.{IsMac256, IsMac2b, IsMac2s, IsMac512};
 ghost use Rattle.hash_c.specs.Statuses.{input_status, key_status, tag_status};
 
-use crate::tags::state_status;
+use crate::pieces::update_state;
 use blake2::{Blake2bState, Blake2sState};
-use mac::{Blake2b512, Blake2s256, BlockHash};
+use mac::{Blake2b512, Blake2s256, BlockHash, Sha256Stream, Sha512Stream};
+use sha2_state::{Sha256State, Sha512State};
 use states::{StateOf, begin_hmac, finish_hmac};
 
 // Begins a MAC under a key.
@@ -26,21 +30,6 @@ fn begin<H: BlockHash, S: StateOf<H>>(inner: &mut S, outer: &mut S, key: &[u8]) 
     match begin_hmac::<H, S>(inner, outer, key) {
         Ok(()) => 0,
         Err(_) => 2,
-    }
-}
-
-// Adds a piece to the text, which is the inner hasher's.
-fn update<H: BlockHash, S: StateOf<H>>(inner: &mut S, piece: &[u8]) -> u32
-    ensures status { (m : List ℕ) → S.holds inner.old m
-        → result ≡ input_status H.LIMIT (length m + length piece.now) }
-    ensures appended { (m : List ℕ) → S.holds inner.old m → result ≡ 0
-        → S.holds inner.new (m ++ piece.now) }
-    ensures not_begun { (result ≡ 4) ↔ (S.is_begun inner.old → ⊥) }
-    ensures kept { 0 < result → inner.new ≡ inner.old }
-{
-    match inner.update(piece) {
-        Ok(()) => 0,
-        Err(fault) => state_status(fault),
     }
 }
 
@@ -63,6 +52,98 @@ fn finish<H: BlockHash, S: StateOf<H>>(inner: &S, outer: &S, out: &mut [u8]) -> 
     }
     out.copy_from_slice(&bytes[..out.len()]);
     0
+}
+
+/// An HMAC over SHA-256 between two calls.
+#[repr(C)]
+#[derive(Drop)]
+pub struct HmacSha256State {
+    inner: Sha256State,
+    outer: Sha256State,
+}
+
+/// Begins the HMAC of a text under `key` over SHA-256: 2 where the key is longer than 2^61 - 1 bytes.
+#[unsafe(no_mangle)]
+pub extern "C" fn sums_hmac_sha256_init(state: &mut HmacSha256State, key: &[u8]) -> u32
+    ensures status { result ≡ key_status (2 ^ 61 - 1) (length key.now) }
+    ensures begun { result ≡ 0 → IsMac256 state.new (block_sized_key sha256 64 key.now) [] }
+    ensures kept { 0 < result → state.new ≡ state.old }
+{
+    begin::<Sha256Stream, Sha256State>(&mut state.inner, &mut state.outer, key)
+}
+
+/// Adds a piece to the text: 4 where `state` was never begun, and else 3 where the text would be longer
+/// than 2^61 - 65 bytes.
+#[unsafe(no_mangle)]
+pub extern "C" fn sums_hmac_sha256_update(state: &mut HmacSha256State, piece: &[u8]) -> u32
+    ensures status { (k m : List ℕ) → IsMac256 state.old k m
+        → result ≡ input_status (2 ^ 61 - 1 - 64) (length m + length piece.now) }
+    ensures appended { (k m : List ℕ) → IsMac256 state.old k m → result ≡ 0
+        → IsMac256 state.new k (m ++ piece.now) }
+    ensures not_begun { (result ≡ 4) ↔ (IsBegun256 state.old.inner → ⊥) }
+    ensures kept { 0 < result → state.new ≡ state.old }
+{
+    update_state::<Sha256Stream, Sha256State>(&mut state.inner, piece)
+}
+
+/// Fills `out` with the first bytes of the tag (RFC 2104, section 5): 4 where `state` was never begun,
+/// and else 1 where `out` has fewer than 16 bytes or more than 32. The text can go on.
+#[unsafe(no_mangle)]
+pub extern "C" fn sums_hmac_sha256_finish(state: &HmacSha256State, out: &mut [u8]) -> u32
+    ensures status { (k m : List ℕ) → IsMac256 state.now k m → result ≡ tag_status 32 (length out.old) }
+    ensures tag { (k m : List ℕ) → IsMac256 state.now k m → result ≡ 0
+        → out.new ≡ take (length out.old) (hmac_of_block_key sha256 k m) }
+    ensures inner_not_begun { (IsBegun256 state.now.inner → ⊥) → result ≡ 4 }
+    ensures outer_not_begun { (IsBegun256 state.now.outer → ⊥) → result ≡ 4 }
+    ensures kept { 0 < result → out.new ≡ out.old }
+{
+    finish::<Sha256Stream, Sha256State>(&state.inner, &state.outer, out)
+}
+
+/// An HMAC over SHA-512 between two calls.
+#[repr(C)]
+#[derive(Drop)]
+pub struct HmacSha512State {
+    inner: Sha512State,
+    outer: Sha512State,
+}
+
+/// Begins the HMAC of a text under `key` over SHA-512: 2 where the key is longer than 2^125 - 1 bytes.
+#[unsafe(no_mangle)]
+pub extern "C" fn sums_hmac_sha512_init(state: &mut HmacSha512State, key: &[u8]) -> u32
+    ensures status { result ≡ key_status (2 ^ 125 - 1) (length key.now) }
+    ensures begun { result ≡ 0 → IsMac512 state.new (block_sized_key sha512 128 key.now) [] }
+    ensures kept { 0 < result → state.new ≡ state.old }
+{
+    begin::<Sha512Stream, Sha512State>(&mut state.inner, &mut state.outer, key)
+}
+
+/// Adds a piece to the text: 4 where `state` was never begun, and else 3 where the text would be longer
+/// than 2^125 - 129 bytes.
+#[unsafe(no_mangle)]
+pub extern "C" fn sums_hmac_sha512_update(state: &mut HmacSha512State, piece: &[u8]) -> u32
+    ensures status { (k m : List ℕ) → IsMac512 state.old k m
+        → result ≡ input_status (2 ^ 125 - 1 - 128) (length m + length piece.now) }
+    ensures appended { (k m : List ℕ) → IsMac512 state.old k m → result ≡ 0
+        → IsMac512 state.new k (m ++ piece.now) }
+    ensures not_begun { (result ≡ 4) ↔ (IsBegun512 state.old.inner → ⊥) }
+    ensures kept { 0 < result → state.new ≡ state.old }
+{
+    update_state::<Sha512Stream, Sha512State>(&mut state.inner, piece)
+}
+
+/// Fills `out` with the first bytes of the tag (RFC 2104, section 5): 4 where `state` was never begun,
+/// and else 1 where `out` has fewer than 32 bytes or more than 64. The text can go on.
+#[unsafe(no_mangle)]
+pub extern "C" fn sums_hmac_sha512_finish(state: &HmacSha512State, out: &mut [u8]) -> u32
+    ensures status { (k m : List ℕ) → IsMac512 state.now k m → result ≡ tag_status 64 (length out.old) }
+    ensures tag { (k m : List ℕ) → IsMac512 state.now k m → result ≡ 0
+        → out.new ≡ take (length out.old) (hmac_of_block_key sha512 k m) }
+    ensures inner_not_begun { (IsBegun512 state.now.inner → ⊥) → result ≡ 4 }
+    ensures outer_not_begun { (IsBegun512 state.now.outer → ⊥) → result ≡ 4 }
+    ensures kept { 0 < result → out.new ≡ out.old }
+{
+    finish::<Sha512Stream, Sha512State>(&state.inner, &state.outer, out)
 }
 
 /// An HMAC over BLAKE2b with digests of 64 bytes between two calls.
@@ -96,7 +177,7 @@ pub extern "C" fn sums_hmac_blake2b_update(state: &mut HmacBlake2bState, piece: 
     ensures not_begun { (result ≡ 4) ↔ (IsBegun2b state.old.inner → ⊥) }
     ensures kept { 0 < result → state.new ≡ state.old }
 {
-    update::<Blake2b512, Blake2bState>(&mut state.inner, piece)
+    update_state::<Blake2b512, Blake2bState>(&mut state.inner, piece)
 }
 
 /// Fills `out` with the first bytes of the tag (RFC 2104, section 5): 4 where `state` was never begun,
@@ -144,7 +225,7 @@ pub extern "C" fn sums_hmac_blake2s_update(state: &mut HmacBlake2sState, piece: 
     ensures not_begun { (result ≡ 4) ↔ (IsBegun2s state.old.inner → ⊥) }
     ensures kept { 0 < result → state.new ≡ state.old }
 {
-    update::<Blake2s256, Blake2sState>(&mut state.inner, piece)
+    update_state::<Blake2s256, Blake2sState>(&mut state.inner, piece)
 }
 
 /// Fills `out` with the first bytes of the tag (RFC 2104, section 5): 4 where `state` was never begun,

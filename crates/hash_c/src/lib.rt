@@ -12,5 +12,7 @@ mod blake3_pieces;
 mod hkdf_once;
 mod hmac_once;
 mod hmac_pieces;
+mod pieces;
 mod sha2_once;
+mod sha2_pieces;
 mod tags;

@@ -5,9 +5,11 @@ ghost use Rattle.std.specs.Prelude.{OnErr, IsErrOf};
 ghost use Rattle.words.specs.Blake2.{blake2b, blake2s};
 ghost use Rattle.blake2.specs.Blake2.{unsalted};
 ghost use Rattle.blake2.specs.inside.States.{IsBegun2b, IsBegun2s, StateHolds2b, StateHolds2s};
+ghost use Rattle.sha2_state.specs.inside.States.{IsBegun256, IsBegun512, StateHolds256, StateHolds512};
 
 use blake2::{Blake2b, Blake2bState, Blake2s, Blake2sState, StateFault};
-use mac::{Blake2b512, Blake2s256, BlockHash};
+use mac::{Blake2b512, Blake2s256, BlockHash, Sha256Stream, Sha512Stream};
+use sha2_state::{Sha256State, Sha512State};
 use words::Tag;
 
 /// The plain numbers of a hasher of the function `H`. Each content is a value; what no hasher left is
@@ -76,5 +78,41 @@ impl StateOf<Blake2s256> for Blake2sState {
 
     fn finish(&self) -> Option<Tag> {
         Blake2sState::finish(self)
+    }
+}
+
+impl StateOf<Sha256Stream> for Sha256State {
+    ghost holds = { λ s m. StateHolds256 s m };
+
+    ghost is_begun = { λ s. IsBegun256 s };
+
+    fn begin(&mut self) {
+        Sha256State::begin(self);
+    }
+
+    fn update(&mut self, piece: &[u8]) -> Result<(), StateFault> {
+        Sha256State::update(self, piece)
+    }
+
+    fn finish(&self) -> Option<Tag> {
+        Sha256State::finish(self)
+    }
+}
+
+impl StateOf<Sha512Stream> for Sha512State {
+    ghost holds = { λ s m. StateHolds512 s m };
+
+    ghost is_begun = { λ s. IsBegun512 s };
+
+    fn begin(&mut self) {
+        Sha512State::begin(self);
+    }
+
+    fn update(&mut self, piece: &[u8]) -> Result<(), StateFault> {
+        Sha512State::update(self, piece)
+    }
+
+    fn finish(&self) -> Option<Tag> {
+        Sha512State::finish(self)
     }
 }

@@ -1,0 +1,6 @@
+use Rattle.std.proofs.Common.{◌≡◌}
+use Rattle.sha2.specs.Sha256.{rounds, schedule}
+use Rattle.sha2_state.proofs.block.compress256.Given as goal
+
+abbrev pub invariant-rounds : goal.invariant-rounds
+invariant-rounds l = l.v ≡ rounds l.fn.h (schedule l.block 48) l.t
