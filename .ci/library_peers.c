@@ -134,12 +134,20 @@ static void digest(const EVP_MD *hash, uint8_t *out, const uint8_t *text, size_t
     must(EVP_Digest(text, length, out, NULL, hash, NULL), "EVP_Digest");
 }
 
-#define SHA2(function, count)                                          \
-    static void function##_round(const uint8_t *text, size_t length) { \
-        uint8_t *out = output(count), want[count];                     \
-        digest(EVP_##function(), want, text, length);                  \
-        sums_##function(out, text, length);                            \
-        same(#function, length, out, want, count);                     \
+#define SHA2(function, count)                                                                           \
+    static void function##_round(const uint8_t *text, size_t length) {                                  \
+        uint8_t *out = output(count), want[count];                                                      \
+        sums_##function##_state *state = (void *)at_edge(state_area, sizeof *state, at_end);            \
+        sums_##function##_state *other = (void *)at_edge(copy_area, sizeof *other, at_end);             \
+        digest(EVP_##function(), want, text, length);                                                   \
+        sums_##function(out, text, length);                                                             \
+        same(#function, length, out, want, count);                                                      \
+        memset(state, below(256), sizeof *state);                                                       \
+        sums_##function##_init(state);                                                                  \
+        out = output(count);                                                                            \
+        FEED(sums_##function##_update, sums_##function##_finish(state, out), state, other, text, length) \
+        status("finish", sums_##function##_finish(state, out), 0);                                      \
+        same(#function " in pieces", length, out, want, count);                                         \
     }
 
 SHA2(sha256, 32)
@@ -211,6 +219,8 @@ KEYED(blake2s, EVP_blake2s256(), 32)
         same("hmac_" #name " in pieces", length, out, want, out_len);                                              \
     }
 
+KEYED_PIECES(sha256, EVP_sha256(), 32)
+KEYED_PIECES(sha512, EVP_sha512(), 64)
 KEYED_PIECES(blake2b, EVP_blake2b512(), 64)
 KEYED_PIECES(blake2s, EVP_blake2s256(), 32)
 
@@ -281,6 +291,8 @@ int main(int count, char **words) {
         hmac_sha512_round(text, length);
         hmac_blake2b_round(text, length);
         hmac_blake2s_round(text, length);
+        hmac_sha256_pieces_round(text, length);
+        hmac_sha512_pieces_round(text, length);
         hmac_blake2b_pieces_round(text, length);
         hmac_blake2s_pieces_round(text, length);
         hkdf_sha256_round(text, length);

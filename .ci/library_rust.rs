@@ -61,6 +61,10 @@ fn main() -> Result<(), Refusal> {
 
     told("sha256", &sha256(&input));
     told("sha512", &sha512(&input));
+    let (mut short, mut long) = (Sha256::new(), Sha512::new());
+    pieces().try_for_each(|piece| short.update(piece).and(long.update(piece)))?;
+    told("sha256", &short.clone().finish()?);
+    told("sha512", &long.finish()?);
 
     macro_rules! keyed {
         ($name:literal, $hmac:ident, $hkdf:ident, $extract:ident, $expand:ident, $count:literal) => {
@@ -79,13 +83,18 @@ fn main() -> Result<(), Refusal> {
     keyed!("sha512", hmac_sha512, hkdf_sha512, hkdf_extract_sha512, hkdf_expand_sha512, 64);
     keyed!("blake2b", hmac_blake2b, hkdf_blake2b, hkdf_extract_blake2b, hkdf_expand_blake2b, 64);
     keyed!("blake2s", hmac_blake2s, hkdf_blake2s, hkdf_extract_blake2s, hkdf_expand_blake2s, 32);
-    let (mut long, mut short) = (HmacBlake2b::new(key)?, HmacBlake2s::new(key)?);
-    pieces().try_for_each(|piece| long.update(piece).and(short.update(piece)))?;
-    let (mut long_tag, mut short_tag) = ([0; 64], [0; 32]);
-    long.clone().finish(&mut long_tag)?;
-    told("hmac blake2b", &long_tag);
-    short.finish(&mut short_tag)?;
-    told("hmac blake2s", &short_tag);
+    macro_rules! keyed_pieces {
+        ($name:literal, $Hmac:ident, $count:literal) => {
+            let (mut hasher, mut tag) = ($Hmac::new(key)?, [0; $count]);
+            pieces().try_for_each(|piece| hasher.update(piece))?;
+            hasher.clone().finish(&mut tag)?;
+            told(concat!("hmac ", $name), &tag);
+        };
+    }
+    keyed_pieces!("sha256", HmacSha256, 32);
+    keyed_pieces!("sha512", HmacSha512, 64);
+    keyed_pieces!("blake2b", HmacBlake2b, 64);
+    keyed_pieces!("blake2s", HmacBlake2s, 32);
 
     for refusal in [
         Blake2b::new(65, b"").err(),

@@ -30,9 +30,15 @@ static void blake3(void) {
     sums_blake3_output(&state, 5, out, 1000);
 }
 
+#define SHA2(name)                              \
+    sums_##name(out, text, LENGTH);             \
+    sums_##name##_state state = {0};            \
+    sums_##name##_init(&state);                 \
+    sums_##name##_update(&state, text, LENGTH); \
+    sums_##name##_finish(&state, out);
 static void sha2(void) {
-    sums_sha256(out, text, LENGTH);
-    sums_sha512(out, text, LENGTH);
+    {SHA2(sha256)}
+    {SHA2(sha512)}
 }
 
 #define KEYED(name, count)                                                      \
@@ -50,6 +56,8 @@ static void keyed(void) {
     {KEYED(sha512, 64)}
     {KEYED(blake2b, 64)}
     {KEYED(blake2s, 32)}
+    {KEYED_PIECES(sha256, 32)}
+    {KEYED_PIECES(sha512, 64)}
     {KEYED_PIECES(blake2b, 64)}
     {KEYED_PIECES(blake2s, 32)}
 }

@@ -135,6 +135,8 @@ KEYED_LENGTHS(blake2s, 32)
         TAKEN(count, sums_hmac_##hash##_finish(&state, bytes, count))                                              \
     }
 
+KEYED_PIECES_LENGTHS(sha256, 32)
+KEYED_PIECES_LENGTHS(sha512, 64)
 KEYED_PIECES_LENGTHS(blake2b, 64)
 KEYED_PIECES_LENGTHS(blake2s, 32)
 
@@ -174,12 +176,19 @@ struct kind {
 KIND(blake2b, 64, status("init", sums_blake2b_init(state, 64, text, 7), 0), sums_blake2b_finish(state, out, out_len))
 KIND(blake2s, 32, status("init", sums_blake2s_init(state, 32, text, 7), 0), sums_blake2s_finish(state, out, out_len))
 KIND(blake3, 100, sums_blake3_init_keyed(state, text), sums_blake3_output(state, 40, out, out_len))
+KIND(sha256, 32, sums_sha256_init(state), sums_sha256_finish(state, out))
+KIND(sha512, 64, sums_sha512_init(state), sums_sha512_finish(state, out))
+KIND(hmac_sha256, 32, status("init", sums_hmac_sha256_init(state, text, 7), 0),
+     sums_hmac_sha256_finish(state, out, out_len))
+KIND(hmac_sha512, 64, status("init", sums_hmac_sha512_init(state, text, 7), 0),
+     sums_hmac_sha512_finish(state, out, out_len))
 KIND(hmac_blake2b, 64, status("init", sums_hmac_blake2b_init(state, text, 7), 0),
      sums_hmac_blake2b_finish(state, out, out_len))
 KIND(hmac_blake2s, 32, status("init", sums_hmac_blake2s_init(state, text, 7), 0),
      sums_hmac_blake2s_finish(state, out, out_len))
 
-static const struct kind *kinds[] = {&blake2b, &blake2s, &blake3, &hmac_blake2b, &hmac_blake2s};
+static const struct kind *kinds[] = {&blake2b, &blake2s, &blake3, &sha256, &sha512, &hmac_sha256, &hmac_sha512,
+                                     &hmac_blake2b, &hmac_blake2s};
 
 // A state that no call has made: both calls answer a status and leave everything as it was.
 static void is_not_begun(const struct kind *kind, const uint8_t *content) {
@@ -262,6 +271,22 @@ static void longest(void) {
     blake3_begin(&tree);
     tree.closed = (UINT64_C(1) << 54) - 1, tree.len = 1022;
     IS_FULL(blake3, tree, 100)
+    sums_sha256_state short_words = {0};
+    sha256_begin(&short_words);
+    short_words.taken = (UINT64_C(1) << 61) - 2;
+    IS_FULL(sha256, short_words, 32)
+    sums_sha512_state long_words = {0};
+    sha512_begin(&long_words);
+    long_words.taken_low = UINT64_MAX - 1, long_words.taken_high = (UINT64_C(1) << 61) - 1;
+    IS_FULL(sha512, long_words, 64)
+    sums_hmac_sha256_state keyed_short = {0};
+    hmac_sha256_begin(&keyed_short);
+    keyed_short.inner.taken = (UINT64_C(1) << 61) - 2;
+    IS_FULL(hmac_sha256, keyed_short, 32)
+    sums_hmac_sha512_state keyed_long = {0};
+    hmac_sha512_begin(&keyed_long);
+    keyed_long.inner.taken_low = UINT64_MAX - 1, keyed_long.inner.taken_high = (UINT64_C(1) << 61) - 1;
+    IS_FULL(hmac_sha512, keyed_long, 64)
     sums_hmac_blake2s_state keyed = {0};
     hmac_blake2s_begin(&keyed);
     keyed.inner.compressed = UINT64_MAX - 63, keyed.inner.used = 62;
@@ -279,6 +304,8 @@ int main(void) {
     sha512_keyed_lengths();
     blake2b_keyed_lengths();
     blake2s_keyed_lengths();
+    sha256_keyed_pieces_lengths();
+    sha512_keyed_pieces_lengths();
     blake2b_keyed_pieces_lengths();
     blake2s_keyed_pieces_lengths();
     for (size_t i = 0; i < sizeof kinds / sizeof *kinds; i++) states_of(kinds[i]);

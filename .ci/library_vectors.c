@@ -77,6 +77,20 @@ static void blake2(void) {
 
 // ---- SHA-2: the examples of FIPS 180-4
 
+// The digest of a message in pieces of 61 bytes.
+#define PIECES(function)                                                                                    \
+    static void function##_in_pieces(uint8_t *digest, const uint8_t *message, size_t length) {              \
+        sums_##function##_state state = {0};                                                                \
+        sums_##function##_init(&state);                                                                     \
+        for (size_t at = 0; at < length; at += 61)                                                          \
+            status(#function "_update",                                                                     \
+                   sums_##function##_update(&state, message + at, length - at < 61 ? length - at : 61), SUMS_OK); \
+        status(#function "_finish", sums_##function##_finish(&state, digest), SUMS_OK);                     \
+    }
+
+PIECES(sha256)
+PIECES(sha512)
+
 static const struct {
     const char *text;
     size_t times;
@@ -116,6 +130,10 @@ static void sha2(void) {
         spells("sha256", times * length, digest, sha2_vectors[i].sha256);
         sums_sha512(digest, message, times * length);
         spells("sha512", times * length, digest, sha2_vectors[i].sha512);
+        sha256_in_pieces(digest, message, times * length);
+        spells("sha256 in pieces", times * length, digest, sha2_vectors[i].sha256);
+        sha512_in_pieces(digest, message, times * length);
+        spells("sha512 in pieces", times * length, digest, sha2_vectors[i].sha512);
     }
 }
 
@@ -159,6 +177,20 @@ static const struct {
      "b6022cac3c4982b10d5eeb55c3e4de15134676fb6de0446065c97440fa8c6a58"},
 };
 
+// The tag of a text in two pieces.
+#define HMAC_PIECES(function, count)                                                                         \
+    static void function##_in_pieces(uint8_t *tag, const uint8_t *text, size_t length, const uint8_t *key,   \
+                                     size_t key_len) {                                                       \
+        sums_##function##_state state = {0};                                                                 \
+        status(#function "_init", sums_##function##_init(&state, key, key_len), SUMS_OK);                    \
+        status(#function "_update", sums_##function##_update(&state, text, 3), SUMS_OK);                     \
+        status(#function "_update", sums_##function##_update(&state, text + 3, length - 3), SUMS_OK);        \
+        status(#function "_finish", sums_##function##_finish(&state, tag, count), SUMS_OK);                  \
+    }
+
+HMAC_PIECES(hmac_sha256, 32)
+HMAC_PIECES(hmac_sha512, 64)
+
 static void hmac(void) {
     for (size_t i = 0; i < sizeof hmac_vectors / sizeof *hmac_vectors; i++) {
         uint8_t key[131], tag[64] = {0};
@@ -170,6 +202,10 @@ static void hmac(void) {
         spells("hmac_sha256", length, tag, hmac_vectors[i].sha256);
         status("hmac_sha512", sums_hmac_sha512(tag, 64, text, length, key, key_len), SUMS_OK);
         spells("hmac_sha512", length, tag, hmac_vectors[i].sha512);
+        hmac_sha256_in_pieces(tag, text, length, key, key_len);
+        spells("hmac_sha256 in pieces", length, tag, hmac_vectors[i].sha256);
+        hmac_sha512_in_pieces(tag, text, length, key, key_len);
+        spells("hmac_sha512 in pieces", length, tag, hmac_vectors[i].sha512);
     }
     // case 5, whose tag is shortened to 128 bits
     uint8_t key[20], tag[32] = {0}, rest[16] = {0};

@@ -114,7 +114,7 @@ uint32_t sums_hkdf_expand_blake2b(uint8_t *out, size_t out_len, const uint8_t *p
 uint32_t sums_hkdf_expand_blake2s(uint8_t *out, size_t out_len, const uint8_t *prk, size_t prk_len,
                                   const uint8_t *info, size_t info_len);
 
-/* ---- Messages in pieces: BLAKE2, BLAKE3, and HMAC over BLAKE2
+/* ---- Messages in pieces: BLAKE2, BLAKE3, SHA-2, and HMAC over SHA-2 and BLAKE2
  *
  * A state is plain memory of the caller's: begin it as zeros (= {0}), call init, update for each piece, and then
  * finish or output, after which the message can go on. init begins anew at any time. A state may be copied by
@@ -125,7 +125,8 @@ uint32_t sums_hkdf_expand_blake2s(uint8_t *out, size_t out_len, const uint8_t *p
  * init      begins a message; answers as the calls on whole messages do, of those lengths that it is given
  * update    adds a piece; answers SUMS_OK, SUMS_NOT_BEGUN, or else SUMS_INPUT_TOO_LONG where the message would be
  *           longer than the function takes: 2^128 - 1 bytes of BLAKE2b and 2^64 - 1 of BLAKE2s, each less a block
- *           under a key and in HMAC (128 and 64 bytes); 2^64 - 1 of BLAKE3
+ *           under a key (128 and 64 bytes); 2^64 - 1 of BLAKE3; 2^61 - 1 of SHA-256 and 2^125 - 1 of SHA-512; and in
+ *           HMAC a block less than the hash
  * finish    writes the digest or the tag; answers SUMS_OK, SUMS_NOT_BEGUN, or else SUMS_DIGEST_LENGTH */
 
 /* BLAKE2. finish wants the out_len that init was given as digest_len. */
@@ -165,9 +166,37 @@ void sums_blake3_init_derive(sums_blake3_state *state, const uint8_t *context, s
 uint32_t sums_blake3_update(sums_blake3_state *state, const uint8_t *piece, size_t piece_len);
 uint32_t sums_blake3_output(const sums_blake3_state *state, uint64_t position, uint8_t *out, size_t out_len);
 
-/* HMAC over BLAKE2b of 64 bytes and BLAKE2s of 32. finish takes the out_len that the calls on whole messages do. */
+/* SHA-2. finish has no length to refuse. */
+typedef struct {
+    uint32_t h[8];
+    uint64_t taken, digest_length;
+    uint8_t buffer[64];
+} sums_sha256_state; /* 112 bytes */
+void sums_sha256_init(sums_sha256_state *state);
+uint32_t sums_sha256_update(sums_sha256_state *state, const uint8_t *piece, size_t piece_len);
+uint32_t sums_sha256_finish(const sums_sha256_state *state, uint8_t out[32]);
+
+typedef struct {
+    uint64_t h[8];
+    uint64_t taken_low, taken_high, digest_length;
+    uint8_t buffer[128];
+} sums_sha512_state; /* 216 bytes */
+void sums_sha512_init(sums_sha512_state *state);
+uint32_t sums_sha512_update(sums_sha512_state *state, const uint8_t *piece, size_t piece_len);
+uint32_t sums_sha512_finish(const sums_sha512_state *state, uint8_t out[64]);
+
+/* HMAC over SHA-256, SHA-512, BLAKE2b of 64 bytes and BLAKE2s of 32. finish takes the out_len that the calls on whole
+ * messages do. */
+typedef struct { sums_sha256_state inner, outer; } sums_hmac_sha256_state; /* 224 bytes */
+typedef struct { sums_sha512_state inner, outer; } sums_hmac_sha512_state; /* 432 bytes */
 typedef struct { sums_blake2b_state inner, outer; } sums_hmac_blake2b_state; /* 448 bytes */
 typedef struct { sums_blake2s_state inner, outer; } sums_hmac_blake2s_state; /* 240 bytes */
+uint32_t sums_hmac_sha256_init(sums_hmac_sha256_state *state, const uint8_t *key, size_t key_len);
+uint32_t sums_hmac_sha256_update(sums_hmac_sha256_state *state, const uint8_t *piece, size_t piece_len);
+uint32_t sums_hmac_sha256_finish(const sums_hmac_sha256_state *state, uint8_t *out, size_t out_len);
+uint32_t sums_hmac_sha512_init(sums_hmac_sha512_state *state, const uint8_t *key, size_t key_len);
+uint32_t sums_hmac_sha512_update(sums_hmac_sha512_state *state, const uint8_t *piece, size_t piece_len);
+uint32_t sums_hmac_sha512_finish(const sums_hmac_sha512_state *state, uint8_t *out, size_t out_len);
 uint32_t sums_hmac_blake2b_init(sums_hmac_blake2b_state *state, const uint8_t *key, size_t key_len);
 uint32_t sums_hmac_blake2b_update(sums_hmac_blake2b_state *state, const uint8_t *piece, size_t piece_len);
 uint32_t sums_hmac_blake2b_finish(const sums_hmac_blake2b_state *state, uint8_t *out, size_t out_len);

@@ -9,7 +9,7 @@ for piece in (b"a", b"b", b"c"):
     hasher.update(piece)
 print("blake3 ", hasher.hexdigest())
 
-print("tag    ", sums_hash.hmac_sha256(b"key", b"abc").hex())
+print("tag    ", sums_hash.hmac_sha256(b"key", b"abc").hexdigest())
 
 try:
     sums_hash.blake2b(b"abc", digest_size=65)

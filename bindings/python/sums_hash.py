@@ -3,7 +3,6 @@
     import sums_hash
     sums_hash.blake2b(b"abc", digest_size=32).hexdigest()
 
-SHA-256, SHA-512 and HMAC over them are functions of a whole message, which give bytes: sha256(b"abc").hex().
 Copy this file beside your own. It opens the library that the variable SUMS_HASH_LIBRARY names, or the one that
 `tools/build lib` has made where this file stands in its repository, or else the one that is installed.
 Data are bytes, or anything that memoryview takes. A call that the library refuses raises Refused.
@@ -29,7 +28,8 @@ REFUSALS = {
 
 # The bytes of a state, as the header has them.
 STATE_SIZES = {
-    "blake2b": 224, "blake2s": 120, "blake3": 1880, "hmac_blake2b": 448, "hmac_blake2s": 240,
+    "blake2b": 224, "blake2s": 120, "blake3": 1880, "sha256": 112, "sha512": 216,
+    "hmac_sha256": 224, "hmac_sha512": 432, "hmac_blake2b": 448, "hmac_blake2s": 240,
 }
 
 # The bytes of a digest under HMAC and HKDF.
@@ -170,20 +170,34 @@ class blake2s(_Blake2):
         super().__init__("blake2s", data, digest_size, key, salt, person)
 
 
-def _sha2(name, data):
-    out = ctypes.create_string_buffer(DIGEST_SIZES[name])
-    _call(name, out, _bytes(data))  # which refuses nothing
-    return out.raw
+class _Sha2(_Hasher):
+    def __init__(self, name, data):
+        super().__init__(name)
+        self.digest_size = DIGEST_SIZES[name]
+        _call(name + "_init", self._state)
+        self.update(data)
+
+    def _finish(self, out, length):
+        with self._lock:
+            return _call(self.name + "_finish", self._state, out)
 
 
-def sha256(data):
-    """The SHA-256 digest of a message."""
-    return _sha2("sha256", data)
+class sha256(_Sha2):
+    """SHA-256, as hashlib.sha256."""
+
+    block_size = 64
+
+    def __init__(self, data=b""):
+        super().__init__("sha256", data)
 
 
-def sha512(data):
-    """The SHA-512 digest of a message."""
-    return _sha2("sha512", data)
+class sha512(_Sha2):
+    """SHA-512, as hashlib.sha512."""
+
+    block_size = 128
+
+    def __init__(self, data=b""):
+        super().__init__("sha512", data)
 
 
 class blake3(_Hasher):
@@ -235,20 +249,18 @@ class _Hmac(_Hasher):
         return self.digest(length).hex()
 
 
-def _hmac(hash_name, key, data, length):
-    key, data = _bytes(key), _bytes(data)
-    length = DIGEST_SIZES[hash_name] if length is None else length
-    return _filled(length, lambda out, length: _call("hmac_" + hash_name, out, length, data, key))
+class hmac_sha256(_Hmac):
+    """HMAC over SHA-256."""
+
+    def __init__(self, key, data=b""):
+        super().__init__("sha256", key, data)
 
 
-def hmac_sha256(key, data, length=None):
-    """The tag of a message by HMAC over SHA-256, or its first bytes, half of them at least."""
-    return _hmac("sha256", key, data, length)
+class hmac_sha512(_Hmac):
+    """HMAC over SHA-512."""
 
-
-def hmac_sha512(key, data, length=None):
-    """The tag of a message by HMAC over SHA-512, or its first bytes, half of them at least."""
-    return _hmac("sha512", key, data, length)
+    def __init__(self, key, data=b""):
+        super().__init__("sha512", key, data)
 
 
 class hmac_blake2b(_Hmac):

@@ -303,25 +303,87 @@ blake2!(
     sums_blake2s_finish
 );
 
-#[link(name = "sums_hash", kind = "static")]
-unsafe extern "C" {
-    fn sums_sha256(out: &mut [u8; 32], input: *const u8, input_len: usize);
-    fn sums_sha512(out: &mut [u8; 64], input: *const u8, input_len: usize);
+// A width of SHA-2: the call on a whole message, and the state.
+macro_rules! sha2 {
+    ($name:literal, $State:ident, $word:ty, $numbers:literal, $block:literal, $out:literal, $one:ident,
+     $c_one:ident, $c_init:ident, $c_update:ident, $c_finish:ident) => {
+        #[doc = concat!($name, " of a message that comes in pieces.")]
+        #[repr(C)]
+        #[derive(Clone)]
+        pub struct $State {
+            h: [$word; 8],
+            numbers: [u64; $numbers],
+            buffer: [u8; $block],
+        }
+
+        #[link(name = "sums_hash", kind = "static")]
+        unsafe extern "C" {
+            fn $c_one(out: &mut [u8; $out], input: *const u8, input_len: usize);
+            fn $c_init(state: &mut $State);
+            fn $c_update(state: &mut $State, piece: *const u8, piece_len: usize) -> u32;
+            fn $c_finish(state: &$State, out: &mut [u8; $out]) -> u32;
+        }
+
+        #[doc = concat!($name, " of a message.")]
+        pub fn $one(input: &[u8]) -> [u8; $out] {
+            let mut out = [0; $out];
+            unsafe { $c_one(&mut out, input.as_ptr(), input.len()) };
+            out
+        }
+
+        impl $State {
+            const ZERO: $State = $State {
+                h: [0; 8],
+                numbers: [0; $numbers],
+                buffer: [0; $block],
+            };
+
+            pub fn new() -> $State {
+                let mut state = $State::ZERO;
+                unsafe { $c_init(&mut state) };
+                state
+            }
+
+            pub fn update(&mut self, piece: &[u8]) -> Result<(), Refusal> {
+                checked(unsafe { $c_update(self, piece.as_ptr(), piece.len()) })
+            }
+
+            /// The digest. The message can go on. It is refused of no state that `new` has begun.
+            pub fn finish(&self) -> Result<[u8; $out], Refusal> {
+                let mut out = [0; $out];
+                checked(unsafe { $c_finish(self, &mut out) })?;
+                Ok(out)
+            }
+        }
+    };
 }
 
-/// SHA-256 of a message.
-pub fn sha256(input: &[u8]) -> [u8; 32] {
-    let mut out = [0; 32];
-    unsafe { sums_sha256(&mut out, input.as_ptr(), input.len()) };
-    out
-}
-
-/// SHA-512 of a message.
-pub fn sha512(input: &[u8]) -> [u8; 64] {
-    let mut out = [0; 64];
-    unsafe { sums_sha512(&mut out, input.as_ptr(), input.len()) };
-    out
-}
+sha2!(
+    "SHA-256",
+    Sha256,
+    u32,
+    2,
+    64,
+    32,
+    sha256,
+    sums_sha256,
+    sums_sha256_init,
+    sums_sha256_update,
+    sums_sha256_finish
+);
+sha2!(
+    "SHA-512",
+    Sha512,
+    u64,
+    3,
+    128,
+    64,
+    sha512,
+    sums_sha512,
+    sums_sha512_init,
+    sums_sha512_update,
+    sums_sha512_finish
+);
 
 // HMAC and HKDF of whole messages over a hash, whose digest has so many bytes.
 macro_rules! keyed {
@@ -474,7 +536,7 @@ keyed!(
     sums_hkdf_expand_blake2s
 );
 
-// HMAC over a width of BLAKE2 in pieces.
+// HMAC over a hash in pieces.
 macro_rules! hmac_pieces {
     ($name:literal, $Hmac:ident, $State:ident, $c_init:ident, $c_update:ident, $c_finish:ident) => {
         #[doc = concat!("HMAC over ", $name, " of a message that comes in pieces.")]
@@ -515,6 +577,22 @@ macro_rules! hmac_pieces {
 }
 
 hmac_pieces!(
+    "SHA-256",
+    HmacSha256,
+    Sha256,
+    sums_hmac_sha256_init,
+    sums_hmac_sha256_update,
+    sums_hmac_sha256_finish
+);
+hmac_pieces!(
+    "SHA-512",
+    HmacSha512,
+    Sha512,
+    sums_hmac_sha512_init,
+    sums_hmac_sha512_update,
+    sums_hmac_sha512_finish
+);
+hmac_pieces!(
     "BLAKE2b of 64 bytes",
     HmacBlake2b,
     Blake2b,
@@ -534,5 +612,7 @@ hmac_pieces!(
 // The states are as large as the header's.
 const _: () = {
     assert!(size_of::<Blake2b>() == 224 && size_of::<Blake2s>() == 120 && size_of::<Blake3>() == 1880);
+    assert!(size_of::<Sha256>() == 112 && size_of::<Sha512>() == 216);
+    assert!(size_of::<HmacSha256>() == 224 && size_of::<HmacSha512>() == 432);
     assert!(size_of::<HmacBlake2b>() == 448 && size_of::<HmacBlake2s>() == 240);
 };
