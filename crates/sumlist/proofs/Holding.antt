@@ -21,7 +21,7 @@ use Rattle.sumlist.specs.Report.{Files}
 use Rattle.sumlist.specs.Checked.{ListChecked}
 use Rattle.sumlist.specs.inside.Stepped.{StepCounts}
 use Rattle.sumlist.specs.inside.Marks.{IsCounted, lines_of, no_lines}
-use Rattle.sumlist.specs.inside.Held.{IsHeld, held_after, held_len}
+use Rattle.sumlist.specs.inside.Held.{IsHeld, held_after}
 use Rattle.sumlist.specs.inside.Ahead.{Progress, Partway, Goes, Stops}
 use Rattle.sumlist.proofs.Cutting.{lines-ended, lines-last, HasNoEnd-take}
 use Rattle.sumlist.proofs.Progress.{IfSome-two, LineDone, LineStopped, Progress-start, Progress-line, Progress-stop}
@@ -41,13 +41,6 @@ pub IsHeld-after : (held : Option (List ℕ)) (front piece : List ℕ) → IsHel
     → IsHeld (held_after held piece) (front ++ piece)
 IsHeld-after (Some bytes) front piece h = kept_or_not bytes front piece (nat_le (length (bytes ++ piece)) 65536) refl h
 IsHeld-after None front piece h = let size = length-append front piece in omega (arith, size, h)
-
-len_or_not : (bytes piece : List ℕ) (b : Bool) → nat_le (length (bytes ++ piece)) 65536 ≡ b
-    → held_len (cond b (Some (bytes ++ piece)) None) ≤ length bytes + length piece
-len_or_not bytes piece true e = let size = length-append bytes piece in omega (arith, size)
-len_or_not bytes piece false e =
-    let long : 65536 < length (bytes ++ piece) = grind (arith, nat_tests) in
-    let size = length-append bytes piece in omega (arith, size, long)
 
 pub Partway-start : (files : Files) (kind : Kind) (whole : List ℕ) (count : ℕ) (old : Option (List ℕ))
     → Partway files kind whole (Some []) whole no_lines count count old old

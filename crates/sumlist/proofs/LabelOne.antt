@@ -7,8 +7,7 @@ use Rattle.std.proofs.Math.Seq.{drop-append_seam, take-append_seam}
 use Rattle.hex.specs.Hex.{decode_of}
 use Rattle.hex.proofs.HexLemmas.{decode_of-same}
 use Rattle.source.specs.declared.alg.Alg.{Alg}
-use Rattle.source.specs.declared.alg.Alg.TheVariants.{Sha256 as sha256, Sha512 as sha512, Blake2b as blake2b}
-use Rattle.source.specs.declared.alg.Alg.TheVariants.{Blake2s as blake2s, Blake3 as blake3}
+use Rattle.source.specs.declared.alg.Alg.TheVariants.{Sha256, Sha512, Blake2b, Blake2s, Blake3}
 use Rattle.source.specs.Digest.{tag_len, IsInRange}
 use Rattle.sumlist.specs.inside.Cut.{IsCut}
 use Rattle.sumlist.specs.inside.Labels.{Ended}
@@ -22,20 +21,20 @@ abbrev bytes_of : List ℕ → ℕ
 bytes_of l = get_or l 3 0 + get_or l 6 0
 
 abbrev family : Alg → ℕ
-family sha256 = 50
-family sha512 = 53
-family (blake2b n) = 173
-family (blake2s n) = 190
-family blake3 = 75
+family Sha256 = 50
+family Sha512 = 53
+family (Blake2b n) = 173
+family (Blake2s n) = 190
+family Blake3 = 75
 
 label_family : (l : List ℕ) (a : Alg) → IsLabel l a → bytes_of l ≡ family a
-label_family l sha256 e = ap bytes_of e
-label_family l sha512 e = ap bytes_of e
-label_family l (blake2b n) (inl e) = ap bytes_of e.1
-label_family l (blake2b n) (inr e) = ap bytes_of e
-label_family l (blake2s n) (inl e) = ap bytes_of e.1
-label_family l (blake2s n) (inr e) = ap bytes_of e
-label_family l blake3 e = ap bytes_of e
+label_family l Sha256 e = ap bytes_of e
+label_family l Sha512 e = ap bytes_of e
+label_family l (Blake2b n) (inl e) = ap bytes_of e.1
+label_family l (Blake2b n) (inr e) = ap bytes_of e
+label_family l (Blake2s n) (inl e) = ap bytes_of e.1
+label_family l (Blake2s n) (inr e) = ap bytes_of e
+label_family l Blake3 e = ap bytes_of e
 
 -- a number stands after a dash, and the label without one has no eighth byte
 module _ (plain front : List ℕ) (whole : ℕ) (short : get_or plain 7 0 ≡ 0)
@@ -57,13 +56,13 @@ module _ (plain front : List ℕ) (whole : ℕ) (short : get_or plain 7 0 ≡ 0)
 
 pub label_unique : (l : List ℕ) (a b : Alg) → IsInRange a → IsInRange b → IsLabel l a → IsLabel l b → a ≡ b
 unfolding IsOf
-label_unique l sha256 sha256 r s p q = refl
-label_unique l sha512 sha512 r s p q = refl
-label_unique l (blake2b n) (blake2b m) r s p q = ap blake2b (one_number (codes "BLAKE2b") (codes "BLAKE2b-") 64 refl
+label_unique l Sha256 Sha256 r s p q = refl
+label_unique l Sha512 Sha512 r s p q = refl
+label_unique l (Blake2b n) (Blake2b m) r s p q = ap Blake2b (one_number (codes "BLAKE2b") (codes "BLAKE2b-") 64 refl
     (λ ds. refl) (λ ds. refl) l n m r.1 s.1 p q)
-label_unique l (blake2s n) (blake2s m) r s p q = ap blake2s (one_number (codes "BLAKE2s") (codes "BLAKE2s-") 32 refl
+label_unique l (Blake2s n) (Blake2s m) r s p q = ap Blake2s (one_number (codes "BLAKE2s") (codes "BLAKE2s-") 32 refl
     (λ ds. refl) (λ ds. refl) l n m (omega (arith, r.1)) (omega (arith, s.1)) p q)
-label_unique l blake3 blake3 r s p q = refl
+label_unique l Blake3 Blake3 r s p q = refl
 label_unique l a b r s p q = absurd (let e = sym (label_family l a p) ∙ label_family l b q in omega (arith, e))
 
 -- ---- the name and the digits

@@ -11,8 +11,7 @@ use Rattle.hex.specs.Hex.{decode_of}
 use Rattle.hex.proofs.HexLemmas.{decode_of-ok}
 use Rattle.hex.specs.declared.error.FromHexError.{FromHexError}
 use Rattle.source.specs.declared.alg.Alg.{Alg}
-use Rattle.source.specs.declared.alg.Alg.TheVariants.{Sha256 as sha256, Sha512 as sha512, Blake2b as blake2b}
-use Rattle.source.specs.declared.alg.Alg.TheVariants.{Blake2s as blake2s, Blake3 as blake3}
+use Rattle.source.specs.declared.alg.Alg.TheVariants.{Sha256, Sha512, Blake2b, Blake2s, Blake3}
 use Rattle.source.specs.Digest.{tag_len, IsInRange}
 use Rattle.sumlist.specs.inside.Cut.{IsCut, NoLabelled}
 use Rattle.sumlist.specs.Tagged.{IsLabel, Labelled, closing}
@@ -48,25 +47,25 @@ not_named : (l : List ℕ) → (l ≡ codes "SHA256" → ⊥) → (l ≡ codes "
     → NotNumbered l (codes "BLAKE2b-") 64 → (l ≡ codes "BLAKE2s" → ⊥) → NotNumbered l (codes "BLAKE2s-") 32
     → (l ≡ codes "BLAKE3" → ⊥)
     → (a : Alg) → IsInRange a → IsLabel l a → ⊥
-not_named l s t b bn c cn d sha256 r p = s p
-not_named l s t b bn c cn d sha512 r p = t p
-not_named l s t b bn c cn d (blake2b n) r (inl p) = b p.1
-not_named l s t b bn c cn d (blake2b n) r (inr p) = bn n r.0 r.1 p
-not_named l s t b bn c cn d (blake2s n) r (inl p) = c p.1
-not_named l s t b bn c cn d (blake2s n) r (inr p) = cn n r.0 r.1 p
-not_named l s t b bn c cn d blake3 r p = d p
+not_named l s t b bn c cn d Sha256 r p = s p
+not_named l s t b bn c cn d Sha512 r p = t p
+not_named l s t b bn c cn d (Blake2b n) r (inl p) = b p.1
+not_named l s t b bn c cn d (Blake2b n) r (inr p) = bn n r.0 r.1 p
+not_named l s t b bn c cn d (Blake2s n) r (inl p) = c p.1
+not_named l s t b bn c cn d (Blake2s n) r (inr p) = cn n r.0 r.1 p
+not_named l s t b bn c cn d Blake3 r p = d p
 
 named_by : (l : List ℕ) → Either (l ≡ codes "SHA256") → Either (l ≡ codes "SHA512") → Either (l ≡ codes "BLAKE2b")
     → Numbered l (codes "BLAKE2b-") 64 ⊎ NotNumbered l (codes "BLAKE2b-") 64 → Either (l ≡ codes "BLAKE2s")
     → Numbered l (codes "BLAKE2s-") 32 ⊎ NotNumbered l (codes "BLAKE2s-") 32 → Either (l ≡ codes "BLAKE3")
     → Named l ⊎ NotNamed l
-named_by l (inl e) t b bn c cn d = inl (sha256, tt, e)
-named_by l (inr s) (inl e) b bn c cn d = inl (sha512, tt, e)
-named_by l (inr s) (inr t) (inl e) bn c cn d = inl (blake2b 64, (omega arith, omega arith), inl (refl, e))
-named_by l (inr s) (inr t) (inr b) (inl n) c cn d = inl (blake2b n.0, (n.1, n.2), inr n.3)
-named_by l (inr s) (inr t) (inr b) (inr bn) (inl e) cn d = inl (blake2s 32, (omega arith, omega arith), inl (refl, e))
-named_by l (inr s) (inr t) (inr b) (inr bn) (inr c) (inl n) d = inl (blake2s n.0, (n.1, n.2), inr n.3)
-named_by l (inr s) (inr t) (inr b) (inr bn) (inr c) (inr cn) (inl e) = inl (blake3, tt, e)
+named_by l (inl e) t b bn c cn d = inl (Sha256, tt, e)
+named_by l (inr s) (inl e) b bn c cn d = inl (Sha512, tt, e)
+named_by l (inr s) (inr t) (inl e) bn c cn d = inl (Blake2b 64, (omega arith, omega arith), inl (refl, e))
+named_by l (inr s) (inr t) (inr b) (inl n) c cn d = inl (Blake2b n.0, (n.1, n.2), inr n.3)
+named_by l (inr s) (inr t) (inr b) (inr bn) (inl e) cn d = inl (Blake2s 32, (omega arith, omega arith), inl (refl, e))
+named_by l (inr s) (inr t) (inr b) (inr bn) (inr c) (inl n) d = inl (Blake2s n.0, (n.1, n.2), inr n.3)
+named_by l (inr s) (inr t) (inr b) (inr bn) (inr c) (inr cn) (inl e) = inl (Blake3, tt, e)
 named_by l (inr s) (inr t) (inr b) (inr bn) (inr c) (inr cn) (inr d) = inr (not_named l s t b bn c cn d)
 
 named_cases : (l : List ℕ) → Named l ⊎ NotNamed l

@@ -23,9 +23,8 @@ use Rattle.sumlist.proofs.Deciding.{all_settled}
 pub AllAllowed-append : (files : Files) (kind : Kind) (xs ys : List (List ℕ)) (os ps : List Outcome)
     → AllAllowed files kind xs os → AllAllowed files kind ys ps → AllAllowed files kind (xs ++ ys) (os ++ ps)
 AllAllowed-append files kind [] ys [] ps p q = q
-AllAllowed-append files kind [] ys (o ∷ os) ps p q = absurd p
-AllAllowed-append files kind (x ∷ xs) ys [] ps p q = absurd p
 AllAllowed-append files kind (x ∷ xs) ys (o ∷ os) ps p q = (p.0, AllAllowed-append files kind xs ys os ps p.1 q)
+AllAllowed-append files kind xs ys os ps p q = absurd p
 
 pub report_from-append : (n : ℕ) (os ps : List Outcome)
     → report_from n (os ++ ps) ≡ report_from n os ++ report_from (n + length os) ps

@@ -11,32 +11,23 @@ use Rattle.sumlist.proofs.LineCases.{spells_one}
 
 module _ (e : Listing) where
   verdict_missing : (v : Verdict) → IsAllowed e None v → v ≡ Missing
-  verdict_missing Matches p = absurd p
-  verdict_missing Differs p = absurd p
   verdict_missing Missing p = refl
-  verdict_missing Unreadable p = absurd p
-  verdict_missing TooLong p = absurd p
+  verdict_missing v p = absurd p
 
   verdict_unique : (c : Option (List ℕ)) (v w : Verdict) → IsAllowed e c v → IsAllowed e c w
       → same Unreadable v ≡ 0 → same Unreadable w ≡ 0 → v ≡ w
   verdict_unique None v w p q f g = verdict_missing v p ∙ sym (verdict_missing w q)
-  verdict_unique (Some xs) Missing w p q f g = absurd p
-  verdict_unique (Some xs) Unreadable w p q f g = absurd (omega (arith, f))
   verdict_unique (Some xs) Matches Matches p q f g = refl
-  verdict_unique (Some xs) Matches Differs p q f g = absurd (q.1 p.1)
-  verdict_unique (Some xs) Matches Missing p q f g = absurd q
-  verdict_unique (Some xs) Matches Unreadable p q f g = absurd (omega (arith, g))
-  verdict_unique (Some xs) Matches TooLong p q f g = absurd (let a = p.0 in omega (arith, a, q))
-  verdict_unique (Some xs) Differs Matches p q f g = absurd (p.1 q.1)
   verdict_unique (Some xs) Differs Differs p q f g = refl
-  verdict_unique (Some xs) Differs Missing p q f g = absurd q
-  verdict_unique (Some xs) Differs Unreadable p q f g = absurd (omega (arith, g))
-  verdict_unique (Some xs) Differs TooLong p q f g = absurd (let a = p.0 in omega (arith, a, q))
-  verdict_unique (Some xs) TooLong Matches p q f g = absurd (let a = q.0 in omega (arith, a, p))
-  verdict_unique (Some xs) TooLong Differs p q f g = absurd (let a = q.0 in omega (arith, a, p))
-  verdict_unique (Some xs) TooLong Missing p q f g = absurd q
-  verdict_unique (Some xs) TooLong Unreadable p q f g = absurd (omega (arith, g))
   verdict_unique (Some xs) TooLong TooLong p q f g = refl
+  verdict_unique (Some xs) Missing w p q f g = absurd p
+  verdict_unique (Some xs) v Missing p q f g = absurd q
+  verdict_unique (Some xs) Unreadable w p q f g = absurd (omega (arith, f))
+  verdict_unique (Some xs) v Unreadable p q f g = absurd (omega (arith, g))
+  verdict_unique (Some xs) Matches Differs p q f g = absurd (q.1 p.1)
+  verdict_unique (Some xs) Differs Matches p q f g = absurd (p.1 q.1)
+  verdict_unique (Some xs) TooLong w p q f g = absurd (let a = q.0 in omega (arith, a, p))
+  verdict_unique (Some xs) v TooLong p q f g = absurd (let a = p.0 in omega (arith, a, q))
 
 module _ (files : Files) (kind : Kind) where
   outcome_unique : (line : List ℕ) (o r : Outcome) → Allowed files kind line o → Allowed files kind line r
@@ -60,11 +51,10 @@ module _ (files : Files) (kind : Kind) where
       → AllAllowed files kind lines rs → unreadable_count os ≡ 0 → unreadable_count rs ≡ 0 → os ≡ rs
   unfolding number_of
   outcomes_unique [] [] [] p q f g = refl
-  outcomes_unique [] [] (r ∷ rs) p q f g = absurd q
   outcomes_unique [] (o ∷ os) rs p q f g = absurd p
   outcomes_unique (line ∷ lines) [] rs p q f g = absurd p
-  outcomes_unique (line ∷ lines) (o ∷ os) [] p q f g = absurd q
   outcomes_unique (line ∷ lines) (o ∷ os) (r ∷ rs) p q f g =
       let first = outcome_unique line o r p.0 q.0 (omega (arith, f)) (omega (arith, g)) in
       let others = outcomes_unique lines os rs p.1 q.1 (omega (arith, f)) (omega (arith, g)) in
       ap (λ x. x ∷ os) first ∙ ap (λ x. r ∷ x) others
+  outcomes_unique lines os rs p q f g = absurd q

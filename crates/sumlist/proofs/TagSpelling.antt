@@ -8,8 +8,7 @@ use Rattle.hex.proofs.HexLemmas.{decode_of-encode_lower, length-encode_with}
 use Rattle.hex.specs.Hex.{IsBytes, encode_lower, lower_digits}
 use Rattle.source.specs.Digest.{tag_len, IsInRange}
 use Rattle.source.specs.declared.alg.Alg.{Alg}
-use Rattle.source.specs.declared.alg.Alg.TheVariants.{Sha256 as sha256, Sha512 as sha512, Blake2b as blake2b}
-use Rattle.source.specs.declared.alg.Alg.TheVariants.{Blake2s as blake2s, Blake3 as blake3}
+use Rattle.source.specs.declared.alg.Alg.TheVariants.{Sha256, Sha512, Blake2b, Blake2s, Blake3}
 use Rattle.source.specs.Written.{Shown, Writes}
 use Rattle.sumlist.specs.declared.kind.Kind.{Kind}
 use Rattle.sumlist.specs.Entry.{Listing, IsEntry}
@@ -43,11 +42,11 @@ named_if false n k xs ys e = inr refl
 
 -- the written label names its algorithm
 label_named : (a : Alg) → IsLabel (label_of a) a
-label_named sha256 = refl
-label_named sha512 = refl
-label_named (blake2b n) = named_if (eqb n 64) n 64 (codes "BLAKE2b") (codes "BLAKE2b-" ++ decimal (8 * n)) refl
-label_named (blake2s n) = named_if (eqb n 32) n 32 (codes "BLAKE2s") (codes "BLAKE2s-" ++ decimal (8 * n)) refl
-label_named blake3 = refl
+label_named Sha256 = refl
+label_named Sha512 = refl
+label_named (Blake2b n) = named_if (eqb n 64) n 64 (codes "BLAKE2b") (codes "BLAKE2b-" ++ decimal (8 * n)) refl
+label_named (Blake2s n) = named_if (eqb n 32) n 32 (codes "BLAKE2s") (codes "BLAKE2s-" ++ decimal (8 * n)) refl
+label_named Blake3 = refl
 
 labelled_written : (a : Alg) (tag body : List ℕ) → IsBytes tag → IsInRange a → length tag ≡ tag_len a
     → Labelled (label_of a ++ opening (body ++ closing (encode_lower tag))) a tag body
