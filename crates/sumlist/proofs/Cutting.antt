@@ -1,12 +1,12 @@
 -- The first line of a list ends at its first LF, and the other lines are those of the rest.
-use Rattle.std.proofs.Common.{◌≡◌, ◌≢◌, ℕ, ◌<◌, ◌≤◌, false, List, [], ◌∷◌, ◌++◌, length, get_or, take, refl, ap, ◌∙◌}
-use Rattle.std.proofs.Common.{arith, eqb, length-take-le}
+use Rattle.sumlist.proofs.Common.{◌≡◌, ◌≢◌, ◌<◌, ◌≤◌, false, List, [], ◌∷◌, ◌++◌, length, get_or, take, refl, ap, ◌∙◌}
+use Rattle.sumlist.proofs.Common.{arith, eqb, length-take-le, nat_tests, lines, HasNoEnd}
+use Rattle.std.proofs.Common.{ℕ}
 use Rattle.std.specs.List.{slice_split}
 use Rattle.std.proofs.lemmas.List.Splits.{slice_split_at, slice_split_none, length-slice_split}
 use Rattle.std.proofs.lemmas.List.Elements.{All-from_get_or}
 use Rattle.std.proofs.lemmas.List.{get_or-take}
-use Rattle.std.proofs.lemmas.Bool.Decides.{nat_tests}
-use Rattle.sumlist.specs.Lines.{lines, without_empty_last, HasNoEnd}
+use Rattle.sumlist.specs.Lines.{without_empty_last}
 
 without_empty_last-cons : (x y : List ℕ) (ys : List (List ℕ))
     → without_empty_last (x ∷ y ∷ ys) ≡ x ∷ without_empty_last (y ∷ ys)

@@ -1,28 +1,16 @@
 -- A list that comes piece by piece, the beginning of a line being held.
-use Rattle.std.proofs.Common.{◌≡◌, ◌≢◌, ℕ, ◌+◌, ◌<◌, ◌≤◌, Bool, true, false, List, [], ◌∷◌, ◌++◌, length, length-append}
-use Rattle.std.proofs.Common.{get_or, take, drop, refl, sym, ap, ◌∙◌, subst, append_assoc, append-nil, Option, Some}
-use Rattle.std.proofs.Common.{None, IfSome, IfErr, IsErr, Result, Ok, Err, arith, rules, eqb, cond, take-append-drop}
-use Rattle.std.specs.Prelude.{nat_le}
-use Rattle.std.specs.Io.KnownBytes.{Consumes}
-use Rattle.std.proofs.lemmas.Bool.Decides.{nat_tests}
+use Rattle.sumlist.proofs.Common.{◌≡◌, ◌≢◌, ◌+◌, ◌<◌, ◌≤◌, Bool, true, false, List, [], ◌∷◌, ◌++◌, length}
+use Rattle.sumlist.proofs.Common.{length-append, get_or, take, drop, refl, sym, ap, ◌∙◌, subst, append_assoc}
+use Rattle.sumlist.proofs.Common.{append-nil, Option, Some, None, IfSome, IsErr, Result, Err, arith, rules, eqb, cond}
+use Rattle.sumlist.proofs.Common.{take-append-drop, nat_le, Consumes, nat_tests, All-append, All-nil, nil_from_length}
+use Rattle.sumlist.proofs.Common.{eqb-true, IfSome_then, Kind, Mark, Summary, CheckFault, ListTooLong, lines, HasNoEnd}
+use Rattle.sumlist.proofs.Common.{Files, ListChecked, IsCounted, lines_of, no_lines, Progress, Partway, Goes}
+use Rattle.std.proofs.Common.{ℕ, IfErr, Ok}
 use Rattle.std.proofs.lemmas.List.{get_or-drop}
-use Rattle.std.proofs.lemmas.List.Elements.{All-append, All-nil}
-use Rattle.std.proofs.lemmas.List.{nil_from_length}
-use Rattle.std.proofs.lemmas.Bool.{eqb-true}
-use Rattle.std.proofs.lemmas.Option.{IfSome_then}
 use Rattle.std.proofs.lemmas.Result.{IfErr-at_err}
-use Rattle.sumlist.specs.declared.kind.Kind.{Kind}
-use Rattle.sumlist.specs.declared.summary.Mark.{Mark}
-use Rattle.sumlist.specs.declared.summary.Summary.{Summary}
-use Rattle.sumlist.specs.declared.checking.CheckFault.{CheckFault}
-use Rattle.sumlist.specs.declared.checking.CheckFault.TheVariants.{ListTooLong}
-use Rattle.sumlist.specs.Lines.{lines, HasNoEnd}
-use Rattle.sumlist.specs.Report.{Files}
-use Rattle.sumlist.specs.Checked.{ListChecked}
 use Rattle.sumlist.specs.inside.Stepped.{StepCounts}
-use Rattle.sumlist.specs.inside.Marks.{IsCounted, lines_of, no_lines}
 use Rattle.sumlist.specs.inside.Held.{IsHeld, held_after}
-use Rattle.sumlist.specs.inside.Ahead.{Progress, Partway, Goes, Stops}
+use Rattle.sumlist.specs.inside.Ahead.{Stops}
 use Rattle.sumlist.proofs.Cutting.{lines-ended, lines-last, HasNoEnd-take}
 use Rattle.sumlist.proofs.Progress.{IfSome-two, LineDone, LineStopped, Progress-start, Progress-line, Progress-stop}
 use Rattle.sumlist.proofs.Progress.{Progress-halt, Progress-end}

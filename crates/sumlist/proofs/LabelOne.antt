@@ -1,17 +1,13 @@
 -- Lines that name their algorithm mean at most one entry.
-use Rattle.std.proofs.Common.{◌≡◌, ◌⊎◌, inl, inr, ℕ, ◌+◌, ◌*◌, ◌≤◌, List, ◌∷◌, ◌++◌, length, length-append, get_or}
-use Rattle.std.proofs.Common.{take, drop, refl, sym, ap, ◌∙◌, subst, arith, codes}
+use Rattle.sumlist.proofs.Common.{◌≡◌, ◌⊎◌, inl, inr, ◌+◌, ◌*◌, ◌≤◌, List, ◌∷◌, ◌++◌, length, length-append, get_or}
+use Rattle.sumlist.proofs.Common.{take, drop, refl, sym, ap, ◌∙◌, subst, arith, drop-append_seam, decode_of}
+use Rattle.sumlist.proofs.Common.{decode_of-same, Alg, tag_len, IsInRange, IsCut, Ended, IsLabel, Labelled, opening}
+use Rattle.sumlist.proofs.Common.{closing}
+use Rattle.std.proofs.Common.{ℕ, codes}
 use Rattle.std.specs.Fmt.{decimal}
 use Rattle.std.proofs.lemmas.Fmt.{decimal_injective}
-use Rattle.std.proofs.Math.Seq.{drop-append_seam, take-append_seam}
-use Rattle.hex.specs.Hex.{decode_of}
-use Rattle.hex.proofs.HexLemmas.{decode_of-same}
-use Rattle.source.specs.declared.alg.Alg.{Alg}
+use Rattle.std.proofs.Math.Seq.{take-append_seam}
 use Rattle.source.specs.declared.alg.Alg.TheVariants.{Sha256, Sha512, Blake2b, Blake2s, Blake3}
-use Rattle.source.specs.Digest.{tag_len, IsInRange}
-use Rattle.sumlist.specs.inside.Cut.{IsCut}
-use Rattle.sumlist.specs.inside.Labels.{Ended}
-use Rattle.sumlist.specs.Tagged.{IsLabel, Labelled, opening, closing}
 use Rattle.sumlist.proofs.Words.{cut_word, label_word, word_cut}
 
 -- ---- a label names one algorithm

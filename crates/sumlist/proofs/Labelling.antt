@@ -1,21 +1,15 @@
 -- Whether a text is a tagged line without a name's escapes.
-use Rattle.std.proofs.Common.{◌≡◌, ◌⊎◌, inl, inr, ℕ, ◌+◌, ◌-◌, ◌*◌, ◌<◌, ◌≤◌, List, [], ◌∷◌, ◌++◌, length, suc, zero}
-use Rattle.std.proofs.Common.{length-append, take, drop, take-append-drop, refl, sym, ap, ◌∙◌, subst}
-use Rattle.std.proofs.Common.{Option, Some, None, Result, Ok, Err, arith, codes, slice_index, MatchOption}
+use Rattle.sumlist.proofs.Common.{◌≡◌, ◌⊎◌, inl, inr, ◌+◌, ◌-◌, ◌*◌, ◌<◌, ◌≤◌, List, [], ◌∷◌, ◌++◌, length}
+use Rattle.sumlist.proofs.Common.{length-append, take, drop, take-append-drop, refl, sym, ap, ◌∙◌, subst, Option, Some}
+use Rattle.sumlist.proofs.Common.{None, Result, Err, arith, slice_index, MatchOption, drop-append_seam, cases_eq}
+use Rattle.sumlist.proofs.Common.{cases_lt, decode_of, decode_of-ok, FromHexError, Alg, tag_len, IsInRange, IsCut}
+use Rattle.sumlist.proofs.Common.{NoLabelled, IsLabel, Labelled, closing, Ended}
+use Rattle.std.proofs.Common.{ℕ, suc, zero, Ok, codes, length-drop}
 use Rattle.std.proofs.lemmas.List.{append_cancel_left}
-use Rattle.std.proofs.Common.{length-drop}
-use Rattle.std.proofs.Math.Seq.{drop-append_seam, take-append_seam}
+use Rattle.std.proofs.Math.Seq.{take-append_seam}
 use Rattle.std.specs.Fmt.{decimal}
-use Rattle.std.proofs.lemmas.Bool.{cases_eq, cases_lt}
-use Rattle.hex.specs.Hex.{decode_of}
-use Rattle.hex.proofs.HexLemmas.{decode_of-ok}
-use Rattle.hex.specs.declared.error.FromHexError.{FromHexError}
-use Rattle.source.specs.declared.alg.Alg.{Alg}
 use Rattle.source.specs.declared.alg.Alg.TheVariants.{Sha256, Sha512, Blake2b, Blake2s, Blake3}
-use Rattle.source.specs.Digest.{tag_len, IsInRange}
-use Rattle.sumlist.specs.inside.Cut.{IsCut, NoLabelled}
-use Rattle.sumlist.specs.Tagged.{IsLabel, Labelled, closing}
-use Rattle.sumlist.specs.inside.Labels.{NotNamed, NotNumbered, IsNumbered, Ended, NotEnded}
+use Rattle.sumlist.specs.inside.Labels.{NotNamed, NotNumbered, IsNumbered, NotEnded}
 use Rattle.sumlist.proofs.Either.{Either, either_same}
 use Rattle.sumlist.proofs.Words.{cut, first_space}
 use Rattle.sumlist.proofs.Untagging.{tag_small}

@@ -1,11 +1,9 @@
 -- Each line is skipped, spells one entry, or is malformed: every part of the meaning of a line can be decided.
-use Rattle.std.proofs.Common.{◌≡◌, ◌⊎◌, inl, inr, ℕ, ◌*◌, List, length, subst}
-use Rattle.std.proofs.lemmas.Bool.{cases_eq}
-use Rattle.source.specs.Digest.{tag_len, IsInRange}
-use Rattle.hex.specs.Hex.{IsBytes}
-use Rattle.sumlist.specs.declared.kind.Kind.{Kind}
-use Rattle.sumlist.specs.Entry.{Listing, Fits, IsEntry, written_len}
-use Rattle.sumlist.specs.Line.{Stated, IsLine, IsBlank, core, IsSkipped, Spells, IsMalformed}
+use Rattle.sumlist.proofs.Common.{◌≡◌, ◌⊎◌, inl, inr, ◌*◌, List, length, subst, cases_eq, tag_len, IsInRange, IsBytes}
+use Rattle.sumlist.proofs.Common.{Kind, Listing, Fits, IsEntry, written_len, Stated, IsLine, IsBlank, core, Spells}
+use Rattle.sumlist.proofs.Common.{IsMalformed}
+use Rattle.std.proofs.Common.{ℕ}
+use Rattle.sumlist.specs.Line.{IsSkipped}
 use Rattle.sumlist.proofs.Either.{Either, either_both, either_contains, either_empty, either_le, either_map, either_not}
 use Rattle.sumlist.proofs.Either.{either_or, either_utf8}
 use Rattle.sumlist.proofs.Stating.{StatedOrNot, form_fit, stated_cases, stated_unique}

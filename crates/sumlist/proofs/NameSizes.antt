@@ -1,8 +1,6 @@
 -- A name is no longer than its escaped form, so one that is too long by itself does not fit.
-use Rattle.std.proofs.Common.{ℕ, ◌<◌, ◌≤◌, List, length, arith}
-use Rattle.source.specs.declared.alg.Alg.{Alg}
-use Rattle.sumlist.specs.Entry.{Fits}
-use Rattle.sumlist.specs.Tagged.{tagged_len}
+use Rattle.sumlist.proofs.Common.{◌<◌, ◌≤◌, List, length, arith, Alg, Fits, tagged_len}
+use Rattle.std.proofs.Common.{ℕ}
 use Rattle.sumlist.proofs.EscapedNames.{length-escaped-least}
 
 pub long_name : (digits : ℕ) (name : List ℕ) → 65536 < length name → Fits digits name → ⊥

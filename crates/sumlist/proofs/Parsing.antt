@@ -1,11 +1,8 @@
 -- What `parse_line` has found of a line decides what the line means.
-use Rattle.std.proofs.Common.{◌≡◌, ℕ, ◌*◌, Bool, List, length, sym, subst, Some, IsUtf8}
-use Rattle.sumlist.specs.declared.kind.Kind.{Kind}
-use Rattle.source.specs.declared.alg.Alg.{Alg}
-use Rattle.sumlist.specs.Entry.{Listing, Fits}
-use Rattle.sumlist.specs.inside.Body.{name_of, IsName}
-use Rattle.sumlist.specs.inside.Cut.{HasNoForm, IsUnslashed}
-use Rattle.sumlist.specs.Line.{HasForm, IsLine, IsBlank, Stated, core, Spells, IsMalformed}
+use Rattle.sumlist.proofs.Common.{◌≡◌, ◌*◌, Bool, List, length, sym, subst, Some, IsUtf8, Kind, Alg, Listing, Fits}
+use Rattle.sumlist.proofs.Common.{name_of, IsName, HasNoForm, IsUnslashed, HasForm, IsLine, IsBlank, Stated, core}
+use Rattle.sumlist.proofs.Common.{Spells, IsMalformed}
+use Rattle.std.proofs.Common.{ℕ}
 use Rattle.sumlist.proofs.Stating.{listing, form_fit, form_unique, stated_by, stated_parts}
 use Rattle.sumlist.proofs.LineCases.{spells_one}
 use Rattle.sumlist.proofs.Names.{one_name}

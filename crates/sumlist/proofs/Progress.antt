@@ -1,23 +1,14 @@
 -- The lines before the rest of a list have outcomes, whose report was appended; a line more is an outcome more.
-use Rattle.std.proofs.Common.{◌≡◌, ℕ, ◌+◌, List, [], ◌∷◌, ◌++◌, length, refl, sym, ap, ◌∙◌, append_assoc, append-nil}
-use Rattle.std.proofs.Common.{Option, Some, None, IfSome, IsErr, Result, Ok, arith, rules, subst}
-use Rattle.std.proofs.lemmas.Result.{MatchResult-from_err}
-use Rattle.std.proofs.KnownBytes.{Appends-nil, Appends-trans}
-use Rattle.source.specs.Written.{AppendsPrefix}
+use Rattle.sumlist.proofs.Common.{◌≡◌, ◌+◌, List, [], ◌∷◌, ◌++◌, length, refl, sym, ap, ◌∙◌, append_assoc, append-nil}
+use Rattle.sumlist.proofs.Common.{Option, Some, None, IfSome, IsErr, Result, arith, rules, subst, MatchResult-from_err}
+use Rattle.sumlist.proofs.Common.{Appends-nil, Appends-trans, AppendsPrefix, Summary, IsCounted, lines_of, no_lines}
+use Rattle.sumlist.proofs.Common.{Unreadable, lines, Progress, Files, Outcome, AllAllowed, text, is_told}
+use Rattle.sumlist.proofs.Common.{unreadable_count, ListChecked, count_after, LineChecked, Kind, Mark, CheckFault}
+use Rattle.std.proofs.Common.{ℕ, Ok}
 use Rattle.sumlist.proofs.Pieces.{AppendsPrefix-after, AppendsPrefix-more, AppendsPrefix-none}
-use Rattle.sumlist.specs.declared.summary.Summary.{Summary}
-use Rattle.sumlist.specs.inside.Marks.{IsCounted, lines_of, no_lines}
 use Rattle.sumlist.proofs.Tallying.{number_of-append, number_of-one, IsSummary-start, IsSummary-more, lines_of-summary}
-use Rattle.sumlist.specs.declared.verdict.Verdict.TheVariants.{Unreadable}
-use Rattle.sumlist.specs.Lines.{lines}
-use Rattle.sumlist.specs.inside.Ahead.{Progress}
-use Rattle.sumlist.specs.Report.{Files, Outcome, AllAllowed, text, report_from, is_told, unreadable_count, number_of}
-use Rattle.sumlist.specs.Checked.{ListChecked}
-use Rattle.source.specs.Counts.{count_after}
-use Rattle.sumlist.specs.inside.Stepped.{LineChecked, Stepped}
-use Rattle.sumlist.specs.declared.kind.Kind.{Kind}
-use Rattle.sumlist.specs.declared.summary.Mark.{Mark}
-use Rattle.sumlist.specs.declared.checking.CheckFault.{CheckFault}
+use Rattle.sumlist.specs.Report.{report_from, number_of}
+use Rattle.sumlist.specs.inside.Stepped.{Stepped}
 use Rattle.sumlist.proofs.Deciding.{all_settled}
 
 pub AllAllowed-append : (files : Files) (kind : Kind) (xs ys : List (List ℕ)) (os ps : List Outcome)

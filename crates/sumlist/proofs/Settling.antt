@@ -1,12 +1,9 @@
 -- Where no file failed, the line and the files decide the outcome.
-use Rattle.std.proofs.Common.{◌≡◌, ℕ, List, [], ◌∷◌, Option, Some, None, refl, sym, ap, ◌∙◌, subst, arith}
-use Rattle.sumlist.specs.Entry.{Listing}
-use Rattle.sumlist.specs.Report.{Files, IsAllowed, Allowed, AllAllowed, Outcome, skipped, malformed, told, is_told}
-use Rattle.sumlist.specs.Report.{number_of}
-use Rattle.sumlist.specs.Report.{same, unreadable_count}
-use Rattle.sumlist.specs.declared.kind.Kind.{Kind}
-use Rattle.sumlist.specs.declared.verdict.Verdict.{Verdict}
-use Rattle.sumlist.specs.declared.verdict.Verdict.TheVariants.{Matches, Differs, Missing, Unreadable, TooLong}
+use Rattle.sumlist.proofs.Common.{◌≡◌, List, [], ◌∷◌, Option, Some, None, refl, sym, ap, ◌∙◌, subst, arith, Listing}
+use Rattle.sumlist.proofs.Common.{Files, IsAllowed, Allowed, AllAllowed, Outcome, skipped, malformed, told, is_told}
+use Rattle.sumlist.proofs.Common.{unreadable_count, Kind, Verdict, Matches, Differs, Missing, Unreadable, TooLong}
+use Rattle.std.proofs.Common.{ℕ}
+use Rattle.sumlist.specs.Report.{number_of, same}
 use Rattle.sumlist.proofs.LineCases.{spells_one}
 
 module _ (e : Listing) where

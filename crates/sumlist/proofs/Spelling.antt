@@ -1,22 +1,17 @@
 -- A line that is written of an entry spells it: its core is the whole line, since no CR and no LF is in it.
-use Rattle.std.proofs.Common.{◌≡◌, ◌≢◌, inl, inr, ℕ, ◌-◌, ◌*◌, ◌/◌, ◌%◌, ◌<◌, ◌≤◌, Bool, true, false, List, [], ◌∷◌, ◌++◌}
-use Rattle.std.proofs.Common.{length, append_assoc, length-append, if◌then◌else◌, slice_index, refl, sym, ap, ◌∙◌, subst}
-use Rattle.std.proofs.Common.{Some, Result, eqb, leb, arith, rules}
-use Rattle.std.specs.List.{All, AllPass}
-use Rattle.std.proofs.lemmas.List.Elements.{All-append, All-cons, All-contains, All-nil, All-weaker}
-use Rattle.std.proofs.lemmas.Bool.Decides.{nat_tests}
-use Rattle.hex.proofs.HexLemmas.{decode_of-encode_lower, length-encode_with}
-use Rattle.hex.specs.Hex.{IsBytes, encode_lower, lower_digits}
-use Rattle.source.specs.Digest.{tag_len, IsInRange}
-use Rattle.source.specs.declared.alg.Alg.{Alg}
+use Rattle.sumlist.proofs.Common.{◌≡◌, ◌≢◌, inl, inr, ◌-◌, ◌*◌, ◌/◌, ◌%◌, ◌<◌, ◌≤◌, Bool, true, false, List, [], ◌∷◌}
+use Rattle.sumlist.proofs.Common.{◌++◌, length, append_assoc, length-append, if◌then◌else◌, slice_index, refl, sym, ap}
+use Rattle.sumlist.proofs.Common.{◌∙◌, subst, Some, Result, eqb, leb, arith, rules, All, AllPass, All-append, All-cons}
+use Rattle.sumlist.proofs.Common.{All-nil, All-weaker, nat_tests, decode_of-encode_lower, length-encode_with, IsBytes}
+use Rattle.sumlist.proofs.Common.{encode_lower, lower_digits, tag_len, IsInRange, Alg, Shown, Writes, Kind, Listing}
+use Rattle.sumlist.proofs.Common.{IsEntry, written, written_len, ending, escaped, escape_of, needs_escape, lead}
+use Rattle.sumlist.proofs.Common.{SpellsByte, SpellsName, alg_of, Parts, HasForm, Stated, core, IsBlank, Spells}
+use Rattle.std.proofs.Common.{ℕ}
+use Rattle.std.proofs.lemmas.List.Elements.{All-contains}
 use Rattle.source.specs.declared.alg.Alg.TheVariants.{Sha256 as sha256, Sha512 as sha512, Blake2b as blake2b}
 use Rattle.source.specs.declared.alg.Alg.TheVariants.{Blake2s as blake2s, Blake3 as blake3}
-use Rattle.source.specs.Written.{Shown, Writes}
-use Rattle.sumlist.specs.declared.kind.Kind.{Kind}
-use Rattle.sumlist.specs.Entry.{Listing, IsEntry, written, written_line, written_len, ending}
-use Rattle.sumlist.specs.Escape.{escaped, escape_of, needs_escape, lead, SpellsByte, SpellsName}
-use Rattle.sumlist.specs.Kinds.{alg_of, kind_of}
-use Rattle.sumlist.specs.Line.{Parts, HasForm, Stated, core, IsBlank, Spells}
+use Rattle.sumlist.specs.Entry.{written_line}
+use Rattle.sumlist.specs.Kinds.{kind_of}
 use Rattle.sumlist.proofs.EscapedNames.{escape_cases, escaped-plain}
 use Rattle.sumlist.proofs.Words.{InWord, IsWord, digits_word, no_comment}
 

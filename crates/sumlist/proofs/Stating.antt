@@ -1,18 +1,10 @@
 -- No core states two entries, and whether it states one can be told: a core is a text, or a backslash and a text.
-use Rattle.std.proofs.Common.{◌≡◌, ◌⊎◌, inl, inr, ℕ, Bool, true, false, List, [], ◌∷◌, ◌++◌, refl, sym, ap, ◌∙◌}
-use Rattle.std.proofs.Common.{subst, slice_index, length, Option, Some, None, Result, MatchOption, append_assoc, arith}
-use Rattle.std.proofs.lemmas.Bool.{cases_eq}
-use Rattle.hex.specs.Hex.{IsBytes}
-use Rattle.hex.proofs.HexLemmas.{decode_of-ok}
-use Rattle.source.specs.Digest.{tag_len, IsInRange}
-use Rattle.source.specs.declared.alg.Alg.{Alg}
-use Rattle.source.specs.Written.{Shown, Writes}
-use Rattle.sumlist.specs.declared.kind.Kind.{Kind}
-use Rattle.sumlist.specs.Entry.{Listing}
-use Rattle.sumlist.specs.inside.Body.{name_of}
-use Rattle.sumlist.specs.inside.Cut.{NoParts, NoLabelled, HasNoForm, IsUnslashed}
-use Rattle.sumlist.specs.Line.{Parts, IsMark, HasForm, Stated}
-use Rattle.sumlist.specs.Tagged.{Labelled, opening, closing}
+use Rattle.sumlist.proofs.Common.{◌≡◌, ◌⊎◌, inl, inr, Bool, true, false, List, [], ◌∷◌, ◌++◌, refl, sym, ap, ◌∙◌, subst}
+use Rattle.sumlist.proofs.Common.{slice_index, length, Option, Some, None, Result, MatchOption, append_assoc, arith}
+use Rattle.sumlist.proofs.Common.{cases_eq, IsBytes, decode_of-ok, tag_len, IsInRange, Alg, Shown, Writes, Kind}
+use Rattle.sumlist.proofs.Common.{Listing, name_of, NoParts, NoLabelled, HasNoForm, IsUnslashed, Parts, IsMark, HasForm}
+use Rattle.sumlist.proofs.Common.{Stated, Labelled, opening, closing}
+use Rattle.std.proofs.Common.{ℕ}
 use Rattle.sumlist.proofs.Unescaping.{unescaped-spelled, spelled-unescaped}
 use Rattle.sumlist.proofs.Words.{cut_word, digits_word, label_word, no_slash, word_cut}
 use Rattle.sumlist.proofs.Untagging.{parts_cases, parts_fit, parts_unique}

@@ -1,20 +1,13 @@
 -- The tagged line of an entry spells it, whatever the kind of its list.
-use Rattle.std.proofs.Common.{◌≡◌, ◌⊎◌, inl, inr, ℕ, ◌*◌, ◌≤◌, Bool, true, false, List, [], ◌∷◌, ◌++◌, length}
-use Rattle.std.proofs.Common.{append_assoc, length-append, Result, if◌then◌else◌, refl, sym, ap, ◌∙◌, subst, eqb, arith}
-use Rattle.std.proofs.Common.{codes, decimal, rules}
-use Rattle.std.proofs.lemmas.Bool.{eqb-true}
-use Rattle.std.proofs.lemmas.List.Elements.{All-append}
-use Rattle.hex.proofs.HexLemmas.{decode_of-encode_lower, length-encode_with}
-use Rattle.hex.specs.Hex.{IsBytes, encode_lower, lower_digits}
-use Rattle.source.specs.Digest.{tag_len, IsInRange}
-use Rattle.source.specs.declared.alg.Alg.{Alg}
+use Rattle.sumlist.proofs.Common.{◌≡◌, ◌⊎◌, inl, inr, ◌*◌, ◌≤◌, Bool, true, false, List, [], ◌∷◌, ◌++◌, length}
+use Rattle.sumlist.proofs.Common.{append_assoc, length-append, Result, if◌then◌else◌, refl, sym, ap, ◌∙◌, subst, eqb}
+use Rattle.sumlist.proofs.Common.{arith, rules, eqb-true, All-append, decode_of-encode_lower, length-encode_with}
+use Rattle.sumlist.proofs.Common.{IsBytes, encode_lower, lower_digits, tag_len, IsInRange, Alg, Shown, Writes, Kind}
+use Rattle.sumlist.proofs.Common.{Listing, IsEntry, escaped, lead, IsLabel, Labelled, label_of, opening, closing}
+use Rattle.sumlist.proofs.Common.{tagged, tagged_len, Spells}
+use Rattle.std.proofs.Common.{ℕ, codes, decimal}
 use Rattle.source.specs.declared.alg.Alg.TheVariants.{Sha256, Sha512, Blake2b, Blake2s, Blake3}
-use Rattle.source.specs.Written.{Shown, Writes}
-use Rattle.sumlist.specs.declared.kind.Kind.{Kind}
-use Rattle.sumlist.specs.Entry.{Listing, IsEntry}
-use Rattle.sumlist.specs.Escape.{escaped, lead}
-use Rattle.sumlist.specs.Tagged.{IsLabel, Labelled, label_of, opening, closing, tagged, tagged_line, tagged_len}
-use Rattle.sumlist.specs.Line.{Spells}
+use Rattle.sumlist.specs.Tagged.{tagged_line}
 use Rattle.sumlist.proofs.Spelling.{Inner, escaped_inner, inner_cons, literal_inner, spells_by, word_inner}
 use Rattle.sumlist.proofs.Words.{digits_word, label_word}
 

@@ -1,22 +1,13 @@
 -- A text has digits, a mark and a body in one way at most, and whether it has them can be told.
-use Rattle.std.proofs.Common.{slice_index, ◌≡◌, ◌⊎◌, inl, inr, ℕ, ◌*◌, ◌/◌, ◌%◌, ◌<◌, ◌≤◌, ◌==◌, ◌&&◌, Bool, true}
-use Rattle.std.proofs.Common.{false, List, ◌∷◌, length, drop, refl, sym, ap, ◌∙◌, subst, cond, Option, Some, None, Result}
-use Rattle.std.proofs.Common.{Ok, Err, arith}
-use Rattle.std.specs.Prelude.{nat_le}
-use Rattle.std.proofs.lemmas.Bool.{cases_eq, cases_lt, eqb-true}
-use Rattle.std.proofs.lemmas.Bool.Decides.{nat_tests}
-use Rattle.hex.specs.Hex.{decode_of, IsBytes}
-use Rattle.hex.proofs.HexLemmas.{decode_of-ok, decode_of-same}
-use Rattle.hex.specs.declared.error.FromHexError.{FromHexError}
-use Rattle.source.specs.Digest.{tag_len, IsInRange}
-use Rattle.source.specs.declared.alg.Alg.{Alg}
+use Rattle.sumlist.proofs.Common.{slice_index, ◌≡◌, ◌⊎◌, inl, inr, ◌*◌, ◌/◌, ◌%◌, ◌<◌, ◌≤◌, ◌&&◌, Bool, true, false}
+use Rattle.sumlist.proofs.Common.{List, ◌∷◌, length, drop, refl, sym, ap, ◌∙◌, subst, cond, Option, Some, None, Result}
+use Rattle.sumlist.proofs.Common.{Err, arith, nat_le, cases_eq, cases_lt, eqb-true, nat_tests, decode_of, IsBytes}
+use Rattle.sumlist.proofs.Common.{decode_of-ok, decode_of-same, FromHexError, tag_len, IsInRange, Alg, Kind, IsCut}
+use Rattle.sumlist.proofs.Common.{NoParts, alg_of, Parts, IsMark}
+use Rattle.std.proofs.Common.{ℕ, ◌==◌, Ok}
 use Rattle.source.specs.declared.alg.Alg.TheVariants.{Sha256 as sha256, Sha512 as sha512, Blake2b as blake2b}
 use Rattle.source.specs.declared.alg.Alg.TheVariants.{Blake2s as blake2s, Blake3 as blake3}
-use Rattle.sumlist.specs.declared.kind.Kind.{Kind}
 use Rattle.sumlist.specs.declared.kind.Kind.TheVariants.{Sha256, Sha512, Blake2b, Blake2s, Blake3}
-use Rattle.sumlist.specs.inside.Cut.{IsCut, NoParts}
-use Rattle.sumlist.specs.Kinds.{alg_of}
-use Rattle.sumlist.specs.Line.{Parts, IsMark}
 use Rattle.sumlist.proofs.Either.{either_or}
 use Rattle.sumlist.proofs.Words.{cut, cut_word, digits_word, first_space, word_cut}
 

@@ -1,13 +1,11 @@
 -- Worked values of the definitions of lists, computed: a wrong escape, label, cut or number does not check.
-use Rattle.std.proofs.Common.{◌≡◌, inr, [], ◌∷◌, ◌++◌, codes, refl, arith}
+use Rattle.sumlist.proofs.Common.{◌≡◌, inr, [], ◌∷◌, ◌++◌, refl, arith, Missing, Listing, written, lines, skipped}
+use Rattle.sumlist.proofs.Common.{malformed, told, Labelled, label_of, tagged}
+use Rattle.std.proofs.Common.{codes}
 use Rattle.std.specs.Fmt.{digits}
 use Rattle.hex.specs.Hex.{encode_with, decode_pairs}
 use Rattle.source.specs.declared.alg.Alg.TheVariants.{Blake2b, Blake2s}
-use Rattle.sumlist.specs.declared.verdict.Verdict.TheVariants.{Missing}
-use Rattle.sumlist.specs.Entry.{Listing, written}
-use Rattle.sumlist.specs.Lines.{lines}
-use Rattle.sumlist.specs.Report.{skipped, malformed, told, report_from}
-use Rattle.sumlist.specs.Tagged.{Labelled, label_of, tagged}
+use Rattle.sumlist.specs.Report.{report_from}
 
 -- BLAKE2b of "abc" with a digest of one byte, under a name with a backslash and an LF
 abbrev example : Listing

@@ -1,22 +1,17 @@
 -- What stands before the first space of a core is a word, digits or a label: a word has no byte that a line
 -- treats otherwise.
-use Rattle.std.proofs.Common.{◌≡◌, ◌≢◌, inl, inr, ℕ, ◌+◌, ◌*◌, ◌<◌, ◌≤◌, ◌^◌, ◌%◌, Bool, true, false, ◌&&◌, List, []}
-use Rattle.std.proofs.Common.{◌∷◌, ◌++◌, slice_index, length, drop, append-nil, refl, sym, ap, ◌∙◌, subst, eqb, leb, arith, rules, codes}
-use Rattle.std.specs.Prelude.{not}
-use Rattle.std.specs.List.{All, AllPass}
+use Rattle.sumlist.proofs.Common.{◌≡◌, ◌≢◌, inl, inr, ◌+◌, ◌*◌, ◌<◌, ◌≤◌, ◌^◌, ◌%◌, Bool, true, false, ◌&&◌, List, []}
+use Rattle.sumlist.proofs.Common.{◌∷◌, ◌++◌, slice_index, length, drop, append-nil, refl, sym, ap, ◌∙◌, subst, eqb, leb}
+use Rattle.sumlist.proofs.Common.{arith, rules, All, AllPass, All-append, All-cons, All-nil, All-weaker, false≢true}
+use Rattle.sumlist.proofs.Common.{cases_lt, nat_tests, decode_of, decode_of-ok, Alg, IsInRange, IsCut, IsLabel}
+use Rattle.std.proofs.Common.{ℕ, codes}
+use Rattle.std.specs.Prelude.{not, Ok}
 use Rattle.std.specs.Fmt.{decimal}
 use Rattle.std.proofs.lemmas.Fmt.{decimal_by_steps}
-use Rattle.std.proofs.lemmas.List.Elements.{All-append, All-cons, All-head, All-nil, All-tail, All-weaker}
-use Rattle.std.proofs.lemmas.Bool.{false≢true, cases_lt}
-use Rattle.std.proofs.lemmas.Bool.Decides.{nat_tests}
-use Rattle.hex.specs.Hex.{decode_of, is_hex_digit}
-use Rattle.hex.proofs.HexLemmas.{decode_of-ok}
-use Rattle.source.specs.declared.alg.Alg.{Alg}
+use Rattle.std.proofs.lemmas.List.Elements.{All-head, All-tail}
+use Rattle.hex.specs.Hex.{is_hex_digit}
 use Rattle.source.specs.declared.alg.Alg.TheVariants.{Sha256, Sha512, Blake2b, Blake2s, Blake3}
-use Rattle.source.specs.Digest.{IsInRange}
-use Rattle.std.specs.Prelude.{Ok}
-use Rattle.sumlist.specs.inside.Cut.{NotSpace, HasNoSpace, IsCut}
-use Rattle.sumlist.specs.Tagged.{IsLabel}
+use Rattle.sumlist.specs.inside.Cut.{NotSpace, HasNoSpace}
 
 -- above a space, `#` and `*`, and no backslash
 abbrev pub InWord : ℕ → Type 0

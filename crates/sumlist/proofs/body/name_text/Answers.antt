@@ -1,4 +1,4 @@
-use Rattle.std.proofs.Common.{refl}
+use Rattle.sumlist.proofs.Common.{refl}
 use Rattle.sumlist.proofs.Names.{not_name-empty, not_name-text, is_a_name}
 use Rattle.sumlist.proofs.body.name_text.Goals as goal
 

@@ -1,8 +1,7 @@
-use Rattle.std.proofs.Common.{◌≡◌, ◌∙◌, ◌++◌, [], Err, refl, take, length, length-take-le, length-append, arith}
+use Rattle.sumlist.proofs.Common.{◌≡◌, ◌∙◌, ◌++◌, [], Err, refl, take, length, length-take-le, length-append, arith}
+use Rattle.sumlist.proofs.Common.{err_from_is_err_and, ListTooLong}
 use Rattle.std.specs.Bool.{⊤}
 use Rattle.std.proofs.KnownBytes.{Consumes-nil, Consumes-trans}
-use Rattle.std.proofs.lemmas.Result.{err_from_is_err_and}
-use Rattle.sumlist.specs.declared.checking.CheckFault.TheVariants.{ListTooLong}
 use Rattle.sumlist.proofs.Progress.{IfSome-all, ListChecked-none}
 use Rattle.sumlist.proofs.Holding.{no_too_long, Coming-start, Coming-piece, Coming-stop, Coming-halt}
 use Rattle.sumlist.proofs.checking.check.Goals as goal

@@ -1,9 +1,6 @@
-use Rattle.std.proofs.Common.{◌≡◌, ◌+◌, ◌-◌, ◌^◌, ◌≤◌, ◌<◌, ℕ, List, length, IfSome, Some}
-use Rattle.std.specs.Io.KnownBytes.{Consumes}
-use Rattle.source.specs.Counts.{count_after}
-use Rattle.sumlist.specs.inside.Ahead.{Partway}
-use Rattle.sumlist.specs.inside.Held.{held_len}
-use Rattle.sumlist.specs.inside.Marks.{lines_of}
+use Rattle.sumlist.proofs.Common.{◌≡◌, ◌+◌, ◌-◌, ◌^◌, ◌≤◌, ◌<◌, List, length, IfSome, Some, Consumes, count_after}
+use Rattle.sumlist.proofs.Common.{Partway, held_len, lines_of}
+use Rattle.std.proofs.Common.{ℕ}
 use Rattle.sumlist.proofs.checking.check.Given as goal
 
 abbrev pub invariant-loop-held : goal.invariant-loop-held

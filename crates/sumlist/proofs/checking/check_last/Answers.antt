@@ -1,6 +1,4 @@
-use Rattle.std.proofs.Common.{ap, ◌+◌}
-use Rattle.std.proofs.lemmas.Bool.{false≢true}
-use Rattle.std.proofs.lemmas.Option.{IfSome_then}
+use Rattle.sumlist.proofs.Common.{ap, ◌+◌, false≢true, IfSome_then}
 use Rattle.sumlist.proofs.Holding.{Partway-last, Partway-last-stop}
 use Rattle.sumlist.proofs.checking.check_last.Goals as goal
 

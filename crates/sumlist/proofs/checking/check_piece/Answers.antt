@@ -1,6 +1,4 @@
-use Rattle.std.proofs.Common.{◌+◌, ◌<◌, ap, ◌∙◌, length, arith}
-use Rattle.std.proofs.lemmas.Option.{IfSome_then}
-use Rattle.std.proofs.lemmas.Result.{MatchResult-from_err}
+use Rattle.sumlist.proofs.Common.{◌+◌, ◌<◌, ap, ◌∙◌, length, arith, IfSome_then, MatchResult-from_err}
 use Rattle.sumlist.proofs.Names.{not_empty}
 use Rattle.sumlist.proofs.Progress.{IfSome-two}
 use Rattle.sumlist.proofs.Tallying.{lines_of-counted}

@@ -1,8 +1,5 @@
-use Rattle.std.proofs.Common.{◌≡◌, ◌+◌, ◌≤◌, ℕ, length, IfSome}
-use Rattle.source.specs.Counts.{count_after}
-use Rattle.sumlist.specs.inside.Ahead.{Goes}
-use Rattle.sumlist.specs.inside.Held.{held_len}
-use Rattle.sumlist.specs.inside.Marks.{lines_of}
+use Rattle.sumlist.proofs.Common.{◌≡◌, ◌+◌, ◌≤◌, length, IfSome, count_after, Goes, held_len, lines_of}
+use Rattle.std.proofs.Common.{ℕ}
 use Rattle.sumlist.proofs.checking.check_piece.Given as goal
 
 abbrev pub invariant-loop-back : goal.invariant-loop-back

@@ -1,4 +1,4 @@
-use Rattle.std.proofs.lemmas.Bool.{false≢true}
+use Rattle.sumlist.proofs.Common.{false≢true}
 use Rattle.sumlist.proofs.NameSizes.{long_tagged}
 use Rattle.sumlist.proofs.fitting.tagged_fits.Goals as goal
 

@@ -1,4 +1,5 @@
-use Rattle.std.proofs.Common.{◌≡◌, ℕ, ◌<◌, ◌≤◌, ◌*◌, ◌-◌}
+use Rattle.sumlist.proofs.Common.{◌≡◌, ◌<◌, ◌≤◌, ◌*◌, ◌-◌}
+use Rattle.std.proofs.Common.{ℕ}
 use Rattle.std.specs.Fmt.{decimal}
 use Rattle.sumlist.proofs.labels.find_len.Given as goal
 

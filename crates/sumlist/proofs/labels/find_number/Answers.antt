@@ -1,5 +1,4 @@
-use Rattle.std.proofs.Common.{refl}
-use Rattle.std.proofs.lemmas.Bool.{false≢true}
+use Rattle.sumlist.proofs.Common.{refl, false≢true}
 use Rattle.sumlist.proofs.Labelling.{number_front, number_rest}
 use Rattle.sumlist.proofs.labels.find_number.Goals as goal
 

@@ -1,4 +1,4 @@
-use Rattle.std.proofs.Common.{arith}
+use Rattle.sumlist.proofs.Common.{arith}
 use Rattle.sumlist.proofs.Deciding.{all_settled}
 use Rattle.sumlist.proofs.Settling.{outcomes_unique}
 use Rattle.sumlist.proofs.laws.report_laws.Goals as goal

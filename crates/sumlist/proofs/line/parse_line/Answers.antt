@@ -1,6 +1,5 @@
-use Rattle.std.proofs.Common.{refl, string_bytes}
-use Rattle.std.proofs.lemmas.Bool.{false≢true}
-use Rattle.std.proofs.lemmas.Result.{err_from_is_err_and}
+use Rattle.sumlist.proofs.Common.{refl, false≢true, err_from_is_err_and}
+use Rattle.std.proofs.Common.{string_bytes}
 use Rattle.sumlist.proofs.Parsing.{found, found_spells, found_named, line_none, line_unnamed, only_entry}
 use Rattle.sumlist.proofs.Stating.{listing}
 use Rattle.sumlist.proofs.line.parse_line.Goals as goal

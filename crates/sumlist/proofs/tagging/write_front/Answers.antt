@@ -1,5 +1,4 @@
-use Rattle.sumlist.specs.Escape.{lead}
-use Rattle.sumlist.specs.Tagged.{label_of}
+use Rattle.sumlist.proofs.Common.{lead, label_of}
 use Rattle.sumlist.proofs.Pieces.{Writes-exit, Failed-after}
 use Rattle.sumlist.proofs.tagging.write_front.Goals as goal
 

@@ -1,7 +1,4 @@
-use Rattle.std.proofs.Common.{◌++◌, ◌∷◌, []}
-use Rattle.hex.specs.Hex.{encode_lower}
-use Rattle.sumlist.specs.Escape.{escaped}
-use Rattle.sumlist.specs.Tagged.{opening, closing}
+use Rattle.sumlist.proofs.Common.{◌++◌, ◌∷◌, [], encode_lower, escaped, opening, closing}
 use Rattle.sumlist.proofs.Pieces.{Writes-exit, Failed-more, Writes-after}
 use Rattle.sumlist.proofs.Stating.{Writes-named}
 use Rattle.sumlist.proofs.tagging.write_named.Goals as goal

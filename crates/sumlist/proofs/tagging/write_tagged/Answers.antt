@@ -1,4 +1,4 @@
-use Rattle.std.proofs.Common.{refl}
+use Rattle.sumlist.proofs.Common.{refl}
 use Rattle.sumlist.proofs.TagSpelling.{tagged_spells}
 use Rattle.sumlist.proofs.tagging.write_tagged.Goals as goal
 

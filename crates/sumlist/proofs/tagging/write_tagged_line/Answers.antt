@@ -1,7 +1,4 @@
-use Rattle.std.proofs.Common.{◌++◌, ◌∷◌, []}
-use Rattle.hex.specs.Hex.{encode_lower}
-use Rattle.sumlist.specs.Escape.{escaped, lead}
-use Rattle.sumlist.specs.Tagged.{opening, closing, label_of}
+use Rattle.sumlist.proofs.Common.{◌++◌, ◌∷◌, [], encode_lower, escaped, lead, opening, closing, label_of}
 use Rattle.sumlist.proofs.Pieces.{Writes-exit, Failed-more, Writes-after}
 use Rattle.sumlist.proofs.TagSpelling.{Writes-tagged}
 use Rattle.sumlist.proofs.tagging.write_tagged_line.Goals as goal
