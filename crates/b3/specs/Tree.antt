@@ -1,5 +1,6 @@
 -- The tree over a message (the BLAKE3 paper, 2.1 and 2.5).
-use Rattle.std.specs.Prelude.{◌≡◌, ℕ, zero, suc, true, false, ◌+◌, ◌-◌, ◌*◌, ◌/◌, ◌^◌, ◌<◌, ◌≤◌, leb, List, ◌++◌, take, drop, length}
+use Rattle.std.specs.Prelude.{◌≡◌, ℕ, zero, suc, true, false, ◌+◌, ◌-◌, ◌*◌, ◌/◌, ◌^◌, ◌<◌, ◌≤◌, leb, List, ◌++◌, take}
+use Rattle.std.specs.Prelude.{drop, length}
 use Rattle.b3.specs.Node.{Node, cv}
 use Rattle.b3.specs.Chunk.{chunk}
 

@@ -1,6 +1,7 @@
 // A hasher under its parameters, over the chaining value of either function.
 
-ghost use Rattle.std.specs.Prelude.{◌≡◌, ◌≤◌, ◌<◌, ◌+◌, ◌-◌, ◌*◌, ◌++◌, ◌↔◌, [], ℕ, List, length, Some, None, MatchResult};
+ghost use Rattle.std.specs.Prelude.{◌≡◌, ◌≤◌, ◌<◌, ◌+◌, ◌-◌, ◌*◌, ◌++◌, ◌↔◌, [], ℕ, List, length, Some, None};
+ghost use Rattle.std.specs.Prelude.{MatchResult};
 ghost use Rattle.std.specs.Prelude.{IsOk, OnOk, OnErr};
 ghost use Rattle.blake2.specs.Blake2.{Parameters, blake2, salted, start, word_len};
 ghost use Rattle.blake2.specs.Faults.{parameter_fault};

@@ -1,5 +1,6 @@
 -- What a line that tells a part comes to, word after word.
-use Rattle.std.proofs.Common.{◌≡◌, ℕ, ◌<◌, ◌^◌, List, ◌∷◌, ◌++◌, refl, sym, ap, ◌∙◌, arith, codes, length, Result, Ok, Err, IsOk, IfOk, ◌↔◌, MatchOption}
+use Rattle.std.proofs.Common.{◌≡◌, ℕ, ◌<◌, ◌^◌, List, ◌∷◌, ◌++◌, refl, sym, ap, ◌∙◌, arith, codes, length, Result, Ok}
+use Rattle.std.proofs.Common.{Err, IsOk, IfOk, ◌↔◌, MatchOption}
 use Rattle.std.proofs.lemmas.Bool.{false≢true}
 use Rattle.std.proofs.lemmas.List.{append_cancel_left}
 use Rattle.std.specs.Fmt.{decimal}

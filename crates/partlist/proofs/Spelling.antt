@@ -1,5 +1,6 @@
 -- The words of a line are cut out of it in one way.
-use Rattle.std.proofs.Common.{◌≡◌, ℕ, ◌<◌, ◌^◌, List, [], ◌∷◌, ◌++◌, Contains, refl, ap, sym, ◌∙◌, append_assoc, zero, suc, arith, rules}
+use Rattle.std.proofs.Common.{◌≡◌, ℕ, ◌<◌, ◌^◌, List, [], ◌∷◌, ◌++◌, Contains, refl, ap, sym, ◌∙◌, append_assoc, zero}
+use Rattle.std.proofs.Common.{suc, arith, rules}
 use Rattle.std.specs.Fmt.{decimal}
 use Rattle.std.specs.Str.{IsUtf8}
 use Rattle.std.specs.Str.Parse.{AllDigits}
@@ -30,7 +31,8 @@ cut_once (c ∷ a) (d ∷ b) x y e p q =
 
 no_space : (digits : List ℕ) → AllDigits 10 digits → Contains digits 32 → ⊥
 no_space [] h (k, below, e) = absurd (omega (arith, below))
-no_space (d ∷ digits) h (zero, below, e) = absurd (let least = h.0 in let same : d ≡ 32 = e in search (rules, least, same))
+no_space (d ∷ digits) h (zero, below, e) =
+    absurd (let least = h.0 in let same : d ≡ 32 = e in search (rules, least, same))
 no_space (d ∷ digits) h (suc k, below, e) = no_space digits h.1 (k, omega (arith, below), e)
 
 -- what stands before the first space of a number and a rest is the number

@@ -1,6 +1,7 @@
 // The line of a part.
 
-ghost use Rattle.std.specs.Prelude.{◌≡◌, ℕ, ◌<◌, ◌^◌, ◌≤◌, List, ◌++◌, ◌∷◌, [], Some, Contains, MatchOption, IsTrue, ◌↔◌, length, drop};
+ghost use Rattle.std.specs.Prelude.{◌≡◌, ℕ, ◌<◌, ◌^◌, ◌≤◌, List, ◌++◌, ◌∷◌, [], Some, Contains, MatchOption, IsTrue};
+ghost use Rattle.std.specs.Prelude.{◌↔◌, length, drop};
 ghost use Rattle.std.specs.Fmt.{decimal};
 ghost use Rattle.hex.specs.Hex.{IsBytes, encode_lower};
 ghost use Rattle.words.specs.Words.{word_bytes, words};

@@ -1,6 +1,6 @@
 -- Parts of what a feed has to come, one after the other.
-use Rattle.std.proofs.Common.{◌≡◌, ℕ, zero, suc, ◌+◌, ◌-◌, ◌*◌, ◌/◌, ◌%◌, ◌^◌, ◌<◌, ◌≤◌, List, [], ◌++◌, Option, None}
-use Rattle.std.proofs.Common.{Some, IfSome, length, take, refl, ap, sym, subst, ◌∙◌, inl, inr, arith, append-nil}
+use Rattle.std.proofs.Common.{◌≡◌, ℕ, zero, suc, ◌+◌, ◌-◌, ◌*◌, ◌/◌, ◌%◌, ◌^◌, ◌<◌, ◌≤◌, List, ◌++◌, Option, None}
+use Rattle.std.proofs.Common.{Some, length, take, refl, ap, sym, ◌∙◌, inl, inr, arith}
 use Rattle.std.proofs.Common.{length-append, length-take-le, mul-add, pow_mono, pow_pos}
 use Rattle.std.proofs.Math.Nat.{pow-succ', mul-mod_right, mul_assoc, mul_comm}
 use Rattle.std.proofs.lemmas.Bool.{cases_lt}
@@ -11,7 +11,7 @@ use borrow.Rule.Slice.PartMut.{put_mid}
 use Rattle.std.proofs.Math.Seq.{take-append-add}
 use Rattle.std.proofs.lemmas.List.{take-take}
 use Rattle.std.proofs.lemmas.Slice.{take-put_mid}
-use Rattle.std.specs.Io.KnownBytes.{Consumes, IsAtEnd, prepend_known}
+use Rattle.std.specs.Io.KnownBytes.{prepend_known}
 use Rattle.source.specs.Pumped.{IsLongerThan}
 
 -- the bytes that were read ahead alone are more than n

@@ -1,11 +1,13 @@
 -- A hasher that takes bytes piece by piece has taken all of them, and lost as much of its room.
-use Rattle.std.proofs.Common.{◌≡◌, ℕ, ◌+◌, List, [], ◌++◌, Option, length, length-append, append_assoc, append-nil, arith}
+use Rattle.std.proofs.Common.{◌≡◌, ℕ, ◌+◌, List, [], ◌++◌, Option, length, length-append, append_assoc, append-nil}
+use Rattle.std.proofs.Common.{arith}
 use Rattle.std.proofs.Common.{subst, sym}
 use Rattle.std.proofs.KnownBytes.{Consumes-trans}
 use Rattle.source.specs.Pumped.{Appended, Gives}
 
 -- between two moments, a hasher took these bytes
-pub record Takes {A : Type 0} (holds : A → List ℕ → Type 0) (room_left : A → ℕ) (old new : A) (bytes : List ℕ) : Type 0 where
+pub record Takes {A : Type 0} (holds : A → List ℕ → Type 0) (room_left : A → ℕ) (old new : A) (bytes : List ℕ)
+    : Type 0 where
   pub appended : Appended holds old new bytes
   pub room : room_left new + length bytes ≡ room_left old
 

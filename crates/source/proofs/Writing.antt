@@ -1,8 +1,8 @@
 -- How far a text has been written: a sink took a beginning of it, and the rest is left.
-use Rattle.std.proofs.Common.{◌≡◌, ℕ, List, [], ◌++◌, take, drop, refl, sym, ap, ◌∙◌, append_assoc, append-nil}
+use Rattle.std.proofs.Common.{◌≡◌, ℕ, List, [], ◌++◌, take, drop, sym, ap, ◌∙◌, append_assoc, append-nil}
 use Rattle.std.proofs.Common.{take-append-drop}
-use Rattle.std.proofs.KnownBytes.{Appends-nil, Appends-trans}
-use Rattle.source.specs.Written.{AppendsPrefix, Done, Shown}
+use Rattle.std.proofs.KnownBytes.{Appends-trans}
+use Rattle.source.specs.Written.{Done, Shown}
 
 -- a sink took the part of `text` before `rest`, and no write failed
 pub record Writing (old new : Shown) (text rest : List ℕ) : Type 0 where

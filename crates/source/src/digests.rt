@@ -1,6 +1,7 @@
 // The digest of all that comes.
 
-ghost use Rattle.std.specs.Prelude.{◌≡◌, ◌<◌, ◌≤◌, ◌++◌, ◌↔◌, ℕ, List, length, IfOk, IfSome, IsErr, IsErrOf, IsOk, IsOkUnless, OnOk};
+ghost use Rattle.std.specs.Prelude.{◌≡◌, ◌<◌, ◌≤◌, ◌++◌, ◌↔◌, ℕ, List, length, IfOk, IfSome, IsErr, IsErrOf, IsOk};
+ghost use Rattle.std.specs.Prelude.{IsOkUnless, OnOk};
 ghost use Rattle.std.specs.Io.KnownBytes.{IsAtEnd};
 ghost use Rattle.source.specs.Digest.{digest, parameters_of, tag_len};
 ghost use Rattle.source.specs.Faults.{PumpCounts};

@@ -85,7 +85,8 @@ module _ {files : Files} {kind : Kind} {whole : List ℕ} {held : Option (List �
 
   last_line : (held ≡ Some [] → ⊥) → (p : Partway files kind whole held [] s k m a b)
       → lines (p.front ++ []) ≡ p.front ∷ lines []
-  last_line apart p = ap lines (append-nil p.front) ∙ lines-last p.front (some_front held p.front apart p.is_held) p.no_end
+  last_line apart p =
+      ap lines (append-nil p.front) ∙ lines-last p.front (some_front held p.front apart p.is_held) p.no_end
 
   pub Partway-last : (t : Summary) (next n : ℕ) (c : Option (List ℕ)) (mark : Mark) → (held ≡ Some [] → ⊥)
       → next ≡ lines_of s + 1 → HeldDone files kind held next mark m n b c → IsCounted mark s t
@@ -115,7 +116,8 @@ module _ {files : Files} {kind : Kind} {held : Option (List ℕ)} {s t : Summary
     (ahead : List ℕ) where
   pub Goes-more : (rest front back : List ℕ) (i : ℕ) → i ≤ length rest → ((k : ℕ) → k < i → get_or rest k 0 ≢ 10)
       → front ≡ take i rest → back ≡ drop i rest
-      → Goes files kind held ahead s m b now rest t n c → Goes files kind held ahead s m b (held_after now front) back t n c
+      → Goes files kind held ahead s m b now rest t n c
+      → Goes files kind held ahead s m b (held_after now front) back t n c
   Goes-more rest front back i fits before ahead_is behind_is g whole more k a p =
       let free : HasNoEnd front = subst HasNoEnd (sym ahead_is) (HasNoEnd-take rest i fits before) in
       let joined : rest ≡ front ++ back = sym (take-append-drop i rest) ∙ ap (λ l. l ++ drop i rest) (sym ahead_is)
@@ -141,7 +143,8 @@ module _ {files : Files} {kind : Kind} {held : Option (List ℕ)} {s t : Summary
   -- the piece ends before an LF
   pub Goes-end : (rest front back : List ℕ) (i : ℕ) → i ≤ length rest → ((k : ℕ) → k < i → get_or rest k 0 ≢ 10)
       → front ≡ take i rest → back ≡ drop i rest → true ≡ eqb (length back) 0
-      → Goes files kind held ahead s m b now rest t n c → Goes files kind held ahead s m b (held_after now front) [] t n c
+      → Goes files kind held ahead s m b now rest t n c
+      → Goes files kind held ahead s m b (held_after now front) [] t n c
   Goes-end rest front back i fits before ahead_is behind_is none g whole more k a p =
       let empty = nil_from_length back (eqb-true (length back) 0 (sym none)) in
       subst (λ l. Partway files kind whole (held_after now front) (l ++ more) t k n a c) empty
@@ -171,8 +174,8 @@ taken : (rest after : Option (List ℕ)) (piece more : List ℕ) → rest ≡ So
 taken rest None piece more e q = absurd (subst (λ o. Consumes o None piece) e q)
 taken rest (Some left) piece more e q = (left, refl, subst (λ o. Consumes o (Some left) piece) e q)
 
-module _ (whole : Option (List ℕ)) (r : Option Files) (kind : Kind) (rest held : Option (List ℕ)) (t : Summary) (k m : ℕ)
-    (a b : Option (List ℕ)) where
+module _ (whole : Option (List ℕ)) (r : Option Files) (kind : Kind) (rest held : Option (List ℕ)) (t : Summary)
+    (k m : ℕ) (a b : Option (List ℕ)) where
   pub Coming-halt : (answer : Result Summary CheckFault) → IsErr answer
       → Coming whole r kind rest held t k m a b → Checked whole r kind answer k m a b
   Coming-halt answer stopped p = IfSome_then whole p (λ bytes told.

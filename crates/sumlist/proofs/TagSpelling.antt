@@ -64,11 +64,11 @@ tagged_size e len =
 pub tagged_spells : (e : Listing) (kind : Kind) → IsBytes e.tag → IsEntry e → tagged_len e.alg e.name ≤ 65536
     → Spells (tagged_line e) kind e
 tagged_spells e kind b i fits =
-    let digits = digits_word (encode_lower e.tag) e.tag (decode_of-encode_lower e.tag b) in
-    spells_by e kind (label_of e.alg) (λ body. 40 ∷ (body ++ closing (encode_lower e.tag)))
+    let text = encode_lower e.tag in
+    let word = digits_word text e.tag (decode_of-encode_lower e.tag b) in
+    let tail = All-append Inner (closing []) text (literal_inner (closing []) (search rules)) (word_inner text word) in
+    spells_by e kind (label_of e.alg) (λ body. 40 ∷ (body ++ closing text))
     (λ body. inr (labelled_written e.alg e.tag body b i.range i.sized)) i
     (label_word (label_of e.alg) e.alg i.range (label_named e.alg))
-    (inner_cons 40 _ (omega arith) (All-append Inner (escaped e.name) (closing (encode_lower e.tag))
-    (escaped_inner e.name) (All-append Inner (closing []) (encode_lower e.tag) (literal_inner (closing []) (search rules))
-    (word_inner (encode_lower e.tag) digits))))
+    (inner_cons 40 _ (omega arith) (All-append Inner (escaped e.name) (closing text) (escaped_inner e.name) tail))
     (let size = tagged_size e i.sized in omega (arith, size, fits))

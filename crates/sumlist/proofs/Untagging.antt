@@ -13,12 +13,14 @@ use Rattle.sumlist.proofs.Words.{cut, cut_word, digits_word, first_space, word_c
 
 -- ---- the algorithm that a number of digits names
 
-fits_if : (b : Bool) (x a : Alg) (n : ℕ) → (b ≡ true → IsInRange x × (n ≡ 2 * tag_len x)) → cond b (Some x) None ≡ Some a
-    → IsInRange a × (n ≡ 2 * tag_len a)
-fits_if true x a n h e = let same : x ≡ a = cc in subst (λ b. IsInRange b × (n ≡ 2 * tag_len b)) same (h refl)
+abbrev HasDigits : Alg → ℕ → Type 0
+HasDigits a n = IsInRange a × (n ≡ 2 * tag_len a)
+
+fits_if : (b : Bool) (x a : Alg) (n : ℕ) → (b ≡ true → HasDigits x n) → cond b (Some x) None ≡ Some a → HasDigits a n
+fits_if true x a n h e = let same : x ≡ a = cc in subst (λ b. HasDigits b n) same (h refl)
 fits_if false x a n h e = absurd cc
 
-alg_fits : (kind : Kind) (n : ℕ) (a : Alg) → alg_of kind n ≡ Some a → IsInRange a × (n ≡ 2 * tag_len a)
+alg_fits : (kind : Kind) (n : ℕ) (a : Alg) → alg_of kind n ≡ Some a → HasDigits a n
 alg_fits Sha256 n a e = fits_if (n == 64) sha256 a n (λ t. (tt, eqb-true n 64 t)) e
 alg_fits Sha512 n a e = fits_if (n == 128) sha512 a n (λ t. (tt, eqb-true n 128 t)) e
 alg_fits Blake2b n a e = fits_if ((n % 2 == 0) && (nat_le 2 n && nat_le n 128)) (blake2b (n / 2)) a n (λ t.

@@ -35,8 +35,9 @@ decimal_word = decimal_by_steps (λ m ds. IsWord ds) one_digit
 
 numbered : (front l : List ℕ) (n : ℕ) → n ≤ 64 → AllPass (λ c. leb 45 c && not (eqb c 92)) front
     → l ≡ front ++ decimal (8 * n) → IsWord l
-numbered front l n fits h e = subst IsWord (sym e)
-    (All-append InWord front (decimal (8 * n)) (literal front front h refl) (decimal_word (8 * n) (omega (arith, fits))))
+numbered front l n fits h e =
+    let number = decimal_word (8 * n) (omega (arith, fits)) in
+    subst IsWord (sym e) (All-append InWord front (decimal (8 * n)) (literal front front h refl) number)
 
 pub label_word : (l : List ℕ) (a : Alg) → IsInRange a → IsLabel l a → IsWord l
 label_word l Sha256 r e = literal (codes "SHA256") l (search rules) e

@@ -10,7 +10,8 @@ AllSettled files kind lines outcomes = AllAllowed files kind lines outcomes × (
 
 -- any lines have such outcomes
 abbrev pub SomeSettled : Type 0
-SomeSettled = (files : Files) (kind : Kind) (lines : List (List ℕ)) → (os : List Outcome) × AllSettled files kind lines os
+SomeSettled = (files : Files) (kind : Kind) (lines : List (List ℕ))
+    → (os : List Outcome) × AllSettled files kind lines os
 
 -- and no others
 abbrev pub OneSettled : Type 0

@@ -1,12 +1,14 @@
 // The compression function of BLAKE3 on eight inputs side by side: vectors of eight words, one lane each.
 
-ghost use Rattle.std.specs.Prelude.{◌≡◌, ℕ, ◌<◌, ◌+◌, ◌*◌, ◌/◌, ◌%◌, ◌^◌, slice_index, slice_index_or, [], ◌∷◌, List, take, drop, length, bit_xor, ◌≤◌, ◌++◌};
+ghost use Rattle.std.specs.Prelude.{◌≡◌, ℕ, ◌<◌, ◌+◌, ◌*◌, ◌/◌, ◌%◌, ◌^◌, slice_index, slice_index_or, [], ◌∷◌, List};
+ghost use Rattle.std.specs.Prelude.{take, drop, length, bit_xor, ◌≤◌, ◌++◌};
 ghost use Rattle.words.specs.Blake3.{words_in_order, working_words3, rounds3, folded_halves3, compress3};
 ghost use Rattle.words.specs.Mix.{word_sum, rotated_xor, g, round};
 ghost use Rattle.words.specs.Tables.{permutation};
 ghost use Rattle.words.specs.Blake2.{schedule, blake2s};
 ghost use Rattle.std.specs.Simd.Lanes.{number_l, chunk};
-ghost use Rattle.words.specs.inside.Lanes.{lane, lane4, lane8, rows_lane, OnLanes, transposed8, places_16, places_8, word_at, lane_column, lane_at, moved};
+ghost use Rattle.words.specs.inside.Lanes.{lane, lane4, lane8, rows_lane, OnLanes, transposed8, places_16, places_8};
+ghost use Rattle.words.specs.inside.Lanes.{word_at, lane_column, lane_at, moved};
 ghost use Rattle.words.specs.Words.{words};
 
 use crate::tables::IV32;

@@ -11,7 +11,8 @@ use std::simd::{u32x4, u64x4};
 
 // The steps of G on each column of four rows.
 macro_rules! mixed_columns {
-    ($sum:ident, $rotated:ident, $rows:ident, $x:ident, $y:ident, [$r1:literal, $r2:literal, $r3:literal, $r4:literal]) => {{
+    ($sum:ident, $rotated:ident, $rows:ident, $x:ident, $y:ident,
+     [$r1:literal, $r2:literal, $r3:literal, $r4:literal]) => {{
         let [a, b, c, d] = $rows;
         let a1 = $sum($sum(a, b), $x);
         let d1 = $rotated(d, a1, $r1);

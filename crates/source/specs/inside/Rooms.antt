@@ -2,7 +2,8 @@
 use Rattle.std.specs.Prelude.{◌≡◌, ℕ, ◌+◌, List, length}
 use Rattle.b3.specs.inside.Rooms.{hasher_room-holds}
 use Rattle.blake2.specs.inside.Rooms.{room_is_2b, room_is_2s}
-use Rattle.source.specs.inside.AnyHash.{any_holds, any_limit, any_parameters, any_room, inner_holds, inner_parameters, inner_room}
+use Rattle.source.specs.inside.AnyHash.{any_holds, any_limit, any_parameters, any_room, inner_holds, inner_parameters}
+use Rattle.source.specs.inside.AnyHash.{inner_room}
 use Rattle.source.specs.declared.any_hash.AnyHash.{AnyHash}
 use Rattle.source.specs.declared.any_hash.Inner.{Inner}
 use Rattle.source.specs.declared.any_hash.Inner.TheVariants as inner

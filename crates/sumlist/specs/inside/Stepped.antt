@@ -12,12 +12,14 @@ use Rattle.sumlist.specs.declared.verdict.Verdict.TheVariants.{Unreadable}
 use Rattle.sumlist.specs.declared.summary.Mark.{Mark}
 
 -- an outcome that may stand for the line, and which the tree counted
-pub record Stepped (files : Files) (kind : Kind) (line : List ℕ) (outcome : Outcome) (count_old count_new : ℕ) : Type 0 where
+pub record Stepped (files : Files) (kind : Kind) (line : List ℕ) (outcome : Outcome) (count_old count_new : ℕ)
+    : Type 0 where
   pub allowed : Allowed files kind line outcome
   pub counted : count_new ≡ count_after count_old (is_told Unreadable outcome)
 
 -- the line of this number has an outcome, and its text was appended, or after a fault a beginning of it
-abbrev pub LineChecked : {E : Type 0} → Files → Kind → List ℕ → ℕ → Result Mark E → ℕ → ℕ → Option (List ℕ) → Option (List ℕ) → Type 0
+abbrev pub LineChecked : {E : Type 0} → Files → Kind → List ℕ → ℕ → Result Mark E → ℕ → ℕ → Option (List ℕ)
+    → Option (List ℕ) → Type 0
 LineChecked files kind line number r count_old count_new old new =
     (o : Outcome) × Stepped files kind line o count_old count_new
     × MatchResult r (λ mark. (mark_of o ≡ mark) × Appends old new (text number o))

@@ -1,6 +1,7 @@
 //! The same on four inputs side by side, for the few chunks of a short message.
 
-ghost use Rattle.std.specs.Prelude.{◌≡◌, ℕ, ◌<◌, ◌+◌, ◌*◌, ◌/◌, ◌%◌, ◌^◌, slice_index, slice_index_or, [], ◌∷◌, take, drop, length, bit_xor, ◌≤◌};
+ghost use Rattle.std.specs.Prelude.{◌≡◌, ℕ, ◌<◌, ◌+◌, ◌*◌, ◌/◌, ◌%◌, ◌^◌, slice_index, slice_index_or, [], ◌∷◌, take};
+ghost use Rattle.std.specs.Prelude.{drop, length, bit_xor, ◌≤◌};
 ghost use Rattle.std.specs.Simd.Lanes.{number_l, chunk};
 ghost use Rattle.words.specs.Blake2.{schedule, blake2s};
 ghost use Rattle.words.specs.Blake3.{words_in_order, working_words3, rounds3, folded_halves3, compress3};

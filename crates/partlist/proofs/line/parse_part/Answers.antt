@@ -16,8 +16,8 @@ returns-in_err-len c = rw c.from_residual-in_err-len.ensures
 pub returns-in_err-value : goal.returns-in_err-value
 returns-in_err-value c = rw c.from_residual-in_err-value.ensures
     (λ first len value t. c.in_err-value.ensures value t.bytes t.sized
-    (told_value _ c.in_ok-rest.rest.now c.in_ok-first.rest.now c.in_ok-len.digits.now c.in_ok-first.first c.in_ok-len.len
-    first len value t c.in_ok-rest.ensures c.in_ok-first.ensures.0 c.in_ok-first.ensures.1
+    (told_value _ c.in_ok-rest.rest.now c.in_ok-first.rest.now c.in_ok-len.digits.now c.in_ok-first.first
+    c.in_ok-len.len first len value t c.in_ok-rest.ensures c.in_ok-first.ensures.0 c.in_ok-first.ensures.1
     c.in_ok-len.ensures.0 c.in_ok-len.ensures.1).1.1)
 
 pub returns : goal.returns

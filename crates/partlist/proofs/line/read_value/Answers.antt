@@ -11,7 +11,7 @@ returns-in-Ok c value bytes size e = ap Some
 
 pub returns-in-Err : goal.returns-in-Err
 returns-in-Err c value bytes size e =
-    let ok = (MatchResult-at_ok _ _ value (ap (λ t. decode_sized t 32) e ∙ decode_sized-encode_lower value 32 size bytes)
-    c.decode_to_slice.ensures.value).0 in
+    let decoded = ap (λ t. decode_sized t 32) e ∙ decode_sized-encode_lower value 32 size bytes in
+    let ok = (MatchResult-at_ok _ _ value decoded c.decode_to_slice.ensures.value).0 in
     let err = c.in-Err.is in
     cc

@@ -77,16 +77,17 @@ returns-clause-taken g t c =
     let right = c.in_ok-right.ensures.taken in
     let joined = IfOk-at_ok _ c.unwrap.ensures c.join.ensures.joined left.bytes right.bytes left.part right.part in
     let full = left.full (omega arith) in
+    let bytes = length-append left.bytes right.bytes in
     record {
       mode = IfOk-at_ok _ c.unwrap.ensures c.join.ensures.mode ∙ left.mode;
       first = IfOk-at_ok _ c.unwrap.ensures c.join.ensures.first ∙ left.first;
       bytes = left.bytes ++ right.bytes;
       given = Consumes-trans _ _ _ left.bytes right.bytes left.given right.given;
       part = joined;
-      most = omega (arith, joined.len, length-append left.bytes right.bytes, left.part.len, right.part.len, full, right.most, half, double);
-      limit = omega (arith, joined.len, length-append left.bytes right.bytes, left.part.len, right.part.len, full, right.limit);
+      most = omega (arith, joined.len, bytes, left.part.len, right.part.len, full, right.most, half, double);
+      limit = omega (arith, joined.len, bytes, left.part.len, right.part.len, full, right.limit);
       full = λ some. let all = right.full some in
-          omega (arith, joined.len, length-append left.bytes right.bytes, left.part.len, right.part.len, full, all, half, double);
+          omega (arith, joined.len, bytes, left.part.len, right.part.len, full, all, half, double);
       within = right.within;
       end = right.end;
     }

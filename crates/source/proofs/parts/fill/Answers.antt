@@ -10,8 +10,9 @@ reads-preserved g c =
     let n : ℕ = c.reads.n in
     let before = c.reads.invariant in
     let read = c.in-Ok.ensures in
+    let remaining = g.F.Feed.remaining in
     record {
-      given = subst (λ (l : List ℕ). Consumes (g.F.Feed.remaining c.args.feed.now) (g.F.Feed.remaining c.read.new.self) l)
+      given = subst (λ (l : List ℕ). Consumes (remaining c.args.feed.now) (remaining c.read.new.self) l)
           (sym (filled_more run c.read.new.buf n (length run - n) c.in-Ok.count before.within read.bound))
           (Consumes-trans _ _ _ _ _ before.given read.given);
       within = omega (arith, read.bound);

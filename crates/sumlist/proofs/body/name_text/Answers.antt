@@ -3,8 +3,8 @@ use Rattle.sumlist.proofs.Names.{not_name-empty, not_name-text, is_a_name}
 use Rattle.sumlist.proofs.body.name_text.Goals as goal
 
 pub returns-then-found-eq0 : goal.returns-then-found-eq0
-returns-then-found-eq0 c = not_name-empty _ _ c.in_ok-found.found.len _ c.in_ok-found.found.is_special c.in_ok-found.ensures.name
-    c.if-found-eq0.true
+returns-then-found-eq0 c = let found = c.in_ok-found.found in
+    not_name-empty _ _ found.len _ found.is_special c.in_ok-found.ensures.name c.if-found-eq0.true
 
 pub returns-in-Ok : goal.returns-in-Ok
 returns-in-Ok c =
