@@ -9,8 +9,8 @@ ghost use Rattle.blake2.specs.inside.Held.{HoldsMessage, IsHeld};
 
 use crate::ParameterFault;
 use crate::chain::Chain;
-use crate::stream::{Stream, padded_block, write_at};
-use words::{InputTooLong, Tag};
+use crate::stream::{Stream, padded_block};
+use words::{InputTooLong, Tag, write_at};
 
 // The state before any input.
 fn empty_stream<C: Chain<N>, const N: usize>(

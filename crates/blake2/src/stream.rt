@@ -9,16 +9,7 @@ ghost use Rattle.blake2.specs.inside.Held.{IsChained, IsHeld};
 
 use crate::chain::Chain;
 use std::slice::from_ref;
-
-/// Writes `bytes` into the buffer from place `at` on.
-pub(crate) fn write_at<const N: usize>(buffer: &mut [u8; N], at: usize, bytes: &[u8])
-    requires { at + length bytes.now ≤ N }
-    ensures front { take (at + length bytes.now) buffer.new ≡ take at buffer.old ++ bytes.now }
-    ensures rest { drop (at + length bytes.now) buffer.new ≡ drop (at + length bytes.now) buffer.old }
-{
-    let buffer = &mut buffer[..];
-    buffer[at..at + bytes.len()].copy_from_slice(bytes);
-}
+use words::write_at;
 
 /// `bytes`, with zeros after them up to a block.
 pub(crate) fn padded_block<const N: usize>(bytes: &[u8]) -> [u8; N]

@@ -6,16 +6,7 @@ ghost use Rattle.std.specs.List.{concat};
 ghost use Rattle.sha2_state.specs.inside.Taken.{HasTaken, IsAfter};
 
 use crate::value::HashValue;
-
-/// Writes `bytes` into the buffer from place `at` on.
-pub(crate) fn write_at<const N: usize>(buffer: &mut [u8; N], at: usize, bytes: &[u8])
-    requires { at + length bytes.now ≤ N }
-    ensures front { take (at + length bytes.now) buffer.new ≡ take at buffer.old ++ bytes.now }
-    ensures rest { drop (at + length bytes.now) buffer.new ≡ drop (at + length bytes.now) buffer.old }
-{
-    let buffer = &mut buffer[..];
-    buffer[at..at + bytes.len()].copy_from_slice(bytes);
-}
+use words::write_at;
 
 // Takes whole blocks into a hash value.
 fn take_blocks<V: HashValue<N>, const N: usize>(value: &mut V, blocks: &[[u8; N]])

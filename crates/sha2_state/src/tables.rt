@@ -1,28 +1,4 @@
-// The constants of FIPS 180-4.
-
-/// The initial hash value of SHA-256 (section 5.3.3).
-pub(crate) const START256: [u32; 8] = [
-    0x6a09_e667,
-    0xbb67_ae85,
-    0x3c6e_f372,
-    0xa54f_f53a,
-    0x510e_527f,
-    0x9b05_688c,
-    0x1f83_d9ab,
-    0x5be0_cd19,
-];
-
-/// The initial hash value of SHA-512 (section 5.3.5).
-pub(crate) const START512: [u64; 8] = [
-    0x6a09_e667_f3bc_c908,
-    0xbb67_ae85_84ca_a73b,
-    0x3c6e_f372_fe94_f82b,
-    0xa54f_f53a_5f1d_36f1,
-    0x510e_527f_ade6_82d1,
-    0x9b05_688c_2b3e_6c1f,
-    0x1f83_d9ab_fb41_bd6b,
-    0x5be0_cd19_137e_2179,
-];
+// The constants of the rounds (FIPS 180-4, section 4.2).
 
 /// The constants of the rounds of SHA-256 (section 4.2.2).
 pub(crate) const K256: [u32; 64] = [

@@ -8,9 +8,7 @@ ghost use Rattle.sha2.proofs.Absorbing256;
 ghost use Rattle.sha2.proofs.Absorbing512;
 
 use crate::block::{compress256, compress512};
-use crate::stream::write_at;
-use crate::tables::{START256, START512};
-use words::Tag;
+use words::{IV32, IV64, Tag, write_at};
 
 /// A hash value, with the compression function that takes a block of `N` bytes into it.
 pub(crate) trait HashValue<const N: usize>: Copy {
@@ -71,8 +69,9 @@ impl HashValue<64> for Value256 {
     ghost words_after = { λ p n. Sha256.hash_after Sha256.initial_hash_256 p n };
 
     #[tactic(auto, unfolding(sha2::specs::Sha256::hash_after))]
+    // BLAKE2s took over these words (RFC 7693, section 2.6).
     fn start() -> Value256 {
-        Value256 { h: START256 }
+        Value256 { h: IV32 }
     }
 
     fn compress(&mut self, block: &[u8; 64]) {
@@ -116,8 +115,9 @@ impl HashValue<128> for Value512 {
     ghost words_after = { λ p n. Sha512.hash_after Sha512.initial_hash_512 p n };
 
     #[tactic(auto, unfolding(sha2::specs::Sha512::hash_after))]
+    // BLAKE2b took over these words (RFC 7693, section 2.6).
     fn start() -> Value512 {
-        Value512 { h: START512 }
+        Value512 { h: IV64 }
     }
 
     fn compress(&mut self, block: &[u8; 128]) {

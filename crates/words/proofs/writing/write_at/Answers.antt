@@ -1,6 +1,6 @@
 use Rattle.std.proofs.Common.{refl, arith}
 use Rattle.std.proofs.lemmas.Slice.{take-put_mid, drop-put_mid}
-use Rattle.sha2_state.proofs.stream.write_at.Goals as goal
+use Rattle.words.proofs.writing.write_at.Goals as goal
 
 pub returns : goal.returns
 returns g c = record {
