@@ -86,18 +86,15 @@ fn round256(v: [u32; 8], k: u32, w: u32) -> [u32; 8]
     next_variables!(v, k, w, [2, 13, 22], [6, 11, 25])
 }
 
-// W of a block (step 1).
+// The words of the schedule that are the block's, and room for the others.
 #[inline(always)]
-fn schedule256(block: &[u8; 64]) -> [u32; 64]
-    ensures { (t : ℕ) → t < 64
+fn first_words256(block: &[u8; 64]) -> [u32; 64]
+    ensures { (t : ℕ) → t < 16
         → slice_index result t ≡ slice_index (Sha256.schedule block.now 48) t }
 {
     let mut words = [0; 64];
     'first: for t in 0..16 {
         words[t] = word256(block, t);
-    }
-    'next: for t in 16..64 {
-        words[t] = next_word256(&words, t);
     }
     words
 }
@@ -107,9 +104,14 @@ fn schedule256(block: &[u8; 64]) -> [u32; 64]
 pub(crate) fn compress256(h: &mut [u32; 8], block: &[u8; 64])
     ensures { h.new ≡ Sha256.compress h.old block.now }
 {
-    let words = schedule256(block);
+    let mut words = first_words256(block);
     let mut v = *h;
-    'rounds: for t in 0..64 {
+    // A word is made sixteen rounds before its own, so that the processor works on both side by side.
+    'rounds: for t in 0..48 {
+        words[t + 16] = next_word256(&words, t + 16);
+        v = round256(v, K256[t], words[t]);
+    }
+    'last: for t in 48..64 {
         v = round256(v, K256[t], words[t]);
     }
     *h = added!(h, v);
@@ -148,18 +150,15 @@ fn round512(v: [u64; 8], k: u64, w: u64) -> [u64; 8]
     next_variables!(v, k, w, [28, 34, 39], [14, 18, 41])
 }
 
-// W of a block (step 1).
+// The words of the schedule that are the block's, and room for the others.
 #[inline(always)]
-fn schedule512(block: &[u8; 128]) -> [u64; 80]
-    ensures { (t : ℕ) → t < 80
+fn first_words512(block: &[u8; 128]) -> [u64; 80]
+    ensures { (t : ℕ) → t < 16
         → slice_index result t ≡ slice_index (Sha512.schedule block.now 64) t }
 {
     let mut words = [0; 80];
     'first: for t in 0..16 {
         words[t] = word512(block, t);
-    }
-    'next: for t in 16..80 {
-        words[t] = next_word512(&words, t);
     }
     words
 }
@@ -169,9 +168,14 @@ fn schedule512(block: &[u8; 128]) -> [u64; 80]
 pub(crate) fn compress512(h: &mut [u64; 8], block: &[u8; 128])
     ensures { h.new ≡ Sha512.compress h.old block.now }
 {
-    let words = schedule512(block);
+    let mut words = first_words512(block);
     let mut v = *h;
-    'rounds: for t in 0..80 {
+    // A word is made sixteen rounds before its own, so that the processor works on both side by side.
+    'rounds: for t in 0..64 {
+        words[t + 16] = next_word512(&words, t + 16);
+        v = round512(v, K512[t], words[t]);
+    }
+    'last: for t in 64..80 {
         v = round512(v, K512[t], words[t]);
     }
     *h = added!(h, v);
