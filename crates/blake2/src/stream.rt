@@ -1,6 +1,6 @@
 // The streaming state that both functions share, over the chaining value of either.
 
-ghost use Rattle.std.specs.Prelude.{◌≡◌, ◌≤◌, ◌+◌, ◌-◌, ◌*◌, ◌++◌, ◌∷◌, [], ℕ, List, length, take, drop, true, false};
+ghost use Rattle.std.specs.Prelude.{◌≡◌, ◌≤◌, ◌+◌, ◌-◌, ◌*◌, ◌++◌, ◌∷◌, [], ℕ, List, length, true, false};
 ghost use Rattle.std.specs.List.{concat};
 ghost use Rattle.words.specs.Blake2.{compress};
 ghost use Rattle.words.specs.Words.{padded, words};

@@ -1,7 +1,7 @@
 // The hash values of SHA-256 and SHA-512 (FIPS 180-4, sections 6.2 and 6.4).
 
 ghost use Rattle.std.specs.Prelude.{◌≡◌, ◌<◌, ◌≤◌, ◌+◌, ◌*◌, ◌++◌, [], ℕ, List, length, take, drop};
-ghost use Rattle.std.proofs.Common.{refl, rules};
+ghost use Rattle.std.proofs.Common.{rules};
 ghost use Rattle.sha2.specs.Sha256;
 ghost use Rattle.sha2.specs.Sha512;
 ghost use Rattle.sha2.proofs.Absorbing256;
@@ -68,8 +68,8 @@ impl HashValue<64> for Value256 {
 
     ghost words_after = { λ p n. Sha256.hash_after Sha256.initial_hash_256 p n };
 
-    #[tactic(auto, unfolding(sha2::specs::Sha256::hash_after))]
     // BLAKE2s took over these words (RFC 7693, section 2.6).
+    #[tactic(auto, unfolding(sha2::specs::Sha256::hash_after))]
     fn start() -> Value256 {
         Value256 { h: IV32 }
     }
@@ -114,8 +114,8 @@ impl HashValue<128> for Value512 {
 
     ghost words_after = { λ p n. Sha512.hash_after Sha512.initial_hash_512 p n };
 
-    #[tactic(auto, unfolding(sha2::specs::Sha512::hash_after))]
     // BLAKE2b took over these words (RFC 7693, section 2.6).
+    #[tactic(auto, unfolding(sha2::specs::Sha512::hash_after))]
     fn start() -> Value512 {
         Value512 { h: IV64 }
     }
