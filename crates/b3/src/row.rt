@@ -134,6 +134,7 @@ impl Row {
         ensures first { row_first result ≡ value_first part }
         ensures count { row_count result ≡ value_len part }
         ensures closed { row_closed result ≡ 0 }
+        ensures open { row_open result ≡ value_len part }
         ensures holds { (m : List ℕ) → IsValueOf (mode_parameters mode) part m → HoldsRow result m }
     {
         let key = mode.key();
@@ -167,6 +168,7 @@ impl Row {
             → IsValueOf (row_parameters self.old) part x → HoldsRow self.new (m ++ x)) }
         ensures count { OnOk result (row_count self.new ≡ row_count self.old + value_len part) }
         ensures closed { OnOk result (0 < row_closed self.new) }
+        ensures open { OnOk result (row_open self.new ≡ value_len part) }
         ensures first { row_first self.new ≡ row_first self.old }
         ensures kept { row_parameters self.new ≡ row_parameters self.old }
         ensures refused { OnErr result (self.new ≡ self.old) }
@@ -199,6 +201,7 @@ impl Row {
             → IsValueOf (row_parameters self.old) part.now x → HoldsRow self.new (m ++ x) }
         ensures count { row_count self.new ≡ row_count self.old + value_len part.now }
         ensures closed { 0 < row_closed self.new }
+        ensures open { row_open self.new ≡ value_len part.now }
         ensures first { row_first self.new ≡ row_first self.old }
         ensures kept { row_parameters self.new ≡ row_parameters self.old }
     {

@@ -2,6 +2,8 @@
 #![tactic(auto)]
 
 #[cfg(test)]
+mod join_tests;
+#[cfg(test)]
 mod part_line_tests;
 #[cfg(test)]
 mod source_tests;

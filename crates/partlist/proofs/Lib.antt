@@ -1,2 +1,4 @@
 pub mod Spelling
 pub mod Parsing
+pub mod Behind
+pub mod Reading

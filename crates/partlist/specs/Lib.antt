@@ -1,2 +1,4 @@
 pub mod PartLine
 pub mod Laws
+pub mod Joined
+pub mod inside

@@ -1,8 +1,12 @@
 //! Lines that tell parts of a file, which were hashed apart, by their chaining values.
 #![tactic(auto)]
 
+pub use fault::{EndFault, JoinFault, LineFault};
+pub use joining::Joiner;
 pub use laws::part_line_laws;
 pub use line::{parse_part, write_part};
 
+mod fault;
+mod joining;
 mod laws;
 mod line;

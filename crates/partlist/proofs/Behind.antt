@@ -1,0 +1,95 @@
+-- A part more behind parts in a row.
+use Rattle.std.proofs.Common.{◌≡◌, ℕ, ◌+◌, ◌*◌, ◌<◌, List, [], ◌∷◌, ◌++◌, refl, sym, ap, ◌∙◌, arith}
+use Rattle.std.proofs.Common.{append_assoc, append-nil, length-append, subst}
+use Rattle.std.proofs.Math.Nat.{zero-mod}
+use Rattle.b3.specs.Modes.{hash_parameters}
+use Rattle.b3.specs.Parts.{IsNext}
+use Rattle.b3.specs.declared.row.PartValue.{PartValue}
+use Rattle.b3.specs.declared.row.Row.{Row}
+use Rattle.b3.specs.inside.Rows.{HoldsRow, IsValueOf, row_closed, row_count, row_first, row_open, row_parameters}
+use Rattle.b3.specs.inside.Rows.{value_first, value_len}
+use Rattle.partlist.specs.Joined.{AreValuesOf, FollowEachOther, IsWhole, bytes_of, last_of}
+use Rattle.partlist.specs.inside.Joiner.{IsRowOf}
+
+pub bytes_of-more : (parts : List PartValue) (part : PartValue)
+    → bytes_of (parts ++ part ∷ []) ≡ bytes_of parts + value_len part
+bytes_of-more [] part = omega arith
+bytes_of-more (first ∷ parts) part = let more = bytes_of-more parts part in omega (arith, more)
+
+last_of-more : (n : ℕ) (parts : List PartValue) (part : PartValue) → last_of n (parts ++ part ∷ []) ≡ value_len part
+last_of-more n [] part = refl
+last_of-more n (first ∷ parts) part = last_of-more (value_len first) parts part
+
+follow-more : (n last : ℕ) (parts : List PartValue) (part : PartValue) → FollowEachOther n last parts
+    → 1024 * value_first part ≡ n + bytes_of parts → IsWhole (last_of last parts)
+    → FollowEachOther n last (parts ++ part ∷ [])
+follow-more n last [] part follow place whole = (place ∙ omega arith, whole, tt)
+follow-more n last (first ∷ parts) part follow place whole = (
+  follow.0,
+  follow.1,
+  follow-more (n + value_len first) (value_len first) parts part follow.2 (place ∙ omega arith) whole,
+)
+
+-- the bytes of parts and of one more
+values-split : (parts : List PartValue) (part : PartValue) (m : List ℕ) → AreValuesOf (parts ++ part ∷ []) m
+    → (a : List ℕ) × (x : List ℕ) × (m ≡ a ++ x) × AreValuesOf parts a × IsValueOf hash_parameters part x
+values-split [] part m values =
+    ([], values.0, values.2 ∙ ap (λ (l : List ℕ). values.0 ++ l) values.4 ∙ append-nil values.0, refl, values.3)
+values-split (first ∷ parts) part m values =
+    let rest = values-split parts part values.1 values.4 in (
+      values.0 ++ rest.0,
+      rest.1,
+      values.2 ∙ ap (λ (l : List ℕ). values.0 ++ l) rest.2 ∙ sym (append_assoc values.0 rest.0 rest.1),
+      (values.0, rest.0, refl, values.3, rest.3),
+      rest.4,
+    )
+
+-- the row of one part
+pub row-first : (row : Row) (part : PartValue) → row_parameters row ≡ hash_parameters
+    → row_first row ≡ value_first part → row_count row ≡ value_len part → row_closed row ≡ 0
+    → row_open row ≡ value_len part → ((m : List ℕ) → IsValueOf hash_parameters part m → HoldsRow row m)
+    → 1024 * value_first part ≡ 0 → IsRowOf row (part ∷ [])
+row-first row part parameters first count closed last holds place = record {
+  first = omega (arith, first, place);
+  parameters = parameters;
+  in_row = (place, (0, refl), tt);
+  count = omega (arith, count);
+  last = last;
+  some = omega arith;
+  several = ((λ some. omega (arith, some, closed)), λ more. absurd (omega (arith, more)));
+  holds = λ m values. holds m (let split = values-split [] part m values in
+      subst (IsValueOf hash_parameters part) (sym (split.2 ∙ ap (λ (l : List ℕ). l ++ split.1) split.3)) split.4);
+}
+
+-- the row with a part more
+pub row-more : (old new : Row) (parts : List PartValue) (part : PartValue) → IsRowOf old parts
+    → IsNext (row_first old) (row_count old) (row_open old) (value_first part) (value_len part)
+    → ((m x : List ℕ) → HoldsRow old m → IsValueOf (row_parameters old) part x → HoldsRow new (m ++ x))
+    → row_count new ≡ row_count old + value_len part → 0 < row_closed new → row_open new ≡ value_len part
+    → row_first new ≡ row_first old → row_parameters new ≡ row_parameters old → IsRowOf new (parts ++ part ∷ [])
+row-more old new parts part is next holds count closed last first kept =
+    let size = length-append parts (part ∷ []) in
+    let some = is.some in
+    let begin = is.first in
+    let bytes = is.count in
+    let place = next.0 in
+    record {
+      first = first ∙ is.first;
+      parameters = kept ∙ is.parameters;
+      in_row = follow-more 0 1024 parts part is.in_row (omega (arith, place, begin, bytes))
+          (subst IsWhole is.last next.1);
+      count = count ∙ ap (λ n. n + value_len part) is.count ∙ sym (bytes_of-more parts part);
+      last = last ∙ sym (last_of-more 1024 parts part);
+      some = omega (arith, size);
+      several = ((λ more. omega (arith, size, some)), λ more. closed);
+      holds = λ m values. let split = values-split parts part m values in
+          subst (HoldsRow new) (sym split.2) (holds split.0 split.1 (is.holds split.0 split.3)
+          (subst (λ p. IsValueOf p part split.1) (sym is.parameters) split.4));
+    }
+
+-- a part that begins where a row from the first chunk on ends comes next, if what stands before it is whole
+pub next-is : (first n last : ℕ) (part : PartValue) → first ≡ 0 → 1024 * value_first part ≡ n → IsWhole last
+    → IsNext first n last (value_first part) (value_len part)
+next-is first n last part begin place whole =
+    let limit = part.placed.1 in
+    rw begin (omega (arith, place), whole, ((λ none. refl), omega (arith, limit, place), λ p power. zero-mod p))

@@ -1,0 +1,250 @@
+-- Lines of parts that come byte after byte.
+use Rattle.std.proofs.Common.{◌≡◌, ◌≢◌, ℕ, ◌+◌, ◌-◌, ◌<◌, ◌≤◌, ◌^◌, false, List, [], ◌∷◌, ◌++◌, length, refl, sym}
+use Rattle.std.proofs.Common.{ap, ◌∙◌, subst}
+use Rattle.std.proofs.Common.{arith, inl, inr, append_assoc, append-nil, length-append, codes, eqb, Option, None}
+use Rattle.std.proofs.Common.{Some, Result, Ok, Err, MatchResult, OnErr, IfSome}
+use Rattle.std.proofs.lemmas.Bool.{cases_eq}
+use Rattle.std.proofs.lemmas.Bool.Decides.{nat_tests}
+use Rattle.std.proofs.lemmas.List.Elements.{All-nil, All-push}
+use Rattle.std.specs.Fmt.{decimal}
+use Rattle.std.specs.Io.KnownBytes.{Consumes, IsAtEnd}
+use Rattle.hex.specs.Hex.{encode_lower, lower_digits}
+use Rattle.hex.proofs.HexLemmas.{length-encode_with}
+use Rattle.b3.specs.declared.row.PartValue.{PartValue}
+use Rattle.b3.specs.declared.row.Row.{Row}
+use Rattle.b3.specs.inside.Rows.{value_first, value_len}
+use Rattle.sumlist.specs.Lines.{lines, HasNoEnd}
+use Rattle.sumlist.proofs.Cutting.{lines-ended, lines-last}
+use Rattle.sumlist.proofs.Decimals.{length-decimal}
+use Rattle.partlist.specs.Joined.{AllTell, AreInRow, IsWrongBehind, StopsAt, TellsPart}
+use Rattle.partlist.specs.declared.fault.LineFault.{LineFault}
+use Rattle.partlist.specs.declared.fault.LineFault.TheVariants.{NotAPart}
+use Rattle.partlist.specs.declared.joining.Joiner.{Joiner}
+use Rattle.partlist.specs.inside.Few.{most_parts}
+use Rattle.partlist.specs.inside.Joiner.{Halts, HasJoined, MayBeRowOf, Partway, joined_count}
+use Rattle.partlist.proofs.Parsing.{first_fits, len_fits}
+
+-- ---- lines
+
+HasNoEnd-more : (xs : List ℕ) (c : ℕ) → HasNoEnd xs → c ≢ 10 → HasNoEnd (xs ++ c ∷ [])
+HasNoEnd-more xs c free other =
+    All-push (λ x. eqb x 10 ≡ false) xs c free (grind (arith, nat_tests, other))
+
+-- the first line begins with bytes that stand at the beginning and have no LF among them
+first_line : (front more : List ℕ) → HasNoEnd front → 0 < length front
+    → (rest : List ℕ) × (after : List (List ℕ)) × (lines (front ++ more) ≡ (front ++ rest) ∷ after)
+first_line front [] free some =
+    let one = append-nil front in
+    ([], lines [], ap lines one ∙ lines-last front some free ∙ ap (λ l. l ∷ lines []) (sym one))
+first_line front (c ∷ more) free some = elim (cases_eq c 10) [
+  | inl end ↦
+      ([], lines more, rw end (lines-ended front more free) ∙ ap (λ l. l ∷ lines more) (sym (append-nil front)))
+  | inr other ↦
+      let size = length-append front (c ∷ []) in
+      let later = first_line (front ++ c ∷ []) more (HasNoEnd-more front c free other) (omega (arith, size)) in (
+        c ∷ later.0,
+        later.1,
+        ap lines (sym (append_assoc front (c ∷ []) more)) ∙ later.2
+            ∙ ap (λ l. l ∷ later.1) (append_assoc front (c ∷ []) later.0),
+      )
+]
+
+-- a part's line is not long
+pub line-length : (line : List ℕ) (part : PartValue) → TellsPart line part → length line ≤ 256
+line-length line part (value, tells, words) =
+    let first : List ℕ = decimal (value_first part) in
+    let len : List ℕ = decimal (value_len part) in
+    let digits : List ℕ = encode_lower value in
+    let a = length-append (codes "sums-part-1 blake3 ") (first ++ 32 ∷ (len ++ 32 ∷ digits)) in
+    let b = length-append first (32 ∷ (len ++ 32 ∷ digits)) in
+    let c = length-append len (32 ∷ digits) in
+    let d = length-decimal (value_first part) (first_fits line _ _ value tells) in
+    let e = length-decimal (value_len part) (len_fits line _ _ value tells) in
+    let f = length-encode_with lower_digits value in
+    omega (arith, ap length tells.text, a, b, c, d, e, f, tells.sized)
+
+AllTell-length : (ls : List (List ℕ)) (parts : List PartValue) → AllTell ls parts → length ls ≡ length parts
+AllTell-length [] [] tell = refl
+AllTell-length [] (part ∷ parts) tell = absurd tell
+AllTell-length (line ∷ ls) [] tell = absurd tell
+AllTell-length (line ∷ ls) (part ∷ parts) tell = let same = AllTell-length ls parts tell.1 in omega (arith, same)
+
+AllTell-more : (ls : List (List ℕ)) (parts : List PartValue) (line : List ℕ) (part : PartValue) → AllTell ls parts
+    → TellsPart line part → AllTell (ls ++ line ∷ []) (parts ++ part ∷ [])
+AllTell-more [] [] line part tell one = (one, tt)
+AllTell-more [] (other ∷ parts) line part tell one = absurd tell
+AllTell-more (l ∷ ls) [] line part tell one = absurd tell
+AllTell-more (l ∷ ls) (other ∷ parts) line part tell one = (tell.0, AllTell-more ls parts line part tell.1 one)
+
+-- ---- how many there can be
+
+most : (row : Option Row) → most_parts row ≤ 2 ^ 54
+most None = omega arith
+most (Some row) = let limit = row.last.1 in omega (arith, limit)
+
+pub parts-few : (joiner : Joiner) → joined_count joiner ≤ 2 ^ 54
+parts-few joiner = let few = joiner.few in omega (arith, few, most joiner.row)
+
+row-is : (row : Option Row) (parts : List PartValue) → MayBeRowOf row parts → AreInRow parts
+row-is None parts none = subst AreInRow (sym none) tt
+row-is (Some row) parts is = is.in_row
+
+-- ---- from one moment to the next
+
+pub Partway-start : (whole : List ℕ) (parts : List PartValue) (joiner : Joiner) → HasJoined joiner parts
+    → Partway whole parts joiner [] whole
+Partway-start whole parts joiner joined = record {
+  before = [];
+  told = [];
+  split = refl;
+  tells = tt;
+  joined = subst (HasJoined joiner) (sym (append-nil parts)) joined;
+  no_end = All-nil (λ x. eqb x 10 ≡ false);
+}
+
+pub Partway-byte : (whole more : List ℕ) (parts : List PartValue) (joiner : Joiner) (front : List ℕ) (byte : ℕ)
+    → byte ≢ 10 → Partway whole parts joiner front (byte ∷ more) → Partway whole parts joiner (front ++ byte ∷ []) more
+Partway-byte whole more parts joiner front byte other p = record {
+  before = p.before;
+  told = p.told;
+  split = p.split ∙ ap (λ l. p.before ++ lines l) (sym (append_assoc front (byte ∷ []) more));
+  tells = p.tells;
+  joined = p.joined;
+  no_end = HasNoEnd-more front byte p.no_end other;
+}
+
+-- a line that is longer than any part's
+pub Partway-long : (whole more : List ℕ) (parts : List PartValue) (joiner : Joiner) (front : List ℕ) (byte : ℕ)
+    → byte ≢ 10 → length front ≡ 256 → Partway whole parts joiner front (byte ∷ more)
+    → Halts whole parts joiner NotAPart
+Partway-long whole more parts joiner front byte other long p =
+    let held = front ++ byte ∷ [] in
+    let size = length-append front (byte ∷ []) in
+    let first = first_line held more (HasNoEnd-more front byte p.no_end other) (omega (arith, size)) in
+    let all = length-append held first.0 in
+    record {
+      before = p.before;
+      line = held ++ first.0;
+      after = first.1;
+      told = p.told;
+      split = p.split ∙ ap (λ l. p.before ++ lines l) (sym (append_assoc front (byte ∷ []) more))
+          ∙ ap (λ ls. p.before ++ ls) first.2;
+      tells = p.tells;
+      joined = p.joined;
+      wrong = λ part tells. let short = line-length (held ++ first.0) part tells in
+          absurd (omega (arith, short, all, size, long));
+    }
+
+-- the line that is held ends, and its part is joined
+pub Partway-line : (whole rest : List ℕ) (parts : List PartValue) (old new : Joiner) (front more : List ℕ)
+    → Partway whole parts old front rest → lines (front ++ rest) ≡ front ∷ lines more
+    → ((all : List PartValue) → HasJoined old all
+    → (part : PartValue) × TellsPart front part × HasJoined new (all ++ part ∷ []))
+    → Partway whole parts new [] more
+Partway-line whole rest parts old new front more p cut joins =
+    let part = joins (parts ++ p.told) p.joined in
+    record {
+      before = p.before ++ front ∷ [];
+      told = p.told ++ part.0 ∷ [];
+      split = p.split ∙ ap (λ ls. p.before ++ ls) cut ∙ sym (append_assoc p.before (front ∷ []) (lines more));
+      tells = AllTell-more p.before p.told front part.0 p.tells part.1;
+      joined = subst (HasJoined new) (append_assoc parts p.told (part.0 ∷ [])) part.2;
+      no_end = All-nil (λ x. eqb x 10 ≡ false);
+    }
+
+-- it ends, and is wrong
+pub Partway-wrong : (whole rest : List ℕ) (parts : List PartValue) (old new : Joiner) (front more : List ℕ)
+    (fault : LineFault) → Partway whole parts old front rest → lines (front ++ rest) ≡ front ∷ lines more
+    → ((all : List PartValue) → HasJoined old all → IsWrongBehind all front fault) → new ≡ old
+    → Halts whole parts new fault
+Partway-wrong whole rest parts old new front more fault p cut wrong kept = record {
+  before = p.before;
+  line = front;
+  after = lines more;
+  told = p.told;
+  split = p.split ∙ ap (λ ls. p.before ++ ls) cut;
+  tells = p.tells;
+  joined = subst (λ j. HasJoined j (parts ++ p.told)) (sym kept) p.joined;
+  wrong = wrong (parts ++ p.told) p.joined;
+}
+
+-- at the end of the text nothing is held
+pub Partway-end : (whole : List ℕ) (parts : List PartValue) (joiner : Joiner) → Partway whole parts joiner [] []
+    → (more : List PartValue) × AllTell (lines whole) more × HasJoined joiner (parts ++ more)
+Partway-end whole parts joiner p =
+    (p.told, subst (λ ls. AllTell ls p.told) (sym (p.split ∙ append-nil p.before)) p.tells, p.joined)
+
+-- so it is where a last line without LF was held
+pub Partway-last : (r : Result (Unit {0}) LineFault) (whole : List ℕ) (parts : List PartValue) (old new : Joiner)
+    (front : List ℕ) → 0 < length front → Partway whole parts old front []
+    → ((all : List PartValue) → HasJoined old all → MatchResult r
+    (λ _. (part : PartValue) × TellsPart front part × HasJoined new (all ++ part ∷ []))
+    (λ fault. IsWrongBehind all front fault))
+    → OnErr r (new ≡ old)
+    → MatchResult r (λ _. (more : List PartValue) × AllTell (lines whole) more × HasJoined new (parts ++ more))
+    (λ fault. Halts whole parts new fault)
+Partway-last (Ok x) whole parts old new front some p joins kept =
+    let cut = ap lines (append-nil front) ∙ lines-last front some p.no_end in
+    Partway-end whole parts new (Partway-line whole [] parts old new front [] p cut joins)
+Partway-last (Err fault) whole parts old new front some p wrong kept =
+    let cut = ap lines (append-nil front) ∙ lines-last front some p.no_end in
+    Partway-wrong whole [] parts old new front [] fault p cut wrong kept
+
+-- the number of the line that is wrong
+pub Halts-at : (text : List ℕ) (parts : List PartValue) (old joiner : Joiner) (fault : LineFault) (number : ℕ)
+    → HasJoined old parts → Halts text parts joiner fault
+    → number ≡ joined_count joiner - joined_count old + 1 → StopsAt text parts number fault
+Halts-at text parts old joiner fault number joined halts place =
+    let told = length-append parts halts.told in
+    let same = AllTell-length halts.before halts.told halts.tells in
+    record {
+      before = halts.before;
+      line = halts.line;
+      after = halts.after;
+      told = halts.told;
+      split = halts.split;
+      place = omega (arith, place, told, same, joined.size, halts.joined.size);
+      tells = halts.tells;
+      row = row-is joiner.row (parts ++ halts.told) halts.joined.row;
+      wrong = halts.wrong;
+    }
+
+-- what was read of a text was joined, and the rest is to come
+abbrev pub Coming : Option (List ℕ) → Option (List ℕ) → Joiner → Joiner → List ℕ → Type 0
+Coming whole rest old new front = IfSome whole (λ text. (more : List ℕ) × (rest ≡ Some more)
+    × ((parts : List PartValue) → HasJoined old parts → Partway text parts new front more))
+
+pub Coming-start : (whole : Option (List ℕ)) (joiner : Joiner) → Coming whole whole joiner joiner []
+Coming-start None joiner = tt
+Coming-start (Some text) joiner = (text, refl, λ parts joined. Partway-start text parts joiner joined)
+
+-- a line of the piece that was read is wrong
+pub Coming-wrong : (whole rest after : Option (List ℕ)) (old new now : Joiner) (front piece : List ℕ)
+    (fault : LineFault) → Coming whole rest old new front → Consumes rest after piece
+    → ((text more : List ℕ) (parts : List PartValue) → Partway text parts new front (piece ++ more)
+    → Halts text parts now fault)
+    → IfSome whole (λ text. (parts : List PartValue) → HasJoined old parts
+    → StopsAt text parts (joined_count now - joined_count old + 1) fault)
+Coming-wrong None rest after old new now front piece fault coming given wrong = tt
+Coming-wrong (Some text) rest None old new now front piece fault coming given wrong =
+    absurd (subst (λ r. Consumes r None piece) coming.1 given)
+Coming-wrong (Some text) rest (Some left) old new now front piece fault coming given wrong = λ parts joined.
+    let all : coming.0 ≡ piece ++ left = subst (λ r. Consumes r (Some left) piece) coming.1 given in
+    Halts-at text parts old now fault _ joined
+    (wrong text left parts (subst (Partway text parts new front) all (coming.2 parts joined))) refl
+
+-- nothing was left, and the last line is wrong
+pub Coming-ended : (whole rest after : Option (List ℕ)) (old new now : Joiner) (front piece : List ℕ)
+    (fault : LineFault) → Coming whole rest old new front → Consumes rest after piece → piece ≡ [] → IsAtEnd after
+    → ((text : List ℕ) (parts : List PartValue) → Partway text parts new front [] → Halts text parts now fault)
+    → IfSome whole (λ text. (parts : List PartValue) → HasJoined old parts
+    → StopsAt text parts (joined_count now - joined_count old + 1) fault)
+Coming-ended None rest after old new now front piece fault coming given none end wrong = tt
+Coming-ended (Some text) rest None old new now front piece fault coming given none end wrong =
+    absurd (subst (λ r. Consumes r None piece) coming.1 given)
+Coming-ended (Some text) rest (Some left) old new now front piece fault coming given none end wrong =
+    λ parts joined.
+    let all : coming.0 ≡ piece ++ left = subst (λ r. Consumes r (Some left) piece) coming.1 given in
+    let over : coming.0 ≡ [] = all ∙ ap (λ (l : List ℕ). l ++ left) none ∙ end in
+    Halts-at text parts old now fault _ joined
+    (wrong text parts (subst (Partway text parts new front) over (coming.2 parts joined))) refl

@@ -1,0 +1,88 @@
+-- Lines of parts one behind the other, and what stands in the way of joining them.
+use Rattle.std.specs.Prelude.{◌≡◌, ℕ, ◌+◌, ◌*◌, ◌^◌, ◌<◌, ⊤, List, [], ◌∷◌, ◌++◌, length, Option, None, Some}
+use Rattle.b3.specs.Modes.{hash_parameters}
+use Rattle.b3.specs.declared.row.PartValue.{PartValue}
+use Rattle.b3.specs.inside.Rows.{IsValueOf, value_first, value_len, value_words}
+use Rattle.words.specs.Words.{words}
+use Rattle.sumlist.specs.Lines.{lines}
+use Rattle.partlist.specs.PartLine.{Tells}
+use Rattle.partlist.specs.declared.fault.EndFault.{EndFault}
+use Rattle.partlist.specs.declared.fault.EndFault.TheVariants.{NoParts, Alone, EndsAfter}
+use Rattle.partlist.specs.declared.fault.LineFault.{LineFault}
+use Rattle.partlist.specs.declared.fault.LineFault.TheVariants.{NotAPart, BytesMissing, Overlaps, NotWhole}
+
+-- the line tells this part
+abbrev pub TellsPart : List ℕ → PartValue → Type 0
+TellsPart line part = (value : List ℕ) × Tells line (value_first part) (value_len part) value
+    × (value_words part ≡ words 4 8 value)
+
+-- each line tells its part
+abbrev pub AllTell : List (List ℕ) → List PartValue → Type 0
+AllTell [] [] = ⊤
+AllTell [] (part ∷ parts) = ⊥
+AllTell (line ∷ lines) [] = ⊥
+AllTell (line ∷ lines) (part ∷ parts) = TellsPart line part × AllTell lines parts
+
+-- how many bytes parts have
+abbrev pub bytes_of : List PartValue → ℕ
+bytes_of [] = 0
+bytes_of (part ∷ parts) = value_len part + bytes_of parts
+
+-- how many bytes the last part has, where the one before these has n
+abbrev pub last_of : ℕ → List PartValue → ℕ
+last_of n [] = n
+last_of n (part ∷ parts) = last_of (value_len part) parts
+
+-- a power of two of full chunks
+abbrev pub IsWhole : ℕ → Type 0
+IsWhole n = (e : ℕ) × (n ≡ 1024 * 2 ^ e)
+
+-- parts behind n bytes, of which the last part has so many: each begins where the one before it ends, which
+-- is whole
+abbrev pub FollowEachOther : ℕ → ℕ → List PartValue → Type 0
+FollowEachOther n last [] = ⊤
+FollowEachOther n last (part ∷ parts) = (1024 * value_first part ≡ n) × IsWhole last
+    × FollowEachOther (n + value_len part) (value_len part) parts
+
+-- the same from the first chunk on: what stands before it is as good as whole
+abbrev pub AreInRow : List PartValue → Type 0
+AreInRow parts = FollowEachOther 0 1024 parts
+
+-- the bytes, cut in as many pieces, have the parts' chaining values
+abbrev pub AreValuesOf : List PartValue → List ℕ → Type 0
+AreValuesOf [] m = m ≡ []
+AreValuesOf (part ∷ parts) m = (x : List ℕ) × (rest : List ℕ) × (m ≡ x ++ rest)
+    × IsValueOf hash_parameters part x × AreValuesOf parts rest
+
+-- what is wrong with a line that comes behind these parts
+abbrev pub IsWrongBehind : List PartValue → List ℕ → LineFault → Type 0
+IsWrongBehind parts line NotAPart = (part : PartValue) → TellsPart line part → ⊥
+IsWrongBehind parts line BytesMissing = (part : PartValue) × TellsPart line part
+    × (bytes_of parts < 1024 * value_first part)
+IsWrongBehind parts line Overlaps = (part : PartValue) × TellsPart line part
+    × (1024 * value_first part < bytes_of parts)
+IsWrongBehind parts line NotWhole = (part : PartValue) × TellsPart line part
+    × (1024 * value_first part ≡ bytes_of parts) × (IsWhole (last_of 1024 parts) → ⊥)
+
+-- behind these parts come lines that tell parts, and then the line of this number, with which this is wrong
+pub record StopsAt (text : List ℕ) (parts : List PartValue) (number : ℕ) (fault : LineFault) : Type 0 where
+  pub before : List (List ℕ)
+  pub line : List ℕ
+  pub after : List (List ℕ)
+  pub told : List PartValue
+  pub split : lines text ≡ before ++ line ∷ after
+  pub place : number ≡ length before + 1
+  pub tells : AllTell before told
+  pub row : AreInRow (parts ++ told)
+  pub wrong : IsWrongBehind (parts ++ told) line fault
+
+-- as many bytes as were asked for, if any were
+abbrev pub IsAsked : Option ℕ → ℕ → Type 0
+IsAsked None n = ⊤
+IsAsked (Some bytes) n = n ≡ bytes
+
+-- why parts in a row are no file of so many bytes, if any were asked for
+abbrev pub EndsWrong : List PartValue → Option ℕ → EndFault → Type 0
+EndsWrong parts asked NoParts = parts ≡ []
+EndsWrong parts asked Alone = length parts ≡ 1
+EndsWrong parts asked (EndsAfter n) = (1 < length parts) × (n ≡ bytes_of parts) × (IsAsked asked n → ⊥)

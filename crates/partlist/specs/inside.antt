@@ -1,0 +1,3 @@
+-- What contracts see of the parts that were joined.
+pub mod Few
+pub mod Joiner

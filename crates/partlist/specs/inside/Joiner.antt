@@ -1,0 +1,68 @@
+-- What contracts see of the parts that were joined.
+use Rattle.std.specs.Prelude.{◌≡◌, ℕ, ◌<◌, ◌↔◌, List, [], ◌++◌, ◌∷◌, length, Option, None, Some, Result, Ok, Err}
+use Rattle.b3.specs.Modes.{hash_parameters}
+use Rattle.b3.specs.declared.row.PartValue.{PartValue}
+use Rattle.b3.specs.declared.row.Row.{Row}
+use Rattle.b3.specs.inside.Rows.{HoldsRow, row_closed, row_count, row_first, row_open, row_parameters}
+use Rattle.source.specs.Counts.{next_count}
+use Rattle.sumlist.specs.Lines.{lines, HasNoEnd}
+use Rattle.partlist.specs.Joined.{AllTell, AreInRow, AreValuesOf, IsWrongBehind, StopsAt, bytes_of, last_of}
+use Rattle.partlist.specs.declared.fault.JoinFault.{JoinFault}
+use Rattle.partlist.specs.declared.fault.JoinFault.TheVariants.{Read, Line}
+use Rattle.partlist.specs.declared.joining.Joiner.{Joiner}
+use Rattle.partlist.specs.declared.fault.LineFault.{LineFault}
+
+-- a row is that of parts, which are some
+pub record IsRowOf (row : Row) (parts : List PartValue) : Type 0 where
+  pub first : row_first row ≡ 0
+  pub parameters : row_parameters row ≡ hash_parameters
+  pub in_row : AreInRow parts
+  pub count : row_count row ≡ bytes_of parts
+  pub last : row_open row ≡ last_of 1024 parts
+  pub some : 0 < length parts
+  pub several : (0 < row_closed row) ↔ (1 < length parts)
+  pub holds : (m : List ℕ) → AreValuesOf parts m → HoldsRow row m
+
+abbrev pub MayBeRowOf : Option Row → List PartValue → Type 0
+MayBeRowOf None parts = parts ≡ []
+MayBeRowOf (Some row) parts = IsRowOf row parts
+
+-- so many parts were joined
+abbrev pub joined_count : Joiner → ℕ
+joined_count joiner = joiner.parts
+
+-- these parts were joined, and they are in a row
+pub record HasJoined (joiner : Joiner) (parts : List PartValue) : Type 0 where
+  pub size : joined_count joiner ≡ length parts
+  pub row : MayBeRowOf joiner.row parts
+
+-- of a text's lines so many were joined behind parts, and of the next one these bytes came; more come then
+pub record Partway (whole : List ℕ) (parts : List PartValue) (joiner : Joiner) (front more : List ℕ) : Type 0 where
+  pub before : List (List ℕ)
+  pub told : List PartValue
+  pub split : lines whole ≡ before ++ lines (front ++ more)
+  pub tells : AllTell before told
+  pub joined : HasJoined joiner (parts ++ told)
+  pub no_end : HasNoEnd front
+
+-- the next line of the text can't be joined
+pub record Halts (whole : List ℕ) (parts : List PartValue) (joiner : Joiner) (fault : LineFault) : Type 0 where
+  pub before : List (List ℕ)
+  pub line : List ℕ
+  pub after : List (List ℕ)
+  pub told : List PartValue
+  pub split : lines whole ≡ before ++ line ∷ after
+  pub tells : AllTell before told
+  pub joined : HasJoined joiner (parts ++ told)
+  pub wrong : IsWrongBehind (parts ++ told) line fault
+
+-- why lines were not joined: a read failed, or a line can't be
+abbrev pub StopsSo : List ℕ → List PartValue → JoinFault → Type 0
+StopsSo text parts Read = Unit {0}
+StopsSo text parts (Line number fault) = StopsAt text parts number fault
+
+-- `Read` is one more failure of the feed
+abbrev pub JoinCounts : {T : Type 0} → Result T JoinFault → ℕ → ℕ → Type 0
+JoinCounts (Ok _) old new = new ≡ old
+JoinCounts (Err Read) old new = new ≡ next_count old
+JoinCounts (Err (Line number fault)) old new = new ≡ old

@@ -1,0 +1,217 @@
+// Parts that lines tell, joined in the order in which they come.
+
+ghost use Rattle.std.specs.Prelude.{◌≡◌, ℕ, ◌+◌, ◌-◌, ◌*◌, ◌<◌, ◌≤◌, List, [], ◌∷◌, ◌++◌, length, MatchResult};
+ghost use Rattle.std.specs.Prelude.{MatchOption};
+ghost use Rattle.std.specs.Prelude.{OnOk, OnErr, IfOk, IfSome};
+ghost use Rattle.std.specs.Io.KnownBytes.{IsAtEnd};
+ghost use Rattle.arrayvec.specs.ArrayVec.{array_vec_len};
+ghost use Rattle.b3.specs.Modes.{hash_root};
+ghost use Rattle.b3.specs.declared.row.PartValue.{PartValue};
+ghost use Rattle.b3.specs.inside.Output.{output_position, output_root};
+ghost use Rattle.partlist.specs.Joined.{AllTell, AreValuesOf, EndsWrong, IsAsked, IsWrongBehind, TellsPart, bytes_of};
+ghost use Rattle.sumlist.specs.Lines.{lines};
+ghost use Rattle.partlist.specs.declared.fault.JoinFault.TheVariants.{Line};
+ghost use Rattle.partlist.specs.inside.Few.{most_parts};
+
+use crate::{EndFault, JoinFault, LineFault, parse_part};
+use arrayvec::ArrayVec;
+use b3::{Mode, NotNext, Output, PartValue, Row};
+use source::Feed;
+
+// The bytes of a chunk.
+const CHUNK_LEN: u64 = 1024;
+
+// No line of a part is longer.
+const LINE_LEN: usize = 256;
+
+/// Parts of one message under the mode `Hash`, each of which begins where the one before it ends, from
+/// the first chunk on. It holds at most 54 chaining values, however many parts there were.
+#[derive(Drop)]
+pub struct Joiner {
+    row: Option<Row>,
+    // how many parts that are
+    parts: u64,
+    ghost few: { parts ≤ most_parts row },
+}
+
+impl Joiner {
+    ghost use Rattle.partlist.specs.inside.Joiner.{Halts, HasJoined, JoinCounts, Partway, StopsSo, joined_count};
+
+    /// No part yet.
+    pub fn new() -> Joiner
+        ensures { HasJoined result [] }
+    {
+        Joiner {
+            row: None,
+            parts: 0,
+        }
+    }
+
+    /// How many bytes the parts have.
+    pub fn count(&self) -> u64
+        ensures { (parts : List PartValue) → HasJoined self.now parts → result ≡ bytes_of parts }
+    {
+        match &self.row {
+            None => 0,
+            Some(row) => row.count(),
+        }
+    }
+
+    /// Joins the part that comes next. A part that does not is refused, and nothing changes.
+    pub fn add(&mut self, part: PartValue) -> Result<(), LineFault>
+        ensures added { (parts : List PartValue) → HasJoined self.old parts → MatchResult result
+            (λ _. HasJoined self.new (parts ++ part ∷ []))
+            (λ fault. (line : List ℕ) → TellsPart line part → IsWrongBehind parts line fault) }
+        ensures count { OnOk result (joined_count self.new ≡ joined_count self.old + 1) }
+        ensures refused { OnErr result (self.new ≡ self.old) }
+    {
+        let start = CHUNK_LEN * part.first_chunk();
+        let end = self.count();
+        if start > end {
+            return Err(LineFault::BytesMissing);
+        }
+        if start < end {
+            return Err(LineFault::Overlaps);
+        }
+        if let Some(row) = &mut self.row {
+            match row.push(part) {
+                Ok(()) => {}
+                Err(NotNext) => return Err(LineFault::NotWhole),
+            }
+        } else {
+            self.row = Some(Row::of(Mode::Hash, part));
+        }
+        self.parts += 1;
+        Ok(())
+    }
+    /// Joins the parts that all lines of a feed tell, one after the other, with the first behind the
+    /// parts that were joined before. LF ends a line, and at the end of the feed it may be left out. It
+    /// ends at the first line that is wrong, and then the lines before it were joined. Of the feed it
+    /// keeps one read of 4,096 bytes and one line.
+    pub fn add_lines<F: Feed>(&mut self, feed: &mut F) -> Result<(), JoinFault>
+        ensures joined { IfSome (F.remaining feed.old) (λ text. (parts : List PartValue) → HasJoined self.old parts
+            → MatchResult result
+            (λ _. (more : List PartValue) × AllTell (lines text) more × HasJoined self.new (parts ++ more))
+            (λ fault. StopsSo text parts fault)) }
+        ensures end { OnOk result (IsAtEnd (F.remaining feed.new)) }
+        ensures count { JoinCounts result (F.failure_count feed.old) (F.failure_count feed.new) }
+    {
+        let start = self.parts;
+        let mut held = ArrayVec::new();
+        let mut buffer = [0; 4096];
+        'reads: loop {
+            let count = feed.read(&mut buffer)?;
+            if count == 0 {
+                return match self.add_last(held.as_slice()) {
+                    Ok(()) => Ok(()),
+                    Err(fault) => Err(self.fault_of_line(start, fault)),
+                };
+            }
+            if let Err(fault) = self.add_piece(&buffer[..count], &mut held) {
+                return Err(self.fault_of_line(start, fault));
+            }
+        }
+    }
+
+    // What is wrong with the next line of a feed before which so many parts were joined.
+    fn fault_of_line(&self, start: u64, fault: LineFault) -> JoinFault
+        requires { start ≤ joined_count self.now }
+        ensures { result ≡ Line (joined_count self.now - start + 1) fault }
+    {
+        JoinFault::Line(self.parts - start + 1, fault)
+    }
+
+    // Joins the part of each line that ends in the piece, and holds the beginning of the next one.
+    fn add_piece(
+        &mut self,
+        piece: &[u8],
+        held: &mut ArrayVec<u8, LINE_LEN>,
+    ) -> Result<(), LineFault>
+        requires { array_vec_len held.old ≤ 256 }
+        ensures bound { OnOk result (array_vec_len held.new ≤ 256) }
+        ensures goes { (whole more : List ℕ) (parts : List PartValue)
+            → Partway whole parts self.old held.old.items (piece.now ++ more)
+            → MatchResult result (λ _. Partway whole parts self.new held.new.items more)
+            (λ fault. Halts whole parts self.new fault) }
+        ensures forth { joined_count self.old ≤ joined_count self.new }
+        ensures weight { OnOk result (257 * joined_count self.old + array_vec_len held.old + length piece.now
+            ≤ 257 * joined_count self.new + array_vec_len held.new) }
+    {
+        for &byte in piece {
+            self.add_byte(byte, held)?;
+        }
+        Ok(())
+    }
+
+    // One byte more: LF ends the line that is held, and any other belongs to it.
+    fn add_byte(&mut self, byte: u8, held: &mut ArrayVec<u8, LINE_LEN>) -> Result<(), LineFault>
+        ensures bound { OnOk result (array_vec_len held.new ≤ 256) }
+        ensures goes { (whole more : List ℕ) (parts : List PartValue)
+            → Partway whole parts self.old held.old.items (byte ∷ more)
+            → MatchResult result (λ _. Partway whole parts self.new held.new.items more)
+            (λ fault. Halts whole parts self.new fault) }
+        ensures forth { joined_count self.old ≤ joined_count self.new }
+        ensures weight { OnOk result (257 * joined_count self.old + array_vec_len held.old + 1
+            ≤ 257 * joined_count self.new + array_vec_len held.new) }
+    {
+        if byte != b'\n' {
+            return match held.try_push(byte) {
+                Ok(()) => Ok(()),
+                Err(_) => Err(LineFault::NotAPart),
+            };
+        }
+        self.add_line(held.as_slice())?;
+        held.clear();
+        Ok(())
+    }
+
+    // Joins the part of a last line that has no LF, if there is one.
+    fn add_last(&mut self, line: &[u8]) -> Result<(), LineFault>
+        ensures goes { (whole : List ℕ) (parts : List PartValue) → Partway whole parts self.old line.now []
+            → MatchResult result
+            (λ _. (more : List PartValue) × AllTell (lines whole) more × HasJoined self.new (parts ++ more))
+            (λ fault. Halts whole parts self.new fault) }
+        ensures forth { joined_count self.old ≤ joined_count self.new }
+    {
+        if line.is_empty() {
+            return Ok(());
+        }
+        self.add_line(line)
+    }
+
+    // Joins the part that the line tells.
+    fn add_line(&mut self, line: &[u8]) -> Result<(), LineFault>
+        ensures added { (parts : List PartValue) → HasJoined self.old parts → MatchResult result
+            (λ _. (part : PartValue) × TellsPart line.now part × HasJoined self.new (parts ++ part ∷ []))
+            (λ fault. IsWrongBehind parts line.now fault) }
+        ensures count { OnOk result (joined_count self.new ≡ joined_count self.old + 1) }
+        ensures refused { OnErr result (self.new ≡ self.old) }
+    {
+        let Some(part) = parse_part(line) else {
+            return Err(LineFault::NotAPart);
+        };
+        self.add(part)
+    }
+
+    /// The output of the message that the parts are all of, at position 0. It is refused exactly where
+    /// there are no parts, or one alone, or their bytes are not as many as were asked for, if any were:
+    /// so, and in no other way, a missing end is noticed.
+    pub fn output(&self, bytes: Option<u64>) -> Result<Output, EndFault>
+        ensures root { (parts : List PartValue) → HasJoined self.now parts → MatchResult result
+            (λ output. (1 < length parts) × IsAsked bytes (bytes_of parts)
+            × ((m : List ℕ) → AreValuesOf parts m → output_root output ≡ hash_root m))
+            (λ fault. EndsWrong parts bytes fault) }
+        ensures position { IfOk result (λ output. output_position output ≡ 0) }
+    {
+        let Some(row) = &self.row else {
+            return Err(EndFault::NoParts);
+        };
+        let Ok(output) = row.output() else {
+            return Err(EndFault::Alone);
+        };
+        if bytes.is_some_and(|asked| asked != row.count()) {
+            return Err(EndFault::EndsAfter(row.count()));
+        }
+        Ok(output)
+    }
+}
