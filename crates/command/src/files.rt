@@ -4,7 +4,7 @@ ghost use Rattle.std.specs.Prelude.{◌≡◌, None};
 
 use source::{Device, Feed};
 use std::fs::OpenOptions;
-use std::io::ErrorKind;
+use std::io::{ErrorKind, Seek, SeekFrom};
 use std::rt::Files;
 use sumlist::{OpenFault, Tree};
 
@@ -42,6 +42,17 @@ impl<'r, R: Files> Tree for FileTree<'r, R> {
                     Err(OpenFault::Failed)
                 }
             },
+        }
+    }
+
+    fn open_at(&mut self, name: &str, position: u64) -> Result<Device<R::File>, OpenFault> {
+        let mut file = self.open(name)?.into_inner();
+        match file.seek(SeekFrom::Start(position)) {
+            Ok(_) => Ok(Device::new(file)),
+            Err(_) => {
+                self.failures = self.failures.saturating_add(1);
+                Err(OpenFault::Failed)
+            }
         }
     }
 

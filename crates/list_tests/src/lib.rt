@@ -6,6 +6,8 @@ mod join_tests;
 #[cfg(test)]
 mod part_line_tests;
 #[cfg(test)]
+mod run_tests;
+#[cfg(test)]
 mod source_tests;
 #[cfg(test)]
 mod sumlist_tests;

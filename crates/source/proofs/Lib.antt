@@ -1,4 +1,5 @@
 pub mod Writing
+mod Fronting
 mod Taking
 mod Joining
 pub mod Parting

@@ -1,8 +1,9 @@
 -- What goes from a feed into a hasher.
-use Rattle.std.specs.Prelude.{ℕ, ◌<◌, List, ◌++◌, length, Option, None, Some, ⊤}
+use Rattle.std.specs.Prelude.{ℕ, ◌<◌, List, ◌++◌, length, take, Option, None, Some, ⊤}
 use Rattle.std.specs.Borrow.{Bor}
 use Rattle.std.specs.Io.KnownBytes.{Consumes}
 use Rattle.std.specs.List.{flat_map}
+use Rattle.std.specs.Option.{option_map}
 
 -- a hasher that had taken a list has then taken it followed by `bytes`
 abbrev pub Appended : {A : Type 0} → (A → List ℕ → Type 0) → A → A → List ℕ → Type 0
@@ -16,6 +17,10 @@ IsLongerThan (Some xs) n = n < length xs
 -- lent pieces, one after another
 abbrev pub joined : List (Bor (List ℕ)) → List ℕ
 joined pieces = flat_map (λ piece. piece.now) pieces
+
+-- the first n bytes, where they are told
+abbrev pub front_of : ℕ → Option (List ℕ) → Option (List ℕ)
+front_of n known = option_map (λ xs. take n xs) known
 
 -- some of the bytes to come were given
 abbrev pub Gives : Option (List ℕ) → Option (List ℕ) → Type 0

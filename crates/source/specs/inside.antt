@@ -3,6 +3,7 @@ pub mod Bytes
 pub mod FixedSink
 pub mod VecSink
 pub mod Device
+pub mod Front
 pub mod AnyHash
 pub mod Rooms
 pub mod Parts

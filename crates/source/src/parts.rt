@@ -1,17 +1,18 @@
 // BLAKE3 of a feed, in parts that are hashed apart and joined.
 
-ghost use Rattle.std.specs.Prelude.{◌≡◌, ℕ, ◌*◌, ◌-◌, ◌/◌, ◌%◌, ◌^◌, ◌<◌, ◌≤◌, length, take, OnOk, IfOk, IfSome};
-ghost use Rattle.std.specs.Prelude.{IsErrOf};
+ghost use Rattle.std.specs.Prelude.{◌≡◌, ℕ, ◌*◌, ◌-◌, ◌/◌, ◌%◌, ◌^◌, ◌<◌, ◌≤◌, length, take, min};
+ghost use Rattle.std.specs.Prelude.{OnOk, IfOk, IfSome, IsErrOf, MatchOption};
 ghost use Rattle.std.specs.Io.KnownBytes.{Consumes, IsAtEnd, prepend_known};
 ghost use Rattle.b3.specs.Modes.{root_of};
 ghost use Rattle.b3.specs.Parts.{mode_parameters};
+ghost use Rattle.b3.specs.inside.Rows.{IsValueOf, value_first};
 ghost use Rattle.b3.specs.inside.Output.{output_root, output_position};
 ghost use Rattle.source.specs.Faults.{PumpCounts};
 ghost use Rattle.source.specs.Pumped.{Gives, IsLongerThan};
 ghost use Rattle.source.specs.inside.Parts.{IsFilled, IsTaken};
 
 use crate::{Feed, ReadFailed, SourceFault};
-use b3::{Misplaced, Mode, Output, Part};
+use b3::{Misplaced, Mode, Output, Part, PartValue};
 
 // The chunks of the longest message, and a few more: a power of two.
 const MOST_CHUNKS: u64 = 18_014_398_509_481_984;
@@ -38,6 +39,42 @@ pub fn output_in_parts<F: Feed>(
     let ahead = fill(feed, run)?;
     let (part, _ahead) = take_part(mode, 0, MOST_CHUNKS, feed, run, ahead)?;
     Ok(part.root().unwrap())
+}
+
+/// The part of all that is still to come, as bytes from the chunk `first` on, in at most `chunks`
+/// chunks, or `None` exactly where nothing is to come and `first` is not 0, since no part stands there.
+/// It is read in runs that fill `run`, but for the last. `Read` comes exactly where a read failed; where
+/// none did, `TooLong` comes where more came than so many chunks, or than end within 2^64 - 1 bytes.
+pub fn part_of<F: Feed>(
+    mode: Mode,
+    first: u64,
+    chunks: u64,
+    feed: &mut F,
+    run: &mut [u8],
+) -> Result<Option<PartValue>, SourceFault>
+    requires run { (e : ℕ) × (length run.old ≡ 1024 * 2 ^ e) }
+    requires chunks { (e : ℕ) × (chunks ≡ 2 ^ e) }
+    requires room { length run.old ≤ 1024 * chunks }
+    requires aligned { first % chunks ≡ 0 }
+    ensures part { IfOk result (λ found. MatchOption found ((0 < first) × IsAtEnd (F.remaining feed.old))
+        (λ part. (value_first part ≡ first)
+        × IfSome (F.remaining feed.old) (λ xs. IsValueOf (mode_parameters mode) part xs))) }
+    ensures fits { OnOk result (IfSome (F.remaining feed.old) (λ xs. length xs ≤ 1024 * chunks)) }
+    ensures end { OnOk result (IsAtEnd (F.remaining feed.new)) }
+    ensures too_long { IsErrOf result SourceFault.TooLong
+        → IsLongerThan (F.remaining feed.old) (min (1024 * chunks) (2 ^ 64 - 1 - 1024 * first)) }
+    ensures gave { Gives (F.remaining feed.old) (F.remaining feed.new) }
+    ensures count { PumpCounts result (F.failure_count feed.old) (F.failure_count feed.new) }
+{
+    let ahead = fill(feed, run)?;
+    if ahead == 0 && first > 0 {
+        return Ok(None);
+    }
+    let (part, ahead) = take_part(mode, first, chunks, feed, run, ahead)?;
+    if ahead > 0 {
+        return Err(SourceFault::TooLong);
+    }
+    Ok(Some(part.told()))
 }
 
 // Reads until `run` is full or the feed at its end, and answers how many bytes that is.

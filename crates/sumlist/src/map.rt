@@ -22,5 +22,11 @@ impl<'a> Tree for &'a BTreeMap<String, Vec<u8>> {
         }
     }
 
+    fn open_at(&mut self, name: &str, position: u64) -> Result<&'a [u8], OpenFault> {
+        let content = self.get(name).ok_or(OpenFault::Missing)?;
+        let start = position as usize;
+        Ok(&content[start.min(content.len())..])
+    }
+
     fn close(&mut self, _feed: &'a [u8]) {}
 }

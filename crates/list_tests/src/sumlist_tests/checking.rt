@@ -500,6 +500,10 @@ impl Tree for Refusing {
         Err(self.fault)
     }
 
+    fn open_at(&mut self, name: &str, _position: u64) -> Result<Bytes<'static>, OpenFault> {
+        self.open(name)
+    }
+
     fn close(&mut self, feed: Bytes<'static>) {
         self.failures = self.failures.saturating_add(source::Feed::failures(&feed));
     }

@@ -1,5 +1,5 @@
 -- What contracts see of files in memory.
-use Rattle.std.specs.Prelude.{ℕ, List, Option}
+use Rattle.std.specs.Prelude.{ℕ, ◌-◌, List, Option, None, Some, nat_le, if◌then◌else◌}
 use Rattle.sumlist.specs.Named.{first_place, map_content}
 use Rattle.sumlist.specs.declared.memory.MemoryTree.{MemoryTree}
 
@@ -18,3 +18,8 @@ tree_most t = t.most
 -- the place at which reads of this name fail, where there is one
 abbrev pub tree_place : MemoryTree → List ℕ → Option ℕ
 tree_place t name = first_place (λ p. p.0.now) (λ p. p.1) t.places.now name
+
+-- a place counted from a position on, where it does not stand before that
+abbrev pub place_from : ℕ → Option ℕ → Option ℕ
+place_from position None = None
+place_from position (Some place) = if nat_le position place then Some (place - position) else None

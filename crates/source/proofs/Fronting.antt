@@ -1,0 +1,18 @@
+-- The front of what a feed has to come is read as the feed is.
+use Rattle.std.proofs.Common.{◌≡◌, ℕ, ◌+◌, ◌-◌, ◌≤◌, List, Option, None, Some, length, take, ap, ◌∙◌, arith}
+use Rattle.std.proofs.Math.Seq.{take-append-add, take-nil}
+use Rattle.std.specs.Io.KnownBytes.{Consumes, IsAtEnd}
+use Rattle.source.specs.Pumped.{front_of}
+
+pub front-consumes : (a b : Option (List ℕ)) (bytes : List ℕ) (n k : ℕ) → length bytes ≡ k → k ≤ n
+    → Consumes a b bytes → Consumes (front_of n a) (front_of (n - k) b) bytes
+front-consumes None b bytes n k size few given = tt
+front-consumes (Some x) None bytes n k size few given = absurd given
+front-consumes (Some x) (Some y) bytes n k size few given =
+    let whole : n ≡ length bytes + (n - k) = omega (arith, few, size) in
+    ap (λ i. take i x) whole ∙ ap (λ (l : List ℕ). take (length bytes + (n - k)) l) given
+    ∙ take-append-add bytes y (n - k)
+
+pub front-end : (a : Option (List ℕ)) (n : ℕ) → IsAtEnd a → IsAtEnd (front_of n a)
+front-end None n end = tt
+front-end (Some x) n end = rw end (take-nil n)

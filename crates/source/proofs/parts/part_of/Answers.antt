@@ -1,0 +1,41 @@
+use Rattle.std.proofs.Common.{◌≡◌, ℕ, ◌*◌, ◌≤◌, [], length, take, refl, subst, ◌∙◌, arith, pow_pos}
+use Rattle.b3.specs.Parts.{mode_parameters}
+use Rattle.b3.specs.inside.Rows.{IsValueOf}
+use Rattle.source.proofs.Parting.{all_taken}
+use Rattle.source.proofs.Taking.{Gives-trans}
+use Rattle.source.proofs.parts.part_of.Goals as goal
+
+pub returns-in_err-part-clause-gave : goal.returns-in_err-part-clause-gave
+returns-in_err-part-clause-gave g c = Gives-trans _ _ _ c.fill.ensures.gave c.take_part.ensures.gave
+
+pub returns-then-ahead-gt0-clause-gave : goal.returns-then-ahead-gt0-clause-gave
+returns-then-ahead-gt0-clause-gave g c = Gives-trans _ _ _ c.fill.ensures.gave c.take_part.ensures.gave
+
+pub returns-clause-part : goal.returns-clause-part
+returns-clause-part g c =
+    let taken = c.in_ok-part.ensures.taken in
+    let left : ℕ = c.in_ok-part.ahead in
+    let none : left ≡ 0 = omega (arith, c.if-ahead-gt0.false) in
+    let over : take left c.take_part.new.run ≡ [] = rw none refl in
+    let some = pow_pos c.requires.run.0 in
+    let same = c.fill.ensures.length in
+    let end = taken.end (omega (arith, none, some, same, c.requires.run.1, c.take_part.ensures.length)) in
+    let told = c.told.ensures in (
+      told.first ∙ taken.first,
+      all_taken _ _ _ _ _ taken.bytes (IsValueOf (mode_parameters c.args.mode) c.told.result)
+          c.in_ok-ahead.ensures.filled.given taken.given over end
+          (subst (λ m. IsValueOf (mode_parameters m) c.told.result taken.bytes) taken.mode
+          (told.value taken.bytes taken.part)),
+    )
+
+pub returns-clause-fits : goal.returns-clause-fits
+returns-clause-fits g c =
+    let taken = c.in_ok-part.ensures.taken in
+    let left : ℕ = c.in_ok-part.ahead in
+    let none : left ≡ 0 = omega (arith, c.if-ahead-gt0.false) in
+    let over : take left c.take_part.new.run ≡ [] = rw none refl in
+    let some = pow_pos c.requires.run.0 in
+    let same = c.fill.ensures.length in
+    let end = taken.end (omega (arith, none, some, same, c.requires.run.1, c.take_part.ensures.length)) in
+    all_taken _ _ _ _ _ taken.bytes (λ xs. length xs ≤ 1024 * c.args.chunks) c.in_ok-ahead.ensures.filled.given
+    taken.given over end (omega (arith, taken.most, taken.part.len))
