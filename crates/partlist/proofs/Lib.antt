@@ -2,3 +2,4 @@ pub mod Spelling
 pub mod Parsing
 pub mod Behind
 pub mod Reading
+pub mod Outcomes

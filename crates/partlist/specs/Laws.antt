@@ -1,5 +1,9 @@
--- What the definition of a line comes to.
-use Rattle.std.specs.Prelude.{◌≡◌, ℕ, List}
+-- What the definitions of a line, and of lines that are joined, come to.
+use Rattle.std.specs.Prelude.{◌≡◌, ℕ, List, ◌++◌}
+use Rattle.b3.specs.declared.row.PartValue.{PartValue}
+use Rattle.sumlist.specs.Lines.{lines}
+use Rattle.partlist.specs.Joined.{AllTell, AreInRow, StopsAt}
+use Rattle.partlist.specs.declared.fault.LineFault.{LineFault}
 use Rattle.partlist.specs.PartLine.{Tells}
 
 -- a line tells one part
@@ -7,3 +11,14 @@ abbrev pub OneMeaning : Type 0
 OneMeaning = (line : List ℕ) (first len first' len' : ℕ) (value value' : List ℕ)
     → Tells line first len value → Tells line first' len' value'
     → (first ≡ first') × (len ≡ len') × (value ≡ value')
+
+-- a text whose lines tell parts that follow does not stop
+abbrev pub NoneStops : Type 0
+NoneStops = (text : List ℕ) (parts more : List PartValue) (number : ℕ) (fault : LineFault)
+    → AllTell (lines text) more → AreInRow (parts ++ more) → StopsAt text parts number fault → ⊥
+
+-- a text stops at one line, and for one reason
+abbrev pub OneStop : Type 0
+OneStop = (text : List ℕ) (parts : List PartValue) (number number' : ℕ) (fault fault' : LineFault)
+    → StopsAt text parts number fault → StopsAt text parts number' fault'
+    → (number ≡ number') × (fault ≡ fault')

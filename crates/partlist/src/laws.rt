@@ -1,9 +1,16 @@
 // What the lines of parts come to, beside what the code does.
 
-ghost use Rattle.partlist.specs.Laws.{OneMeaning};
+ghost use Rattle.partlist.specs.Laws.{NoneStops, OneMeaning, OneStop};
 
 /// Does nothing. Its contract says that a line tells one part; that a part has one line is the
 /// definition's own form.
 pub fn part_line_laws()
     ensures { OneMeaning }
+{}
+
+/// Does nothing. Its contract says that each text has one outcome behind given parts: where all its
+/// lines tell parts that follow, no line is wrong, and else one line is, in one way.
+pub fn join_laws()
+    ensures none { NoneStops }
+    ensures one { OneStop }
 {}

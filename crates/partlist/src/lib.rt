@@ -3,7 +3,7 @@
 
 pub use fault::{EndFault, JoinFault, LineFault};
 pub use joining::Joiner;
-pub use laws::part_line_laws;
+pub use laws::{join_laws, part_line_laws};
 pub use line::{parse_part, write_part};
 
 mod fault;

@@ -1,0 +1,169 @@
+-- A text has one outcome, however its lines are joined.
+use Rattle.std.proofs.Common.{◌≡◌, ℕ, ◌+◌, ◌*◌, List, [], ◌∷◌, ◌++◌, length, refl, sym, ap, subst, ◌∙◌, arith}
+use Rattle.std.proofs.Common.{◌⊎◌, inl, inr, append_assoc}
+use Rattle.b3.specs.declared.row.PartValue.{PartValue}
+use Rattle.b3.specs.inside.Rows.{value_first, value_len}
+use Rattle.partlist.specs.Joined.{AllTell, AreInRow, FollowEachOther, IsWhole, IsWrongBehind, TellsPart}
+use Rattle.partlist.specs.Joined.{bytes_of, last_of}
+use Rattle.partlist.specs.Laws.{NoneStops, OneStop}
+use Rattle.partlist.specs.declared.fault.LineFault.{LineFault}
+use Rattle.partlist.specs.declared.fault.LineFault.TheVariants.{NotAPart, BytesMissing, Overlaps, NotWhole}
+use Rattle.partlist.proofs.Parsing.{one_meaning}
+
+bytes_of-append : (xs ys : List PartValue) → bytes_of (xs ++ ys) ≡ bytes_of xs + bytes_of ys
+bytes_of-append [] ys = omega arith
+bytes_of-append (x ∷ xs) ys = let rest = bytes_of-append xs ys in omega (arith, rest)
+
+last_of-append : (n : ℕ) (xs ys : List PartValue) → last_of n (xs ++ ys) ≡ last_of (last_of n xs) ys
+last_of-append n [] ys = refl
+last_of-append n (x ∷ xs) ys = last_of-append (value_len x) xs ys
+
+same_part : (line : List ℕ) (p q : PartValue) → TellsPart line p → TellsPart line q
+    → (value_first p ≡ value_first q) × (value_len p ≡ value_len q)
+same_part line p q t u = let same = one_meaning line _ _ _ _ _ _ t.1 u.1 in (same.0, same.1)
+
+-- parts that the same lines tell have as many bytes, and so has the last of them
+same_bytes : (ls : List (List ℕ)) (xs ys : List PartValue) → AllTell ls xs → AllTell ls ys → bytes_of xs ≡ bytes_of ys
+same_bytes [] [] [] t u = refl
+same_bytes [] [] (y ∷ ys) t u = absurd u
+same_bytes [] (x ∷ xs) ys t u = absurd t
+same_bytes (l ∷ ls) [] ys t u = absurd t
+same_bytes (l ∷ ls) (x ∷ xs) [] t u = absurd u
+same_bytes (l ∷ ls) (x ∷ xs) (y ∷ ys) t u =
+    let one = (same_part l x y t.0 u.0).1 in
+    let rest = same_bytes ls xs ys t.1 u.1 in
+    omega (arith, one, rest)
+
+same_last : (n : ℕ) (ls : List (List ℕ)) (xs ys : List PartValue) → AllTell ls xs → AllTell ls ys
+    → last_of n xs ≡ last_of n ys
+same_last n [] [] [] t u = refl
+same_last n [] [] (y ∷ ys) t u = absurd u
+same_last n [] (x ∷ xs) ys t u = absurd t
+same_last n (l ∷ ls) [] ys t u = absurd t
+same_last n (l ∷ ls) (x ∷ xs) [] t u = absurd u
+same_last n (l ∷ ls) (x ∷ xs) (y ∷ ys) t u =
+    ap (λ k. last_of k xs) (same_part l x y t.0 u.0).1 ∙ same_last (value_len y) ls xs ys t.1 u.1
+
+-- a part in a row begins where those before it end, the last of which is whole
+place_in_row : (n last : ℕ) (xs : List PartValue) (p : PartValue) (ys : List PartValue)
+    → FollowEachOther n last (xs ++ p ∷ ys)
+    → (1024 * value_first p ≡ n + bytes_of xs) × IsWhole (last_of last xs)
+place_in_row n last [] p ys follow = (omega (arith, follow.0), follow.1)
+place_in_row n last (x ∷ xs) p ys follow =
+    let rest = place_in_row (n + value_len x) (value_len x) xs p ys follow.2 in
+    (omega (arith, rest.0), rest.1)
+
+-- the parts of lines before and behind one of them
+tell_split : (before : List (List ℕ)) (line : List ℕ) (after : List (List ℕ)) (more : List PartValue)
+    → AllTell (before ++ line ∷ after) more
+    → (xs : List PartValue) × (p : PartValue) × (ys : List PartValue) × (more ≡ xs ++ p ∷ ys) × AllTell before xs
+    × TellsPart line p
+tell_split [] line after [] t = absurd t
+tell_split [] line after (p ∷ ys) t = ([], p, ys, refl, tt, t.0)
+tell_split (l ∷ before) line after [] t = absurd t
+tell_split (l ∷ before) line after (x ∷ more) t =
+    let rest = tell_split before line after more t.1 in
+    (x ∷ rest.0, rest.1, rest.2, ap (λ ps. x ∷ ps) rest.3, (t.0, rest.4), rest.5)
+
+fits : (parts : List PartValue) (line : List ℕ) (p : PartValue) (fault : LineFault) → TellsPart line p
+    → 1024 * value_first p ≡ bytes_of parts → IsWhole (last_of 1024 parts) → IsWrongBehind parts line fault → ⊥
+fits parts line p NotAPart tells place whole wrong = wrong p tells
+fits parts line p BytesMissing tells place whole wrong =
+    let same = (same_part line p wrong.0 tells wrong.1).0 in
+    let off = wrong.2 in
+    absurd (omega (arith, same, off, place))
+fits parts line p Overlaps tells place whole wrong =
+    let same = (same_part line p wrong.0 tells wrong.1).0 in
+    let off = wrong.2 in
+    absurd (omega (arith, same, off, place))
+fits parts line p NotWhole tells place whole wrong = wrong.3 whole
+
+-- a line that can't be joined is not among lines that can
+not_among : (parts told more : List PartValue) (before : List (List ℕ)) (line : List ℕ) (after : List (List ℕ))
+    (fault : LineFault) → AllTell before told → IsWrongBehind (parts ++ told) line fault
+    → AllTell (before ++ line ∷ after) more → AreInRow (parts ++ more) → ⊥
+not_among parts told more before line after fault tells wrong all row =
+    let cut = tell_split before line after more all in
+    let whole : parts ++ more ≡ (parts ++ cut.0) ++ cut.1 ∷ cut.2
+    = ap (λ ps. parts ++ ps) cut.3 ∙ sym (append_assoc parts cut.0 (cut.1 ∷ cut.2)) in
+    let at = place_in_row 0 1024 (parts ++ cut.0) cut.1 cut.2 (subst AreInRow whole row) in
+    let bytes : bytes_of (parts ++ cut.0) ≡ bytes_of (parts ++ told)
+    = bytes_of-append parts cut.0 ∙ ap (λ n. bytes_of parts + n) (same_bytes before cut.0 told cut.4 tells)
+    ∙ sym (bytes_of-append parts told) in
+    let last : last_of 1024 (parts ++ cut.0) ≡ last_of 1024 (parts ++ told)
+    = last_of-append 1024 parts cut.0 ∙ same_last (last_of 1024 parts) before cut.0 told cut.4 tells
+    ∙ sym (last_of-append 1024 parts told) in
+    let place = at.0 in
+    fits (parts ++ told) line cut.1 fault cut.5 (omega (arith, place, bytes)) (subst IsWhole last at.1) wrong
+
+pub none_stops : NoneStops
+none_stops text parts more number fault all row stop =
+    not_among parts stop.told more stop.before stop.line stop.after fault stop.tells stop.wrong
+    (subst (λ ls. AllTell ls more) stop.split all) row
+
+-- two places in one list
+places : (xs ys : List (List ℕ)) (l k : List ℕ) (cs bs : List (List ℕ)) → xs ++ l ∷ cs ≡ ys ++ k ∷ bs
+    → ((xs ≡ ys) × (l ≡ k)) ⊎ (((m : List (List ℕ)) × (ys ≡ xs ++ l ∷ m)) ⊎ ((m : List (List ℕ)) × (xs ≡ ys ++ k ∷ m)))
+places [] [] l k cs bs e = inl (refl, cc)
+places [] (y ∷ ys) l k cs bs e = inr (inl (ys, let head : l ≡ y = cc in ap (λ x. x ∷ ys) (sym head)))
+places (x ∷ xs) [] l k cs bs e = inr (inr (xs, let head : x ≡ k = cc in ap (λ y. y ∷ xs) head))
+places (x ∷ xs) (y ∷ ys) l k cs bs e =
+    let head : x ≡ y = cc in
+    let tail : xs ++ l ∷ cs ≡ ys ++ k ∷ bs = cc in
+    elim (places xs ys l k cs bs tail) [
+      | inl same ↦ let a = same.0 in let b = same.1 in inl (cc, b)
+      | inr apart ↦ elim apart [
+        | inl later ↦ let a = later.1 in inr (inl (later.0, cc))
+        | inr earlier ↦ let a = earlier.1 in inr (inr (earlier.0, cc))
+      ]
+    ]
+
+-- of one line one thing is wrong
+one_fault : (a b : List PartValue) (line : List ℕ) (f g : LineFault) → bytes_of a ≡ bytes_of b
+    → IsWrongBehind a line f → IsWrongBehind b line g → f ≡ g
+one_fault a b line NotAPart NotAPart e u v = refl
+one_fault a b line NotAPart BytesMissing e u v = absurd (u v.0 v.1)
+one_fault a b line NotAPart Overlaps e u v = absurd (u v.0 v.1)
+one_fault a b line NotAPart NotWhole e u v = absurd (u v.0 v.1)
+one_fault a b line BytesMissing NotAPart e u v = absurd (v u.0 u.1)
+one_fault a b line BytesMissing BytesMissing e u v = refl
+one_fault a b line BytesMissing Overlaps e u v =
+    let same = (same_part line u.0 v.0 u.1 v.1).0 in let x = u.2 in let y = v.2 in absurd (omega (arith, same, e, x, y))
+one_fault a b line BytesMissing NotWhole e u v =
+    let same = (same_part line u.0 v.0 u.1 v.1).0 in let x = u.2 in let y = v.2 in absurd (omega (arith, same, e, x, y))
+one_fault a b line Overlaps NotAPart e u v = absurd (v u.0 u.1)
+one_fault a b line Overlaps BytesMissing e u v =
+    let same = (same_part line u.0 v.0 u.1 v.1).0 in let x = u.2 in let y = v.2 in absurd (omega (arith, same, e, x, y))
+one_fault a b line Overlaps Overlaps e u v = refl
+one_fault a b line Overlaps NotWhole e u v =
+    let same = (same_part line u.0 v.0 u.1 v.1).0 in let x = u.2 in let y = v.2 in absurd (omega (arith, same, e, x, y))
+one_fault a b line NotWhole NotAPart e u v = absurd (v u.0 u.1)
+one_fault a b line NotWhole BytesMissing e u v =
+    let same = (same_part line u.0 v.0 u.1 v.1).0 in let x = u.2 in let y = v.2 in absurd (omega (arith, same, e, x, y))
+one_fault a b line NotWhole Overlaps e u v =
+    let same = (same_part line u.0 v.0 u.1 v.1).0 in let x = u.2 in let y = v.2 in absurd (omega (arith, same, e, x, y))
+one_fault a b line NotWhole NotWhole e u v = refl
+
+pub one_stop : OneStop
+one_stop text parts n k f g s t =
+    let both = sym s.split ∙ t.split in
+    elim (places s.before t.before s.line t.line s.after t.after both) [
+      | inl same ↦
+          let told = subst (λ ls. AllTell ls s.told) same.0 s.tells in
+          let bytes = bytes_of-append parts s.told
+          ∙ ap (λ i. bytes_of parts + i) (same_bytes t.before s.told t.told told t.tells)
+          ∙ sym (bytes_of-append parts t.told) in
+          let size = ap length same.0 in
+          let here = s.place in
+          let there = t.place in (
+            omega (arith, size, here, there),
+            one_fault (parts ++ s.told) (parts ++ t.told) t.line f g bytes
+                (subst (λ l. IsWrongBehind (parts ++ s.told) l f) same.1 s.wrong) t.wrong,
+          )
+      | inr apart ↦ elim apart [
+        | inl later ↦ absurd (not_among parts s.told t.told s.before s.line later.0 f s.tells s.wrong
+            (subst (λ ls. AllTell ls t.told) later.1 t.tells) t.row)
+        | inr earlier ↦ absurd (not_among parts t.told s.told t.before t.line earlier.0 g t.tells t.wrong
+            (subst (λ ls. AllTell ls s.told) earlier.1 s.tells) s.row)
+      ]
+    ]
