@@ -50,9 +50,9 @@ _sums() {
             return ;;
     esac
     case $command:$word in
-        hash:-*) _sums_words '-a -l --seek --parts --salt --personal --tag -h --help' "$word" ;;
+        hash:-*) _sums_words '-a -l --seek --parts --salt --personal --tag --raw -h --help' "$word" ;;
         mac:-*) _sums_words '-a -l --key --key-file -h --help' "$word" ;;
-        kdf:-* | kdf:) _sums_words '-a -l --ikm-file --salt --info --context -h --help' "$word" ;;
+        kdf:-* | kdf:) _sums_words '-a -l --ikm-file --salt --info --context --raw -h --help' "$word" ;;
         check:-*) _sums_words '-a -h --help' "$word" ;;
         hash:* | mac:* | check:*) _sums_files ;;
     esac

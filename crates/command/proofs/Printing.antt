@@ -25,7 +25,7 @@ use Rattle.sumlist.specs.Report.{Files}
 use Rattle.task.specs.declared.hashing.Requested.TheVariants as requested
 use Rattle.task.specs.declared.hashing.Stretch.{Stretch}
 use Rattle.words.specs.Mix.{Variant}
-use Rattle.command.specs.Lines.{Lining, Stands, content_of, digest_line, line_text}
+use Rattle.command.specs.Lines.{Lining, Stands, content_of, digest_line, line_text, printed_beside}
 use Rattle.command.specs.Troubles.{trouble_of}
 use Rattle.command.specs.declared.fault.Fault.{Fault}
 use Rattle.command.specs.declared.fault.Fault.TheVariants.{CannotWrite}
@@ -99,12 +99,12 @@ output_made first tree h k o name room read same under kept empty root =
         (rw same at there.0, root m (there.1 [] empty) ∙ ap (λ (l : List ℕ). root_of l m) (kept ∙ under))
 
 -- the bytes of an output from a position on, where it was sought
-pub stretch_text : (name : Text) (o q : Output) (position n : ℕ) (m : List ℕ) → output_root q ≡ output_root o
+pub stretch_text : (is_raw : Bool) (name : Text) (o q : Output) (position n : ℕ) (m : List ℕ) → output_root q ≡ output_root o
     → output_position q ≡ position → output_root o ≡ hash_root m
-    → lead name ++ (encode_lower (slice (output_root q) (output_position q) n) ++ ending name)
-    ≡ lead name ++ (encode_lower (slice (hash_root m) position n) ++ ending name)
-stretch_text name o q position n m root at is =
-    ap₂ (λ (r : Node) (p : ℕ). lead name ++ (encode_lower (slice r p n) ++ ending name)) (root ∙ is) at
+    → printed_beside is_raw name (slice (output_root q) (output_position q) n)
+    ≡ printed_beside is_raw name (slice (hash_root m) position n)
+stretch_text is_raw name o q position n m root at is =
+    ap₂ (λ (r : Node) (p : ℕ). printed_beside is_raw name (slice r p n)) (root ∙ is) at
 
 -- the line of a name that can stand there, of which a value was made
 module _ {V : Type 0} (l : Lining) (name : Text) (is : List ℕ → V → Type 0) (value : V) (text : Text) where
@@ -141,10 +141,10 @@ pub stretch_listed : (s : Stretch) (name : Text) (o q : Output) (first : Option 
     (r : Result (Unit {0}) Fault) (a b c : Shown) → Fits 64 name
     → Made (digest_line (requested.Output s)) name (λ m x. output_root x ≡ hash_root m) o [] first tree
     → output_root q ≡ output_root o → output_position q ≡ s.position → b ≡ a
-    → PrintsText r b c (lead name ++ (encode_lower (slice (output_root q) (output_position q) s.length) ++ ending name))
+    → PrintsText r b c (printed_beside s.is_raw name (slice (output_root q) (output_position q) s.length))
     → IfSome first (λ input. IfSome tree (λ files.
     PrintsLine (digest_line (requested.Output s)) name (content_of name input files) r a c))
 stretch_listed s name o q first tree r a b c fits read root at shown p =
     line_listed (digest_line (requested.Output s)) name (λ m x. output_root x ≡ hash_root m) o
-    (lead name ++ (encode_lower (slice (output_root q) (output_position q) s.length) ++ ending name))
-    first tree r a b c fits read (λ m is. stretch_text name o q s.position s.length m root at is) shown (inl p)
+    (printed_beside s.is_raw name (slice (output_root q) (output_position q) s.length))
+    first tree r a b c fits read (λ m is. stretch_text s.is_raw name o q s.position s.length m root at is) shown (inl p)

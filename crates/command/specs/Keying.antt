@@ -1,12 +1,11 @@
 -- The courses of `mac` and `kdf`.
-use Rattle.std.specs.Prelude.{◌⊎◌, ◌≡◌, ℕ, ◌+◌, ◌-◌, ◌*◌, ◌^◌, ◌<◌, ◌≤◌, ◌==◌, ◌&&◌, ⊤, false, nat_le, List, [], ◌∷◌}
+use Rattle.std.specs.Prelude.{◌⊎◌, ◌≡◌, ℕ, ◌+◌, ◌-◌, ◌*◌, ◌^◌, ◌<◌, ◌≤◌, ◌==◌, ◌&&◌, ⊤, Bool, true, false, nat_le, List, [], ◌∷◌}
 use Rattle.std.specs.Prelude.{◌++◌, length, take, Option, Some, None, Result, Ok, Err, MatchResult, IsSomeAnd}
 use Rattle.std.specs.Prelude.{if◌then◌else◌}
 use Rattle.b3.specs.Bytes.{slice}
 use Rattle.b3.specs.Modes.{derive_root, keyed_root}
 use Rattle.blake2.specs.Blake2.{blake2, message_limit, unsalted}
 use Rattle.clap.specs.Words.{Text}
-use Rattle.hex.specs.Hex.{encode_lower}
 use Rattle.kdf.specs.Hkdf.{expand, extract, salt_or_zeros}
 use Rattle.mac.specs.Hmac.{hmac}
 use Rattle.sha2.specs.Sha256.{sha256}
@@ -22,7 +21,7 @@ use Rattle.task.specs.declared.parameters.HmacHash.TheVariants as hash
 use Rattle.task.specs.declared.tagging.Mac.{Mac}
 use Rattle.task.specs.declared.tagging.Mac.TheVariants.{Hmac, Blake2b, Blake2s, Blake3}
 use Rattle.command.specs.Course.{Course, failures_of, no_failures, refused_by}
-use Rattle.command.specs.Lines.{IsLine, Lining, MayRefuse, MayTell, Stands, content_of, is_input, tag_line}
+use Rattle.command.specs.Lines.{IsLine, Lining, MayRefuse, MayTell, Stands, content_of, is_input, printed, tag_line}
 use Rattle.command.specs.Troubles.{Trouble, cannot_read, cannot_write, key_file_too_long, key_length, out_of_memory}
 use Rattle.command.specs.Troubles.{usage}
 
@@ -132,14 +131,19 @@ abbrev pub derived_by : Derived → Result Deriving Trouble
 derived_by (by_hkdf h n salt info) = hkdf (function_of h) n salt info
 derived_by (by_blake3 context n) = Ok (record { limit = 2 ^ 64 - 1; key = λ m. Ok (slice (derive_root context m) 0 n) })
 
--- the material is read, and the digits of the key are printed with LF
-abbrev pub DerivesFrom : Deriving → Text → Option (List ℕ) → Course → Type 0
-DerivesFrom d name content course =
+-- a key is printed in digits with LF, or as it is with nothing behind it
+abbrev pub line_end : Bool → Text
+line_end true = []
+line_end false = 10 ∷ []
+
+-- the material is read, and the key printed
+abbrev pub DerivesFrom : Bool → Deriving → Text → Option (List ℕ) → Course → Type 0
+DerivesFrom is_raw d name content course =
     IsSomeAnd content (λ m. (length m ≤ d.limit) × MatchResult (d.key m)
-    (λ key. Prints (encode_lower key ++ 10 ∷ []) course) (λ t. course ≡ refused_by t no_failures))
+    (λ key. Prints (printed is_raw key ++ line_end is_raw) course) (λ t. course ≡ refused_by t no_failures))
     ⊎ ((t : Trouble) × MayRefuse d.limit name content t × (course ≡ refused_by t (failures_of false content t)))
 
 -- the course of `kdf`, where `-` is a file
-abbrev pub KdfRuns : Derived → Text → Files → Course → Type 0
-KdfRuns derived name files course = MatchResult (derived_by derived)
-    (λ d. DerivesFrom d name (files name) course) (λ t. course ≡ refused_by t no_failures)
+abbrev pub KdfRuns : Derived → Bool → Text → Files → Course → Type 0
+KdfRuns derived is_raw name files course = MatchResult (derived_by derived)
+    (λ d. DerivesFrom is_raw d name (files name) course) (λ t. course ≡ refused_by t no_failures)

@@ -1,5 +1,5 @@
 -- The lines that `hash` and `mac` print of a name.
-use Rattle.std.specs.Prelude.{◌≡◌, ◌≤◌, ◌<◌, ◌*◌, ◌-◌, ◌^◌, ℕ, ⊤, Bool, List, [], Option, Some, length, IsTrue}
+use Rattle.std.specs.Prelude.{◌≡◌, ◌≤◌, ◌<◌, ◌*◌, ◌-◌, ◌^◌, ℕ, ⊤, Bool, true, false, List, [], Option, Some, length, IsTrue}
 use Rattle.std.specs.Prelude.{IsSomeAnd, if◌then◌else◌, ◌++◌, codes}
 use Rattle.std.specs.Str.{bytes_eq}
 use Rattle.b3.specs.Bytes.{slice}
@@ -59,6 +59,16 @@ tag_line digits limit tag = record {
   text = λ name m. lead name ++ (encode_lower (tag m) ++ ending name);
 }
 
+-- bytes as they are printed: as they are, or in digits
+abbrev pub printed : Bool → List ℕ → Text
+printed true bytes = bytes
+printed false bytes = encode_lower bytes
+
+-- the same of a name: where they are digits, on a line of its own
+abbrev pub printed_beside : Bool → Text → List ℕ → Text
+printed_beside true name bytes = bytes
+printed_beside false name bytes = lead name ++ (encode_lower bytes ++ ending name)
+
 -- the lines of `hash`: a digest, or so many bytes of BLAKE3's output from a position on, beside which a name
 -- has to fit as beside the digest's 64 digits
 abbrev pub digest_line : Requested → Lining
@@ -67,7 +77,11 @@ digest_line (Digest form) = record {
   limit = input_limit (alg_of form.hash);
   text = λ name m. line_text form.is_tagged (record { name = name; alg = alg_of form.hash; tag = hash_of form.hash m });
 }
-digest_line (Output s) = tag_line 64 (2 ^ 64 - 1) (λ m. slice (hash_root m) s.position s.length)
+digest_line (Output s) = record {
+  place = beside 64;
+  limit = 2 ^ 64 - 1;
+  text = λ name m. printed_beside s.is_raw name (slice (hash_root m) s.position s.length);
+}
 
 -- `-` is standard input
 abbrev pub is_input : Text → Bool

@@ -16,7 +16,7 @@ ghost use Rattle.command.specs.inside.Streams.{AfterReading, IfContent, SameStre
 ghost use Rattle.command.specs.declared.fault.Fault.TheVariants.{BadName};
 
 use crate::fault::{Fault, tell};
-use crate::output::{named, write_line, write_output_line};
+use crate::output::{named, write_line, write_output_beside};
 use crate::session::{Session, Streams, absorb_feed, open_file};
 use b3::{Blake3, Mode, Output};
 use blake2::{Blake2b, Blake2s};
@@ -118,7 +118,7 @@ impl<'i, 't, 'o, L: Feed, T: Tree, W: Sink> Session<'i, 't, 'o, L, T, W> {
         named(64, name)?;
         let mut output = self.output_of(parts, name)?;
         output.seek(stretch.position);
-        Ok(write_output_line(output, stretch.length, name, self.out)?)
+        Ok(write_output_beside(output, stretch.length, stretch.is_raw, name, self.out)?)
     }
 
     // The digest of a file, in parts where it is BLAKE3's and they are asked for.

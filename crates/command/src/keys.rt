@@ -8,7 +8,7 @@ ghost use Rattle.command.specs.inside.Streams.{AfterFile, SameStreams, TakesCour
 ghost use Rattle.task.specs.Deriving.{HasKey, by_blake3, derivation_shown};
 
 use crate::fault::Fault;
-use crate::output::{write_digits, write_output};
+use crate::output::{write_bytes, write_output};
 use crate::session::{Session, Streams, absorb_named};
 use b3::Blake3;
 use kdf::{Extract, expand};
@@ -22,31 +22,33 @@ use words::Tag;
 const OUTPUT_LIMIT: usize = 16320;
 
 impl<'i, 't, 'o, L: Feed, T: Tree, W: Sink> Session<'i, 't, 'o, L, T, W> {
-    /// Prints the digits of the key that is derived of a file.
+    /// Prints the key that is derived of a file: its digits and LF, or nothing but its bytes.
     pub(crate) fn print_key<'n>(
         &mut self,
         derivation: &Derivation<'n>,
+        is_raw: bool,
         material: &'n str,
     ) -> Result<u8, Fault<'n>>
         requires { HasKey (derivation_shown derivation.now) }
-        ensures course { TakesCourse (λ bytes files. KdfRuns (derivation_shown derivation.now) material.entry.now files)
+        ensures course { TakesCourse (λ bytes files. KdfRuns (derivation_shown derivation.now) is_raw material.entry.now files)
             (λ troubles. troubles ≡ [])
             result (⟦<Self as Streams>⟧.seen self.old) (⟦<Self as Streams>⟧.seen self.new) }
         ensures same { SameStreams self.old self.new }
     {
-        self.print_digits(derivation, material)?;
-        write_all(self.out, b"\n")?;
+        self.print_bytes(derivation, is_raw, material)?;
+        write_all(self.out, line_end(is_raw))?;
         Ok(0)
     }
 
-    fn print_digits<'n>(
+    fn print_bytes<'n>(
         &mut self,
         derivation: &Derivation<'n>,
+        is_raw: bool,
         material: &'n str,
     ) -> Result<(), Fault<'n>>
         requires { HasKey (derivation_shown derivation.now) }
         ensures key { IfSome (T.files self.old.tree.now) (λ files.
-            PrintsDerived (derived_by (derivation_shown derivation.now))
+            PrintsDerived is_raw (derived_by (derivation_shown derivation.now))
             material.entry.now (files material.entry.now) result
             (W.shown self.old.out.now) (W.shown self.new.out.now)) }
         ensures read { AfterFile material.entry.now result (⟦<Self as Streams>⟧.seen self.old)
@@ -56,13 +58,13 @@ impl<'i, 't, 'o, L: Feed, T: Tree, W: Sink> Session<'i, 't, 'o, L, T, W> {
         hash_laws();
         match derivation {
             Derivation::Hkdf(hkdf) => match hkdf.hash {
-                HmacHash::Sha256 => self.print_hkdf::<Sha256Stream>(hkdf, material),
-                HmacHash::Sha512 => self.print_hkdf::<Sha512Stream>(hkdf, material),
-                HmacHash::Blake2b => self.print_hkdf::<Blake2b512>(hkdf, material),
-                HmacHash::Blake2s => self.print_hkdf::<Blake2s256>(hkdf, material),
+                HmacHash::Sha256 => self.print_hkdf::<Sha256Stream>(hkdf, is_raw, material),
+                HmacHash::Sha512 => self.print_hkdf::<Sha512Stream>(hkdf, is_raw, material),
+                HmacHash::Blake2b => self.print_hkdf::<Blake2b512>(hkdf, is_raw, material),
+                HmacHash::Blake2s => self.print_hkdf::<Blake2s256>(hkdf, is_raw, material),
             },
             Derivation::Blake3 { context, length } => {
-                self.print_derived(context, *length, material)
+                self.print_derived(context, *length, is_raw, material)
             }
         }
     }
@@ -70,11 +72,12 @@ impl<'i, 't, 'o, L: Feed, T: Tree, W: Sink> Session<'i, 't, 'o, L, T, W> {
     fn print_hkdf<'n, H: BlockHash>(
         &mut self,
         hkdf: &Hkdf,
+        is_raw: bool,
         material: &'n str,
     ) -> Result<(), Fault<'n>>
         requires { hkdf.now.length ≤ 255 * H.OUT }
         ensures key { IfSome (T.files self.old.tree.now) (λ files.
-            PrintsDerived (spec.hkdf (function_with H.BLOCK H.OUT H.LIMIT H.hash_of) hkdf.now.length
+            PrintsDerived is_raw (spec.hkdf (function_with H.BLOCK H.OUT H.LIMIT H.hash_of) hkdf.now.length
             (option_map (λ v. v.items) hkdf.now.salt) hkdf.now.info.items)
             material.entry.now (files material.entry.now) result
             (W.shown self.old.out.now) (W.shown self.new.out.now)) }
@@ -83,7 +86,7 @@ impl<'i, 't, 'o, L: Feed, T: Tree, W: Sink> Session<'i, 't, 'o, L, T, W> {
         ensures same { SameStreams self.old self.new }
     {
         let prk = self.extracted::<H>(hkdf, material)?;
-        write_expanded::<H, W>(hkdf, prk.bytes(), self.out)
+        write_expanded::<H, W>(hkdf, prk.bytes(), is_raw, self.out)
     }
 
     // The pseudorandom key of a file's bytes.
@@ -112,10 +115,11 @@ impl<'i, 't, 'o, L: Feed, T: Tree, W: Sink> Session<'i, 't, 'o, L, T, W> {
         &mut self,
         context: &str,
         length: u64,
+        is_raw: bool,
         material: &'n str,
     ) -> Result<(), Fault<'n>>
         ensures key { IfSome (T.files self.old.tree.now) (λ files.
-            PrintsDerived (derived_by (by_blake3 context.now length))
+            PrintsDerived is_raw (derived_by (by_blake3 context.now length))
             material.entry.now (files material.entry.now) result
             (W.shown self.old.out.now) (W.shown self.new.out.now)) }
         ensures read { AfterFile material.entry.now result (⟦<Self as Streams>⟧.seen self.old)
@@ -124,8 +128,15 @@ impl<'i, 't, 'o, L: Feed, T: Tree, W: Sink> Session<'i, 't, 'o, L, T, W> {
     {
         let mut hasher = Blake3::derive(context.as_bytes());
         absorb_named(&mut hasher, material, self.tree)?;
-        Ok(write_output(hasher.output(), length, self.out)?)
+        Ok(write_output(hasher.output(), length, is_raw, self.out)?)
     }
+}
+
+// What is printed behind a key.
+fn line_end(is_raw: bool) -> &'static [u8]
+    ensures { result.now ≡ spec.line_end is_raw }
+{
+    if is_raw { b"" } else { b"\n" }
 }
 
 fn salt_of(hkdf: &Hkdf) -> Option<&[u8]>
@@ -137,24 +148,25 @@ fn salt_of(hkdf: &Hkdf) -> Option<&[u8]>
     }
 }
 
-// Writes the digits of the key that is expanded of a pseudorandom key. Its buffer is not on the
+// Writes the key that is expanded of a pseudorandom key. Its buffer is not on the
 // stack while a file is hashed.
 #[inline(never)]
 fn write_expanded<H: BlockHash, W: Sink>(
     hkdf: &Hkdf,
     prk: &[u8],
+    is_raw: bool,
     out: &mut W,
 ) -> Result<(), Fault<'static>>
     requires length { hkdf.now.length ≤ 255 * H.OUT }
     requires prk { length prk.now ≡ H.OUT }
-    ensures { PrintsKey (expanded (function_with H.BLOCK H.OUT H.LIMIT H.hash_of)
+    ensures { PrintsKey is_raw (expanded (function_with H.BLOCK H.OUT H.LIMIT H.hash_of)
         hkdf.now.length hkdf.now.info.items prk.now)
         result (W.shown out.old) (W.shown out.new) }
 {
     let mut key = [0; OUTPUT_LIMIT];
     let (key, _) = key.split_at_mut(hkdf.length);
     match expand::<H>(prk, hkdf.info.as_slice(), key) {
-        Ok(()) => Ok(write_digits(key, out)?),
+        Ok(()) => Ok(write_bytes(key, is_raw, out)?),
         Err(_) => Err(Fault::Usage(UsageFault::OutOfRange(Setting::Info))),
     }
 }

@@ -80,8 +80,9 @@ impl<'i, 't, 'o, L: Feed, T: Tree, W: Sink> Session<'i, 't, 'o, L, T, W> {
             Task::Mac { mac, key, file } => self.print_tag(mac, key, file),
             Task::Kdf {
                 derivation,
+                is_raw,
                 material,
-            } => self.print_key(&derivation, material),
+            } => self.print_key(&derivation, is_raw, material),
             Task::Check { kind, list } => self.print_report(kind, list),
         }
     }

@@ -72,22 +72,24 @@ files_rule = record file_rule { action = Some Append }
 abbrev pub with_rules : App → List Rule → App
 with_rules = fold with_rule
 
--- `hash -a ALG [-l N] [--seek N] [--parts N] [--salt HEX] [--personal HEX] [--tag] [FILE]..`
+-- `hash -a ALG [-l N] [--seek N] [--parts N] [--salt HEX] [--personal HEX] [--tag] [--raw] [FILE]..`
 abbrev pub hash_app : NameList → App
 hash_app names = with_rules (new_app (codes "hash"))
     (algorithm_rule names ∷ length_rule ∷ number_rule (codes "seek") ∷ number_rule (codes "parts")
-    ∷ text_rule (codes "salt") ∷ text_rule (codes "personal") ∷ flag_rule (codes "tag") ∷ files_rule ∷ [])
+    ∷ text_rule (codes "salt") ∷ text_rule (codes "personal") ∷ flag_rule (codes "tag") ∷ flag_rule (codes "raw")
+    ∷ files_rule ∷ [])
 
 -- `mac -a MAC [--key HEX] [--key-file F] [-l N] [FILE]`
 abbrev pub mac_app : NameList → App
 mac_app names = with_rules (new_app (codes "mac")) (algorithm_rule names ∷ text_rule (codes "key")
     ∷ text_rule (codes "key-file") ∷ length_rule ∷ file_rule ∷ [])
 
--- `kdf -a ALG --ikm-file F [--salt HEX] [--info HEX] [--context TEXT] -l N`
+-- `kdf -a ALG --ikm-file F [--salt HEX] [--info HEX] [--context TEXT] -l N [--raw]`
 abbrev pub kdf_app : NameList → App
 kdf_app names = with_rules (new_app (codes "kdf")) (algorithm_rule names
     ∷ required_rule (text_rule (codes "ikm-file")) ∷ text_rule (codes "salt")
-    ∷ text_rule (codes "info") ∷ text_rule (codes "context") ∷ required_rule length_rule ∷ [])
+    ∷ text_rule (codes "info") ∷ text_rule (codes "context") ∷ required_rule length_rule
+    ∷ flag_rule (codes "raw") ∷ [])
 
 -- `check -a ALG LIST`
 abbrev pub check_app : NameList → App
@@ -106,7 +108,7 @@ abbrev pub IsGiven : Text → List Row → Type 0
 IsGiven id rows = first_of id rows ≡ Some (codes "true")
 
 -- the words name the subcommand s.0 with the matches s.1, and r has its name, the first value of
--- each option, and whether the flag was given
+-- each option, and whether a flag was given
 pub record IsRequestOf (s : Text × List Row) (r : Request) : Type 0 where
   pub command : r.command.now ≡ s.0
   pub algorithm : option_map (λ t. t.now) r.algorithm ≡ first_of (codes "algorithm") s.1
@@ -114,6 +116,7 @@ pub record IsRequestOf (s : Text × List Row) (r : Request) : Type 0 where
   pub seek : option_map (λ t. t.now) r.seek ≡ first_of (codes "seek") s.1
   pub parts : option_map (λ t. t.now) r.parts ≡ first_of (codes "parts") s.1
   pub tag : IsTrue r.tag ↔ IsGiven (codes "tag") s.1
+  pub raw : IsTrue r.raw ↔ IsGiven (codes "raw") s.1
   pub key : option_map (λ t. t.now) r.key ≡ first_of (codes "key") s.1
   pub key_file : option_map (λ t. t.now) r.key_file ≡ first_of (codes "key-file") s.1
   pub ikm_file : option_map (λ t. t.now) r.ikm_file ≡ first_of (codes "ikm-file") s.1

@@ -1,12 +1,12 @@
 -- What a request of `hash` has printed, or the first fault of its settings.
-use Rattle.std.specs.Prelude.{ℕ, ◌+◌, ◌-◌, ◌^◌, ◌==◌, Bool, true, List, Option, None, Some, Result, Ok, Err, nat_le, if◌then◌else◌}
-use Rattle.std.specs.Prelude.{count_ones}
+use Rattle.std.specs.Prelude.{ℕ, ◌+◌, ◌-◌, ◌^◌, ◌==◌, ◌&&◌, Bool, true, List, length, Option, None, Some, Result, Ok, Err, nat_le}
+use Rattle.std.specs.Prelude.{count_ones, nat_lt, if◌then◌else◌}
 use Rattle.source.specs.declared.alg.Alg.{Alg}
 use Rattle.source.specs.declared.alg.Alg.TheVariants as alg
 use Rattle.sumlist.specs.declared.kind.Kind.{Kind}
 use Rattle.sumlist.specs.declared.kind.Kind.TheVariants as kind
-use Rattle.task.specs.Parameters.{◌>>=◌, ◌>>◌, absent, given, given_bytes, kind_of, needed, number, sized}
-use Rattle.task.specs.declared.fault.Setting.TheVariants.{Algorithm, Length, Parts, Personal, Salt, Seek}
+use Rattle.task.specs.Parameters.{◌>>=◌, ◌>>◌, absent, given, given_bytes, kind_of, needed, number, sized, unset}
+use Rattle.task.specs.declared.fault.Setting.TheVariants.{Algorithm, Length, Parts, Personal, Raw, Salt, Seek}
 use Rattle.task.specs.declared.fault.UsageFault.{UsageFault}
 use Rattle.task.specs.declared.fault.UsageFault.TheVariants.{OutOfRange}
 use Rattle.task.specs.declared.hashing.Hash.{Hash}
@@ -33,6 +33,7 @@ sha r a = do
   absent Seek (given r.seek)
   no_salts r
   absent Parts (given r.parts)
+  unset Raw r.raw
   Ok (whole (Plain a) r.tag)
 
 -- the bytes of salt and personalization: the digits of both are judged before the length of either
@@ -47,6 +48,7 @@ abbrev pub blake2_parameters : Request → ℕ → ℕ → Result (ℕ × List �
 blake2_parameters r most n = do
   absent Seek (given r.seek)
   absent Parts (given r.parts)
+  unset Raw r.raw
   length ← number Length (given r.length) most 1 most
   given ← salts r
   salt ← sized Salt n given.0
@@ -63,22 +65,25 @@ blake2s_digest r = blake2_parameters r 32 8 >>= (λ p. Ok (whole (Blake2s p.0 p.
 abbrev pub tagged_blake3 : Request → Result Requested UsageFault
 tagged_blake3 r = do
   no_salts r
+  unset Raw r.raw
   number Length (given r.length) 32 32 32
   number Seek (given r.seek) 0 0 0
   Ok (whole (Plain alg.Blake3) true)
 
 -- so many bytes from a position on, before the end of the output
-abbrev pub stretch_at : ℕ → ℕ → Result Stretch UsageFault
-stretch_at position n =
-    if nat_le (position + n) (2 ^ 64 - 1) then Ok (record { position = position; length = n })
+abbrev pub stretch_at : Bool → ℕ → ℕ → Result Stretch UsageFault
+stretch_at is_raw position n =
+    if nat_le (position + n) (2 ^ 64 - 1) then Ok (record { position = position; length = n; is_raw = is_raw })
     else Err (OutOfRange Seek)
 
+-- the bytes themselves are those of one file
 abbrev pub stretch_of : Request → Result Stretch UsageFault
 stretch_of r = do
   no_salts r
+  unset Raw (r.raw && nat_lt 1 (length r.files.items))
   n ← number Length (given r.length) 32 1 (2 ^ 64 - 1)
   position ← number Seek (given r.seek) 0 0 (2 ^ 64 - 1)
-  stretch_at position n
+  stretch_at r.raw position n
 
 abbrev pub blake3 : Request → Result Requested UsageFault
 blake3 r = if r.tag then tagged_blake3 r else (stretch_of r >>= (λ s. Ok (Output s)))

@@ -1,5 +1,5 @@
 -- What the text of a setting says, or its fault.
-use Rattle.std.specs.Prelude.{◌≡◌, ℕ, ◌==◌, ◌&&◌, ⊤, List, if◌then◌else◌, nat_le, nat_lt, length, replicate, option_map}
+use Rattle.std.specs.Prelude.{◌≡◌, ℕ, ◌==◌, ◌&&◌, ⊤, Bool, List, if◌then◌else◌, nat_le, nat_lt, length, replicate, option_map}
 use Rattle.std.specs.Prelude.{Option, Some, None, Result, Ok, Err, codes}
 use Rattle.std.specs.Borrow.{Bor}
 use Rattle.std.specs.Str.{all_ascii_digits, bytes_eq}
@@ -48,6 +48,10 @@ given text = option_map (λ t. t.now) text
 abbrev pub absent : Setting → Option Text → Result (Unit {0}) UsageFault
 absent setting None = Ok tt
 absent setting (Some text) = Err (NotForAlgorithm setting)
+
+-- a flag that it does not have
+abbrev pub unset : Setting → Bool → Result (Unit {0}) UsageFault
+unset setting is_given = if is_given then Err (NotForAlgorithm setting) else Ok tt
 
 -- a setting that has to be there
 abbrev pub needed : Setting → Option Text → Result Text UsageFault

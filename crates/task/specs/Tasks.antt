@@ -1,5 +1,5 @@
 -- What a request asks for, or the first fault of its settings.
-use Rattle.std.specs.Prelude.{⊤, ℕ, List, Vec, [], ◌∷◌, Option, Some, None, Result, Ok, Err, IfSome, codes, map, if◌then◌else◌}
+use Rattle.std.specs.Prelude.{⊤, ℕ, Bool, List, Vec, [], ◌∷◌, Option, Some, None, Result, Ok, Err, IfSome, codes, map, if◌then◌else◌}
 use Rattle.std.specs.Borrow.{Bor}
 use Rattle.std.specs.Str.{bytes_eq}
 use Rattle.clap.specs.Words.{Text}
@@ -23,7 +23,7 @@ use Rattle.task.specs.declared.tasks.Task.TheVariants as code
 pub data Asked : Type 0 where
   hashes : Requested → Option ℕ → List Text → Asked
   tags : Mac → KeyText → Text → Asked
-  derives : Derived → Text → Asked
+  derives : Derived → Bool → Text → Asked
   checks : Kind → Text → Asked
 
 -- the texts of some names
@@ -33,7 +33,7 @@ texts_of names = map (λ n. n.now) names.items
 abbrev pub task_shown : Task → Asked
 task_shown (code.Hash wanted parts files) = hashes wanted parts (texts_of files)
 task_shown (code.Mac mac key file) = tags mac (key_shown key) file.now
-task_shown (code.Kdf derivation material) = derives (derivation_shown derivation) material.now
+task_shown (code.Kdf derivation is_raw material) = derives (derivation_shown derivation) is_raw material.now
 task_shown (code.Check kind list) = checks kind list.now
 
 -- without a file standard input is hashed
@@ -70,7 +70,7 @@ abbrev pub kdf : Request → Result Asked UsageFault
 kdf r = do
   derived ← derivation r
   material ← needed IkmFile (given r.ikm_file)
-  Ok (derives derived material)
+  Ok (derives derived r.raw material)
 
 abbrev pub check : Request → Result Asked UsageFault
 check r = do
@@ -92,5 +92,5 @@ asked r =
 abbrev pub IsPossible : Task → Type 0
 IsPossible (code.Hash wanted parts files) = HasDigest wanted × IfSome parts IsPartSize
 IsPossible (code.Mac mac key file) = HasTag mac
-IsPossible (code.Kdf derivation material) = HasKey (derivation_shown derivation)
+IsPossible (code.Kdf derivation is_raw material) = HasKey (derivation_shown derivation)
 IsPossible (code.Check kind list) = ⊤

@@ -1,5 +1,5 @@
 -- The texts that tell what is wrong with a request.
-use Rattle.std.specs.Prelude.{List, [], codes}
+use Rattle.std.specs.Prelude.{[], codes}
 use Rattle.clap.specs.Words.{Text}
 use Rattle.task.specs.declared.fault.Setting.{Setting}
 use Rattle.task.specs.declared.fault.Setting.TheVariants as setting
@@ -14,6 +14,7 @@ setting_text setting.Algorithm = codes "-a"
 setting_text setting.Length = codes "-l"
 setting_text setting.Seek = codes "--seek"
 setting_text setting.Parts = codes "--parts"
+setting_text setting.Raw = codes "--raw"
 setting_text setting.Salt = codes "--salt"
 setting_text setting.Personal = codes "--personal"
 setting_text setting.Key = codes "--key"

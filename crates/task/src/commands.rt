@@ -2,7 +2,7 @@
 
 ghost use Rattle.std.specs.Prelude.{◌≡◌, [], ◌∷◌, codes, IfOk};
 ghost use Rattle.clap.specs.Words.{app_of, new_app};
-ghost use Rattle.task.specs.CommandLine.{check_app, hash_app, kdf_app, mac_app, sums_app, text_rule, with_rules};
+ghost use Rattle.task.specs.CommandLine.{check_app, flag_rule, hash_app, kdf_app, mac_app, sums_app, text_rule, with_rules};
 
 use crate::arguments::{
     algorithm_option, file_argument, files_argument, flag_option, length_option, number_option,
@@ -73,14 +73,11 @@ fn hash_command<'a>(alloc: Global, names: &'a [&'a str]) -> Result<Command<'a>, 
              are joined, for blake3 alone: a power of two from 1 to\n\
              1024. The line is the same for each N and without it",
     ))?;
-    with_salt_options(alloc, command)?
-        .arg(flag_option(
-            alloc,
-            "tag",
-            "Prints lines that name their algorithm, as\n\
-             SHA256 (FILE) = DIGITS; of blake3 the first 32 bytes",
-        ))?
-        .arg(files_argument(alloc, "The files, each - standard input [default: -]"))
+    let command = with_salt_options(alloc, command)?;
+    with_form_options(alloc, command)?.arg(files_argument(
+        alloc,
+        "The files, each - standard input [default: -]",
+    ))
 }
 
 // What separates the uses of BLAKE2.
@@ -102,6 +99,26 @@ fn with_salt_options<'a>(alloc: Global, command: Command<'a>) -> Result<Command<
             "HEX",
             "The personalization in hexadecimal digits, as long as\n\
              the salt, for blake2b and blake2s alone [default: zeros]",
+        ))
+}
+
+// How a digest is printed.
+fn with_form_options<'a>(alloc: Global, command: Command<'a>) -> Result<Command<'a>, AllocError>
+    ensures { IfOk result (λ c. app_of c ≡ with_rules (app_of command.entry)
+        (flag_rule (codes "tag") ∷ flag_rule (codes "raw") ∷ [])) }
+{
+    command
+        .arg(flag_option(
+            alloc,
+            "tag",
+            "Prints lines that name their algorithm, as\n\
+             SHA256 (FILE) = DIGITS; of blake3 the first 32 bytes",
+        ))?
+        .arg(flag_option(
+            alloc,
+            "raw",
+            "Prints the bytes of the output as they are, without name\n\
+             and line end, for blake3 alone and at most one FILE",
         ))
 }
 
@@ -166,11 +183,18 @@ fn kdf_command<'a>(alloc: Global, names: &'a [&'a str]) -> Result<Command<'a>, A
         "F",
         "The file whose bytes are the key material",
     )))?;
-    with_derivation_options(alloc, command)?.arg(required(length_option(
-        alloc,
-        "The key's length in bytes: sha256 and blake2s 1 to 8160,\n\
+    with_derivation_options(alloc, command)?
+        .arg(required(length_option(
+            alloc,
+            "The key's length in bytes: sha256 and blake2s 1 to 8160,\n\
              sha512 and blake2b 1 to 16320, blake3 1 to 2^64 - 1",
-    )))
+        )))?
+        .arg(flag_option(
+            alloc,
+            "raw",
+            "Prints the bytes of the key as they are, without a line\n\
+             end, in place of its digits",
+        ))
 }
 
 // What a derived key depends on beside the key material.

@@ -19,6 +19,8 @@ pub enum Setting {
     Seek,
     /// `--parts`.
     Parts,
+    /// `--raw`.
+    Raw,
     /// `--salt`.
     Salt,
     /// `--personal`.
@@ -88,6 +90,7 @@ impl Setting {
             Setting::Length => "-l",
             Setting::Seek => "--seek",
             Setting::Parts => "--parts",
+            Setting::Raw => "--raw",
             Setting::Salt => "--salt",
             Setting::Personal => "--personal",
             Setting::Key => "--key",

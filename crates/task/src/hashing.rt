@@ -6,7 +6,7 @@ ghost use Rattle.task.specs.Parameters.{Judges};
 ghost use Rattle.task.specs.Requested.{HasDigest, IsPartSize, IsWithin, names_algorithm};
 
 use crate::fault::{Setting, TaskFault, UsageFault};
-use crate::parameters::{given_bytes, kind_of, needed, number, refused, sized};
+use crate::parameters::{given_bytes, kind_of, needed, number, refused, refused_flag, sized};
 use crate::request::Request;
 use source::Alg;
 use std::alloc::Global;
@@ -34,11 +34,13 @@ pub enum Hash {
     Blake2s(usize, [u8; 8], [u8; 8]),
 }
 
-/// Bytes of an output, from a position on: at least one, and none past position 2^64 - 1.
+/// Bytes of an output, from a position on: at least one, and none past position 2^64 - 1. They are
+/// printed as they are, or as a line of their digits.
 #[derive(Clone, Copy, Debug, PartialEq, Eq)]
 pub struct Stretch {
     pub position: u64,
     pub length: u64,
+    pub is_raw: bool,
 }
 
 impl Requested {
@@ -72,6 +74,7 @@ fn sha(request: &Request<'_>, alg: Alg) -> Result<Requested, UsageFault>
     refused(Setting::Seek, request.seek)?;
     unsalted(request)?;
     refused(Setting::Parts, request.parts)?;
+    refused_flag(Setting::Raw, request.raw)?;
     Ok(whole(Hash::Plain(alg), request.tag))
 }
 
@@ -111,6 +114,7 @@ fn blake2_parameters<const N: usize>(
 {
     refused(Setting::Seek, request.seek)?;
     refused(Setting::Parts, request.parts)?;
+    refused_flag(Setting::Raw, request.raw)?;
     let length = number(Setting::Length, request.length, most as u64, 1, most as u64)? as usize;
     let (salt, personal) = salts(alloc, request)?;
     let salt = sized(Setting::Salt, salt)?;
@@ -137,6 +141,7 @@ fn tagged_blake3(request: &Request<'_>) -> Result<Requested, UsageFault>
     ensures { result ≡ spec.tagged_blake3 request.now }
 {
     unsalted(request)?;
+    refused_flag(Setting::Raw, request.raw)?;
     number(Setting::Length, request.length, 32, 32, 32)?;
     number(Setting::Seek, request.seek, 0, 0, 0)?;
     Ok(whole(Hash::Plain(Alg::Blake3), true))
@@ -147,12 +152,17 @@ fn stretch_of(request: &Request<'_>) -> Result<Stretch, UsageFault>
     ensures ends { IfOk result IsWithin }
 {
     unsalted(request)?;
+    refused_flag(Setting::Raw, request.raw && request.files.len() > 1)?;
     let length = number(Setting::Length, request.length, 32, 1, u64::MAX)?;
     let position = number(Setting::Seek, request.seek, 0, 0, u64::MAX)?;
     if position > u64::MAX - length {
         return Err(UsageFault::OutOfRange(Setting::Seek));
     }
-    Ok(Stretch { position, length })
+    Ok(Stretch {
+        position,
+        length,
+        is_raw: request.raw,
+    })
 }
 
 /// Of how many chunks the parts are that files are hashed in, where that was asked for.

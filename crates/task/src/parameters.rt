@@ -56,6 +56,17 @@ pub(crate) fn refused(setting: Setting, text: Option<&str>) -> Result<(), UsageF
     }
 }
 
+/// Refuses a flag that the algorithm does not have.
+pub(crate) fn refused_flag(setting: Setting, is_given: bool) -> Result<(), UsageFault>
+    ensures { result ≡ spec.unset setting is_given }
+{
+    if is_given {
+        Err(UsageFault::NotForAlgorithm(setting))
+    } else {
+        Ok(())
+    }
+}
+
 /// The text of a setting that has to be there.
 pub(crate) fn needed<'a>(setting: Setting, text: Option<&'a str>) -> Result<&'a str, UsageFault>
     ensures { seen (λ t. t.now) result ≡ spec.needed setting (given text.entry) }

@@ -44,6 +44,8 @@ pub struct Request<'a> {
     pub parts: Option<&'a str>,
     /// Whether `--tag` was given.
     pub tag: bool,
+    /// Whether `--raw` was given.
+    pub raw: bool,
     /// The text of `--key`.
     pub key: Option<&'a str>,
     /// The text of `--key-file`.
@@ -145,6 +147,7 @@ fn request_of<'a>(
         seek: text_of(matches, "seek"),
         parts: text_of(matches, "parts"),
         tag: is_given(matches, "tag"),
+        raw: is_given(matches, "raw"),
         key: text_of(matches, "key"),
         key_file: text_of(matches, "key-file"),
         ikm_file: text_of(matches, "ikm-file"),

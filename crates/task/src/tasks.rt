@@ -31,9 +31,10 @@ pub enum Task<'a> {
         key: Key<'a>,
         file: &'a str,
     },
-    /// Print the key that is derived of a file's bytes. Here `-` is a file.
+    /// Print the key that is derived of a file's bytes, in digits or as it is. Here `-` is a file.
     Kdf {
         derivation: Derivation<'a>,
+        is_raw: bool,
         material: &'a str,
     },
     /// Report on a list, whose untagged lines are of this hash.
@@ -102,6 +103,7 @@ fn kdf<'a>(alloc: Global, request: &Request<'a>) -> Result<Task<'a>, TaskFault>
     let material = needed(Setting::IkmFile, request.ikm_file)?;
     Ok(Task::Kdf {
         derivation,
+        is_raw: request.raw,
         material,
     })
 }

@@ -1,13 +1,12 @@
 -- What `mac` and `kdf` printed, by the answer of a function.
-use Rattle.std.specs.Prelude.{◌⊎◌, ◌≡◌, ◌≤◌, ◌-◌, ℕ, List, Option, Ok, Err, Result, MatchResult, IsSomeAnd, length}
+use Rattle.std.specs.Prelude.{◌⊎◌, ◌≡◌, ◌≤◌, ◌-◌, ℕ, Bool, List, Option, Ok, Err, Result, MatchResult, IsSomeAnd, length}
 use Rattle.clap.specs.Words.{Text}
-use Rattle.hex.specs.Hex.{encode_lower}
 use Rattle.kdf.specs.Hkdf.{extract, salt_or_zeros}
 use Rattle.source.specs.Written.{Shown}
 use Rattle.task.specs.declared.fault.Setting.TheVariants.{Salt}
 use Rattle.task.specs.declared.fault.UsageFault.TheVariants.{OutOfRange}
 use Rattle.command.specs.Keying.{Deriving, Function}
-use Rattle.command.specs.Lines.{Lining, MayRefuse}
+use Rattle.command.specs.Lines.{Lining, MayRefuse, printed}
 use Rattle.command.specs.Troubles.{Trouble, trouble_of, usage}
 use Rattle.command.specs.declared.fault.Fault.{Fault}
 use Rattle.command.specs.inside.Printing.{PrintsLine, PrintsText}
@@ -26,10 +25,10 @@ abbrev pub PrintsTag : {T : Type 0} → Result Lining Trouble → Text → Optio
 PrintsTag (Ok l) name content r old new = PrintsLine l name content r old new
 PrintsTag (Err t) name content r old new = Refuses t r old new
 
--- the digits of a key were printed, or the trouble told that comes in its place
-abbrev pub PrintsKey : {T : Type 0} → Result (List ℕ) Trouble → Result T Fault → Shown → Shown → Type 0
-PrintsKey (Ok key) r old new = PrintsText r old new (encode_lower key)
-PrintsKey (Err t) r old new = Refuses t r old new
+-- a key was printed, or the trouble told that comes in its place
+abbrev pub PrintsKey : {T : Type 0} → Bool → Result (List ℕ) Trouble → Result T Fault → Shown → Shown → Type 0
+PrintsKey is_raw (Ok key) r old new = PrintsText r old new (printed is_raw key)
+PrintsKey is_raw (Err t) r old new = Refuses t r old new
 
 -- a pseudorandom key was extracted of what a name gives, or a fault tells why not
 abbrev pub Extracts : Function → Option (List ℕ) → Text → Option (List ℕ) → Result (List ℕ) Fault → Type 0
@@ -40,10 +39,10 @@ Extracts f salt name content r =
     ⊎ ((length (salt_or_zeros f.out salt) ≤ f.limit → ⊥) × MatchResult r (λ _. ⊥)
     (λ fault. trouble_of fault ≡ usage (OutOfRange Salt)))
 
--- the digits of the key that is derived of what a name gives were printed, or a fault tells why not
-abbrev pub PrintsDerived : {T : Type 0} → Result Deriving Trouble → Text → Option (List ℕ) → Result T Fault
+-- the key that is derived of what a name gives was printed, or a fault tells why not
+abbrev pub PrintsDerived : {T : Type 0} → Bool → Result Deriving Trouble → Text → Option (List ℕ) → Result T Fault
     → Shown → Shown → Type 0
-PrintsDerived (Ok d) name content r old new =
-    IsSomeAnd content (λ m. (length m ≤ d.limit) × PrintsKey (d.key m) r old new)
+PrintsDerived is_raw (Ok d) name content r old new =
+    IsSomeAnd content (λ m. (length m ≤ d.limit) × PrintsKey is_raw (d.key m) r old new)
     ⊎ (MatchResult r (λ _. ⊥) (λ fault. MayRefuse d.limit name content (trouble_of fault)) × (new ≡ old))
-PrintsDerived (Err t) name content r old new = Refuses t r old new
+PrintsDerived is_raw (Err t) name content r old new = Refuses t r old new

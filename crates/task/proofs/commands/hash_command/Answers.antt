@@ -1,7 +1,7 @@
 use Rattle.std.proofs.Common.{◌∙◌, [], ◌∷◌, codes, ap, ap₂}
 use Rattle.std.proofs.lemmas.Result.{IfOk-weaker}
 use Rattle.clap.specs.Words.{App, with_rule}
-use Rattle.task.specs.CommandLine.{text_rule, with_rules}
+use Rattle.task.specs.CommandLine.{flag_rule, text_rule, with_rules}
 use Rattle.task.proofs.commands.hash_command.Goals as goal
 
 pub returns : goal.returns
@@ -15,9 +15,9 @@ returns c =
     let with_parts = c.in_ok-command.ensures.shape c.number_option-2.ensures.local
     ∙ ap₂ with_rule with_3 c.number_option-2.ensures.rule in
     let salts = text_rule (codes "salt") ∷ text_rule (codes "personal") ∷ [] in
-    let with_4 = c.in_ok-with_salt_options.ensures ∙ ap (λ (a : App). with_rules a salts) with_parts in
-    let with_5 = c.in_ok-arg-4.ensures.shape c.flag_option.ensures.local
-    ∙ ap₂ with_rule with_4 c.flag_option.ensures.rule in
-    IfOk-weaker c.arg-6.result _ _
+    let with_4 = c.in_ok-command-2.ensures ∙ ap (λ (a : App). with_rules a salts) with_parts in
+    let forms = flag_rule (codes "tag") ∷ flag_rule (codes "raw") ∷ [] in
+    let with_5 = c.in_ok-with_form_options.ensures ∙ ap (λ (a : App). with_rules a forms) with_4 in
+    IfOk-weaker c.arg-5.result _ _
     (λ r h. h.shape c.files_argument.ensures.local ∙ ap₂ with_rule with_5 c.files_argument.ensures.rule)
-    c.arg-6.ensures
+    c.arg-5.ensures

@@ -3,25 +3,26 @@ use Rattle.task.specs.Deriving.{derivation_shown}
 use Rattle.command.proofs.Deriving.{derives_printed, derives_stopped, unended}
 use Rattle.command.proofs.session.Session.print_key.Goals as goal
 
-pub returns-in_err-print_digits-clause-course : goal.returns-in_err-print_digits-clause-course
-returns-in_err-print_digits-clause-course g c =
-    let told = c.in_err-print_digits in
-    derives_stopped (derivation_shown c.args.derivation.now) c.args.material.now (Unit {0})
+pub returns-in_err-print_bytes-clause-course : goal.returns-in_err-print_bytes-clause-course
+returns-in_err-print_bytes-clause-course g c =
+    let told = c.in_err-print_bytes in
+    derives_stopped (derivation_shown c.args.derivation.now) c.args.is_raw c.args.material.now (Unit {0})
     _ _ told.field-0.0 _ _ _ _ _ _ _
     told.ensures.key told.ensures.read.counted c.from_residual.ensures.1
-    c.print_digits.ensures.read.input_failures
+    c.print_bytes.ensures.read.input_failures
 
 pub returns-in_err-write_all-clause-course : goal.returns-in_err-write_all-clause-course
 returns-in_err-write_all-clause-course g c =
-    let printed = c.in_ok-print_digits in
-    derives_printed (derivation_shown c.args.derivation.now) c.args.material.now _ _ tt _ _ _ _ _ _ _ _
+    let printed = c.in_ok-print_bytes in
+    derives_printed (derivation_shown c.args.derivation.now) c.args.is_raw c.args.material.now _ _ tt _ _ _ _ _ _ _ _
     printed.ensures.key printed.ensures.read.counted
-    (unended _ _ _ c.from_residual-in_err-write_all.ensures.1 c.in_err-write_all.ensures)
-    c.print_digits.ensures.read.input_failures
+    (unended c.args.is_raw _ _ _ c.from_residual-in_err-write_all.ensures.1
+    (rw c.line_end.ensures at c.in_err-write_all.ensures))
+    c.print_bytes.ensures.read.input_failures
 
 pub returns-clause-course : goal.returns-clause-course
 returns-clause-course g c =
-    let printed = c.in_ok-print_digits in
-    derives_printed (derivation_shown c.args.derivation.now) c.args.material.now _ _ tt _ _ _ _ _ _ _ _
-    printed.ensures.key printed.ensures.read.counted (refl, c.in_ok-write_all.ensures)
-    c.print_digits.ensures.read.input_failures
+    let printed = c.in_ok-print_bytes in
+    derives_printed (derivation_shown c.args.derivation.now) c.args.is_raw c.args.material.now _ _ tt _ _ _ _ _ _ _ _
+    printed.ensures.key printed.ensures.read.counted (refl, rw c.line_end.ensures at c.in_ok-write_all.ensures)
+    c.print_bytes.ensures.read.input_failures
