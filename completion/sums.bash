@@ -46,12 +46,12 @@ _sums() {
         --key-file | --ikm-file)
             _sums_files
             return ;;
-        -l | --seek | --salt | --personal | --key | --info | --context)
+        -l | --seek | --salt | --personal | --key | --verify | --info | --context)
             return ;;
     esac
     case $command:$word in
         hash:-*) _sums_words '-a -l --seek --parts --salt --personal --tag --raw -h --help' "$word" ;;
-        mac:-*) _sums_words '-a -l --key --key-file -h --help' "$word" ;;
+        mac:-*) _sums_words '-a -l --key --key-file --verify -h --help' "$word" ;;
         kdf:-* | kdf:) _sums_words '-a -l --ikm-file --salt --info --context --raw -h --help' "$word" ;;
         check:-*) _sums_words '-a -h --help' "$word" ;;
         hash:* | mac:* | check:*) _sums_files ;;

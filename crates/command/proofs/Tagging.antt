@@ -2,7 +2,6 @@
 use Rattle.std.proofs.Common.{◌≡◌, ◌∙◌, ℕ, ◌≤◌, List, [], length, Option, Some, None, false, Result, Ok, Err, IfSome}
 use Rattle.std.proofs.Common.{refl, sym, ap, inl, inr, subst}
 use Rattle.std.specs.Prelude.{IsErrAnd, IsSomeAnd, MatchResult, ◌++◌}
-use Rattle.std.proofs.lemmas.Result.{err_from_is_err_and}
 use Rattle.clap.specs.Words.{Text}
 use Rattle.hex.specs.Hex.{encode_lower}
 use Rattle.source.specs.Counts.{count_after}
@@ -19,15 +18,11 @@ use Rattle.command.specs.Lines.{Lining, Stands, content_of, is_input, tag_line}
 use Rattle.command.specs.Troubles.{Trouble, cannot_write, key_length, trouble_of}
 use Rattle.command.specs.declared.fault.Fault.{Fault}
 use Rattle.command.specs.declared.fault.Fault.TheVariants.{CannotWrite}
-use Rattle.command.specs.inside.Keys.{PrintsTag}
+use Rattle.command.specs.inside.Keys.{PrintsAnswer, PrintsTag}
 use Rattle.command.specs.inside.Printing.{PrintsLine, PrintsText}
 use Rattle.command.specs.inside.Reading.{failed}
 use Rattle.command.proofs.Printing.{text_failed}
 use Rattle.command.proofs.Refused.{Counted-after, Counted-file, Counted-quiet, Counted-told, Takes-refused, tell-other}
-
--- an answer of a run that ends as this one of a function did
-abbrev pub Ends : {T : Type 0} → Result T Fault → Result ℕ Fault → Type 0
-Ends r answer = MatchResult r (λ _. answer ≡ Ok 0) (λ fault. IsErrAnd answer (λ g. g ≡ fault))
 
 -- a course was taken that passes nothing over
 abbrev pub Taken : (Course → Type 0) → Result ℕ Fault → (old new : Shown) → (i j u v : ℕ) → Type 0
@@ -35,46 +30,44 @@ Taken P answer old new i j u v =
     (course : Course) × P course × Takes course answer old new × (course.passed ≡ []) × Counted course.failures i j u v
 
 -- the one line of a command
-line_taken : {T : Type 0} (l : Lining) (name : Text) (input : List ℕ) (files : Files) (r : Result T Fault)
-    (answer : Result ℕ Fault) (old new : Shown) (i j u v : ℕ) → Ends r answer
-    → PrintsLine l name (content_of name input files) r old new
-    → Counted (failed (is_input name) (content_of name input files) r) i j u v
-    → Taken (LineRuns l name input files) answer old new i j u v
-line_taken l name input files (Ok x) answer old new i j u v ends (inl p) counted = (
-  record { text = p.0; passed = []; ending = Ok 0; failures = no_failures },
-  inl (p.0, p.1, inl refl),
-  rw ends (record { ending = refl; out = p.2 }),
+line_taken : (wanted : Option (List ℕ)) (l : Lining) (name : Text) (input : List ℕ) (files : Files)
+    (answer : Result ℕ Fault) (old new : Shown) (i j u v : ℕ)
+    → PrintsAnswer wanted (Ok l) name (content_of name input files) answer old new
+    → Counted (failed (is_input name) (content_of name input files) answer) i j u v
+    → Taken (LineRuns wanted l name input files) answer old new i j u v
+line_taken wanted l name input files (Ok s) old new i j u v (inl p) counted = (
+  record { text = p.1; passed = []; ending = Ok p.2; failures = no_failures },
+  inl (p.0, p.1, p.2, p.3, p.4, inl refl),
+  record { ending = ap Ok (sym p.5); out = p.6 },
   refl,
   Counted-quiet (is_input name) i j u v counted,
 )
-line_taken l name input files (Ok x) answer old new i j u v ends (inr p) counted = absurd p.0
-line_taken l name input files (Err f) answer old new i j u v ends (inl p) counted =
-    let e = err_from_is_err_and answer ends in
-    let is : trouble_of f ≡ cannot_write = p.2.0 in
-    let told : trouble_of e.0 ≡ cannot_write = ap trouble_of e.2 ∙ is in (
-      record { text = p.0; passed = []; ending = Err cannot_write; failures = no_failures },
-      inl (p.0, p.1, inr refl),
-      rw e.1 (record { ending = ap Err (sym told); out = p.2.1 }),
+line_taken wanted l name input files (Ok s) old new i j u v (inr p) counted = absurd p.0
+line_taken wanted l name input files (Err f) old new i j u v (inl p) counted =
+    let is : trouble_of f ≡ cannot_write = p.6.0 in (
+      record { text = p.1; passed = []; ending = Err cannot_write; failures = no_failures },
+      inl (p.0, p.1, p.2, p.3, p.4, inr refl),
+      record { ending = ap Err (sym is); out = p.6.1 },
       refl,
       Counted-told (is_input name) (content_of name input files) (trouble_of f) cannot_write i j u v is refl counted,
     )
-line_taken l name input files (Err f) answer old new i j u v ends (inr p) counted =
+line_taken wanted l name input files (Err f) old new i j u v (inr p) counted =
     let content : Option (List ℕ) = content_of name input files in
     let failures : Failures = failures_of (is_input name) content (trouble_of f) in (
       refused_by (trouble_of f) failures,
       inr (trouble_of f, p.0, refl),
-      Takes-refused (trouble_of f) failures f answer old new ends refl
+      Takes-refused (trouble_of f) failures f (Err f) old new refl refl
           (tell-other (Stands l.place) l.limit name content (trouble_of f) p.0) p.1,
       refl,
       counted,
     )
 
-module _ (mac : Mac) (key_text : KeyText) (name : Text) where
+module _ (mac : Mac) (key_text : KeyText) (wanted : Option (List ℕ)) (name : Text) where
   -- what is to be shown of `mac`
   abbrev pub Tags : Option (List ℕ) → Option Files → Result ℕ Fault → (old new : Shown) → (i j u v : ℕ) → Type 0
   Tags first tree answer old new i j u v =
       IfSome first (λ input. IfSome tree (λ files.
-      Taken (MacRuns mac key_text name files input) answer old new i j u v))
+      Taken (MacRuns mac key_text wanted name files input) answer old new i j u v))
 
   -- no key was had
   pub tags_unkeyed : (first : Option (List ℕ)) (tree : Option Files) (f : Fault) (answer : Result ℕ Fault)
@@ -99,47 +92,48 @@ module _ (mac : Mac) (key_text : KeyText) (name : Text) where
       other (file n) may is = subst (λ (x : Trouble). MayRefuseFile n (files n) x) is may
 
   -- the lines under a key
-  under : {T : Type 0} (x : Result Lining Trouble) (files : Files) (input : List ℕ) (r : Result T Fault)
-      (answer : Result ℕ Fault) (old new : Shown) (i j u v : ℕ) → Ends r answer
+  under : (x : Result Lining Trouble) (files : Files) (input : List ℕ)
+      (answer : Result ℕ Fault) (old new : Shown) (i j u v : ℕ)
       → ((t : Trouble) → x ≡ Err t → t ≡ key_length)
-      → PrintsTag x name (content_of name input files) r old new
-      → Counted (failed (is_input name) (content_of name input files) r) i j u v
-      → Taken (λ course. MatchResult x (λ l. LineRuns l name input files course)
+      → PrintsAnswer wanted x name (content_of name input files) answer old new
+      → Counted (failed (is_input name) (content_of name input files) answer) i j u v
+      → Taken (λ course. MatchResult x (λ l. LineRuns wanted l name input files course)
       (λ t. course ≡ refused_by t no_failures))
       answer old new i j u v
-  under (Ok l) files input r answer old new i j u v ends only p counted =
-      line_taken l name input files r answer old new i j u v ends p counted
-  under (Err t) files input (Ok x) answer old new i j u v ends only p counted = absurd p.0
-  under (Err t) files input (Err f) answer old new i j u v ends only p counted =
+  under (Ok l) files input answer old new i j u v only p counted =
+      line_taken wanted l name input files answer old new i j u v p counted
+  under (Err t) files input (Ok x) old new i j u v only p counted = absurd p.0
+  under (Err t) files input (Err f) old new i j u v only p counted =
       let is : trouble_of f ≡ key_length = p.0 ∙ only t refl in (
         refused_by t no_failures,
         refl,
-        Takes-refused t no_failures f answer old new ends p.0 (λ e. cc (only t refl)) p.1,
+        Takes-refused t no_failures f (Err f) old new refl p.0 (λ e. cc (only t refl)) p.1,
         refl,
         Counted-told (is_input name) (content_of name input files) (trouble_of f) key_length i j u v is refl counted,
       )
 
   -- a key was had, and the answer is that of its line
-  pub tags_keyed : {T : Type 0} (first later : Option (List ℕ)) (tree then_tree : Option Files) (key : List ℕ)
-      (r : Result T Fault) (answer : Result ℕ Fault) (old mid new : Shown) (i h j u v w : ℕ) → Ends r answer
+  pub tags_keyed : (first later : Option (List ℕ)) (tree then_tree : Option Files) (key : List ℕ)
+      (answer : Result ℕ Fault) (old mid new : Shown) (i h j u v w : ℕ)
       → later ≡ first → then_tree ≡ tree → mid ≡ old → h ≡ i
       → IfSome tree (λ files. IsKey files key_text key) → IfSome tree (λ files. v ≡ count_after u 0)
       → ((t : Trouble) → mac_line mac key ≡ Err t → t ≡ key_length)
       → IfSome later (λ input. IfSome then_tree (λ files.
-      PrintsTag (mac_line mac key) name (content_of name input files) r mid new))
+      PrintsAnswer wanted (mac_line mac key) name (content_of name input files) answer mid new))
       → IfSome later (λ input. IfSome then_tree (λ files.
-      Counted (failed (is_input name) (content_of name input files) r) h j v w))
+      Counted (failed (is_input name) (content_of name input files) answer) h j v w))
       → Tags first tree answer old new i j u w
-  tags_keyed None later tree then_tree key r answer old mid new i h j u v w ends a b c d is none only p counted = tt
-  tags_keyed (Some input) later None then_tree key r answer old mid new i h j u v w ends a b c d is none only p
+  tags_keyed None later tree then_tree key answer old mid new i h j u v w a b c d is none only p counted = tt
+  tags_keyed (Some input) later None then_tree key answer old mid new i h j u v w a b c d is none only p
       counted = tt
-  tags_keyed (Some input) later (Some files) then_tree key r answer old mid new i h j u v w ends a b c d is none only
+  tags_keyed (Some input) later (Some files) then_tree key answer old mid new i h j u v w a b c d is none only
       p counted =
       let x : Result Lining Trouble = mac_line mac key in
-      let line : PrintsTag x name (content_of name input files) r old new = rw c at (rw b at (rw a at p)) in
-      let behind : Counted (failed (is_input name) (content_of name input files) r) h j v w =
+      let line : PrintsAnswer wanted x name (content_of name input files) answer old new =
+      rw c at (rw b at (rw a at p)) in
+      let behind : Counted (failed (is_input name) (content_of name input files) answer) h j v w =
       rw b at (rw a at counted) in
-      let t = under x files input r answer old new h j v w ends only line behind in (
+      let t = under x files input answer old new h j v w only line behind in (
         t.0,
         inr (key, is, t.1),
         t.2,

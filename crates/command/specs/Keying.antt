@@ -1,5 +1,5 @@
 -- The courses of `mac` and `kdf`.
-use Rattle.std.specs.Prelude.{◌⊎◌, ◌≡◌, ℕ, ◌+◌, ◌-◌, ◌*◌, ◌^◌, ◌<◌, ◌≤◌, ◌==◌, ◌&&◌, ⊤, Bool, true, false, nat_le, List, [], ◌∷◌}
+use Rattle.std.specs.Prelude.{◌⊎◌, ◌≡◌, ◌≢◌, ℕ, ◌+◌, ◌-◌, ◌*◌, ◌^◌, ◌<◌, ◌≤◌, ◌==◌, ◌&&◌, ⊤, Bool, true, false, nat_le, List, [], ◌∷◌}
 use Rattle.std.specs.Prelude.{◌++◌, length, take, Option, Some, None, Result, Ok, Err, MatchResult, IsSomeAnd}
 use Rattle.std.specs.Prelude.{if◌then◌else◌}
 use Rattle.b3.specs.Bytes.{slice}
@@ -11,7 +11,9 @@ use Rattle.mac.specs.Hmac.{hmac}
 use Rattle.sha2.specs.Sha256.{sha256}
 use Rattle.sha2.specs.Sha512.{sha512}
 use Rattle.words.specs.Blake2.{blake2b, blake2s}
-use Rattle.sumlist.specs.Report.{Files}
+use Rattle.sumlist.specs.Escape.{escaped}
+use Rattle.sumlist.specs.Report.{Files, verdict_text}
+use Rattle.sumlist.specs.declared.verdict.Verdict.TheVariants.{Matches, Differs}
 use Rattle.task.specs.Deriving.{Derived, by_blake3, by_hkdf}
 use Rattle.task.specs.Tagging.{KeyText, bytes, file}
 use Rattle.task.specs.declared.fault.Setting.TheVariants.{Info, Salt}
@@ -21,7 +23,8 @@ use Rattle.task.specs.declared.parameters.HmacHash.TheVariants as hash
 use Rattle.task.specs.declared.tagging.Mac.{Mac}
 use Rattle.task.specs.declared.tagging.Mac.TheVariants.{Hmac, Blake2b, Blake2s, Blake3}
 use Rattle.command.specs.Course.{Course, failures_of, no_failures, refused_by}
-use Rattle.command.specs.Lines.{IsLine, Lining, MayRefuse, MayTell, Stands, content_of, is_input, printed, tag_line}
+use Rattle.command.specs.Lines.{IsLine, Lining, MayRefuse, MayTell, Stands, content_of, is_input, line_beside, printed}
+use Rattle.command.specs.Lines.{tag_line}
 use Rattle.command.specs.Troubles.{Trouble, cannot_read, cannot_write, key_file_too_long, key_length, out_of_memory}
 use Rattle.command.specs.Troubles.{usage}
 
@@ -41,10 +44,10 @@ function_of hash.Blake2b =
 function_of hash.Blake2s =
     record { block = 64; out = 32; limit = 2 ^ 64 - 1; hash = blake2 blake2s (unsalted blake2s 32 []) }
 
--- a text was printed whole, or after `cannot_write` a beginning of it
-abbrev pub Prints : Text → Course → Type 0
-Prints text course =
-    (course ≡ record { text = text; passed = []; ending = Ok 0; failures = no_failures })
+-- a text was printed whole, with this status, or after `cannot_write` a beginning of it
+abbrev pub Prints : Text → ℕ → Course → Type 0
+Prints text status course =
+    (course ≡ record { text = text; passed = []; ending = Ok status; failures = no_failures })
     ⊎ (course ≡ record { text = text; passed = []; ending = Err cannot_write; failures = no_failures })
 
 -- the key of a run: of a file with at most 65,536 bytes, or given
@@ -90,20 +93,29 @@ mac_line (Blake2s n) key =
 mac_line (Blake3 n) key =
     if length key == 32 then Ok (tag_line 64 (2 ^ 64 - 1) (λ m. slice (keyed_root key m) 0 n)) else Err key_length
 
--- one line of a name, or the trouble that comes before it
-abbrev pub LineRuns : Lining → Text → List ℕ → Files → Course → Type 0
-LineRuns l name input files course =
-    ((line : Text) × IsLine l name (content_of name input files) line × Prints line course)
+-- what is printed for the line of a tag, and the status: the line itself, or where a tag is wanted whether the line is
+-- that tag's, as a report says it
+abbrev pub IsAnswer : Option (List ℕ) → Text → Text → Text → ℕ → Type 0
+IsAnswer None name line text status = (text ≡ line) × (status ≡ 0)
+IsAnswer (Some tag) name line text status =
+    ((line ≡ line_beside name tag) × (text ≡ escaped name ++ verdict_text Matches) × (status ≡ 0))
+    ⊎ ((line ≢ line_beside name tag) × (text ≡ escaped name ++ verdict_text Differs) × (status ≡ 1))
+
+-- one line of a name, or what is printed for it, or the trouble that comes before it
+abbrev pub LineRuns : Option (List ℕ) → Lining → Text → List ℕ → Files → Course → Type 0
+LineRuns wanted l name input files course =
+    ((line : Text) × (text : Text) × (status : ℕ) × IsLine l name (content_of name input files) line
+    × IsAnswer wanted name line text status × Prints text status course)
     ⊎ ((t : Trouble) × MayTell (Stands l.place) l.limit name (content_of name input files) t
     × (course ≡ refused_by t (failures_of (is_input name) (content_of name input files) t)))
 
 -- the course of `mac`: the key first, then the tags under it, then the line
-abbrev pub MacRuns : Mac → KeyText → Text → Files → List ℕ → Course → Type 0
-MacRuns mac key_text name files input course =
+abbrev pub MacRuns : Mac → KeyText → Option (List ℕ) → Text → Files → List ℕ → Course → Type 0
+MacRuns mac key_text wanted name files input course =
     ((t : Trouble) × MayRefuseKey files key_text t
     × (course ≡ refused_by t (failures_of false (key_content files key_text) t)))
     ⊎ ((key : List ℕ) × IsKey files key_text key × MatchResult (mac_line mac key)
-    (λ l. LineRuns l name input files course) (λ t. course ≡ refused_by t no_failures))
+    (λ l. LineRuns wanted l name input files course) (λ t. course ≡ refused_by t no_failures))
 
 -- how a key is derived of material: the longest material, and the derived bytes, or a trouble
 pub record Deriving : Type 0 where
@@ -140,7 +152,7 @@ line_end false = 10 ∷ []
 abbrev pub DerivesFrom : Bool → Deriving → Text → Option (List ℕ) → Course → Type 0
 DerivesFrom is_raw d name content course =
     IsSomeAnd content (λ m. (length m ≤ d.limit) × MatchResult (d.key m)
-    (λ key. Prints (printed is_raw key ++ line_end is_raw) course) (λ t. course ≡ refused_by t no_failures))
+    (λ key. Prints (printed is_raw key ++ line_end is_raw) 0 course) (λ t. course ≡ refused_by t no_failures))
     ⊎ ((t : Trouble) × MayRefuse d.limit name content t × (course ≡ refused_by t (failures_of false content t)))
 
 -- the course of `kdf`, where `-` is a file

@@ -51,12 +51,16 @@ pub record Lining : Type 0 where
   pub limit : ℕ
   pub text : Text → List ℕ → Text
 
+-- the line of a name and these bytes in digits
+abbrev pub line_beside : Text → List ℕ → Text
+line_beside name bytes = lead name ++ (encode_lower bytes ++ ending name)
+
 -- the line of so many bytes of a tag, beside which a name has to fit as beside that many digits
 abbrev pub tag_line : ℕ → ℕ → (List ℕ → List ℕ) → Lining
 tag_line digits limit tag = record {
   place = beside digits;
   limit = limit;
-  text = λ name m. lead name ++ (encode_lower (tag m) ++ ending name);
+  text = λ name m. line_beside name (tag m);
 }
 
 -- bytes as they are printed: as they are, or in digits
@@ -67,7 +71,7 @@ printed false bytes = encode_lower bytes
 -- the same of a name: where they are digits, on a line of its own
 abbrev pub printed_beside : Bool → Text → List ℕ → Text
 printed_beside true name bytes = bytes
-printed_beside false name bytes = lead name ++ (encode_lower bytes ++ ending name)
+printed_beside false name bytes = line_beside name bytes
 
 -- the lines of `hash`: a digest, or so many bytes of BLAKE3's output from a position on, beside which a name
 -- has to fit as beside the digest's 64 digits

@@ -18,7 +18,7 @@ use Rattle.command.specs.Troubles.{out_of_memory, usage}
 -- the course of a task; in how many parts a file is hashed makes no difference
 abbrev pub TaskRuns : Asked → Files → List ℕ → Course → Type 0
 TaskRuns (hashes wanted parts names) files input course = HashesAll (digest_line wanted) files input names course
-TaskRuns (tags mac key name) files input course = MacRuns mac key name files input course
+TaskRuns (tags mac key wanted name) files input course = MacRuns mac key wanted name files input course
 TaskRuns (derives derived is_raw name) files input course = KdfRuns derived is_raw name files course
 TaskRuns (checks kind name) files input course = CheckRuns kind name files input course
 

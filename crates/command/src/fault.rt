@@ -57,6 +57,16 @@ impl<'a> Fault<'a> {
         }
     }
 
+    /// The fault of what writes into memory: no write fails but for want of it.
+    pub(crate) fn in_memory(self) -> Fault<'a>
+        ensures { result ≡ spec.in_memory self.entry }
+    {
+        match self {
+            Fault::CannotWrite => Fault::OutOfMemory,
+            fault => fault,
+        }
+    }
+
     /// The status of a run that ends with it.
     pub(crate) fn status(&self) -> u8
         ensures { result ≡ status_of (trouble_of self.now) }

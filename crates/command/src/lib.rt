@@ -20,6 +20,7 @@ mod output;
 mod reports;
 mod session;
 mod tags;
+mod verifying;
 
 use session::{Session, Streams};
 use source::{Feed, Sink};
@@ -77,7 +78,12 @@ impl<'i, 't, 'o, L: Feed, T: Tree, W: Sink> Session<'i, 't, 'o, L, T, W> {
                 parts,
                 files,
             } => self.print_digests(requested, parts, files.as_slice(), err),
-            Task::Mac { mac, key, file } => self.print_tag(mac, key, file),
+            Task::Mac {
+                mac,
+                key,
+                wanted,
+                file,
+            } => self.print_tag(mac, key, wanted, file),
             Task::Kdf {
                 derivation,
                 is_raw,

@@ -1,7 +1,7 @@
 // The command `mac`: the tag of a file under a key.
 
 ghost use Rattle.std.specs.Prelude.{◌≡◌, ◌≢◌, ◌-◌, ◌/◌, ◌<◌, ◌≤◌, [], length};
-ghost use Rattle.std.specs.Prelude.{false, true, IfSome, MatchResult, Some};
+ghost use Rattle.std.specs.Prelude.{false, true, IfSome, MatchResult, Some, option_map};
 ghost use Rattle.source.specs.Counts.{count_after};
 ghost use Rattle.command.specs.declared.fault.Fault.TheVariants.{KeyLength};
 ghost use Rattle.command.specs.Keying.{IsKey, MacRuns, MayRefuseFile, MayRefuseKey, function_of, hmac_line};
@@ -27,26 +27,32 @@ use task::{HmacHash, Key, Mac};
 const KEY_LIMIT: usize = 65536;
 
 impl<'i, 't, 'o, L: Feed, T: Tree, W: Sink> Session<'i, 't, 'o, L, T, W> {
-    /// Prints the line of the file's tag.
+    /// Prints the line of the file's tag, or whether it is the one that is wanted.
     pub(crate) fn print_tag<'n>(
         &mut self,
         mac: Mac,
         key: Key<'n>,
+        wanted: Option<Vec<u8>>,
         name: &'n str,
     ) -> Result<u8, Fault<'n>>
         requires { HasTag mac }
-        ensures course { TakesCourse (λ bytes files. MacRuns mac (key_shown key.entry) name.entry.now files bytes)
+        ensures course { TakesCourse (λ bytes files. MacRuns mac (key_shown key.entry)
+            (option_map (λ v. v.items) wanted) name.entry.now files bytes)
             (λ troubles. troubles ≡ [])
             result (⟦<Self as Streams>⟧.seen self.old) (⟦<Self as Streams>⟧.seen self.new) }
         ensures same { SameStreams self.old self.new }
     {
         let key = key_of(self.alloc, key, self.tree)?;
-        self.print_keyed(mac, key.as_slice(), name)?;
-        Ok(0)
+        self.print_answer(mac, key.as_slice(), bytes_of(&wanted), name)
     }
 
-    // Prints the line of the file's tag under a key.
-    fn print_keyed<'n>(&mut self, mac: Mac, key: &[u8], name: &'n str) -> Result<(), Fault<'n>>
+    /// Prints the line of the file's tag under a key.
+    pub(crate) fn print_keyed<'n>(
+        &mut self,
+        mac: Mac,
+        key: &[u8],
+        name: &'n str,
+    ) -> Result<(), Fault<'n>>
         requires { HasTag mac }
         ensures line { IfContent name.entry.now (⟦<Self as Streams>⟧.seen self.old) (λ content.
             PrintsTag (mac_line mac key.now) name.entry.now content result
@@ -159,6 +165,15 @@ impl<'i, 't, 'o, L: Feed, T: Tree, W: Sink> Session<'i, 't, 'o, L, T, W> {
         let mut hasher = Blake3::keyed(key);
         self.absorb_line(&mut hasher, 64, name)?;
         Ok(write_output_line(hasher.output(), length, name, self.out)?)
+    }
+}
+
+fn bytes_of(tag: &Option<Vec<u8>>) -> Option<&[u8]>
+    ensures { option_map (λ t. t.now) result ≡ option_map (λ v. v.items) tag.now }
+{
+    match tag {
+        Some(tag) => Some(tag.as_slice()),
+        None => None,
     }
 }
 

@@ -79,10 +79,10 @@ hash_app names = with_rules (new_app (codes "hash"))
     ∷ text_rule (codes "salt") ∷ text_rule (codes "personal") ∷ flag_rule (codes "tag") ∷ flag_rule (codes "raw")
     ∷ files_rule ∷ [])
 
--- `mac -a MAC [--key HEX] [--key-file F] [-l N] [FILE]`
+-- `mac -a MAC [--key HEX] [--key-file F] [-l N] [--verify HEX] [FILE]`
 abbrev pub mac_app : NameList → App
 mac_app names = with_rules (new_app (codes "mac")) (algorithm_rule names ∷ text_rule (codes "key")
-    ∷ text_rule (codes "key-file") ∷ length_rule ∷ file_rule ∷ [])
+    ∷ text_rule (codes "key-file") ∷ length_rule ∷ text_rule (codes "verify") ∷ file_rule ∷ [])
 
 -- `kdf -a ALG --ikm-file F [--salt HEX] [--info HEX] [--context TEXT] -l N [--raw]`
 abbrev pub kdf_app : NameList → App
@@ -119,6 +119,7 @@ pub record IsRequestOf (s : Text × List Row) (r : Request) : Type 0 where
   pub raw : IsTrue r.raw ↔ IsGiven (codes "raw") s.1
   pub key : option_map (λ t. t.now) r.key ≡ first_of (codes "key") s.1
   pub key_file : option_map (λ t. t.now) r.key_file ≡ first_of (codes "key-file") s.1
+  pub verify : option_map (λ t. t.now) r.verify ≡ first_of (codes "verify") s.1
   pub ikm_file : option_map (λ t. t.now) r.ikm_file ≡ first_of (codes "ikm-file") s.1
   pub salt : option_map (λ t. t.now) r.salt ≡ first_of (codes "salt") s.1
   pub personal : option_map (λ t. t.now) r.personal ≡ first_of (codes "personal") s.1

@@ -1,11 +1,11 @@
 -- What a request of `mac` has printed, or the first fault of its settings.
-use Rattle.std.specs.Prelude.{ℕ, ◌-◌, ◌/◌, ◌^◌, ◌≤◌, List, Option, Some, None, Result, Ok, Err, codes, if◌then◌else◌}
+use Rattle.std.specs.Prelude.{ℕ, ◌-◌, ◌/◌, ◌^◌, ◌≤◌, ◌==◌, List, length, Option, Some, None, Result, Ok, Err, codes, if◌then◌else◌}
 use Rattle.std.specs.Str.{bytes_eq}
 use Rattle.clap.specs.Words.{Text}
 use Rattle.task.specs.Parameters.{◌>>=◌, given, given_bytes, hmac_len, needed, number}
 use Rattle.task.specs.declared.fault.Setting.TheVariants as setting
 use Rattle.task.specs.declared.fault.UsageFault.{UsageFault}
-use Rattle.task.specs.declared.fault.UsageFault.TheVariants.{OneKey, OutOfRange}
+use Rattle.task.specs.declared.fault.UsageFault.TheVariants.{OneKey, OutOfRange, WrongLength}
 use Rattle.task.specs.declared.parameters.HmacHash.{HmacHash}
 use Rattle.task.specs.declared.parameters.HmacHash.TheVariants as hash
 use Rattle.task.specs.declared.request.Request.{Request}
@@ -52,6 +52,21 @@ HasTag (Hmac h n) = (hmac_len h / 2 ≤ n) × (n ≤ hmac_len h)
 HasTag (Blake2b n) = (1 ≤ n) × (n ≤ 64)
 HasTag (Blake2s n) = (1 ≤ n) × (n ≤ 32)
 HasTag (Blake3 n) = n ≤ 2 ^ 64 - 1
+
+-- how many bytes the tags have
+abbrev pub mac_len : Mac → ℕ
+mac_len (Hmac h n) = n
+mac_len (Blake2b n) = n
+mac_len (Blake2s n) = n
+mac_len (Blake3 n) = n
+
+-- a tag to compare with has as many
+abbrev pub of_length : ℕ → Option (List ℕ) → Result (Option (List ℕ)) UsageFault
+of_length n None = Ok None
+of_length n (Some tag) = if length tag == n then Ok (Some tag) else Err (WrongLength setting.Verify)
+
+abbrev pub wanted : Mac → Request → Result (Option (List ℕ)) UsageFault
+wanted mac r = given_bytes setting.Verify (given r.verify) >>= of_length (mac_len mac)
 
 -- a key: its bytes, or the name of the file that has them
 pub data KeyText : Type 0 where

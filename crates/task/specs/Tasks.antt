@@ -1,5 +1,6 @@
 -- What a request asks for, or the first fault of its settings.
-use Rattle.std.specs.Prelude.{⊤, ℕ, Bool, List, Vec, [], ◌∷◌, Option, Some, None, Result, Ok, Err, IfSome, codes, map, if◌then◌else◌}
+use Rattle.std.specs.Prelude.{⊤, ℕ, Bool, List, Vec, [], ◌∷◌, Option, Some, None, Result, Ok, Err, IfSome, codes, map, option_map}
+use Rattle.std.specs.Prelude.{if◌then◌else◌}
 use Rattle.std.specs.Borrow.{Bor}
 use Rattle.std.specs.Str.{bytes_eq}
 use Rattle.clap.specs.Words.{Text}
@@ -22,7 +23,7 @@ use Rattle.task.specs.declared.tasks.Task.TheVariants as code
 -- what a run is to do
 pub data Asked : Type 0 where
   hashes : Requested → Option ℕ → List Text → Asked
-  tags : Mac → KeyText → Text → Asked
+  tags : Mac → KeyText → Option (List ℕ) → Text → Asked
   derives : Derived → Bool → Text → Asked
   checks : Kind → Text → Asked
 
@@ -32,7 +33,7 @@ texts_of names = map (λ n. n.now) names.items
 
 abbrev pub task_shown : Task → Asked
 task_shown (code.Hash wanted parts files) = hashes wanted parts (texts_of files)
-task_shown (code.Mac mac key file) = tags mac (key_shown key) file.now
+task_shown (code.Mac mac key wanted file) = tags mac (key_shown key) (option_map (λ v. v.items) wanted) file.now
 task_shown (code.Kdf derivation is_raw material) = derives (derivation_shown derivation) is_raw material.now
 task_shown (code.Check kind list) = checks kind list.now
 
@@ -64,7 +65,8 @@ abbrev pub mac : Request → Result Asked UsageFault
 mac r = do
   function ← tagging.mac r
   key ← key r
-  Ok (tags function key (or_input (file_of r)))
+  wanted ← tagging.wanted function r
+  Ok (tags function key wanted (or_input (file_of r)))
 
 abbrev pub kdf : Request → Result Asked UsageFault
 kdf r = do
@@ -91,6 +93,6 @@ asked r =
 -- there are digests, tags and keys of the lengths that are asked for
 abbrev pub IsPossible : Task → Type 0
 IsPossible (code.Hash wanted parts files) = HasDigest wanted × IfSome parts IsPartSize
-IsPossible (code.Mac mac key file) = HasTag mac
+IsPossible (code.Mac mac key wanted file) = HasTag mac
 IsPossible (code.Kdf derivation is_raw material) = HasKey (derivation_shown derivation)
 IsPossible (code.Check kind list) = ⊤

@@ -143,6 +143,14 @@ fn mac_command<'a>(alloc: Global, macs: &'a [&'a str]) -> Result<Command<'a>, Al
              blake2s 1 to 32 [default: 32], blake3 1 to 2^64 - 1\n\
              [default: 32]",
         ))?
+        .arg(text_option(
+            alloc,
+            "verify",
+            "HEX",
+            "Prints FILE: OK, status 0, where the tag is the one of\n\
+             these hexadecimal digits, else FILE: FAILED, status 1;\n\
+             they are as many bytes as -l says",
+        ))?
         .arg(file_argument(alloc, "FILE", "The file, - standard input [default: -]"))
 }
 

@@ -27,6 +27,8 @@ pub enum Setting {
     Personal,
     /// `--key`.
     Key,
+    /// `--verify`.
+    Verify,
     /// `--ikm-file`.
     IkmFile,
     /// `--info`.
@@ -94,6 +96,7 @@ impl Setting {
             Setting::Salt => "--salt",
             Setting::Personal => "--personal",
             Setting::Key => "--key",
+            Setting::Verify => "--verify",
             Setting::IkmFile => "--ikm-file",
             Setting::Info => "--info",
             Setting::Context => "--context",

@@ -50,6 +50,8 @@ pub struct Request<'a> {
     pub key: Option<&'a str>,
     /// The text of `--key-file`.
     pub key_file: Option<&'a str>,
+    /// The text of `--verify`.
+    pub verify: Option<&'a str>,
     /// The text of `--ikm-file`.
     pub ikm_file: Option<&'a str>,
     /// The text of `--salt`.
@@ -150,6 +152,7 @@ fn request_of<'a>(
         raw: is_given(matches, "raw"),
         key: text_of(matches, "key"),
         key_file: text_of(matches, "key-file"),
+        verify: text_of(matches, "verify"),
         ikm_file: text_of(matches, "ikm-file"),
         salt: text_of(matches, "salt"),
         personal: text_of(matches, "personal"),

@@ -1,6 +1,6 @@
 // What `mac` is to print.
 
-ghost use Rattle.std.specs.Prelude.{◌≡◌, ◌-◌, ◌^◌, ◌≤◌, IfOk};
+ghost use Rattle.std.specs.Prelude.{◌≡◌, ◌-◌, ◌^◌, ◌≤◌, IfOk, option_map};
 ghost use Rattle.task.specs.Parameters.{Judges};
 ghost use Rattle.task.specs.Tagging as spec;
 
@@ -46,6 +46,34 @@ impl Mac {
             "blake2s" => Ok(Mac::Blake2s(tag_len(request, 32)? as usize)),
             "blake3" => Ok(Mac::Blake3(number(Setting::Length, request.length, 32, 1, u64::MAX)?)),
             _ => Err(UsageFault::OutOfRange(Setting::Algorithm)),
+        }
+    }
+}
+
+impl Mac {
+    // The length of the tags in bytes.
+    fn tag_len(self) -> u64
+        ensures { result ≡ spec.mac_len self }
+    {
+        match self {
+            Mac::Hmac(_, length) | Mac::Blake2b(length) | Mac::Blake2s(length) => length as u64,
+            Mac::Blake3(length) => length,
+        }
+    }
+
+    /// The tag that a request of `mac` compares with, of as many bytes as the tags have.
+    pub(crate) fn wanted(
+        self,
+        alloc: Global,
+        request: &Request<'_>,
+    ) -> Result<Option<Vec<u8>>, TaskFault>
+        ensures { Judges (option_map (λ v. v.items)) (spec.wanted self request.now) result }
+    {
+        match given_bytes(alloc, Setting::Verify, request.verify)? {
+            Some(tag) if tag.len() as u64 != self.tag_len() => Err(TaskFault::Usage(
+                UsageFault::WrongLength(Setting::Verify),
+            )),
+            wanted => Ok(wanted),
         }
     }
 }

@@ -25,10 +25,11 @@ pub enum Task<'a> {
         parts: Option<u64>,
         files: Vec<&'a str>,
     },
-    /// Print the tag of a file under a key.
+    /// Print the tag of a file under a key, or whether it is the one that is wanted, of as many bytes.
     Mac {
         mac: Mac,
         key: Key<'a>,
+        wanted: Option<Vec<u8>>,
         file: &'a str,
     },
     /// Print the key that is derived of a file's bytes, in digits or as it is. Here `-` is a file.
@@ -91,8 +92,14 @@ fn mac<'a>(alloc: Global, request: &Request<'a>) -> Result<Task<'a>, TaskFault>
 {
     let mac = Mac::of(request)?;
     let key = Key::of(alloc, request)?;
+    let wanted = mac.wanted(alloc, request)?;
     let file = file_of(request).unwrap_or("-");
-    Ok(Task::Mac { mac, key, file })
+    Ok(Task::Mac {
+        mac,
+        key,
+        wanted,
+        file,
+    })
 }
 
 fn kdf<'a>(alloc: Global, request: &Request<'a>) -> Result<Task<'a>, TaskFault>

@@ -30,6 +30,11 @@ abbrev pub of_source : SourceFault → Bor Text → Fault
 of_source source.Read name = CannotRead name
 of_source source.TooLong name = TooLong name
 
+-- a sink in memory fails for want of memory alone
+abbrev pub in_memory : Fault → Fault
+in_memory CannotWrite = OutOfMemory
+in_memory fault = fault
+
 -- each line of a list that is not skipped is OK
 abbrev pub is_clean : Summary → Bool
 is_clean s = s.failed == 0 && s.missing == 0 && s.unreadable == 0 && s.too_long == 0 && s.malformed == 0

@@ -1,12 +1,12 @@
 -- What `mac` and `kdf` printed, by the answer of a function.
-use Rattle.std.specs.Prelude.{◌⊎◌, ◌≡◌, ◌≤◌, ◌-◌, ℕ, Bool, List, Option, Ok, Err, Result, MatchResult, IsSomeAnd, length}
+use Rattle.std.specs.Prelude.{◌⊎◌, ◌≡◌, ◌≤◌, ◌-◌, ℕ, Bool, List, Option, Some, Ok, Err, Result, MatchResult, IfOk, IsSomeAnd, length}
 use Rattle.clap.specs.Words.{Text}
 use Rattle.kdf.specs.Hkdf.{extract, salt_or_zeros}
 use Rattle.source.specs.Written.{Shown}
 use Rattle.task.specs.declared.fault.Setting.TheVariants.{Salt}
 use Rattle.task.specs.declared.fault.UsageFault.TheVariants.{OutOfRange}
-use Rattle.command.specs.Keying.{Deriving, Function}
-use Rattle.command.specs.Lines.{Lining, MayRefuse, printed}
+use Rattle.command.specs.Keying.{Deriving, Function, IsAnswer}
+use Rattle.command.specs.Lines.{IsLine, Lining, MayRefuse, MayTell, Stands, printed}
 use Rattle.command.specs.Troubles.{Trouble, trouble_of, usage}
 use Rattle.command.specs.declared.fault.Fault.{Fault}
 use Rattle.command.specs.inside.Printing.{PrintsLine, PrintsText}
@@ -24,6 +24,23 @@ abbrev pub PrintsTag : {T : Type 0} → Result Lining Trouble → Text → Optio
     → Shown → Shown → Type 0
 PrintsTag (Ok l) name content r old new = PrintsLine l name content r old new
 PrintsTag (Err t) name content r old new = Refuses t r old new
+
+-- the line of a tag was made, in memory, or a fault tells why not
+abbrev pub MakesLine : {S : Type 0} → (S → Shown) → Result Lining Trouble → Text → Option (List ℕ) → Result S Fault
+    → Type 0
+MakesLine shown (Ok l) name content r = MatchResult r
+    (λ sink. (line : Text) × IsLine l name content line × ((shown sink).contents ≡ Some line))
+    (λ fault. MayTell (Stands l.place) l.limit name content (trouble_of fault))
+MakesLine shown (Err t) name content r = MatchResult r (λ _. ⊥) (λ fault. trouble_of fault ≡ t)
+
+-- what is printed for the line of a tag was printed, with its status, or a fault that may be told came before it
+abbrev pub PrintsAnswer : Option (List ℕ) → Result Lining Trouble → Text → Option (List ℕ) → Result ℕ Fault
+    → Shown → Shown → Type 0
+PrintsAnswer wanted (Ok l) name content r old new =
+    ((line : Text) × (text : Text) × (status : ℕ) × IsLine l name content line × IsAnswer wanted name line text status
+    × IfOk r (λ s. s ≡ status) × PrintsText r old new text)
+    ⊎ (MatchResult r (λ _. ⊥) (λ fault. MayTell (Stands l.place) l.limit name content (trouble_of fault)) × (new ≡ old))
+PrintsAnswer wanted (Err t) name content r old new = Refuses t r old new
 
 -- a key was printed, or the trouble told that comes in its place
 abbrev pub PrintsKey : {T : Type 0} → Bool → Result (List ℕ) Trouble → Result T Fault → Shown → Shown → Type 0

@@ -12,6 +12,8 @@ returns c =
     let with_2 = c.in_ok-with_key_options.ensures ∙ ap (λ (a : App). with_rules a keys) with_1 in
     let with_3 = c.in_ok-arg.ensures.shape c.length_option.ensures.local
     ∙ ap₂ with_rule with_2 c.length_option.ensures.rule in
-    IfOk-weaker c.arg-3.result _ _
-    (λ r h. h.shape c.file_argument.ensures.local ∙ ap₂ with_rule with_3 c.file_argument.ensures.rule)
-    c.arg-3.ensures
+    let with_4 = c.in_ok-arg-2.ensures.shape c.text_option.ensures.local
+    ∙ ap₂ with_rule with_3 c.text_option.ensures.rule in
+    IfOk-weaker c.arg-4.result _ _
+    (λ r h. h.shape c.file_argument.ensures.local ∙ ap₂ with_rule with_4 c.file_argument.ensures.rule)
+    c.arg-4.ensures
