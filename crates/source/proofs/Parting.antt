@@ -1,6 +1,6 @@
 -- Parts of what a feed has to come, one after the other.
-use Rattle.std.proofs.Common.{◌≡◌, ℕ, zero, suc, ◌+◌, ◌-◌, ◌*◌, ◌/◌, ◌%◌, ◌^◌, ◌<◌, ◌≤◌, List, ◌++◌, Option, None}
-use Rattle.std.proofs.Common.{Some, length, take, refl, ap, sym, ◌∙◌, inl, inr, arith}
+use Rattle.std.proofs.Common.{◌≡◌, ℕ, zero, suc, ◌+◌, ◌-◌, ◌*◌, ◌/◌, ◌%◌, ◌^◌, ◌<◌, ◌≤◌, List, [], ◌++◌, Option, None}
+use Rattle.std.proofs.Common.{Some, IfSome, length, take, refl, ap, sym, subst, ◌∙◌, inl, inr, arith, append-nil}
 use Rattle.std.proofs.Common.{length-append, length-take-le, mul-add, pow_mono, pow_pos}
 use Rattle.std.proofs.Math.Nat.{pow-succ', mul-mod_right, mul_assoc, mul_comm}
 use Rattle.std.proofs.lemmas.Bool.{cases_lt}
@@ -11,7 +11,7 @@ use borrow.Rule.Slice.PartMut.{put_mid}
 use Rattle.std.proofs.Math.Seq.{take-append-add}
 use Rattle.std.proofs.lemmas.List.{take-take}
 use Rattle.std.proofs.lemmas.Slice.{take-put_mid}
-use Rattle.std.specs.Io.KnownBytes.{prepend_known}
+use Rattle.std.specs.Io.KnownBytes.{Consumes, IsAtEnd, prepend_known}
 use Rattle.source.specs.Pumped.{IsLongerThan}
 
 -- the bytes that were read ahead alone are more than n
@@ -29,6 +29,16 @@ filled_more run buf n k count within few =
     sym (take-take (n + count) (n + length buf) all (omega (arith, few)))
     ∙ ap (λ (l : List ℕ). take (n + count) l) whole
     ∙ rw front at (take-append-add (take n run) buf count)
+
+-- bytes after which nothing is left are all that was to come
+pub all_taken : (a b c : Option (List ℕ)) (xs zs bytes : List ℕ) (P : List ℕ → Type 0) → Consumes a b xs
+    → Consumes (prepend_known xs b) (prepend_known zs c) bytes → zs ≡ [] → IsAtEnd c → P bytes → IfSome a P
+all_taken None b c xs zs bytes P first rest none end holds = tt
+all_taken (Some x) None c xs zs bytes P first rest none end holds = absurd first
+all_taken (Some x) (Some y) None xs zs bytes P first rest none end holds = absurd rest
+all_taken (Some x) (Some y) (Some z) xs zs bytes P first rest none end holds =
+    let left : zs ++ z ≡ [] = ap (λ (l : List ℕ). l ++ z) none ∙ end in
+    subst P (sym (first ∙ rest ∙ ap (λ (l : List ℕ). bytes ++ l) left ∙ append-nil bytes)) holds
 
 -- a power of two of chunks that are more than a run is twice such a power, which a run fits in
 pub halved : (chunks len : ℕ) → (k : ℕ) × (len ≡ 1024 * 2 ^ k) → (e : ℕ) × (chunks ≡ 2 ^ e) → len / 1024 < chunks
