@@ -7,13 +7,13 @@ pub use Rattle.source.specs.Counts.{count_after}
 pub use Rattle.source.specs.Digest.{IsInRange, digest, input_limit, tag_len}
 pub use Rattle.source.specs.Written.{AppendsPrefix, Shown, Writes}
 pub use Rattle.source.specs.declared.alg.Alg.{Alg}
-pub use Rattle.std.proofs.Common.{Bool, Contains, Decides, Err, IfSome, IsErr, IsUtf8, List, MatchOption, None, Option}
-pub use Rattle.std.proofs.Common.{Result, Some, [], ap, append-nil, append_assoc, arith, cond, drop, eqb, false, get_or}
-pub use Rattle.std.proofs.Common.{if◌then◌else◌, inl, inr, leb, length, length-append, length-take-le, refl, rules}
-pub use Rattle.std.proofs.Common.{slice_index, subst, sym, take, take-append-drop, true, ◌%◌, ◌&&◌, ◌*◌, ◌++◌, ◌+◌, ◌-◌}
-pub use Rattle.std.proofs.Common.{◌/◌, ◌<◌, ◌^◌, ◌||◌, ◌∙◌, ◌∷◌, ◌≡◌, ◌≢◌, ◌≤◌, ◌⊎◌}
+pub use Rattle.std.proofs.Common.{Bool, Contains, Decides, Err, IfSome, IsErr, IsUtf8, List, MatchOption, None, Ok}
+pub use Rattle.std.proofs.Common.{Option, Result, Some, [], ap, append-nil, append_assoc, arith, codes, cond, decimal}
+pub use Rattle.std.proofs.Common.{drop, eqb, false, get_or, if◌then◌else◌, inl, inr, leb, length, length-append}
+pub use Rattle.std.proofs.Common.{length-take-le, refl, rules, slice_index, subst, sym, take, take-append-drop, true, ℕ}
+pub use Rattle.std.proofs.Common.{◌%◌, ◌&&◌, ◌*◌, ◌++◌, ◌+◌, ◌-◌, ◌/◌, ◌<◌, ◌^◌, ◌||◌, ◌∙◌, ◌∷◌, ◌≡◌, ◌≢◌, ◌≤◌, ◌⊎◌}
 pub use Rattle.std.proofs.KnownBytes.{Appends-nil, Appends-trans}
-pub use Rattle.std.proofs.Math.Seq.{drop-append_seam}
+pub use Rattle.std.proofs.Math.Seq.{drop-append_seam, take-append_seam}
 pub use Rattle.std.proofs.lemmas.Bool.{cases_eq, cases_lt, eqb-false, eqb-true, false≢true}
 pub use Rattle.std.proofs.lemmas.Bool.Decides.{nat_tests}
 pub use Rattle.std.proofs.lemmas.List.{nil_from_length}

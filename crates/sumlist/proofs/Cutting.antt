@@ -1,7 +1,6 @@
 -- The first line of a list ends at its first LF, and the other lines are those of the rest.
 use Rattle.sumlist.proofs.Common.{◌≡◌, ◌≢◌, ◌<◌, ◌≤◌, false, List, [], ◌∷◌, ◌++◌, length, get_or, take, refl, ap, ◌∙◌}
-use Rattle.sumlist.proofs.Common.{arith, eqb, length-take-le, nat_tests, lines, HasNoEnd}
-use Rattle.std.proofs.Common.{ℕ}
+use Rattle.sumlist.proofs.Common.{arith, eqb, length-take-le, nat_tests, lines, HasNoEnd, ℕ}
 use Rattle.std.specs.List.{slice_split}
 use Rattle.std.proofs.lemmas.List.Splits.{slice_split_at, slice_split_none, length-slice_split}
 use Rattle.std.proofs.lemmas.List.Elements.{All-from_get_or}

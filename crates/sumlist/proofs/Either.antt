@@ -1,8 +1,7 @@
 -- Facts that can be told: each holds, or does not.
 use Rattle.sumlist.proofs.Common.{◌≡◌, ◌⊎◌, inl, inr, ◌≤◌, Bool, true, false, List, [], ◌∷◌, refl, arith, Decides}
 use Rattle.sumlist.proofs.Common.{Contains, IsUtf8, bytes_eq, false≢true, cases_eq, cases_lt, Contains-append_right}
-use Rattle.sumlist.proofs.Common.{Contains-push_cases, bytes_eq-Decides}
-use Rattle.std.proofs.Common.{ℕ}
+use Rattle.sumlist.proofs.Common.{Contains-push_cases, bytes_eq-Decides, ℕ}
 use Rattle.std.specs.Str.{is_utf8}
 use Rattle.std.proofs.lemmas.List.Elements.{Contains-append_left, Contains-append_cases}
 use Rattle.std.proofs.lemmas.Str.{IsUtf8-from_is_utf8, is_utf8-from_IsUtf8}

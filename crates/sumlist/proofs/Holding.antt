@@ -4,8 +4,8 @@ use Rattle.sumlist.proofs.Common.{length-append, get_or, take, drop, refl, sym, 
 use Rattle.sumlist.proofs.Common.{append-nil, Option, Some, None, IfSome, IsErr, Result, Err, arith, rules, eqb, cond}
 use Rattle.sumlist.proofs.Common.{take-append-drop, nat_le, Consumes, nat_tests, All-append, All-nil, nil_from_length}
 use Rattle.sumlist.proofs.Common.{eqb-true, IfSome_then, Kind, Mark, Summary, CheckFault, ListTooLong, lines, HasNoEnd}
-use Rattle.sumlist.proofs.Common.{Files, ListChecked, IsCounted, lines_of, no_lines, Progress, Partway, Goes}
-use Rattle.std.proofs.Common.{ℕ, IfErr, Ok}
+use Rattle.sumlist.proofs.Common.{Files, ListChecked, IsCounted, lines_of, no_lines, Progress, Partway, Goes, ℕ, Ok}
+use Rattle.std.proofs.Common.{IfErr}
 use Rattle.std.proofs.lemmas.List.{get_or-drop}
 use Rattle.std.proofs.lemmas.Result.{IfErr-at_err}
 use Rattle.sumlist.specs.inside.Stepped.{StepCounts}

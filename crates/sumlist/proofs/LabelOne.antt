@@ -2,11 +2,8 @@
 use Rattle.sumlist.proofs.Common.{◌≡◌, ◌⊎◌, inl, inr, ◌+◌, ◌*◌, ◌≤◌, List, ◌∷◌, ◌++◌, length, length-append, get_or}
 use Rattle.sumlist.proofs.Common.{take, drop, refl, sym, ap, ◌∙◌, subst, arith, drop-append_seam, decode_of}
 use Rattle.sumlist.proofs.Common.{decode_of-same, Alg, tag_len, IsInRange, IsCut, Ended, IsLabel, Labelled, opening}
-use Rattle.sumlist.proofs.Common.{closing}
-use Rattle.std.proofs.Common.{ℕ, codes}
-use Rattle.std.specs.Fmt.{decimal}
+use Rattle.sumlist.proofs.Common.{closing, ℕ, codes, decimal, take-append_seam}
 use Rattle.std.proofs.lemmas.Fmt.{decimal_injective}
-use Rattle.std.proofs.Math.Seq.{take-append_seam}
 use Rattle.source.specs.declared.alg.Alg.TheVariants.{Sha256, Sha512, Blake2b, Blake2s, Blake3}
 use Rattle.sumlist.proofs.Words.{cut_word, label_word, word_cut}
 

@@ -3,11 +3,10 @@ use Rattle.sumlist.proofs.Common.{◌≡◌, ◌⊎◌, inl, inr, ◌+◌, ◌-�
 use Rattle.sumlist.proofs.Common.{length-append, take, drop, take-append-drop, refl, sym, ap, ◌∙◌, subst, Option, Some}
 use Rattle.sumlist.proofs.Common.{None, Result, Err, arith, slice_index, MatchOption, drop-append_seam, cases_eq}
 use Rattle.sumlist.proofs.Common.{cases_lt, decode_of, decode_of-ok, FromHexError, Alg, tag_len, IsInRange, IsCut}
-use Rattle.sumlist.proofs.Common.{NoLabelled, IsLabel, Labelled, closing, Ended}
-use Rattle.std.proofs.Common.{ℕ, suc, zero, Ok, codes, length-drop}
+use Rattle.sumlist.proofs.Common.{NoLabelled, IsLabel, Labelled, closing, Ended, ℕ, Ok, codes, take-append_seam}
+use Rattle.sumlist.proofs.Common.{decimal}
+use Rattle.std.proofs.Common.{suc, zero, length-drop}
 use Rattle.std.proofs.lemmas.List.{append_cancel_left}
-use Rattle.std.proofs.Math.Seq.{take-append_seam}
-use Rattle.std.specs.Fmt.{decimal}
 use Rattle.source.specs.declared.alg.Alg.TheVariants.{Sha256, Sha512, Blake2b, Blake2s, Blake3}
 use Rattle.sumlist.specs.inside.Labels.{NotNamed, NotNumbered, IsNumbered, NotEnded}
 use Rattle.sumlist.proofs.Either.{Either, either_same}
@@ -69,12 +68,11 @@ named_cases l = named_by l (either_same l (codes "SHA256")) (either_same l (code
 
 -- ---- what stands after the label
 
-SomeEnd : List ℕ → ℕ → Type 0
+abbrev SomeEnd : List ℕ → ℕ → Type 0
 SomeEnd rest n = (body : List ℕ) × (digits : List ℕ) × Ended rest n body digits
 
 ended_at : (front back : List ℕ) (n : ℕ) → length back ≡ n + 4 → Either (take 4 back ≡ closing [])
     → SomeEnd (front ++ back) n ⊎ NotEnded (front ++ back) n
-unfolding SomeEnd
 ended_at front back n size (inl closes) =
     let tail : back ≡ closing (drop 4 back) = sym (take-append-drop 4 back) ∙ ap (λ l. l ++ drop 4 back) closes in
     let few = ap length tail in
@@ -155,7 +153,6 @@ module _ {text label rest : List ℕ} (c : IsCut text label rest) where
   )
 
   labelled_named : Named label → SomeLabelled text ⊎ NoLabelled text
-  unfolding SomeEnd
   labelled_named n = elim (cases_lt (length rest) 2) [
     | inl short ↦ inr (no_label_short short)
     | inr long ↦ elim (cases_eq (slice_index rest 1) 40) [

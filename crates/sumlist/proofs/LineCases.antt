@@ -1,8 +1,7 @@
 -- Each line is skipped, spells one entry, or is malformed: every part of the meaning of a line can be decided.
 use Rattle.sumlist.proofs.Common.{◌≡◌, ◌⊎◌, inl, inr, ◌*◌, List, length, subst, cases_eq, tag_len, IsInRange, IsBytes}
 use Rattle.sumlist.proofs.Common.{Kind, Listing, Fits, IsEntry, written_len, Stated, IsLine, IsBlank, core, Spells}
-use Rattle.sumlist.proofs.Common.{IsMalformed}
-use Rattle.std.proofs.Common.{ℕ}
+use Rattle.sumlist.proofs.Common.{IsMalformed, ℕ}
 use Rattle.sumlist.specs.Line.{IsSkipped}
 use Rattle.sumlist.proofs.Either.{Either, either_both, either_contains, either_empty, either_le, either_map, either_not}
 use Rattle.sumlist.proofs.Either.{either_or, either_utf8}

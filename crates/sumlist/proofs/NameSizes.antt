@@ -1,6 +1,5 @@
 -- A name is no longer than its escaped form, so one that is too long by itself does not fit.
-use Rattle.sumlist.proofs.Common.{◌<◌, ◌≤◌, List, length, arith, Alg, Fits, tagged_len}
-use Rattle.std.proofs.Common.{ℕ}
+use Rattle.sumlist.proofs.Common.{◌<◌, ◌≤◌, List, length, arith, Alg, Fits, tagged_len, ℕ}
 use Rattle.sumlist.proofs.EscapedNames.{length-escaped-least}
 
 pub long_name : (digits : ℕ) (name : List ℕ) → 65536 < length name → Fits digits name → ⊥

@@ -1,8 +1,7 @@
 -- What `parse_line` has found of a line decides what the line means.
 use Rattle.sumlist.proofs.Common.{◌≡◌, ◌*◌, Bool, List, length, sym, subst, Some, IsUtf8, Kind, Alg, Listing, Fits}
 use Rattle.sumlist.proofs.Common.{name_of, IsName, HasNoForm, IsUnslashed, HasForm, IsLine, IsBlank, Stated, core}
-use Rattle.sumlist.proofs.Common.{Spells, IsMalformed}
-use Rattle.std.proofs.Common.{ℕ}
+use Rattle.sumlist.proofs.Common.{Spells, IsMalformed, ℕ}
 use Rattle.sumlist.proofs.Stating.{listing, form_fit, form_unique, stated_by, stated_parts}
 use Rattle.sumlist.proofs.LineCases.{spells_one}
 use Rattle.sumlist.proofs.Names.{one_name}

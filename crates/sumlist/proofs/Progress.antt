@@ -3,8 +3,8 @@ use Rattle.sumlist.proofs.Common.{◌≡◌, ◌+◌, List, [], ◌∷◌, ◌++
 use Rattle.sumlist.proofs.Common.{Option, Some, None, IfSome, IsErr, Result, arith, rules, subst, MatchResult-from_err}
 use Rattle.sumlist.proofs.Common.{Appends-nil, Appends-trans, AppendsPrefix, Summary, IsCounted, lines_of, no_lines}
 use Rattle.sumlist.proofs.Common.{Unreadable, lines, Progress, Files, Outcome, AllAllowed, text, is_told}
-use Rattle.sumlist.proofs.Common.{unreadable_count, ListChecked, count_after, LineChecked, Kind, Mark, CheckFault}
-use Rattle.std.proofs.Common.{ℕ, Ok}
+use Rattle.sumlist.proofs.Common.{unreadable_count, ListChecked, count_after, LineChecked, Kind, Mark, CheckFault, ℕ}
+use Rattle.sumlist.proofs.Common.{Ok}
 use Rattle.sumlist.proofs.Pieces.{AppendsPrefix-after, AppendsPrefix-more, AppendsPrefix-none}
 use Rattle.sumlist.proofs.Tallying.{number_of-append, number_of-one, IsSummary-start, IsSummary-more, lines_of-summary}
 use Rattle.sumlist.specs.Report.{report_from, number_of}

@@ -1,8 +1,7 @@
 -- Where no file failed, the line and the files decide the outcome.
 use Rattle.sumlist.proofs.Common.{◌≡◌, List, [], ◌∷◌, Option, Some, None, refl, sym, ap, ◌∙◌, subst, arith, Listing}
 use Rattle.sumlist.proofs.Common.{Files, IsAllowed, Allowed, AllAllowed, Outcome, skipped, malformed, told, is_told}
-use Rattle.sumlist.proofs.Common.{unreadable_count, Kind, Verdict, Matches, Differs, Missing, Unreadable, TooLong}
-use Rattle.std.proofs.Common.{ℕ}
+use Rattle.sumlist.proofs.Common.{unreadable_count, Kind, Verdict, Matches, Differs, Missing, Unreadable, TooLong, ℕ}
 use Rattle.sumlist.specs.Report.{number_of, same}
 use Rattle.sumlist.proofs.LineCases.{spells_one}
 

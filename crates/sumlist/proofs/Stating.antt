@@ -3,8 +3,7 @@ use Rattle.sumlist.proofs.Common.{◌≡◌, ◌⊎◌, inl, inr, Bool, true, fa
 use Rattle.sumlist.proofs.Common.{slice_index, length, Option, Some, None, Result, MatchOption, append_assoc, arith}
 use Rattle.sumlist.proofs.Common.{cases_eq, IsBytes, decode_of-ok, tag_len, IsInRange, Alg, Shown, Writes, Kind}
 use Rattle.sumlist.proofs.Common.{Listing, name_of, NoParts, NoLabelled, HasNoForm, IsUnslashed, Parts, IsMark, HasForm}
-use Rattle.sumlist.proofs.Common.{Stated, Labelled, opening, closing}
-use Rattle.std.proofs.Common.{ℕ}
+use Rattle.sumlist.proofs.Common.{Stated, Labelled, opening, closing, ℕ}
 use Rattle.sumlist.proofs.Unescaping.{unescaped-spelled, spelled-unescaped}
 use Rattle.sumlist.proofs.Words.{cut_word, digits_word, label_word, no_slash, word_cut}
 use Rattle.sumlist.proofs.Untagging.{parts_cases, parts_fit, parts_unique}

@@ -1,11 +1,10 @@
 -- The tagged line of an entry spells it, whatever the kind of its list.
 use Rattle.sumlist.proofs.Common.{◌≡◌, ◌⊎◌, inl, inr, ◌*◌, ◌≤◌, Bool, true, false, List, [], ◌∷◌, ◌++◌, length}
-use Rattle.sumlist.proofs.Common.{append_assoc, length-append, Result, if◌then◌else◌, refl, sym, ap, ◌∙◌, subst, eqb}
+use Rattle.sumlist.proofs.Common.{append_assoc, length-append, Result, if◌then◌else◌, refl, ap, ◌∙◌, subst, eqb}
 use Rattle.sumlist.proofs.Common.{arith, rules, eqb-true, All-append, decode_of-encode_lower, length-encode_with}
 use Rattle.sumlist.proofs.Common.{IsBytes, encode_lower, lower_digits, tag_len, IsInRange, Alg, Shown, Writes, Kind}
 use Rattle.sumlist.proofs.Common.{Listing, IsEntry, escaped, lead, IsLabel, Labelled, label_of, opening, closing}
-use Rattle.sumlist.proofs.Common.{tagged, tagged_len, Spells}
-use Rattle.std.proofs.Common.{ℕ, codes, decimal}
+use Rattle.sumlist.proofs.Common.{tagged, tagged_len, Spells, ℕ, codes, decimal}
 use Rattle.source.specs.declared.alg.Alg.TheVariants.{Sha256, Sha512, Blake2b, Blake2s, Blake3}
 use Rattle.sumlist.specs.Tagged.{tagged_line}
 use Rattle.sumlist.proofs.Spelling.{Inner, escaped_inner, inner_cons, literal_inner, spells_by, word_inner}
@@ -14,13 +13,7 @@ use Rattle.sumlist.proofs.Words.{digits_word, label_word}
 -- the front, the name and the digits of a line are the tagged line
 tagged_is : (e : Listing) → (lead e.name ++ label_of e.alg)
     ++ opening (escaped e.name ++ closing (encode_lower e.tag ++ 10 ∷ [])) ≡ tagged e
-tagged_is e =
-    let rest = escaped e.name ++ closing (encode_lower e.tag) in
-    let ended = append_assoc (escaped e.name) (closing (encode_lower e.tag)) (10 ∷ []) in
-    append_assoc (lead e.name) (label_of e.alg) (opening (escaped e.name ++ closing (encode_lower e.tag ++ 10 ∷ [])))
-    ∙ sym (append_assoc (lead e.name) (label_of e.alg ++ opening rest) (10 ∷ [])
-    ∙ ap (λ x. lead e.name ++ x) (append_assoc (label_of e.alg) (opening rest) (10 ∷ [])
-    ∙ ap (λ x. label_of e.alg ++ opening x) ended))
+tagged_is e = simp append_assoc
 
 pub Writes-tagged : {T E : Type 0} (r : Result T E) (old new : Shown) (e : Listing)
     → Writes r old new ((lead e.name ++ label_of e.alg)

@@ -3,8 +3,8 @@ use Rattle.sumlist.proofs.Common.{slice_index, ◌≡◌, ◌⊎◌, inl, inr, �
 use Rattle.sumlist.proofs.Common.{List, ◌∷◌, length, drop, refl, sym, ap, ◌∙◌, subst, cond, Option, Some, None, Result}
 use Rattle.sumlist.proofs.Common.{Err, arith, nat_le, cases_eq, cases_lt, eqb-true, nat_tests, decode_of, IsBytes}
 use Rattle.sumlist.proofs.Common.{decode_of-ok, decode_of-same, FromHexError, tag_len, IsInRange, Alg, Kind, IsCut}
-use Rattle.sumlist.proofs.Common.{NoParts, alg_of, Parts, IsMark}
-use Rattle.std.proofs.Common.{ℕ, ◌==◌, Ok}
+use Rattle.sumlist.proofs.Common.{NoParts, alg_of, Parts, IsMark, ℕ, Ok}
+use Rattle.std.proofs.Common.{◌==◌}
 use Rattle.source.specs.declared.alg.Alg.TheVariants.{Sha256 as sha256, Sha512 as sha512, Blake2b as blake2b}
 use Rattle.source.specs.declared.alg.Alg.TheVariants.{Blake2s as blake2s, Blake3 as blake3}
 use Rattle.sumlist.specs.declared.kind.Kind.TheVariants.{Sha256, Sha512, Blake2b, Blake2s, Blake3}

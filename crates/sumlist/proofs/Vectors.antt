@@ -1,7 +1,6 @@
 -- Worked values of the definitions of lists, computed: a wrong escape, label, cut or number does not check.
 use Rattle.sumlist.proofs.Common.{◌≡◌, inr, [], ◌∷◌, ◌++◌, refl, arith, Missing, Listing, written, lines, skipped}
-use Rattle.sumlist.proofs.Common.{malformed, told, Labelled, label_of, tagged}
-use Rattle.std.proofs.Common.{codes}
+use Rattle.sumlist.proofs.Common.{malformed, told, Labelled, label_of, tagged, codes}
 use Rattle.std.specs.Fmt.{digits}
 use Rattle.hex.specs.Hex.{encode_with, decode_pairs}
 use Rattle.source.specs.declared.alg.Alg.TheVariants.{Blake2b, Blake2s}

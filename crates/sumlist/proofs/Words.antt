@@ -3,10 +3,9 @@
 use Rattle.sumlist.proofs.Common.{◌≡◌, ◌≢◌, inl, inr, ◌+◌, ◌*◌, ◌<◌, ◌≤◌, ◌^◌, ◌%◌, Bool, true, false, ◌&&◌, List, []}
 use Rattle.sumlist.proofs.Common.{◌∷◌, ◌++◌, slice_index, length, drop, append-nil, refl, sym, ap, ◌∙◌, subst, eqb, leb}
 use Rattle.sumlist.proofs.Common.{arith, rules, All, AllPass, All-append, All-cons, All-nil, All-weaker, false≢true}
-use Rattle.sumlist.proofs.Common.{cases_lt, nat_tests, decode_of, decode_of-ok, Alg, IsInRange, IsCut, IsLabel}
-use Rattle.std.proofs.Common.{ℕ, codes}
-use Rattle.std.specs.Prelude.{not, Ok}
-use Rattle.std.specs.Fmt.{decimal}
+use Rattle.sumlist.proofs.Common.{cases_lt, nat_tests, decode_of, decode_of-ok, Alg, IsInRange, IsCut, IsLabel, ℕ}
+use Rattle.sumlist.proofs.Common.{codes, Ok, decimal}
+use Rattle.std.specs.Prelude.{not}
 use Rattle.std.proofs.lemmas.Fmt.{decimal_by_steps}
 use Rattle.std.proofs.lemmas.List.Elements.{All-head, All-tail}
 use Rattle.hex.specs.Hex.{is_hex_digit}

@@ -1,6 +1,5 @@
 use Rattle.sumlist.proofs.Common.{◌≡◌, ◌+◌, ◌-◌, ◌^◌, ◌≤◌, ◌<◌, List, length, IfSome, Some, Consumes, count_after}
-use Rattle.sumlist.proofs.Common.{Partway, held_len, lines_of}
-use Rattle.std.proofs.Common.{ℕ}
+use Rattle.sumlist.proofs.Common.{Partway, held_len, lines_of, ℕ}
 use Rattle.sumlist.proofs.checking.check.Given as goal
 
 abbrev pub invariant-loop-held : goal.invariant-loop-held

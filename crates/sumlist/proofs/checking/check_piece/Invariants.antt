@@ -1,5 +1,4 @@
-use Rattle.sumlist.proofs.Common.{◌≡◌, ◌+◌, ◌≤◌, length, IfSome, count_after, Goes, held_len, lines_of}
-use Rattle.std.proofs.Common.{ℕ}
+use Rattle.sumlist.proofs.Common.{◌≡◌, ◌+◌, ◌≤◌, length, IfSome, count_after, Goes, held_len, lines_of, ℕ}
 use Rattle.sumlist.proofs.checking.check_piece.Given as goal
 
 abbrev pub invariant-loop-back : goal.invariant-loop-back

@@ -1,6 +1,4 @@
-use Rattle.sumlist.proofs.Common.{◌≡◌, ◌<◌, ◌≤◌, ◌*◌, ◌-◌}
-use Rattle.std.proofs.Common.{ℕ}
-use Rattle.std.specs.Fmt.{decimal}
+use Rattle.sumlist.proofs.Common.{◌≡◌, ◌<◌, ◌≤◌, ◌*◌, ◌-◌, ℕ, decimal}
 use Rattle.sumlist.proofs.labels.find_len.Given as goal
 
 abbrev pub invariant-loop-n : goal.invariant-loop-n
