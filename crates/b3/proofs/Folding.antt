@@ -27,7 +27,8 @@ module _ (key : List ℕ) (flags : ℕ) where
   within_low l c m h = rw (le-leb (chunk_count m) (2 ^ l) h, tree_within) refl
 
   within_high : (l c : ℕ) (m : List ℕ) → 2 ^ l < chunk_count m → tree_within (suc l) key flags c m
-      ≡ parent key flags (cv (tree_within l key flags c (take (1024 * 2 ^ l) m))) (cv (tree_within l key flags (c + 2 ^ l) (drop (1024 * 2 ^ l) m)))
+      ≡ parent key flags (cv (tree_within l key flags c (take (1024 * 2 ^ l) m)))
+      (cv (tree_within l key flags (c + 2 ^ l) (drop (1024 * 2 ^ l) m)))
   unfolding tree_within
   within_high l c m h = rw (lt-leb (chunk_count m) (2 ^ l) h, tree_within) refl
 
@@ -80,13 +81,15 @@ pub root_over-push : (key : List ℕ) (flags : ℕ) (xs : List (List ℕ)) (x : 
     → root_over key flags (xs ++ x ∷ []) last ≡ root_over key flags xs (parent key flags x (cv last))
 unfolding root_over
 root_over-push key flags [] x last = refl
-root_over-push key flags (y ∷ ys) x last = ap (λ (n : Node). parent key flags y (cv n)) (root_over-push key flags ys x last)
+root_over-push key flags (y ∷ ys) x last =
+    ap (λ (n : Node). parent key flags y (cv n)) (root_over-push key flags ys x last)
 
 module _ (key : List ℕ) (flags : ℕ) (m : List ℕ) where
   -- the tree from chunk i on is folded from the subtrees of its closed chunks and its last chunk
   pub tree_fold : (l i k : ℕ) → k + 1 ≡ chunk_count (drop (1024 * i) m) → k < 2 ^ l
       → tree_within l key flags i (drop (1024 * i) m)
-      ≡ root_over key flags (subtrees (subtree_cv key flags m) l i k) (chunk key flags (i + k) (drop (1024 * (i + k)) m))
+      ≡ root_over key flags (subtrees (subtree_cv key flags m) l i k)
+      (chunk key flags (i + k) (drop (1024 * (i + k)) m))
   unfolding root_over subtrees tree_within subtree_cv
   tree_fold zero i k n h =
       let z : k ≡ 0 = omega arith in
@@ -95,11 +98,12 @@ module _ (key : List ℕ) (flags : ℕ) (m : List ℕ) where
       let p : ℕ = 2 ^ l in
       let double : 2 ^ suc l ≡ 2 * p = pow-succ' 2 l in
       let rest : List ℕ = drop (1024 * i) m in
+      let folded = λ (xs : List (List ℕ)). root_over key flags xs (chunk key flags (i + k) (drop (1024 * (i + k)) m)) in
       elim (cases_lt k p) [
         | inl lt ↦
             within_low key flags l i rest (omega arith)
             ∙ tree_fold l i k n lt
-            ∙ ap (λ (xs : List (List ℕ)). root_over key flags xs (chunk key flags (i + k) (drop (1024 * (i + k)) m))) (sym (subtrees_low (subtree_cv key flags m) l i k lt))
+            ∙ ap folded (sym (subtrees_low (subtree_cv key flags m) l i k lt))
         | inr ge ↦
             let len : length (take (1024 * p) rest) ≡ 1024 * p = length-take-le (1024 * p) rest (omega arith) in
             let left : tree_within l key flags i (take (1024 * p) rest) ≡ tree key flags i (take (1024 * p) rest)
@@ -112,11 +116,11 @@ module _ (key : List ℕ) (flags : ℕ) (m : List ℕ) where
             let ih = tree_fold l (i + p) (k - p) count (omega arith) in
             let place : i + p + (k - p) ≡ i + k = omega arith in
             let right : tree_within l key flags (i + p) (drop (1024 * p) rest)
-            ≡ root_over key flags (subtrees (subtree_cv key flags m) l (i + p) (k - p)) (chunk key flags (i + k) (drop (1024 * (i + k)) m))
+            ≡ folded (subtrees (subtree_cv key flags m) l (i + p) (k - p))
             = rw moved (rw place at ih) in
             within_high key flags l i rest (omega arith)
             ∙ rw (left, right) refl
-            ∙ ap (λ (xs : List (List ℕ)). root_over key flags xs (chunk key flags (i + k) (drop (1024 * (i + k)) m))) (sym (subtrees_high (subtree_cv key flags m) l i k ge))
+            ∙ ap folded (sym (subtrees_high (subtree_cv key flags m) l i k ge))
       ]
 
 -- in a run of chunks

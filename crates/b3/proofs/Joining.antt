@@ -64,6 +64,7 @@ module _ (key : List ℕ) (flags c : ℕ) (m : List ℕ) where
       let double : 2 ^ suc l ≡ 2 * p = pow-succ' 2 l in
       let rest : List ℕ = drop (1024 * i) m in
       let values : ℕ → ℕ → List ℕ = run_cv key flags c m in
+      let last = tree key flags (c + (i + k)) (drop (1024 * (i + k)) m) in
       elim (cases_lt 0 q) [
         | inr none ↦
             let qz : q ≡ 0 = omega arith in
@@ -78,7 +79,7 @@ module _ (key : List ℕ) (flags c : ℕ) (m : List ℕ) where
                   let step : 2 ^ e * q + 2 ^ e ≤ 2 ^ e * 2 ^ (l - e)
                   = step_below (2 ^ e) q (2 ^ (l - e)) (omega arith) in
                   fold_part e q l i k n is few some count (omega arith)
-                  ∙ ap (λ (xs : List (List ℕ)). root_over key flags xs (tree key flags (c + (i + k)) (drop (1024 * (i + k)) m)))
+                  ∙ ap (λ (xs : List (List ℕ)). root_over key flags xs last)
                   (sym (subtrees_low values l i k lt))
               | inr ge ↦
                   let el : e < suc l = less_power e (suc l) (omega arith) in
@@ -99,7 +100,7 @@ module _ (key : List ℕ) (flags c : ℕ) (m : List ℕ) where
                   let cut : IsGreatestPowerBelow p (chunk_count rest) = (l, refl, omega arith, omega arith) in
                   tree_split key flags (c + i) p rest cut
                   ∙ rw right refl
-                  ∙ ap (λ (xs : List (List ℕ)). root_over key flags xs (tree key flags (c + (i + k)) (drop (1024 * (i + k)) m)))
+                  ∙ ap (λ (xs : List (List ℕ)). root_over key flags xs last)
                   (sym (subtrees_high values l i k ge))
             ]
       ]

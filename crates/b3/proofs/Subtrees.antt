@@ -52,7 +52,8 @@ module _ {X : Type 0} (tree : ℕ → ℕ → X) where
       let double_j : 2 ^ suc j ≡ 2 * 2 ^ j = pow-succ' 2 j in
       elim (cases_lt (k + 2 ^ j) p) [
         | inl lt ↦
-            rw (subtrees_low tree l i (k + 2 ^ j) lt, subtrees_low tree l i k (omega arith)) (subtrees_push l i j k q e lt)
+            let fewer = subtrees_low tree l i k (omega arith) in
+            rw (subtrees_low tree l i (k + 2 ^ j) lt, fewer) (subtrees_push l i j k q e lt)
         | inr ge ↦ elim (cases_lt j l) [
           | inl jl ↦
               let whole : p ≡ 2 ^ suc j * 2 ^ (l - suc j) = pow_multiple j l jl in
@@ -91,7 +92,8 @@ module _ {X : Type 0} (tree : ℕ → ℕ → X) where
               let whole : k + 2 ^ j ≡ p = omega arith in
               let none : p - p ≡ 0 = omega arith in
               let empty : subtrees tree (suc l) i 0 ≡ [] = subtrees_none tree (suc l) i in
-              rw (whole, kz, empty, subtrees_high tree l i p (omega arith), none, subtrees_none tree l (i + p), same, add-zero) refl
+              let high = subtrees_high tree l i p (omega arith) in
+              rw (whole, kz, empty, high, none, subtrees_none tree l (i + p), same, add-zero) refl
         ]
       ]
 
