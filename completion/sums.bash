@@ -53,7 +53,7 @@ _sums() {
         hash:-*) _sums_words '-a -l --seek --parts --salt --personal --tag --raw -h --help' "$word" ;;
         mac:-*) _sums_words '-a -l --key --key-file --verify -h --help' "$word" ;;
         kdf:-* | kdf:) _sums_words '-a -l --ikm-file --salt --info --context --raw -h --help' "$word" ;;
-        check:-*) _sums_words '-a -h --help' "$word" ;;
+        check:-*) _sums_words '-a --summary -h --help' "$word" ;;
         hash:* | mac:* | check:*) _sums_files ;;
     esac
 }

@@ -23,7 +23,8 @@ module _ (T : Type 0) (x : Result Lining Trouble) (name : Text) where
   unprinted (Ok l) content f old new (inr p) = inr p
   unprinted (Err t) content f old new p = p
 
-  pub line_unprinted : (first : Option (List ℕ)) (tree : Option Files) (wanted : Option (List ℕ)) (f : Fault) (r : Result ℕ Fault) (old new : Shown)
+  pub line_unprinted : (first : Option (List ℕ)) (tree : Option Files) (wanted : Option (List ℕ)) (f : Fault) (r
+      : Result ℕ Fault) (old new : Shown)
       → wanted ≡ None → IsErrAnd r (λ g. g ≡ f)
       → IfSome first (λ bytes. IfSome tree (λ files. let e : Result T Fault = Err f in
       PrintsTag x name (content_of name bytes files) e old new))
@@ -51,7 +52,8 @@ module _ {S : Type 0} (shown : S → Shown) (x : Result Lining Trouble) (name ta
       inl (made.0, text, status, made.1, is, no_status, text_failed r a b text stopped failed)
   untold (Err t) content sink line text status r a b holds made answer stopped failed = absurd made
 
-  pub verdict_untold : (first : Option (List ℕ)) (tree : Option Files) (wanted : Option (List ℕ)) (sink : S) (line text : Text) (status : ℕ)
+  pub verdict_untold : (first : Option (List ℕ)) (tree : Option Files) (wanted : Option (List ℕ)) (sink : S)
+      (line text : Text) (status : ℕ)
       (r : Result ℕ Fault) (a b c : Shown) → wanted ≡ Some tag
       → IfSome first (λ bytes. IfSome tree (λ files. let made : Result S Fault = Ok sink in
       MakesLine shown x name (content_of name bytes files) made))

@@ -33,7 +33,8 @@ abbrev Usages : Result Deriving Trouble → Type 0
 Usages (Ok d) = (m : List ℕ) (t : Trouble) → d.key m ≡ Err t → (fault : UsageFault) × (t ≡ usage fault)
 Usages (Err t) = (fault : UsageFault) × (t ≡ usage fault)
 
-module _ (is_raw : Bool) (name : Text) (content : Option (List ℕ)) (answer : Result ℕ Fault) (old : Shown) (i j u v : ℕ) where
+module _ (is_raw : Bool) (name : Text) (content : Option (List ℕ)) (answer : Result ℕ Fault) (old : Shown) (i j u
+    v : ℕ) where
   -- the course by what is derived
   abbrev pub Runs : Result Deriving Trouble → Course → Type 0
   Runs x course = MatchResult x (λ d. DerivesFrom is_raw d name content course) (λ t. course ≡ refused_by t no_failures)
@@ -55,7 +56,7 @@ module _ (is_raw : Bool) (name : Text) (content : Option (List ℕ)) (answer : R
 
   -- a write failed
   failed_write : (P : Course → Type 0) (new : Shown) (text : List ℕ) (f : Fault)
-      → P (record { text = text; passed = []; ending = Err cannot_write; failures = no_failures })
+      → P (record { text = text; notes = []; ending = Err cannot_write; failures = no_failures })
       → trouble_of f ≡ cannot_write → IsErrAnd answer (λ g. g ≡ f) → Failed old new text → j ≡ i
       → v ≡ count_after u (failures_of false content (trouble_of f)).files → Taken P answer old new i j u v
   failed_write P new text f runs is stopped failed still counted =
@@ -63,7 +64,7 @@ module _ (is_raw : Bool) (name : Text) (content : Option (List ℕ)) (answer : R
       let quiet : v ≡ count_after u 0 =
       subst (λ (x : Trouble). v ≡ count_after u (failures_of false content x).files) is counted in
       let told : trouble_of e.0 ≡ cannot_write = ap trouble_of e.2 ∙ is in (
-        record { text = text; passed = []; ending = Err cannot_write; failures = no_failures },
+        record { text = text; notes = []; ending = Err cannot_write; failures = no_failures },
         runs,
         rw e.1 (record { ending = ap Err (sym told); out = failed }),
         refl,
@@ -89,16 +90,19 @@ module _ (is_raw : Bool) (name : Text) (content : Option (List ℕ)) (answer : R
   stopped_at T (Ok d) new f only (inl p) stopped still counted = of_content content refl p
     where
       of_key : (m : List ℕ) (y : Result (List ℕ) Trouble) → content ≡ Some m → length m ≤ d.limit → d.key m ≡ y
-          → (let r : Result T Fault = Err f in PrintsKey is_raw y r old new) → Taken (Runs (Ok d)) answer old new i j u v
+          → (let r : Result T Fault = Err f in PrintsKey is_raw y r old new)
+          → Taken (Runs (Ok d)) answer old new i j u v
       of_key m (Ok key) there fits is q =
           failed_write (Runs (Ok d)) new (printed is_raw key ++ line_end is_raw) f
-          (inl (rw there (fits, rw is (inr refl)))) q.0 stopped (Failed-more old new (printed is_raw key) (line_end is_raw) q.1)
+          (inl (rw there (fits, rw is (inr refl)))) q.0 stopped (Failed-more old new (printed is_raw key)
+          (line_end is_raw) q.1)
           still counted
       of_key m (Err t) there fits is q =
           refused (Runs (Ok d)) new t f (inl (rw there (fits, rw is refl))) (only m t is) q.0 stopped q.1 still counted
 
       of_content : (c : Option (List ℕ)) → content ≡ c
-          → IsSomeAnd c (λ m. (length m ≤ d.limit) × (let r : Result T Fault = Err f in PrintsKey is_raw (d.key m) r old new))
+          → IsSomeAnd c (λ m. (length m ≤ d.limit) × (let r : Result T Fault = Err f in PrintsKey is_raw (d.key
+          m) r old new))
           → Taken (Runs (Ok d)) answer old new i j u v
       of_content None is q = absurd q
       of_content (Some m) is q = of_key m (d.key m) is q.0 refl q.1
@@ -119,22 +123,37 @@ module _ (is_raw : Bool) (name : Text) (content : Option (List ℕ)) (answer : R
           (λ fault. (trouble_of fault ≡ cannot_write) × Failed mid new (line_end is_raw))
           → Taken (Runs (Ok d)) a old new i j u v
       of_answer m key (Ok s) there fits is done q = (
-        record { text = printed is_raw key ++ line_end is_raw; passed = []; ending = Ok 0; failures = no_failures },
+        record { text = printed is_raw key ++ line_end is_raw; notes = []; ending = Ok 0; failures = no_failures },
         inl (rw there (fits, rw is (inl refl))),
-        record { ending = ap Ok (sym q.0); out = Done-after old mid new (printed is_raw key) (line_end is_raw) done q.1 },
+        record {
+          ending = ap Ok (sym q.0);
+          out = Done-after old mid new (printed is_raw key) (line_end is_raw)
+              done q.1;
+        },
         refl,
         Counted-none i j u v still counted,
       )
       of_answer m key (Err f) there fits is done q = (
-        record { text = printed is_raw key ++ line_end is_raw; passed = []; ending = Err cannot_write; failures = no_failures },
+        record {
+          text = printed is_raw key ++ line_end is_raw;
+          notes = [];
+          ending = Err cannot_write;
+          failures =
+              no_failures;
+        },
         inl (rw there (fits, rw is (inr refl))),
-        record { ending = ap Err (sym q.0); out = Failed-after old mid new (printed is_raw key) (line_end is_raw) done q.1 },
+        record {
+          ending = ap Err (sym q.0);
+          out = Failed-after old mid new (printed is_raw key) (line_end is_raw)
+              done q.1;
+        },
         refl,
         Counted-none i j u v still counted,
       )
 
       of_key : (m : List ℕ) (y : Result (List ℕ) Trouble) → content ≡ Some m → length m ≤ d.limit → d.key m ≡ y
-          → (let r : Result T Fault = Ok value in PrintsKey is_raw y r old mid) → Taken (Runs (Ok d)) answer old new i j u v
+          → (let r : Result T Fault = Ok value in PrintsKey is_raw y r old mid)
+          → Taken (Runs (Ok d)) answer old new i j u v
       of_key m (Ok key) there fits is q = of_answer m key answer there fits is q tail
       of_key m (Err t) there fits is q = absurd q.0
 
@@ -265,7 +284,8 @@ quiet_key is_raw x (Ok v) old new content only p = refl
 quiet_key is_raw (Ok key) (Err f) old new content only p = ap (behind content) p.0
 quiet_key is_raw (Err t) (Err f) old new content only p = ap (behind content) (p.0 ∙ (only t refl).1)
 
-pub expanded_counted : {T : Type 0} (is_raw : Bool) (f : Function) (n : ℕ) (info prk : List ℕ) (name : Text) (tree : Option Files)
+pub expanded_counted : {T : Type 0} (is_raw : Bool) (f : Function) (n : ℕ) (info prk : List ℕ) (name : Text)
+    (tree : Option Files)
     (r : Result T Fault) (old new : Shown) (u v : ℕ)
     → IfSome tree (λ files. v ≡ count_after u 0) → PrintsKey is_raw (expanded f n info prk) r old new
     → IfSome tree (λ files. v ≡ count_after u (behind_answer (files name) r))

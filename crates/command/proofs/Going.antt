@@ -152,7 +152,7 @@ module _ (l : Lining) (a : Seen) (err_old : Shown) where
 
   abbrev pub Ends : List Text → Result ℕ Fault → Seen → Shown → Type 0
   Ends names answer b err_new = TakesCourse (λ input files. HashesAll l files input names)
-      (λ troubles. Tells err_old err_new (all_told troubles)) answer a b
+      (λ notes. Tells err_old err_new notes) answer a b
 
   -- what one name left and printed
   abbrev pub Read : Text → Result (Unit {0}) Fault → Seen → Seen → Type 0
@@ -252,7 +252,7 @@ module _ (l : Lining) (a : Seen) (err_old : Shown) where
         → Progress l files input names status a b err_old err_new → Read name (Err f) b c
         → Line name (Err f) b c → (status_of (trouble_of f) ≡ 1 → ⊥)
         → (course : Course) × HashesAll l files input all course × Takes course (Err f) a.out c.out
-        × Tells err_old err_new (all_told course.passed)
+        × Tells err_old err_new course.notes
         × Counted course.failures a.input_failures c.input_failures a.file_failures c.file_failures
     stopped input files status f p read printed heavy =
         let r : Result (Unit {0}) Fault = Err f in

@@ -19,17 +19,19 @@ use Rattle.sumlist.specs.declared.checking.CheckFault.TheVariants as check
 use Rattle.sumlist.specs.declared.kind.Kind.{Kind}
 use Rattle.sumlist.specs.declared.summary.Summary.{Summary}
 use Rattle.command.specs.Checking.{CheckRuns, ChecksContent, MayStop, report_status, unread}
+use Rattle.command.specs.Checking.{noted}
 use Rattle.command.specs.Course.{Counted, Course, Failures, Printed, Takes, behind, failures_from, failures_of, plus}
-use Rattle.command.specs.Course.{refused_by}
+use Rattle.command.specs.Course.{Tells, refused_by}
 use Rattle.command.specs.Lines.{MayRefuse, is_input}
 use Rattle.command.specs.Troubles.{Trouble, bad_name, cannot_read, cannot_write, key_file_too_long, key_length}
 use Rattle.command.specs.Troubles.{out_of_memory, too_long, trouble_of, usage}
 use Rattle.command.specs.declared.fault.Fault.{Fault}
 use Rattle.command.specs.declared.fault.Fault.TheVariants.{CannotRead, CannotWrite, OutOfMemory, TooLong}
-use Rattle.command.specs.inside.Faults.{of_check}
+use Rattle.command.specs.inside.Faults.{noted_of, of_check}
 use Rattle.command.specs.inside.Listing.{ListTaken}
 use Rattle.command.specs.inside.Reading.{OpensFile, failed}
 use Rattle.command.proofs.Clean.{clean-fine}
+use Rattle.command.proofs.Telling.{Tells-none}
 
 pair : {i j k l : ℕ} → i ≡ k → j ≡ l → (let f : Failures = record { input = i; files = j } in f) ≡ record
     { input = k; files = l }
@@ -49,19 +51,21 @@ behind-none key_length = refl
 behind-none cannot_write = refl
 behind-none out_of_memory = refl
 
-module _ (files : Files) (kind : Kind) (name : Bor Text) (list : List ℕ) where
+module _ (is_summed : Bool) (files : Files) (kind : Kind) (name : Bor Text) (list : List ℕ) (err_old err_new :
+    Shown) where
   stopped : (e : CheckFault) (f : Fault) (old new : Shown) (i j : ℕ)
       → ListChecked files kind list (let r : Result Summary CheckFault = Err e in r) i j old.contents new.contents
       → MayStop name.now list (trouble_of f)
       → ((front : Text) → Appends old.contents new.contents front → Printed (Err (trouble_of f)) old new front)
-      → ListTaken files kind name.now list (Err f) old new i j
-  stopped e f old new i j checked may out =
+      → Tells err_old err_new []
+      → ListTaken is_summed files kind name.now list (Err f) old new err_old err_new i j
+  stopped e f old new i j checked may out none =
       let os = checked.0 in
       let k = unreadable_count os in
       let front = checked.3 in (
         record {
           text = front.0;
-          passed = [];
+          notes = [];
           ending = Err (trouble_of f);
           failures = plus (unread k) (failures_of (is_input name.now) (Some list) (trouble_of f));
         },
@@ -69,6 +73,7 @@ module _ (files : Files) (kind : Kind) (name : Bor Text) (list : List ℕ) where
         (os, checked.1, inr (front.0, trouble_of f, front.2, may, refl)),
         refl,
         record { ending = refl; out = out front.0 front.1 },
+        none,
         checked.2,
       )
 
@@ -76,29 +81,37 @@ module _ (files : Files) (kind : Kind) (name : Bor Text) (list : List ℕ) where
       → ListChecked files kind list answer i j old.contents new.contents
       → WriteCounts answer old.failures new.failures
       → (answer ≡ Err check.ListTooLong → 2 ^ 64 - 1 < length list)
-      → ListTaken files kind name.now list (of_check answer name) old new i j
-  taken (Ok s) old new i j checked writes long =
+      → Tells err_old err_new (noted_of is_summed answer)
+      → ListTaken is_summed files kind name.now list (of_check answer name) old new err_old err_new i j
+  taken (Ok s) old new i j checked writes long told =
       let os = checked.0 in
       let k = unreadable_count os in (
-        record { text = report_from 1 os; passed = []; ending = Ok (report_status os); failures = unread k },
+        record {
+          text = report_from 1 os;
+          notes = noted is_summed s;
+          ending = Ok (report_status os);
+          failures =
+              unread k;
+        },
         k,
-        (os, checked.1, inl refl),
+        (os, checked.1, inl (s, checked.3.0, refl)),
         plus-none (unread k) (is_input name.now),
         record {
           ending = ap Ok (ap (λ b. if b then 0 else 1) (sym (clean-fine s os checked.3.0)));
           out = (writes, checked.3.1);
         },
+        told,
         checked.2,
       )
-  taken (Err check.ListRead) old new i j checked writes long =
-      stopped check.ListRead (CannotRead name) old new i j checked refl (λ front p. (writes, p))
-  taken (Err check.ListTooLong) old new i j checked writes long =
-      stopped check.ListTooLong (TooLong name) old new i j checked (refl, long refl) (λ front p. (writes, p))
-  taken (Err check.Write) old new i j checked writes long =
+  taken (Err check.ListRead) old new i j checked writes long told =
+      stopped check.ListRead (CannotRead name) old new i j checked refl (λ front p. (writes, p)) told
+  taken (Err check.ListTooLong) old new i j checked writes long told =
+      stopped check.ListTooLong (TooLong name) old new i j checked (refl, long refl) (λ front p. (writes, p)) told
+  taken (Err check.Write) old new i j checked writes long told =
       stopped check.Write CannotWrite old new i j checked tt
-      (λ front p. (writes, (front, p, ([], sym (append-nil front)))))
-  taken (Err check.OutOfMemory) old new i j checked writes long =
-      stopped check.OutOfMemory OutOfMemory old new i j checked tt (λ front p. (writes, p))
+      (λ front p. (writes, (front, p, ([], sym (append-nil front))))) told
+  taken (Err check.OutOfMemory) old new i j checked writes long told =
+      stopped check.OutOfMemory OutOfMemory old new i j checked tt (λ front p. (writes, p)) told
 
 long_list : (bytes given : List ℕ) (now : Option (List ℕ)) → Consumes (Some bytes) now given → 2 ^ 64 - 1 < length given
     → 2 ^ 64 - 1 < length bytes
@@ -106,19 +119,21 @@ long_list bytes given None consumes long = absurd consumes
 long_list bytes given (Some rest) consumes long = rw consumes (omega (arith, length-append given rest))
 
 -- by the answer of `check`
-pub list_taken : (coming now : Option (List ℕ)) (tree : Option Files) (kind : Kind) (name : Bor Text)
-    (answer : Result Summary CheckFault) (old new : Shown) (i j : ℕ)
+pub list_taken : (is_summed : Bool) (coming now : Option (List ℕ)) (tree : Option Files) (kind : Kind) (name : Bor Text)
+    (answer : Result Summary CheckFault) (old new err_old err_new : Shown) (i j : ℕ)
     → IfSome coming (λ bytes. IfSome tree (λ files. ListChecked files kind bytes answer i j old.contents new.contents))
     → WriteCounts answer old.failures new.failures
     → IfSome coming (λ _. (given : List ℕ) × Consumes coming now given ×
     (IsErrOf answer check.ListTooLong ↔ (2 ^ 64 - 1 < length given)))
-    → IfSome coming (λ bytes. IfSome tree (λ files. ListTaken files kind name.now bytes (of_check answer name) old new
-    i j))
-list_taken None now tree kind name answer old new i j checked writes gave = tt
-list_taken (Some bytes) now None kind name answer old new i j checked writes gave = tt
-list_taken (Some bytes) now (Some files) kind name answer old new i j checked writes gave =
-    taken files kind name bytes answer old new i j checked writes
-    (λ is. long_list bytes gave.0 now gave.1 (gave.2.0 is))
+    → Tells err_old err_new (noted_of is_summed answer)
+    → IfSome coming (λ bytes. IfSome tree (λ files. ListTaken is_summed files kind name.now bytes (of_check answer name)
+    old new err_old err_new i j))
+list_taken is_summed None now tree kind name answer old new err_old err_new i j checked writes gave told = tt
+list_taken is_summed (Some bytes) now None kind name answer old new err_old err_new i j checked writes gave told = tt
+list_taken is_summed (Some bytes) now (Some files) kind name answer old new err_old err_new i j checked writes
+    gave told =
+    taken is_summed files kind name bytes err_old err_new answer old new i j checked writes
+    (λ is. long_list bytes gave.0 now gave.1 (gave.2.0 is)) told
 
 pub list_counted : (coming : Option (List ℕ)) (name : Bor Text) (answer : Result Summary CheckFault) (i j : ℕ)
     → ListCounts answer i j
@@ -154,12 +169,13 @@ Printed-refused most name content key_length s may = absurd may
 Printed-refused most name content cannot_write s may = absurd may
 
 -- a list that did not open
-refused_list : (files : Files) (kind : Kind) (name : Text) (content : Option (List ℕ)) (t : Trouble)
+refused_list : (is_summed : Bool) (files : Files) (kind : Kind) (name : Text) (content : Option (List ℕ)) (t : Trouble)
     → MayRefuse 0 name content t → (t ≡ too_long name → ⊥)
-    → is_input name ≡ false → ChecksContent files kind name content (refused_by t (failures_of false content t))
-refused_list files kind name None t may other is =
+    → is_input name ≡ false → ChecksContent is_summed files kind name content (refused_by t (failures_of false
+    content t))
+refused_list is_summed files kind name None t may other is =
     (t, may, ap (λ n. refused_by t (failures_from false n)) (behind-none t))
-refused_list files kind name (Some list) t may other is =
+refused_list is_summed files kind name (Some list) t may other is =
     let s = all_settled files kind (lines list) in (
       s.0,
       s.1,
@@ -172,39 +188,33 @@ refused_list files kind name (Some list) t may other is =
       ),
     )
 
--- no trouble is passed over
-passes_none : (files : Files) (kind : Kind) (name : Text) (content : Option (List ℕ)) (course : Course)
-    → ChecksContent files kind name content course → course.passed ≡ []
-passes_none files kind name None course h = ap (λ (c : Course). c.passed) h.2
-passes_none files kind name (Some list) course h =
-    elim h.2 [ inl e ↦ ap (λ (c : Course). c.passed) e | inr s ↦ ap (λ (c : Course). c.passed) s.4 ]
-
 -- what the whole command did
-abbrev pub Reports : Kind → Text → Option (List ℕ) → Option Files → Result ℕ Fault → Shown → Shown → (i j u v : ℕ)
-    → Type 0
-Reports kind name first tree r old new i j u v = IfSome first (λ bytes. IfSome tree (λ files.
-    (course : Course) × CheckRuns kind name files bytes course × Takes course r old new × (course.passed ≡ []) ×
+abbrev pub Reports : Kind → Bool → Text → Option (List ℕ) → Option Files → Result ℕ Fault
+    → (old new err_old err_new : Shown) → (i j u v : ℕ) → Type 0
+Reports kind is_summed name first tree r old new err_old err_new i j u v = IfSome first (λ bytes. IfSome tree (λ files.
+    (course : Course) × CheckRuns kind is_summed name files bytes course × Takes course r old new
+    × Tells err_old err_new course.notes ×
     Counted course.failures i j u v))
 
-module _ (kind : Kind) (name : Text) where
+module _ (kind : Kind) (is_summed : Bool) (name : Text) (err_old err_new : Shown) where
   abbrev pub Lists : Option (List ℕ) → Option Files → Result ℕ Fault → Shown → Shown → (u v : ℕ) → Type 0
   Lists coming tree r old new u v = IfSome coming
-      (λ bytes. IfSome tree (λ files. ListTaken files kind name bytes r old new u v))
+      (λ bytes. IfSome tree (λ files. ListTaken is_summed files kind name bytes r old new err_old err_new u v))
 
   -- the list is standard input
   pub report_input : (first : Option (List ℕ)) (tree : Option Files) (r : Result ℕ Fault) (old new : Shown)
       (i j u v : ℕ) → is_input name ≡ true
       → Lists first tree r old new u v → IfSome first (λ bytes. j ≡ count_after i (failed true (Some bytes) r).input)
-      → Reports kind name first tree r old new i j u v
+      → Reports kind is_summed name first tree r old new err_old err_new i j u v
   report_input None tree r old new i j u v is lists list = tt
   report_input (Some bytes) None r old new i j u v is lists list = tt
   report_input (Some bytes) (Some files) r old new i j u v is lists list =
       let c = lists.0 in
-      let tree_count = lists.5 in (
+      let tree_count = lists.6 in (
         c,
         rw is lists.2,
         lists.4,
-        passes_none files kind name (Some bytes) c lists.2,
+        lists.5,
         rw (lists.3, is) (omega (arith, list), omega (arith, tree_count)),
       )
 
@@ -213,33 +223,34 @@ module _ (kind : Kind) (name : Text) where
       (f : Fault) (r : Result ℕ Fault) (s : Shown) (i u v : ℕ) → is_input name ≡ false
       → IsErrAnd r (λ g. g ≡ f) → IfSome tree (λ files. OpensFile remaining name (files name) (Err f))
       → IfSome tree (λ files. let e : Result F Fault = Err f in v ≡ count_after u (failed false (files name) e).files)
-      → Reports kind name first tree r s s i i u v
+      → Reports kind is_summed name first tree r s s err_old err_old i i u v
   report_refused remaining None tree f r s i u v is stop opens count = tt
   report_refused remaining (Some bytes) None f r s i u v is stop opens count = tt
   report_refused remaining (Some bytes) (Some files) f r s i u v is stop opens count =
       let e = err_from_is_err_and r stop in
       let t = trouble_of f in (
         refused_by t (failures_of false (files name) t),
-        rw is (refused_list files kind name (files name) t opens.0 opens.1 is),
+        rw is (refused_list is_summed files kind name (files name) t opens.0 opens.1 is),
         rw (e.1, e.2) (record { ending = refl; out = Printed-refused 0 name (files name) t s opens.0 }),
-        refl,
+        Tells-none err_old,
         (omega arith, count),
       )
 
   -- it is a file that was opened, and closed
   listed_file : (files : Files) (bytes content : List ℕ) (r : Result ℕ Fault) (old new : Shown) (i j u v w x y : ℕ)
       → is_input name ≡ false → files name ≡ Some content
-      → v ≡ count_after u 0 → ListTaken files kind name content r old new v w
+      → v ≡ count_after u 0 → ListTaken is_summed files kind name content r old new err_old err_new v w
       → i ≡ 0 → j ≡ count_after i (failed true (Some content) r).input → x ≡ count_after w j
-      → (course : Course) × CheckRuns kind name files bytes course × Takes course r old new × (course.passed ≡ []) ×
+      → (course : Course) × CheckRuns kind is_summed name files bytes course × Takes course r old new
+      × Tells err_old err_new course.notes ×
       Counted course.failures y y u x
   listed_file files bytes content r old new i j u v w x y is there opened taken fresh read closed =
       let c = taken.0 in
-      let tree_count = taken.5 in (
+      let tree_count = taken.6 in (
         c,
         rw (is, there) taken.2,
         taken.4,
-        passes_none files kind name (Some content) c taken.2,
+        taken.5,
         rw (taken.3, is) (omega arith, omega (arith, opened, tree_count, fresh, read, closed)),
       )
 
@@ -250,7 +261,7 @@ module _ (kind : Kind) (name : Text) where
       → IfSome tree (λ files. v ≡ count_after u 0) → Lists (remaining feed) then_tree r old new v w
       → i ≡ 0 → IfSome (remaining feed) (λ bytes. j ≡ count_after i (failed true (Some bytes) r).input)
       → x ≡ count_after w j
-      → Reports kind name first tree r old new y y u x
+      → Reports kind is_summed name first tree r old new err_old err_new y y u x
   report_file remaining feed None tree then_tree r old new i j u v w x y is opens kept opened lists fresh list
       closed = tt
   report_file remaining feed (Some bytes) None then_tree r old new i j u v w x y is opens kept opened lists fresh list

@@ -99,7 +99,8 @@ output_made first tree h k o name room read same under kept empty root =
         (rw same at there.0, root m (there.1 [] empty) ∙ ap (λ (l : List ℕ). root_of l m) (kept ∙ under))
 
 -- the bytes of an output from a position on, where it was sought
-pub stretch_text : (is_raw : Bool) (name : Text) (o q : Output) (position n : ℕ) (m : List ℕ) → output_root q ≡ output_root o
+pub stretch_text : (is_raw : Bool) (name : Text) (o q : Output) (position n : ℕ) (m : List ℕ)
+    → output_root q ≡ output_root o
     → output_position q ≡ position → output_root o ≡ hash_root m
     → printed_beside is_raw name (slice (output_root q) (output_position q) n)
     ≡ printed_beside is_raw name (slice (hash_root m) position n)

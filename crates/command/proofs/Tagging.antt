@@ -27,7 +27,7 @@ use Rattle.command.proofs.Refused.{Counted-after, Counted-file, Counted-quiet, C
 -- a course was taken that passes nothing over
 abbrev pub Taken : (Course → Type 0) → Result ℕ Fault → (old new : Shown) → (i j u v : ℕ) → Type 0
 Taken P answer old new i j u v =
-    (course : Course) × P course × Takes course answer old new × (course.passed ≡ []) × Counted course.failures i j u v
+    (course : Course) × P course × Takes course answer old new × (course.notes ≡ []) × Counted course.failures i j u v
 
 -- the one line of a command
 line_taken : (wanted : Option (List ℕ)) (l : Lining) (name : Text) (input : List ℕ) (files : Files)
@@ -36,7 +36,7 @@ line_taken : (wanted : Option (List ℕ)) (l : Lining) (name : Text) (input : Li
     → Counted (failed (is_input name) (content_of name input files) answer) i j u v
     → Taken (LineRuns wanted l name input files) answer old new i j u v
 line_taken wanted l name input files (Ok s) old new i j u v (inl p) counted = (
-  record { text = p.1; passed = []; ending = Ok p.2; failures = no_failures },
+  record { text = p.1; notes = []; ending = Ok p.2; failures = no_failures },
   inl (p.0, p.1, p.2, p.3, p.4, inl refl),
   record { ending = ap Ok (sym p.5); out = p.6 },
   refl,
@@ -45,7 +45,7 @@ line_taken wanted l name input files (Ok s) old new i j u v (inl p) counted = (
 line_taken wanted l name input files (Ok s) old new i j u v (inr p) counted = absurd p.0
 line_taken wanted l name input files (Err f) old new i j u v (inl p) counted =
     let is : trouble_of f ≡ cannot_write = p.6.0 in (
-      record { text = p.1; passed = []; ending = Err cannot_write; failures = no_failures },
+      record { text = p.1; notes = []; ending = Err cannot_write; failures = no_failures },
       inl (p.0, p.1, p.2, p.3, p.4, inr refl),
       record { ending = ap Err (sym is); out = p.6.1 },
       refl,

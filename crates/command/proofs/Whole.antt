@@ -14,7 +14,7 @@ use Rattle.task.specs.Tasks.{Asked, asked, task_shown}
 use Rattle.task.specs.declared.fault.TaskFault.{TaskFault}
 use Rattle.task.specs.declared.fault.TaskFault.TheVariants as task
 use Rattle.task.specs.declared.request.Request.{Request}
-use Rattle.command.specs.Course.{Counted, Course, Printed, Runs, Takes, Tells, all_told, ending_told, no_failures}
+use Rattle.command.specs.Course.{Counted, Course, Printed, Runs, Takes, Tells, ending_told, no_failures}
 use Rattle.command.specs.Course.{refused_by, status_at}
 use Rattle.command.specs.Program.{IsAnswered, ProgramRuns, RequestRuns, TaskRuns}
 use Rattle.command.specs.Troubles.{out_of_memory, status_of, told, trouble_of}
@@ -26,24 +26,24 @@ Counted-none : (i u : ℕ) → Counted no_failures i i u u
 Counted-none i u = (omega arith, omega arith)
 
 Runs-done : (course : Course) (status : ℕ) (out_old out_new err_old err_new : Shown)
-    → Takes course (Ok status) out_old out_new → Tells err_old err_new (all_told course.passed)
+    → Takes course (Ok status) out_old out_new → Tells err_old err_new course.notes
     → Runs course status out_old out_new err_old err_new
 Runs-done course status out_old out_new err_old err_new takes tells = record {
   status = sym (ap status_at takes.ending);
   out = takes.out;
-  err = subst (Tells err_old err_new) (sym (ap (λ l. all_told course.passed ++ l) (ap ending_told takes.ending) ∙
-      append-nil (all_told course.passed))) tells;
+  err = subst (Tells err_old err_new) (sym (ap (λ l. course.notes ++ l) (ap ending_told takes.ending) ∙
+      append-nil course.notes)) tells;
 }
 
 Runs-stopped : (course : Course) (f : Fault) (status : ℕ) (out_old out_new err_old err_mid err_new : Shown)
-    → Takes course (Err f) out_old out_new → Tells err_old err_mid (all_told course.passed)
+    → Takes course (Err f) out_old out_new → Tells err_old err_mid course.notes
     → status ≡ status_of (trouble_of f) → Tells err_mid err_new (told (trouble_of f))
     → Runs course status out_old out_new err_old err_new
 Runs-stopped course f status out_old out_new err_old err_mid err_new takes tells is last = record {
   status = is ∙ sym (ap status_at takes.ending);
   out = takes.out;
-  err = subst (Tells err_old err_new) (sym (ap (λ l. all_told course.passed ++ l) (ap ending_told takes.ending)))
-      (Tells-more err_old err_mid err_new (all_told course.passed) (told (trouble_of f)) tells last);
+  err = subst (Tells err_old err_new) (sym (ap (λ l. course.notes ++ l) (ap ending_told takes.ending)))
+      (Tells-more err_old err_mid err_new course.notes (told (trouble_of f)) tells last);
 }
 
 module _ (first : Option (List ℕ)) (tree : Option Files) where
@@ -51,19 +51,19 @@ module _ (first : Option (List ℕ)) (tree : Option Files) where
   abbrev pub Requested : Request → Result ℕ Fault → (out_old out_new err_old err_new : Shown) → (i j u v : ℕ) → Type 0
   Requested r answer out_old out_new err_old err_new i j u v =
       IfSome first (λ bytes. IfSome tree (λ files. (course : Course) × RequestRuns r files bytes course × Takes course
-      answer out_old out_new × Tells err_old err_new (all_told course.passed) × Counted course.failures i j u v))
+      answer out_old out_new × Tells err_old err_new course.notes × Counted course.failures i j u v))
 
   -- what was done of a task by a command that passes over nothing
   abbrev pub Quietly : Asked → Result ℕ Fault → (out_old out_new : Shown) → (i j u v : ℕ) → Type 0
   Quietly asked answer out_old out_new i j u v =
       IfSome first (λ bytes. IfSome tree (λ files. (course : Course) × TaskRuns asked files bytes course × Takes
-      course answer out_old out_new × (course.passed ≡ []) × Counted course.failures i j u v))
+      course answer out_old out_new × (course.notes ≡ []) × Counted course.failures i j u v))
 
   -- and by one that tells what it passes over
   abbrev pub Tellingly : Asked → Result ℕ Fault → (out_old out_new err_old err_new : Shown) → (i j u v : ℕ) → Type 0
   Tellingly asked answer out_old out_new err_old err_new i j u v =
       IfSome first (λ bytes. IfSome tree (λ files. (course : Course) × TaskRuns asked files bytes course × Takes
-      course answer out_old out_new × Tells err_old err_new (all_told course.passed) × Counted course.failures i j
+      course answer out_old out_new × Tells err_old err_new course.notes × Counted course.failures i j
       u v))
 
   -- what a run did

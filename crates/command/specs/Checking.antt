@@ -1,12 +1,15 @@
 -- The course of `check`.
 use Rattle.std.specs.Prelude.{◌⊎◌, ◌≡◌, ℕ, ◌-◌, ◌^◌, ◌<◌, ⊤, Bool, true, false, List, [], length, Option, Some, None}
 use Rattle.std.specs.Prelude.{Ok, Err, if◌then◌else◌}
+use Rattle.std.specs.Prelude.{◌++◌, codes}
 use Rattle.std.specs.List.{list_all}
 use Rattle.clap.specs.Words.{Text}
 use Rattle.source.specs.Written.{Begins}
 use Rattle.sumlist.specs.Lines.{lines}
 use Rattle.sumlist.specs.Report.{AllAllowed, Files, Outcome, malformed, report_from, skipped, told, unreadable_count}
+use Rattle.sumlist.specs.Tally.{IsSummary, summary_text}
 use Rattle.sumlist.specs.declared.kind.Kind.{Kind}
+use Rattle.sumlist.specs.declared.summary.Summary.{Summary}
 use Rattle.sumlist.specs.declared.verdict.Verdict.{Verdict}
 use Rattle.sumlist.specs.declared.verdict.Verdict.TheVariants.{Matches}
 use Rattle.command.specs.Course.{Course, Failures, failures_of, no_failures, plus, refused_by}
@@ -39,31 +42,37 @@ MayStop name list t = ⊥
 abbrev pub unread : ℕ → Failures
 unread n = record { input = 0; files = n }
 
+-- what is told of the numbers of a list, where that is asked for
+abbrev pub noted : Bool → Summary → Text
+noted true numbers = codes "sums: " ++ summary_text numbers
+noted false numbers = []
+
 -- a list was checked: its report, or a beginning of one; the failures are those of the unreadable files, and
 -- that of the list
-abbrev pub ChecksList : Files → Kind → Text → List ℕ → Course → Type 0
-ChecksList files kind name list course =
+abbrev pub ChecksList : Bool → Files → Kind → Text → List ℕ → Course → Type 0
+ChecksList is_summed files kind name list course =
     (outcomes : List Outcome) × AllAllowed files kind (lines list) outcomes
-    × ((course ≡ record {
+    × (((numbers : Summary) × IsSummary numbers outcomes × (course ≡ record {
       text = report_from 1 outcomes;
-      passed = [];
+      notes = noted is_summed numbers;
       ending = Ok (report_status outcomes);
       failures = unread (unreadable_count outcomes);
-    })
+    }))
     ⊎ ((front : Text) × (t : Trouble) × Begins front (report_from 1 outcomes) × MayStop name list t
     × (course ≡ record {
       text = front;
-      passed = [];
+      notes = [];
       ending = Err t;
       failures = plus (unread (unreadable_count outcomes)) (failures_of (is_input name) (Some list) t);
     })))
 
 -- the list was there or not
-abbrev pub ChecksContent : Files → Kind → Text → Option (List ℕ) → Course → Type 0
-ChecksContent files kind name None course =
+abbrev pub ChecksContent : Bool → Files → Kind → Text → Option (List ℕ) → Course → Type 0
+ChecksContent is_summed files kind name None course =
     (t : Trouble) × MayRefuse 0 name None t × (course ≡ refused_by t no_failures)
-ChecksContent files kind name (Some list) course = ChecksList files kind name list course
+ChecksContent is_summed files kind name (Some list) course = ChecksList is_summed files kind name list course
 
 -- the course of `check`
-abbrev pub CheckRuns : Kind → Text → Files → List ℕ → Course → Type 0
-CheckRuns kind name files input course = ChecksContent files kind name (content_of name input files) course
+abbrev pub CheckRuns : Kind → Bool → Text → Files → List ℕ → Course → Type 0
+CheckRuns kind is_summed name files input course = ChecksContent is_summed files kind name (content_of name input
+    files) course

@@ -40,17 +40,17 @@ failures_from false n = record { input = 0; files = n }
 abbrev pub failures_of : Bool → Option (List ℕ) → Trouble → Failures
 failures_of from_input content t = failures_from from_input (behind content t)
 
--- the text for standard output, the troubles that were passed over, the status or the last trouble, and the
+-- the text for standard output, what is told on standard error on the way, the status or the last trouble, and the
 -- failures behind them
 pub record Course : Type 0 where
   pub text : Text
-  pub passed : List Trouble
+  pub notes : Text
   pub ending : Result ℕ Trouble
   pub failures : Failures
 
 -- one that only tells a trouble
 abbrev pub refused_by : Trouble → Failures → Course
-refused_by t failures = record { text = []; passed = []; ending = Err t; failures = failures }
+refused_by t failures = record { text = []; notes = []; ending = Err t; failures = failures }
 
 -- standard output has the text, or after `cannot_write` a beginning of it; no other write failed
 abbrev pub Printed : Result ℕ Trouble → Shown → Shown → Text → Type 0
@@ -89,4 +89,4 @@ pub record Takes (course : Course) (result : Result ℕ Fault) (old new : Shown)
 pub record Runs (course : Course) (result : ℕ) (out_old out_new err_old err_new : Shown) : Type 0 where
   pub status : result ≡ status_at course.ending
   pub out : Printed course.ending out_old out_new course.text
-  pub err : Tells err_old err_new (all_told course.passed ++ ending_told course.ending)
+  pub err : Tells err_old err_new (course.notes ++ ending_told course.ending)

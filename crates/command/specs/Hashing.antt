@@ -3,7 +3,7 @@ use Rattle.std.specs.Prelude.{◌⊎◌, ◌≡◌, ℕ, Bool, true, false, List
 use Rattle.std.specs.List.{flat_map}
 use Rattle.clap.specs.Words.{Text}
 use Rattle.sumlist.specs.Report.{Files}
-use Rattle.command.specs.Course.{Course, Failures, failures_of, no_failures, plus}
+use Rattle.command.specs.Course.{Course, Failures, all_told, failures_of, no_failures, plus}
 use Rattle.command.specs.Lines.{IsLine, Lining, MayTell, Stands, content_of, is_input}
 use Rattle.command.specs.Troubles.{Trouble, cannot_write, out_of_memory, status_of}
 
@@ -58,7 +58,7 @@ AllHashed l files input (name ∷ names) (o ∷ outcomes) left =
 abbrev pub course_of : List Outcome → Text → Result ℕ Trouble → Course
 course_of outcomes more ending = record {
   text = flat_map line_of outcomes ++ more;
-  passed = flat_map passed_of outcomes;
+  notes = all_told (flat_map passed_of outcomes);
   ending = ending;
   failures = failures_in outcomes;
 }

@@ -1,5 +1,6 @@
 -- The courses of `mac` and `kdf`.
-use Rattle.std.specs.Prelude.{◌⊎◌, ◌≡◌, ◌≢◌, ℕ, ◌+◌, ◌-◌, ◌*◌, ◌^◌, ◌<◌, ◌≤◌, ◌==◌, ◌&&◌, ⊤, Bool, true, false, nat_le, List, [], ◌∷◌}
+use Rattle.std.specs.Prelude.{◌⊎◌, ◌≡◌, ◌≢◌, ℕ, ◌+◌, ◌-◌, ◌*◌, ◌^◌, ◌<◌, ◌≤◌, ◌==◌, ◌&&◌, ⊤, Bool, true, false}
+use Rattle.std.specs.Prelude.{nat_le, List, [], ◌∷◌}
 use Rattle.std.specs.Prelude.{◌++◌, length, take, Option, Some, None, Result, Ok, Err, MatchResult, IsSomeAnd}
 use Rattle.std.specs.Prelude.{if◌then◌else◌}
 use Rattle.b3.specs.Bytes.{slice}
@@ -47,8 +48,8 @@ function_of hash.Blake2s =
 -- a text was printed whole, with this status, or after `cannot_write` a beginning of it
 abbrev pub Prints : Text → ℕ → Course → Type 0
 Prints text status course =
-    (course ≡ record { text = text; passed = []; ending = Ok status; failures = no_failures })
-    ⊎ (course ≡ record { text = text; passed = []; ending = Err cannot_write; failures = no_failures })
+    (course ≡ record { text = text; notes = []; ending = Ok status; failures = no_failures })
+    ⊎ (course ≡ record { text = text; notes = []; ending = Err cannot_write; failures = no_failures })
 
 -- the key of a run: of a file with at most 65,536 bytes, or given
 abbrev pub IsKey : Files → KeyText → List ℕ → Type 0

@@ -1,5 +1,6 @@
 -- The lines that `hash` and `mac` print of a name.
-use Rattle.std.specs.Prelude.{◌≡◌, ◌≤◌, ◌<◌, ◌*◌, ◌-◌, ◌^◌, ℕ, ⊤, Bool, true, false, List, [], Option, Some, length, IsTrue}
+use Rattle.std.specs.Prelude.{◌≡◌, ◌≤◌, ◌<◌, ◌*◌, ◌-◌, ◌^◌, ℕ, ⊤, Bool, true, false, List, [], Option, Some, length}
+use Rattle.std.specs.Prelude.{IsTrue}
 use Rattle.std.specs.Prelude.{IsSomeAnd, if◌then◌else◌, ◌++◌, codes}
 use Rattle.std.specs.Str.{bytes_eq}
 use Rattle.b3.specs.Bytes.{slice}

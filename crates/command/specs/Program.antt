@@ -20,7 +20,7 @@ abbrev pub TaskRuns : Asked → Files → List ℕ → Course → Type 0
 TaskRuns (hashes wanted parts names) files input course = HashesAll (digest_line wanted) files input names course
 TaskRuns (tags mac key wanted name) files input course = MacRuns mac key wanted name files input course
 TaskRuns (derives derived is_raw name) files input course = KdfRuns derived is_raw name files course
-TaskRuns (checks kind name) files input course = CheckRuns kind name files input course
+TaskRuns (checks kind is_summed name) files input course = CheckRuns kind is_summed name files input course
 
 -- the course of a request: its task's, or the first fault of its settings, or want of memory before either
 abbrev pub RequestRuns : Request → Files → List ℕ → Course → Type 0

@@ -40,7 +40,7 @@ impl<'i, 't, 'o, L: Feed, T: Tree, W: Sink> Session<'i, 't, 'o, L, T, W> {
         requires parts { IfSome parts IsPartSize }
         ensures course { TakesCourse (λ bytes files.
             HashesAll (digest_line requested) files bytes (map (λ n. n.now) names.entry.now))
-            (λ troubles. Tells (E.shown err.old) (E.shown err.new) (all_told troubles))
+            (λ notes. Tells (E.shown err.old) (E.shown err.new) notes)
             result (⟦<Self as Streams>⟧.seen self.old) (⟦<Self as Streams>⟧.seen self.new) }
         ensures same { SameStreams self.old self.new }
     {

@@ -30,8 +30,9 @@ impl<'i, 't, 'o, L: Feed, T: Tree, W: Sink> Session<'i, 't, 'o, L, T, W> {
         material: &'n str,
     ) -> Result<u8, Fault<'n>>
         requires { HasKey (derivation_shown derivation.now) }
-        ensures course { TakesCourse (λ bytes files. KdfRuns (derivation_shown derivation.now) is_raw material.entry.now files)
-            (λ troubles. troubles ≡ [])
+        ensures course { TakesCourse
+            (λ bytes files. KdfRuns (derivation_shown derivation.now) is_raw material.entry.now files)
+            (λ notes. notes ≡ [])
             result (⟦<Self as Streams>⟧.seen self.old) (⟦<Self as Streams>⟧.seen self.new) }
         ensures same { SameStreams self.old self.new }
     {

@@ -68,7 +68,7 @@ impl<'i, 't, 'o, L: Feed, T: Tree, W: Sink> Session<'i, 't, 'o, L, T, W> {
         err: &mut E,
     ) -> Result<u8, Fault<'n>>
         ensures course { TakesCourse (λ bytes files. RequestRuns request.entry files bytes)
-            (λ troubles. Tells (E.shown err.old) (E.shown err.new) (all_told troubles))
+            (λ notes. Tells (E.shown err.old) (E.shown err.new) notes)
             result (⟦<Self as Streams>⟧.seen self.old) (⟦<Self as Streams>⟧.seen self.new) }
         ensures same { SameStreams self.old self.new }
     {
@@ -89,7 +89,11 @@ impl<'i, 't, 'o, L: Feed, T: Tree, W: Sink> Session<'i, 't, 'o, L, T, W> {
                 is_raw,
                 material,
             } => self.print_key(&derivation, is_raw, material),
-            Task::Check { kind, list } => self.print_report(kind, list),
+            Task::Check {
+                kind,
+                is_summed,
+                list,
+            } => self.print_report(kind, is_summed, list, err),
         }
     }
 }

@@ -2,53 +2,90 @@
 
 ghost use Rattle.std.specs.Prelude.{◌≡◌, [], IfSome, Some, true};
 ghost use Rattle.source.specs.Counts.{count_after};
-ghost use Rattle.command.specs.Checking.{CheckRuns};
+ghost use Rattle.source.specs.Written.{Writes};
+ghost use Rattle.command.specs.Checking.{CheckRuns, noted};
+ghost use Rattle.command.specs.Course.{Tells};
 ghost use Rattle.command.specs.inside.Faults as spec;
-ghost use Rattle.command.specs.inside.Faults.{of_check};
+ghost use Rattle.command.specs.inside.Faults.{noted_of, of_check};
 ghost use Rattle.command.specs.inside.Listing.{ListTaken};
 ghost use Rattle.command.specs.inside.Reading.{failed};
 ghost use Rattle.command.specs.inside.Streams.{SameStreams, TakesCourse};
 
 use crate::fault::Fault;
 use crate::session::{Session, Streams, open_file};
-use source::{Feed, Sink};
+use source::{Feed, Sink, WriteFailed, write_all};
 use std::alloc::Global;
-use sumlist::{CheckFault, Kind, Summary, Tree, check};
+use sumlist::{CheckFault, Kind, Summary, Tree, check, write_summary};
 
 impl<'i, 't, 'o, L: Feed, T: Tree, W: Sink> Session<'i, 't, 'o, L, T, W> {
-    /// Prints the report, and answers 0 where every line that is not skipped is OK, else 1.
-    pub(crate) fn print_report<'n>(&mut self, kind: Kind, name: &'n str) -> Result<u8, Fault<'n>>
-        ensures course { TakesCourse (λ bytes files. CheckRuns kind name.entry.now files bytes)
-            (λ troubles. troubles ≡ [])
+    /// Prints the report, tells how many lines had each outcome where that is asked for, and answers 0
+    /// where every line that is not skipped is OK, else 1.
+    pub(crate) fn print_report<'n, E: Sink>(
+        &mut self,
+        kind: Kind,
+        is_summed: bool,
+        name: &'n str,
+        err: &mut E,
+    ) -> Result<u8, Fault<'n>>
+        ensures course { TakesCourse (λ bytes files. CheckRuns kind is_summed name.entry.now files bytes)
+            (λ notes. Tells (E.shown err.old) (E.shown err.new) notes)
             result (⟦<Self as Streams>⟧.seen self.old) (⟦<Self as Streams>⟧.seen self.new) }
         ensures same { SameStreams self.old self.new }
     {
         if name == "-" {
-            return check_list(self.alloc, kind, name, self.input, self.tree, self.out);
+            return check_list(
+                self.alloc, kind, is_summed, name, self.input, self.tree, self.out, err,
+            );
         }
         let mut list = open_file(name, self.tree)?;
-        let answer = check_list(self.alloc, kind, name, &mut list, self.tree, self.out);
+        let answer = check_list(
+            self.alloc, kind, is_summed, name, &mut list, self.tree, self.out, err,
+        );
         self.tree.close(list);
         answer
     }
 }
 
 // Checks the list of this name.
-fn check_list<'n, F: Feed, T: Tree, W: Sink>(
+fn check_list<'n, F: Feed, T: Tree, W: Sink, E: Sink>(
     alloc: Global,
     kind: Kind,
+    is_summed: bool,
     name: &'n str,
     list: &mut F,
     tree: &mut T,
     out: &mut W,
+    err: &mut E,
 ) -> Result<u8, Fault<'n>>
     ensures list { IfSome (F.remaining list.old) (λ bytes. IfSome (T.files tree.old) (λ files.
-        ListTaken files kind name.entry.now bytes result (W.shown out.old) (W.shown out.new)
+        ListTaken is_summed files kind name.entry.now bytes result (W.shown out.old) (W.shown out.new)
+        (E.shown err.old) (E.shown err.new)
         (T.failure_count tree.old) (T.failure_count tree.new))) }
     ensures counted { IfSome (F.remaining list.old) (λ bytes. F.failure_count list.new
         ≡ count_after (F.failure_count list.old) (failed true (Some bytes) result).input) }
 {
-    status_of(check(alloc, list, kind, tree, out), name)
+    let answer = check(alloc, list, kind, tree, out);
+    note(is_summed, &answer, err);
+    status_of(answer, name)
+}
+
+// Tells the numbers of a list on standard error, which may drop them.
+fn note<E: Sink>(is_summed: bool, answer: &Result<Summary, CheckFault>, err: &mut E)
+    ensures { Tells (E.shown err.old) (E.shown err.new) (noted_of is_summed answer.now) }
+{
+    match answer {
+        Ok(summary) if is_summed => {
+            let _ = write_note(summary, err);
+        }
+        _ => {}
+    }
+}
+
+fn write_note<E: Sink>(summary: &Summary, err: &mut E) -> Result<(), WriteFailed>
+    ensures { Writes result (E.shown err.old) (E.shown err.new) (noted true summary.now) }
+{
+    write_all(err, b"sums: ")?;
+    write_summary(summary, err)
 }
 
 fn status_of(answer: Result<Summary, CheckFault>, name: &str) -> Result<u8, Fault<'_>>

@@ -38,7 +38,7 @@ impl<'i, 't, 'o, L: Feed, T: Tree, W: Sink> Session<'i, 't, 'o, L, T, W> {
         requires { HasTag mac }
         ensures course { TakesCourse (λ bytes files. MacRuns mac (key_shown key.entry)
             (option_map (λ v. v.items) wanted) name.entry.now files bytes)
-            (λ troubles. troubles ≡ [])
+            (λ notes. notes ≡ [])
             result (⟦<Self as Streams>⟧.seen self.old) (⟦<Self as Streams>⟧.seen self.new) }
         ensures same { SameStreams self.old self.new }
     {

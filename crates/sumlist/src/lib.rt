@@ -19,7 +19,7 @@ pub use kind::Kind;
 pub use laws::report_laws;
 pub use line::{Line, LineFault, parse_line};
 pub use memory::MemoryTree;
-pub use report::write_verdict;
+pub use report::{write_summary, write_verdict};
 pub use summary::Summary;
 pub use tagging::{TaggedFault, write_tagged};
 pub use tree::{OpenFault, Tree};

@@ -2,7 +2,8 @@
 use Rattle.std.specs.Prelude.{◌≡◌, ◌↔◌, true, List, [], ◌∷◌, Some, codes, map, option_map, IsSomeAnd, IsTrue}
 use Rattle.std.specs.Prelude.{unwrap_or, fold}
 use Rattle.std.specs.Borrow.{Bor}
-use Rattle.clap.specs.Words.{App, Row, Rule, Text, first_of, all_of, new_app, new_rule, subcommand_of, with_rule, with_subcommand}
+use Rattle.clap.specs.Words.{App, Row, Rule, Text, first_of, all_of, new_app, new_rule, subcommand_of, with_rule}
+use Rattle.clap.specs.Words.{with_subcommand}
 use Rattle.task.specs.declared.request.Request.{Request}
 use Rattle.clap.specs.declared.builder.value_parser.ValueParser.TheVariants as vp
 use Rattle.clap.specs.declared.builder.action.ArgAction.TheVariants.{Append, SetTrue}
@@ -21,7 +22,8 @@ algorithm_names = codes "sha256" ∷ codes "sha512" ∷ codes "blake2b" ∷ code
 
 -- the names of MAC
 abbrev pub mac_names : List Text
-mac_names = codes "hmac-sha256" ∷ codes "hmac-sha512" ∷ codes "hmac-blake2b" ∷ codes "hmac-blake2s" ∷ codes "blake2b" ∷ codes "blake2s" ∷ codes "blake3" ∷ []
+mac_names = codes "hmac-sha256" ∷ codes "hmac-sha512" ∷ codes "hmac-blake2b" ∷ codes "hmac-blake2s" ∷ codes
+    "blake2b" ∷ codes "blake2s" ∷ codes "blake3" ∷ []
 
 -- `-a ALG`, which has to be there
 abbrev pub algorithm_rule : NameList → Rule
@@ -91,9 +93,9 @@ kdf_app names = with_rules (new_app (codes "kdf")) (algorithm_rule names
     ∷ text_rule (codes "info") ∷ text_rule (codes "context") ∷ required_rule length_rule
     ∷ flag_rule (codes "raw") ∷ [])
 
--- `check -a ALG LIST`
+-- `check -a ALG [--summary] LIST`
 abbrev pub check_app : NameList → App
-check_app names = with_rules (new_app (codes "check")) (algorithm_rule names
+check_app names = with_rules (new_app (codes "check")) (algorithm_rule names ∷ flag_rule (codes "summary")
     ∷ required_rule file_rule ∷ [])
 
 -- the program's command, with the four below it; `names` are those of ALG and `macs` those of MAC
@@ -117,6 +119,7 @@ pub record IsRequestOf (s : Text × List Row) (r : Request) : Type 0 where
   pub parts : option_map (λ t. t.now) r.parts ≡ first_of (codes "parts") s.1
   pub tag : IsTrue r.tag ↔ IsGiven (codes "tag") s.1
   pub raw : IsTrue r.raw ↔ IsGiven (codes "raw") s.1
+  pub summary : IsTrue r.summary ↔ IsGiven (codes "summary") s.1
   pub key : option_map (λ t. t.now) r.key ≡ first_of (codes "key") s.1
   pub key_file : option_map (λ t. t.now) r.key_file ≡ first_of (codes "key-file") s.1
   pub verify : option_map (λ t. t.now) r.verify ≡ first_of (codes "verify") s.1

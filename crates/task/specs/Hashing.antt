@@ -1,5 +1,6 @@
 -- What a request of `hash` has printed, or the first fault of its settings.
-use Rattle.std.specs.Prelude.{ℕ, ◌+◌, ◌-◌, ◌^◌, ◌==◌, ◌&&◌, Bool, true, List, length, Option, None, Some, Result, Ok, Err, nat_le}
+use Rattle.std.specs.Prelude.{ℕ, ◌+◌, ◌-◌, ◌^◌, ◌==◌, ◌&&◌, Bool, true, List, length, Option, None, Some, Result, Ok}
+use Rattle.std.specs.Prelude.{Err, nat_le}
 use Rattle.std.specs.Prelude.{count_ones, nat_lt, if◌then◌else◌}
 use Rattle.source.specs.declared.alg.Alg.{Alg}
 use Rattle.source.specs.declared.alg.Alg.TheVariants as alg

@@ -1,5 +1,6 @@
 -- What the text of a setting says, or its fault.
-use Rattle.std.specs.Prelude.{◌≡◌, ℕ, ◌==◌, ◌&&◌, ⊤, Bool, List, if◌then◌else◌, nat_le, nat_lt, length, replicate, option_map}
+use Rattle.std.specs.Prelude.{◌≡◌, ℕ, ◌==◌, ◌&&◌, ⊤, Bool, List, if◌then◌else◌, nat_le, nat_lt, length, replicate}
+use Rattle.std.specs.Prelude.{option_map}
 use Rattle.std.specs.Prelude.{Option, Some, None, Result, Ok, Err, codes}
 use Rattle.std.specs.Borrow.{Bor}
 use Rattle.std.specs.Str.{all_ascii_digits, bytes_eq}

@@ -1,5 +1,6 @@
 -- What a request asks for, or the first fault of its settings.
-use Rattle.std.specs.Prelude.{⊤, ℕ, Bool, List, Vec, [], ◌∷◌, Option, Some, None, Result, Ok, Err, IfSome, codes, map, option_map}
+use Rattle.std.specs.Prelude.{⊤, ℕ, Bool, List, Vec, [], ◌∷◌, Option, Some, None, Result, Ok, Err, IfSome, codes, map}
+use Rattle.std.specs.Prelude.{option_map}
 use Rattle.std.specs.Prelude.{if◌then◌else◌}
 use Rattle.std.specs.Borrow.{Bor}
 use Rattle.std.specs.Str.{bytes_eq}
@@ -25,7 +26,7 @@ pub data Asked : Type 0 where
   hashes : Requested → Option ℕ → List Text → Asked
   tags : Mac → KeyText → Option (List ℕ) → Text → Asked
   derives : Derived → Bool → Text → Asked
-  checks : Kind → Text → Asked
+  checks : Kind → Bool → Text → Asked
 
 -- the texts of some names
 abbrev pub texts_of : {X : Type 0} → Vec (Bor Text) X → List Text
@@ -35,7 +36,7 @@ abbrev pub task_shown : Task → Asked
 task_shown (code.Hash wanted parts files) = hashes wanted parts (texts_of files)
 task_shown (code.Mac mac key wanted file) = tags mac (key_shown key) (option_map (λ v. v.items) wanted) file.now
 task_shown (code.Kdf derivation is_raw material) = derives (derivation_shown derivation) is_raw material.now
-task_shown (code.Check kind list) = checks kind list.now
+task_shown (code.Check kind is_summed list) = checks kind is_summed list.now
 
 -- without a file standard input is hashed
 abbrev pub names_of : List Text → List Text
@@ -79,7 +80,7 @@ check r = do
   name ← needed Algorithm (given r.algorithm)
   kind ← kind_of name
   list ← needed ListSetting (file_of r)
-  Ok (checks kind list)
+  Ok (checks kind r.summary list)
 
 -- by the command
 abbrev pub asked : Request → Result Asked UsageFault
@@ -95,4 +96,4 @@ abbrev pub IsPossible : Task → Type 0
 IsPossible (code.Hash wanted parts files) = HasDigest wanted × IfSome parts IsPartSize
 IsPossible (code.Mac mac key wanted file) = HasTag mac
 IsPossible (code.Kdf derivation is_raw material) = HasKey (derivation_shown derivation)
-IsPossible (code.Check kind list) = ⊤
+IsPossible (code.Check kind is_summed list) = ⊤

@@ -2,7 +2,8 @@
 
 ghost use Rattle.std.specs.Prelude.{◌≡◌, [], ◌∷◌, codes, IfOk};
 ghost use Rattle.clap.specs.Words.{app_of, new_app};
-ghost use Rattle.task.specs.CommandLine.{check_app, flag_rule, hash_app, kdf_app, mac_app, sums_app, text_rule, with_rules};
+ghost use Rattle.task.specs.CommandLine.{check_app, flag_rule, hash_app, kdf_app, mac_app, sums_app, text_rule};
+ghost use Rattle.task.specs.CommandLine.{with_rules};
 
 use crate::arguments::{
     algorithm_option, file_argument, files_argument, flag_option, length_option, number_option,
@@ -250,6 +251,12 @@ fn check_command<'a>(alloc: Global, names: &'a [&'a str]) -> Result<Command<'a>,
         names,
         "The hash of untagged lines: sha256, sha512, blake2b, blake2s or\n\
              blake3",
+    ))?
+    .arg(flag_option(
+        alloc,
+        "summary",
+        "Tells on standard error, after the report, how many lines were\n\
+             OK, failed, missing, unreadable, too long, malformed or skipped",
     ))?
     .arg(required(file_argument(
         alloc,

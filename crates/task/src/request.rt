@@ -46,6 +46,8 @@ pub struct Request<'a> {
     pub tag: bool,
     /// Whether `--raw` was given.
     pub raw: bool,
+    /// Whether `--summary` was given.
+    pub summary: bool,
     /// The text of `--key`.
     pub key: Option<&'a str>,
     /// The text of `--key-file`.
@@ -150,6 +152,7 @@ fn request_of<'a>(
         parts: text_of(matches, "parts"),
         tag: is_given(matches, "tag"),
         raw: is_given(matches, "raw"),
+        summary: is_given(matches, "summary"),
         key: text_of(matches, "key"),
         key_file: text_of(matches, "key-file"),
         verify: text_of(matches, "verify"),

@@ -38,9 +38,10 @@ pub enum Task<'a> {
         is_raw: bool,
         material: &'a str,
     },
-    /// Report on a list, whose untagged lines are of this hash.
+    /// Report on a list, whose untagged lines are of this hash, and tell a summary where it is asked for.
     Check {
         kind: Kind,
+        is_summed: bool,
         list: &'a str,
     },
 }
@@ -121,7 +122,11 @@ fn check<'a>(request: &Request<'a>) -> Result<Task<'a>, UsageFault>
 {
     let kind = kind_of(needed(Setting::Algorithm, request.algorithm)?)?;
     let list = needed(Setting::List, file_of(request))?;
-    Ok(Task::Check { kind, list })
+    Ok(Task::Check {
+        kind,
+        is_summed: request.summary,
+        list,
+    })
 }
 
 // The one file or list that was named.

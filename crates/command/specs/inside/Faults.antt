@@ -1,5 +1,5 @@
 -- The fault of a run that goes no further, by what stopped it.
-use Rattle.std.specs.Prelude.{◌==◌, ◌&&◌, ℕ, Bool, Result, Ok, Err, if◌then◌else◌}
+use Rattle.std.specs.Prelude.{◌==◌, ◌&&◌, ℕ, Bool, Result, Ok, Err, if◌then◌else◌, []}
 use Rattle.std.specs.Borrow.{Bor}
 use Rattle.clap.specs.Words.{Text}
 use Rattle.source.specs.declared.pumping.SourceFault.{SourceFault}
@@ -11,6 +11,7 @@ use Rattle.sumlist.specs.declared.tree.OpenFault.{OpenFault}
 use Rattle.sumlist.specs.declared.tree.OpenFault.TheVariants as opening
 use Rattle.task.specs.declared.fault.TaskFault.{TaskFault}
 use Rattle.task.specs.declared.fault.TaskFault.TheVariants as task
+use Rattle.command.specs.Checking.{noted}
 use Rattle.command.specs.declared.fault.Fault.{Fault}
 use Rattle.command.specs.declared.fault.Fault.TheVariants.{CannotRead, CannotWrite, OutOfMemory, TooLong, Usage}
 
@@ -38,6 +39,11 @@ in_memory fault = fault
 -- each line of a list that is not skipped is OK
 abbrev pub is_clean : Summary → Bool
 is_clean s = s.failed == 0 && s.missing == 0 && s.unreadable == 0 && s.too_long == 0 && s.malformed == 0
+
+-- what is told of the numbers, where there are any
+abbrev pub noted_of : Bool → Result Summary CheckFault → Text
+noted_of is_summed (Ok numbers) = noted is_summed numbers
+noted_of is_summed (Err fault) = []
 
 -- the end of a check of the list of this name: its status, or its fault
 abbrev pub of_check : Result Summary CheckFault → Bor Text → Result ℕ Fault

@@ -1,5 +1,6 @@
 -- What `mac` and `kdf` printed, by the answer of a function.
-use Rattle.std.specs.Prelude.{◌⊎◌, ◌≡◌, ◌≤◌, ◌-◌, ℕ, Bool, List, Option, Some, Ok, Err, Result, MatchResult, IfOk, IsSomeAnd, length}
+use Rattle.std.specs.Prelude.{◌⊎◌, ◌≡◌, ◌≤◌, ◌-◌, ℕ, Bool, List, Option, Some, Ok, Err, Result, MatchResult, IfOk}
+use Rattle.std.specs.Prelude.{IsSomeAnd, length}
 use Rattle.clap.specs.Words.{Text}
 use Rattle.kdf.specs.Hkdf.{extract, salt_or_zeros}
 use Rattle.source.specs.Written.{Shown}

@@ -6,7 +6,6 @@ use Rattle.source.specs.Written.{Shown}
 use Rattle.sumlist.specs.Report.{Files}
 use Rattle.command.specs.Course.{Counted, Course, Takes}
 use Rattle.command.specs.Lines.{content_of, is_input}
-use Rattle.command.specs.Troubles.{Trouble}
 use Rattle.command.specs.declared.fault.Fault.{Fault}
 use Rattle.command.specs.declared.session.Session.{Session}
 use Rattle.command.specs.inside.Reading.{Leaves, failed}
@@ -53,11 +52,11 @@ pub record AfterFile {T : Type 0} (name : Text) (r : Result T Fault) (old new : 
   pub bytes : new.bytes ≡ old.bytes
   pub input_failures : new.input_failures ≡ old.input_failures
 
--- a course of these was taken, whose troubles were passed over so
-abbrev pub TakesCourse : (List ℕ → Files → Course → Type 0) → (List Trouble → Type 0) → Result ℕ Fault → Seen → Seen
+-- a course of these was taken, whose notes were told so
+abbrev pub TakesCourse : (List ℕ → Files → Course → Type 0) → (Text → Type 0) → Result ℕ Fault → Seen → Seen
     → Type 0
-TakesCourse is passes r old new = IfTold old (λ bytes files.
-    (course : Course) × is bytes files course × Takes course r old.out new.out × passes course.passed
+TakesCourse is notes r old new = IfTold old (λ bytes files.
+    (course : Course) × is bytes files course × Takes course r old.out new.out × notes course.notes
     × Counted course.failures old.input_failures new.input_failures old.file_failures new.file_failures)
 
 -- each stream is still lent of the same place

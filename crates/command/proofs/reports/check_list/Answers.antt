@@ -3,5 +3,5 @@ use Rattle.command.proofs.reports.check_list.Goals as goal
 
 pub returns-clause-list : goal.returns-clause-list
 returns-clause-list g c =
-    rw c.status_of.ensures (list_taken _ _ _ c.args.kind c.args.name c.check.result _ _ _ _ c.check.ensures.checked
-    c.check.ensures.writes c.check.ensures.gave)
+    rw c.status_of.ensures (list_taken c.args.is_summed _ _ _ c.args.kind c.args.name c.check-answer.result _ _ _ _ _ _
+    c.check-answer.ensures.checked c.check-answer.ensures.writes c.check-answer.ensures.gave c.note.ensures)

@@ -6,5 +6,10 @@ use Rattle.task.proofs.commands.check_command.Goals as goal
 
 pub returns : goal.returns
 returns c =
-    let with_1 = c.in_ok-arg.ensures.shape c.algorithm_option.ensures.local ∙ ap₂ with_rule c.described.ensures c.algorithm_option.ensures.rule in
-    IfOk-weaker c.arg-2.result _ _ (λ r h. h.shape c.required.ensures.local ∙ ap₂ with_rule with_1 (c.required.ensures.rule ∙ ap required_rule c.file_argument.ensures.rule)) c.arg-2.ensures
+    let with_1 = c.in_ok-arg.ensures.shape c.algorithm_option.ensures.local
+    ∙ ap₂ with_rule c.described.ensures c.algorithm_option.ensures.rule in
+    let with_2 = c.in_ok-arg-2.ensures.shape c.flag_option.ensures.local
+    ∙ ap₂ with_rule with_1 c.flag_option.ensures.rule in
+    IfOk-weaker c.arg-3.result _ _
+    (λ r h. h.shape c.required.ensures.local
+    ∙ ap₂ with_rule with_2 (c.required.ensures.rule ∙ ap required_rule c.file_argument.ensures.rule)) c.arg-3.ensures

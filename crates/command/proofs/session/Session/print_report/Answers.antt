@@ -4,17 +4,20 @@ use Rattle.command.proofs.session.Session.print_report.Goals as goal
 
 pub returns-then-eq-clause-course : goal.returns-then-eq-clause-course
 returns-then-eq-clause-course g c =
-    report_input c.args.kind c.args.name.now _ _ _ _ _ _ _ _ _ (sym c.eq.ensures ∙ c.if-eq.true)
+    report_input c.args.kind c.args.is_summed c.args.name.now _ _ _ _ _ _ _ _ _ _ _ (sym c.eq.ensures ∙ c.if-eq.true)
     c.check_list.ensures.list c.check_list.ensures.counted
 
 pub returns-in_err-list-clause-course : goal.returns-in_err-list-clause-course
 returns-in_err-list-clause-course g c =
-    report_refused c.args.kind c.args.name.now g.T.F.Feed.remaining _ _ _ _ _ _ _ _ (sym c.eq.ensures ∙ c.if-eq.false)
+    report_refused c.args.kind c.args.is_summed c.args.name.now (g.E.Sink.shown c.args.err.now) (g.E.Sink.shown
+    c.args.err.now)
+    g.T.F.Feed.remaining _ _ _ _ _ _ _ _ (sym c.eq.ensures ∙ c.if-eq.false)
     c.from_residual.ensures.1 c.in_err-list.ensures.opened c.in_err-list.ensures.counted
 
 pub returns-clause-course : goal.returns-clause-course
 returns-clause-course g c =
-    report_file c.args.kind c.args.name.now g.T.F.Feed.remaining c.in_ok-list.list _ _ _ _ _ _ _ _ _ _ _ _ _
+    report_file c.args.kind c.args.is_summed c.args.name.now _ _ g.T.F.Feed.remaining c.in_ok-list.list _ _ _ _ _
+    _ _ _ _ _ _ _ _
     (sym c.eq.ensures ∙ c.if-eq.false) c.in_ok-list.ensures.opened c.open_file.ensures.kept
     c.in_ok-list.ensures.counted c.check_list-answer.ensures.list c.in_ok-list.ensures.fresh
     c.check_list-answer.ensures.counted c.close.ensures.counted

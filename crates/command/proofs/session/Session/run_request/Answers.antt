@@ -19,3 +19,8 @@ pub returns-in-Kdf-clause-course : goal.returns-in-Kdf-clause-course
 returns-in-Kdf-clause-course g c =
     quiet_task _ _ c.args.request _ _ _ _ _ _ _ _ _ (rw c.in-Kdf.is at c.in_ok-requested.ensures.judged)
     c.print_key.ensures.course
+
+pub returns-in-Check-clause-course : goal.returns-in-Check-clause-course
+returns-in-Check-clause-course g c =
+    told_task _ _ c.args.request _ _ _ _ _ _ _ _ _ _ (rw c.in-Check.is at c.in_ok-requested.ensures.judged)
+    c.print_report.ensures.course
