@@ -1,2 +1,2 @@
-pub mod Macs
+pub mod inside
 pub mod Statuses

@@ -10,7 +10,7 @@ ghost use Rattle.blake2.specs.Blake2.{blake2, unsalted};
 ghost use Rattle.blake2.specs.inside.States.{IsBegun2b, IsBegun2s};
 ghost use Rattle.mac.specs.Hmac.{block_sized_key, hmac_of_block_key};
 ghost use Rattle.states.specs.Macs.{IsMac};
-ghost use Rattle.hash_c.specs.Macs.{IsMac256, IsMac2b, IsMac2s, IsMac512};
+ghost use Rattle.hash_c.specs.inside.Macs.{IsMac256, IsMac2b, IsMac2s, IsMac512};
 ghost use Rattle.hash_c.specs.Statuses.{input_status, key_status, tag_status};
 
 use crate::pieces::update_state;

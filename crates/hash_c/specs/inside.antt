@@ -1,0 +1,2 @@
+-- What the structs that cross to C hold: of use inside alone.
+pub mod Macs
