@@ -5,6 +5,7 @@ use Rattle.std.proofs.Common.{arith, inl, inr, append_assoc, append-nil, length-
 use Rattle.std.proofs.Common.{Some, Result, Ok, Err, MatchResult, OnErr, IfSome}
 use Rattle.std.proofs.lemmas.Bool.{cases_eq}
 use Rattle.std.proofs.lemmas.Bool.Decides.{nat_tests}
+use Rattle.std.proofs.lemmas.Fmt.{length-decimal-le}
 use Rattle.std.proofs.lemmas.List.Elements.{All-nil, All-push}
 use Rattle.std.specs.Fmt.{decimal}
 use Rattle.std.specs.Io.KnownBytes.{Consumes, IsAtEnd}
@@ -15,7 +16,6 @@ use Rattle.b3.specs.declared.row.Row.{Row}
 use Rattle.b3.specs.inside.Rows.{value_first, value_len}
 use Rattle.sumlist.specs.Lines.{lines, HasNoEnd}
 use Rattle.sumlist.proofs.Cutting.{lines-ended, lines-last}
-use Rattle.sumlist.proofs.Decimals.{length-decimal}
 use Rattle.partlist.specs.Joined.{AllTell, AreInRow, IsWrongBehind, StopsAt, TellsPart}
 use Rattle.partlist.specs.declared.fault.LineFault.{LineFault}
 use Rattle.partlist.specs.declared.fault.LineFault.TheVariants.{NotAPart}
@@ -58,8 +58,8 @@ line-length line part (value, tells, words) =
     let a = length-append (codes "sums-part-1 blake3 ") (first ++ 32 ∷ (len ++ 32 ∷ digits)) in
     let b = length-append first (32 ∷ (len ++ 32 ∷ digits)) in
     let c = length-append len (32 ∷ digits) in
-    let d = length-decimal (value_first part) (first_fits line _ _ value tells) in
-    let e = length-decimal (value_len part) (len_fits line _ _ value tells) in
+    let d = length-decimal-le 20 (value_first part) (omega arith) (omega arith) (first_fits line _ _ value tells) in
+    let e = length-decimal-le 20 (value_len part) (omega arith) (omega arith) (len_fits line _ _ value tells) in
     let f = length-encode_with lower_digits value in
     omega (arith, ap length tells.text, a, b, c, d, e, f, tells.sized)
 

@@ -84,6 +84,7 @@ impl Joiner {
         self.parts += 1;
         Ok(())
     }
+
     /// Joins the parts that all lines of a feed tell, one after the other, with the first behind the
     /// parts that were joined before. LF ends a line, and at the end of the feed it may be left out. It
     /// ends at the first line that is wrong, and then the lines before it were joined. Of the feed it
