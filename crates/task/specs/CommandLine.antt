@@ -74,12 +74,12 @@ files_rule = record file_rule { action = Some Append }
 abbrev pub with_rules : App → List Rule → App
 with_rules = fold with_rule
 
--- `hash -a ALG [-l N] [--seek N] [--parts N] [--salt HEX] [--personal HEX] [--tag] [--raw] [FILE]..`
+-- `hash -a ALG [-l N] [--seek N] [--parts N] [--salt HEX] [--personal HEX] [--tag] [--raw] [--progress] [FILE]..`
 abbrev pub hash_app : NameList → App
 hash_app names = with_rules (new_app (codes "hash"))
     (algorithm_rule names ∷ length_rule ∷ number_rule (codes "seek") ∷ number_rule (codes "parts")
     ∷ text_rule (codes "salt") ∷ text_rule (codes "personal") ∷ flag_rule (codes "tag") ∷ flag_rule (codes "raw")
-    ∷ files_rule ∷ [])
+    ∷ flag_rule (codes "progress") ∷ files_rule ∷ [])
 
 -- `mac -a MAC [--key HEX] [--key-file F] [-l N] [--verify HEX] [FILE]`
 abbrev pub mac_app : NameList → App
@@ -93,10 +93,10 @@ kdf_app names = with_rules (new_app (codes "kdf")) (algorithm_rule names
     ∷ text_rule (codes "info") ∷ text_rule (codes "context") ∷ required_rule length_rule
     ∷ flag_rule (codes "raw") ∷ [])
 
--- `check -a ALG [--summary] LIST`
+-- `check -a ALG [--summary] [--progress] LIST`
 abbrev pub check_app : NameList → App
 check_app names = with_rules (new_app (codes "check")) (algorithm_rule names ∷ flag_rule (codes "summary")
-    ∷ required_rule file_rule ∷ [])
+    ∷ flag_rule (codes "progress") ∷ required_rule file_rule ∷ [])
 
 -- the program's command, with the four below it; `names` are those of ALG and `macs` those of MAC
 abbrev pub sums_app : NameList → NameList → App
@@ -120,6 +120,7 @@ pub record IsRequestOf (s : Text × List Row) (r : Request) : Type 0 where
   pub tag : IsTrue r.tag ↔ IsGiven (codes "tag") s.1
   pub raw : IsTrue r.raw ↔ IsGiven (codes "raw") s.1
   pub summary : IsTrue r.summary ↔ IsGiven (codes "summary") s.1
+  pub progress : IsTrue r.progress ↔ IsGiven (codes "progress") s.1
   pub key : option_map (λ t. t.now) r.key ≡ first_of (codes "key") s.1
   pub key_file : option_map (λ t. t.now) r.key_file ≡ first_of (codes "key-file") s.1
   pub verify : option_map (λ t. t.now) r.verify ≡ first_of (codes "verify") s.1

@@ -1,7 +1,7 @@
 // The program's command, with a subcommand for each thing that it does.
 
-ghost use Rattle.std.specs.Prelude.{◌≡◌, [], ◌∷◌, codes, IfOk};
-ghost use Rattle.clap.specs.Words.{app_of, new_app};
+ghost use Rattle.std.specs.Prelude.{◌≡◌, [], ◌∷◌, codes, false, IfOk};
+ghost use Rattle.clap.specs.Words.{app_of, new_app, rule_of};
 ghost use Rattle.task.specs.CommandLine.{check_app, flag_rule, hash_app, kdf_app, mac_app, sums_app, text_rule};
 ghost use Rattle.task.specs.CommandLine.{with_rules};
 
@@ -9,7 +9,7 @@ use crate::arguments::{
     algorithm_option, file_argument, files_argument, flag_option, length_option, number_option,
     required, text_option,
 };
-use clap::Command;
+use clap::{Arg, Command};
 use std::alloc::{AllocError, Global};
 
 const HASHES: &str = "The hash: sha256, sha512, blake2b, blake2s or blake3";
@@ -103,10 +103,10 @@ fn with_salt_options<'a>(alloc: Global, command: Command<'a>) -> Result<Command<
         ))
 }
 
-// How a digest is printed.
+// How a digest is printed, and what is shown meanwhile.
 fn with_form_options<'a>(alloc: Global, command: Command<'a>) -> Result<Command<'a>, AllocError>
     ensures { IfOk result (λ c. app_of c ≡ with_rules (app_of command.entry)
-        (flag_rule (codes "tag") ∷ flag_rule (codes "raw") ∷ [])) }
+        (flag_rule (codes "tag") ∷ flag_rule (codes "raw") ∷ flag_rule (codes "progress") ∷ [])) }
 {
     command
         .arg(flag_option(
@@ -120,7 +120,21 @@ fn with_form_options<'a>(alloc: Global, command: Command<'a>) -> Result<Command<
             "raw",
             "Prints the bytes of the output as they are, without name\n\
              and line end, for blake3 alone and at most one FILE",
-        ))
+        ))?
+        .arg(progress_option(alloc))
+}
+
+// It changes nothing of what a run prints and tells: it is for the feeds that are handed in.
+fn progress_option<'a>(alloc: Global) -> Arg<'a>
+    ensures rule { rule_of result ≡ flag_rule (codes "progress") }
+    ensures local { result.global ≡ false }
+{
+    flag_option(
+        alloc,
+        "progress",
+        "Shows on standard error, while it is a terminal, how much of\n\
+             a file was read",
+    )
 }
 
 fn mac_command<'a>(alloc: Global, macs: &'a [&'a str]) -> Result<Command<'a>, AllocError>
@@ -258,6 +272,7 @@ fn check_command<'a>(alloc: Global, names: &'a [&'a str]) -> Result<Command<'a>,
         "Tells on standard error, after the report, how many lines were\n\
              OK, failed, missing, unreadable, too long, malformed or skipped",
     ))?
+    .arg(progress_option(alloc))?
     .arg(required(file_argument(
         alloc,
         "LIST",

@@ -48,6 +48,8 @@ pub struct Request<'a> {
     pub raw: bool,
     /// Whether `--summary` was given.
     pub summary: bool,
+    /// Whether `--progress` was given.
+    pub progress: bool,
     /// The text of `--key`.
     pub key: Option<&'a str>,
     /// The text of `--key-file`.
@@ -153,6 +155,7 @@ fn request_of<'a>(
         tag: is_given(matches, "tag"),
         raw: is_given(matches, "raw"),
         summary: is_given(matches, "summary"),
+        progress: is_given(matches, "progress"),
         key: text_of(matches, "key"),
         key_file: text_of(matches, "key-file"),
         verify: text_of(matches, "verify"),

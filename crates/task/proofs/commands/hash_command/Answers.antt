@@ -16,7 +16,7 @@ returns c =
     ∙ ap₂ with_rule with_3 c.number_option-2.ensures.rule in
     let salts = text_rule (codes "salt") ∷ text_rule (codes "personal") ∷ [] in
     let with_4 = c.in_ok-command-2.ensures ∙ ap (λ (a : App). with_rules a salts) with_parts in
-    let forms = flag_rule (codes "tag") ∷ flag_rule (codes "raw") ∷ [] in
+    let forms = flag_rule (codes "tag") ∷ flag_rule (codes "raw") ∷ flag_rule (codes "progress") ∷ [] in
     let with_5 = c.in_ok-with_form_options.ensures ∙ ap (λ (a : App). with_rules a forms) with_4 in
     IfOk-weaker c.arg-5.result _ _
     (λ r h. h.shape c.files_argument.ensures.local ∙ ap₂ with_rule with_5 c.files_argument.ensures.rule)
