@@ -50,10 +50,10 @@ _sums() {
             return ;;
     esac
     case $command:$word in
-        hash:-*) _sums_words '-a -l --seek --parts --salt --personal --tag --raw -h --help' "$word" ;;
+        hash:-*) _sums_words '-a -l --seek --parts --salt --personal --tag --raw --progress -h --help' "$word" ;;
         mac:-*) _sums_words '-a -l --key --key-file --verify -h --help' "$word" ;;
         kdf:-* | kdf:) _sums_words '-a -l --ikm-file --salt --info --context --raw -h --help' "$word" ;;
-        check:-*) _sums_words '-a --summary -h --help' "$word" ;;
+        check:-*) _sums_words '-a --summary --progress -h --help' "$word" ;;
         hash:* | mac:* | check:*) _sums_files ;;
     esac
 }

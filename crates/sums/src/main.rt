@@ -1,15 +1,24 @@
 //! Hashes files, makes tags and keys, and checks lists of digests.
 #![tactic(auto)]
 
+ghost use Rattle.std.specs.Prelude.{IsSomeAnd, IsTrue, codes, map};
+ghost use Rattle.clap.specs.Words.{subcommand_of};
+ghost use Rattle.task.specs.CommandLine.{IsGiven, OfSums};
+
+mod progress;
 #[cfg(test)]
 mod tests;
+mod watched;
 
 use command::{Fault, FileTree, run, tell, write_text};
+use progress::{Erasing, Progress};
 use source::{Device, FixedSink, Sink, write_all};
 use std::alloc::{AllocError, Global};
 use std::io;
 use std::io::{ErrorKind, LineWriter, Write};
 use std::process::ExitCode;
+use task::line;
+use watched::{Watched, WatchedTree};
 
 // No line of a list or a report is longer, and no fault that tells of a word: Linux takes none of
 // more than 131,072 bytes.
@@ -23,13 +32,15 @@ fn main(rt: HostRuntime) -> ExitCode {
 }
 
 // Runs with a buffer of a line before each of the two streams: whole lines go out, each in one
-// write. Both are made before anything is read.
+// write. Both are made before anything is read. Each erases the line that shows what is read.
 fn run_lines(rt: &HostRuntime) -> io::Result<u8> {
-    let out = LineWriter::with_capacity(rt.alloc(), LINE_ROOM, rt.stdout())?;
-    let err = LineWriter::with_capacity(rt.alloc(), LINE_ROOM, rt.stderr())?;
-    let mut out = Device::new(out);
-    let mut err = Device::new(err);
-    let status = run_words(rt, &mut out, &mut err);
+    let progress = Progress::new(*rt);
+    let out = Erasing::new(&progress, rt.stdout());
+    let err = Erasing::new(&progress, rt.stderr());
+    let mut out = Device::new(LineWriter::with_capacity(rt.alloc(), LINE_ROOM, out)?);
+    let mut err = Device::new(LineWriter::with_capacity(rt.alloc(), LINE_ROOM, err)?);
+    let status = run_words(rt, &progress, &mut out, &mut err);
+    progress.erase();
     let status = match out.into_inner().flush() {
         Err(_) if status != 3 => tell(&mut err, Fault::CannotWrite),
         _ => status,
@@ -48,7 +59,12 @@ fn tell_without_memory(rt: &HostRuntime) -> u8 {
 }
 
 // Runs on the process's own words, standard input and files.
-fn run_words<W: Sink, E: Sink>(rt: &HostRuntime, out: &mut W, err: &mut E) -> u8 {
+fn run_words<W: Sink, E: Sink>(
+    rt: &HostRuntime,
+    progress: &Progress,
+    out: &mut W,
+    err: &mut E,
+) -> u8 {
     let alloc = rt.alloc();
     let words = match words_of(rt) {
         Ok(words) => words,
@@ -63,11 +79,25 @@ fn run_words<W: Sink, E: Sink>(rt: &HostRuntime, out: &mut W, err: &mut E) -> u8
     };
     match texts_of(alloc, words.as_slice()) {
         Ok(texts) => {
-            let mut input = Device::new(rt.stdin());
-            let mut tree = FileTree::new(rt);
+            if texts.contains(&"--progress") && asks_for_progress(alloc, texts.as_slice()) {
+                progress.begin();
+            }
+            let mut input = Watched::new(Device::new(rt.stdin()), progress.watch("-", 0));
+            let mut tree = WatchedTree::new(FileTree::new(rt), progress);
             run(alloc, texts.as_slice(), &mut input, &mut tree, out, err)
         }
         Err(AllocError) => tell(err, Fault::OutOfMemory),
+    }
+}
+
+// Whether the words make a request with the flag: a file of its name, behind `--`, is none.
+fn asks_for_progress(alloc: Global, words: &[&str]) -> bool
+    ensures { IsTrue result → OfSums (λ app. IsSomeAnd
+        (subcommand_of app (map (λ w. w.now) words.entry.now)) (λ s. IsGiven (codes "progress") s.1)) }
+{
+    match line(alloc, words) {
+        Ok(request) => request.progress,
+        Err(_) => false,
     }
 }
 

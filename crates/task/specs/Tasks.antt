@@ -82,7 +82,7 @@ check r = do
   list ← needed ListSetting (file_of r)
   Ok (checks kind r.summary list)
 
--- by the command
+-- by the command; nothing depends on `progress`, which is for the feeds that a run is given
 abbrev pub asked : Request → Result Asked UsageFault
 asked r =
     if bytes_eq r.command.now (codes "hash") then hash r

@@ -132,8 +132,8 @@ fn progress_option<'a>(alloc: Global) -> Arg<'a>
     flag_option(
         alloc,
         "progress",
-        "Shows on standard error, while it is a terminal, how much of\n\
-             a file was read",
+        "Shows on standard error, while it is a terminal, how\n\
+             much of a file was read",
     )
 }
 
@@ -263,14 +263,15 @@ fn check_command<'a>(alloc: Global, names: &'a [&'a str]) -> Result<Command<'a>,
         alloc,
         "ALG",
         names,
-        "The hash of untagged lines: sha256, sha512, blake2b, blake2s or\n\
-             blake3",
+        "The hash of untagged lines: sha256, sha512, blake2b, blake2s\n\
+             or blake3",
     ))?
     .arg(flag_option(
         alloc,
         "summary",
         "Tells on standard error, after the report, how many lines were\n\
-             OK, failed, missing, unreadable, too long, malformed or skipped",
+             OK, failed, missing, unreadable, too long, malformed or\n\
+             skipped",
     ))?
     .arg(progress_option(alloc))?
     .arg(required(file_argument(
