@@ -82,7 +82,7 @@ fn run_words<W: Sink, E: Sink>(
             if texts.contains(&"--progress") && asks_for_progress(alloc, texts.as_slice()) {
                 progress.begin();
             }
-            let mut input = Watched::new(Device::new(rt.stdin()), progress.watch("-", 0));
+            let mut input = Watched::new(Device::new(rt.stdin()), progress.watch_input());
             let mut tree = WatchedTree::new(FileTree::new(rt), progress);
             run(alloc, texts.as_slice(), &mut input, &mut tree, out, err)
         }

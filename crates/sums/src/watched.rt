@@ -72,12 +72,12 @@ impl<'p, T: Tree> Tree for WatchedTree<'p, T> {
 
     fn open(&mut self, name: &str) -> Result<Watched<'p, T::F>, OpenFault> {
         let feed = self.inner.open(name)?;
-        Ok(Watched::new(feed, self.progress.watch(name, 0)))
+        Ok(Watched::new(feed, self.progress.watch_file(name, 0)))
     }
 
     fn open_at(&mut self, name: &str, position: u64) -> Result<Watched<'p, T::F>, OpenFault> {
         let feed = self.inner.open_at(name, position)?;
-        Ok(Watched::new(feed, self.progress.watch(name, position)))
+        Ok(Watched::new(feed, self.progress.watch_file(name, position)))
     }
 
     fn close(&mut self, feed: Watched<'p, T::F>) {
