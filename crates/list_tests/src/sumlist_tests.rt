@@ -8,6 +8,7 @@ mod calling;
 mod checking;
 mod failing;
 mod files;
+mod naming;
 mod reading;
 mod tagging;
 mod writing;

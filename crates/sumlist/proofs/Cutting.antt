@@ -1,11 +1,11 @@
--- The first line of a list ends at its first LF, and the other lines are those of the rest.
-use Rattle.sumlist.proofs.Common.{◌≡◌, ◌≢◌, ◌<◌, ◌≤◌, false, List, [], ◌∷◌, ◌++◌, length, get_or, take, refl, ap, ◌∙◌}
-use Rattle.sumlist.proofs.Common.{arith, eqb, length-take-le, nat_tests, lines, HasNoEnd, ℕ}
+-- The first piece of a text ends at its first end, and the other pieces are those of the rest.
+use Rattle.sumlist.proofs.Common.{◌≡◌, ◌≢◌, ◌<◌, ◌≤◌, false, true, List, [], ◌∷◌, ◌++◌, length, get_or, take, refl, ap}
+use Rattle.sumlist.proofs.Common.{◌∙◌, arith, eqb, length-take-le, nat_tests, lines, HasNoEnd, ℕ}
 use Rattle.std.specs.List.{slice_split}
 use Rattle.std.proofs.lemmas.List.Splits.{slice_split_at, slice_split_none, length-slice_split}
 use Rattle.std.proofs.lemmas.List.Elements.{All-from_get_or}
 use Rattle.std.proofs.lemmas.List.{get_or-take}
-use Rattle.sumlist.specs.Lines.{without_empty_last}
+use Rattle.sumlist.specs.Lines.{HasNo, pieces, without_empty_last}
 
 without_empty_last-cons : (x y : List ℕ) (ys : List (List ℕ))
     → without_empty_last (x ∷ y ∷ ys) ≡ x ∷ without_empty_last (y ∷ ys)
@@ -17,20 +17,32 @@ without_empty_last-more : (x : List ℕ) (ys : List (List ℕ)) → 0 < length y
 without_empty_last-more x [] h = absurd (omega (arith, h))
 without_empty_last-more x (y ∷ ys) h = without_empty_last-cons x y ys
 
+pub pieces-ended : (end : ℕ) (piece rest : List ℕ) → eqb end end ≡ true → HasNo end piece
+    → pieces end (piece ++ end ∷ rest) ≡ piece ∷ pieces end rest
+pieces-ended end piece rest same h =
+    let more = length-slice_split (λ b. eqb b end) rest in
+    ap without_empty_last (slice_split_at (λ b. eqb b end) piece end rest h same)
+    ∙ without_empty_last-more piece (slice_split (λ b. eqb b end) rest) (omega (arith, more))
+
+pub pieces-last : (end : ℕ) (piece : List ℕ) → 0 < length piece → HasNo end piece
+    → pieces end piece ≡ piece ∷ []
+pieces-last end [] some h = absurd (omega (arith, some))
+pieces-last end (c ∷ piece) some h = ap without_empty_last (slice_split_none (λ b. eqb b end) (c ∷ piece) h)
+
 pub lines-ended : (line rest : List ℕ) → HasNoEnd line → lines (line ++ 10 ∷ rest) ≡ line ∷ lines rest
-lines-ended line rest h =
-    let more = length-slice_split (λ b. eqb b 10) rest in
-    ap without_empty_last (slice_split_at (λ b. eqb b 10) line 10 rest h refl)
-    ∙ without_empty_last-more line (slice_split (λ b. eqb b 10) rest) (omega (arith, more))
+lines-ended line rest h = pieces-ended 10 line rest refl h
 
 pub lines-last : (line : List ℕ) → 0 < length line → HasNoEnd line → lines line ≡ line ∷ lines []
-lines-last [] some h = absurd (omega (arith, some))
-lines-last (c ∷ line) some h = ap without_empty_last (slice_split_none (λ b. eqb b 10) (c ∷ line) h)
+lines-last line some h = pieces-last 10 line some h
+
+pub HasNo-take : (end : ℕ) (xs : List ℕ) (n : ℕ) → n ≤ length xs → ((k : ℕ) → k < n → get_or xs k 0 ≢ end)
+    → HasNo end (take n xs)
+HasNo-take end xs n fits h =
+    let size = length-take-le n xs fits in
+    All-from_get_or (λ x. eqb x end ≡ false) (take n xs) 0
+    (λ k lt. let below : k < n = omega (arith, size) in let same = get_or-take n xs k 0 below in let apart =
+    h k below in grind (arith, nat_tests))
 
 pub HasNoEnd-take : (xs : List ℕ) (n : ℕ) → n ≤ length xs → ((k : ℕ) → k < n → get_or xs k 0 ≢ 10)
     → HasNoEnd (take n xs)
-HasNoEnd-take xs n fits h =
-    let size = length-take-le n xs fits in
-    All-from_get_or (λ x. eqb x 10 ≡ false) (take n xs) 0
-    (λ k lt. let below : k < n = omega (arith, size) in let same = get_or-take n xs k 0 below in let apart =
-    h k below in grind (arith, nat_tests))
+HasNoEnd-take xs n fits h = HasNo-take 10 xs n fits h

@@ -8,6 +8,7 @@ pub mod Parsed
 pub mod Opening
 pub mod Named
 pub mod Lines
+pub mod Naming
 pub mod Report
 pub mod Tally
 pub mod Checked

@@ -1,6 +1,8 @@
 -- What the clauses of private functions say, and how private types are seen: of use inside alone.
 pub mod Held
+pub mod Taking
 pub mod BufferView
+pub mod ReaderView
 pub mod Ahead
 pub mod Labels
 pub mod EntryView

@@ -1,0 +1,25 @@
+-- Names that are separated by NUL.
+use Rattle.std.specs.Prelude.{◌≡◌, ℕ, ◌≤◌, ◌<◌, Bool, true, false, List, [], ◌∷◌, Option, Some, None, length}
+use Rattle.sumlist.specs.Lines.{pieces}
+
+-- the names that bytes spell: the pieces between NULs, but for an empty last one
+abbrev pub names : List ℕ → List (List ℕ)
+names bytes = pieces 0 bytes
+
+-- how far a reader is: the bytes that it has read and are yet to be taken, and what it keeps of the last name
+pub record Reading : Type 0 where
+  pub ahead : List ℕ
+  pub name : Option (List ℕ)
+
+abbrev pub fresh : Reading
+fresh = record { ahead = []; name = Some [] }
+
+-- what is kept of a name: all of it, or none where it is too long
+abbrev pub IsKept : Option (List ℕ) → List ℕ → Type 0
+IsKept (Some bytes) name = (name ≡ bytes) × (length name ≤ 65536)
+IsKept None name = 65536 < length name
+
+-- the first name of some bytes was taken and these are left, or they had none
+abbrev pub IsNext : Bool → Option (List ℕ) → List ℕ → List ℕ → Type 0
+IsNext true kept bytes left = (name : List ℕ) × IsKept kept name × (names bytes ≡ name ∷ names left)
+IsNext false kept bytes left = (bytes ≡ []) × (left ≡ [])
