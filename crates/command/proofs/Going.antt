@@ -14,7 +14,8 @@ use Rattle.command.specs.Course.{no_failures, plus}
 use Rattle.command.specs.Hashing.{AllHashed, Hashed, HashesAll, LeftBy, Outcome, course_of, failures_in, line, line_of}
 use Rattle.command.specs.Hashing.{passed, passed_of, status_from}
 use Rattle.command.specs.Lines.{Lining, MayTell, Stands, content_of, is_input}
-use Rattle.command.specs.Troubles.{Trouble, bad_name, cannot_read, cannot_write, key_file_too_long, key_length}
+use Rattle.command.specs.Troubles.{Trouble, bad_end, bad_line, bad_name, bad_name_at, cannot_read, cannot_write}
+use Rattle.command.specs.Troubles.{key_file_too_long, key_length, no_bytes}
 use Rattle.command.specs.Troubles.{out_of_memory, status_of, told, too_long, trouble_of, usage}
 use Rattle.command.specs.declared.fault.Fault.{Fault}
 use Rattle.command.specs.declared.session.Session.{Session}
@@ -138,6 +139,10 @@ left_by_trouble true fault left (Some between) t f leaves = (between, refl, leav
 only_memory : (stands : Text → Type 0) (most : ℕ) (name : Text) (content : Option (List ℕ)) (t : Trouble)
     → MayTell stands most name content t → (status_of t ≡ 1 → ⊥) → t ≡ out_of_memory
 only_memory stands most name content (bad_name n) may other = absurd (other refl)
+only_memory stands most name content (bad_name_at n) may other = absurd may.1
+only_memory stands most name content (no_bytes n) may other = absurd may.1
+only_memory stands most name content (bad_line n k f) may other = absurd may.1
+only_memory stands most name content (bad_end f) may other = absurd may.1
 only_memory stands most name content (cannot_read n) may other = absurd (other refl)
 only_memory stands most name content (too_long n) may other = absurd (other refl)
 only_memory stands most name content out_of_memory may other = refl

@@ -23,7 +23,8 @@ use Rattle.command.specs.Checking.{noted}
 use Rattle.command.specs.Course.{Counted, Course, Failures, Printed, Takes, behind, failures_from, failures_of, plus}
 use Rattle.command.specs.Course.{Tells, refused_by}
 use Rattle.command.specs.Lines.{MayRefuse, is_input}
-use Rattle.command.specs.Troubles.{Trouble, bad_name, cannot_read, cannot_write, key_file_too_long, key_length}
+use Rattle.command.specs.Troubles.{Trouble, bad_end, bad_line, bad_name, bad_name_at, cannot_read, cannot_write}
+use Rattle.command.specs.Troubles.{key_file_too_long, key_length, no_bytes}
 use Rattle.command.specs.Troubles.{out_of_memory, too_long, trouble_of, usage}
 use Rattle.command.specs.declared.fault.Fault.{Fault}
 use Rattle.command.specs.declared.fault.Fault.TheVariants.{CannotRead, CannotWrite, OutOfMemory, TooLong}
@@ -45,6 +46,10 @@ behind-none : (t : Trouble) → behind None t ≡ 0
 behind-none (cannot_read n) = refl
 behind-none (too_long n) = refl
 behind-none (bad_name n) = refl
+behind-none (bad_name_at n) = refl
+behind-none (no_bytes n) = refl
+behind-none (bad_line n k f) = refl
+behind-none (bad_end f) = refl
 behind-none (usage fault) = refl
 behind-none key_file_too_long = refl
 behind-none key_length = refl
@@ -152,6 +157,10 @@ may_stop name list (cannot_read n) may other = may
 may_stop name list (too_long n) may other = absurd (other (ap too_long may.0))
 may_stop name list out_of_memory may other = tt
 may_stop name list (bad_name n) may other = absurd may
+may_stop name list (bad_name_at n) may other = absurd may
+may_stop name list (no_bytes n) may other = absurd may
+may_stop name list (bad_line n k f) may other = absurd may
+may_stop name list (bad_end f) may other = absurd may
 may_stop name list (usage fault) may other = absurd may
 may_stop name list key_file_too_long may other = absurd may
 may_stop name list key_length may other = absurd may
@@ -163,6 +172,10 @@ Printed-refused most name content (cannot_read n) s may = (refl, Appends-nil s.c
 Printed-refused most name content (too_long n) s may = (refl, Appends-nil s.contents)
 Printed-refused most name content out_of_memory s may = (refl, Appends-nil s.contents)
 Printed-refused most name content (bad_name n) s may = absurd may
+Printed-refused most name content (bad_name_at n) s may = absurd may
+Printed-refused most name content (no_bytes n) s may = absurd may
+Printed-refused most name content (bad_line n k f) s may = absurd may
+Printed-refused most name content (bad_end f) s may = absurd may
 Printed-refused most name content (usage fault) s may = absurd may
 Printed-refused most name content key_file_too_long s may = absurd may
 Printed-refused most name content key_length s may = absurd may

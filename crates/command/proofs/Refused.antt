@@ -10,7 +10,8 @@ use Rattle.source.specs.Written.{Shown}
 use Rattle.command.specs.Course.{Counted, Failures, Printed, Takes, behind, failures_from, failures_of, no_failures}
 use Rattle.command.specs.Course.{refused_by}
 use Rattle.command.specs.Lines.{MayRefuse, MayTell}
-use Rattle.command.specs.Troubles.{Trouble, bad_name, cannot_read, cannot_write, key_file_too_long, key_length}
+use Rattle.command.specs.Troubles.{Trouble, bad_end, bad_line, bad_name, bad_name_at, cannot_read, cannot_write}
+use Rattle.command.specs.Troubles.{key_file_too_long, key_length, no_bytes}
 use Rattle.command.specs.Troubles.{out_of_memory, too_long, trouble_of, usage}
 use Rattle.command.specs.declared.fault.Fault.{Fault}
 
@@ -22,6 +23,10 @@ Printed-none key_length s other = (refl, Appends-nil s.contents)
 Printed-none (cannot_read n) s other = (refl, Appends-nil s.contents)
 Printed-none (too_long n) s other = (refl, Appends-nil s.contents)
 Printed-none (bad_name n) s other = (refl, Appends-nil s.contents)
+Printed-none (bad_name_at n) s other = (refl, Appends-nil s.contents)
+Printed-none (no_bytes n) s other = (refl, Appends-nil s.contents)
+Printed-none (bad_line n k f) s other = (refl, Appends-nil s.contents)
+Printed-none (bad_end f) s other = (refl, Appends-nil s.contents)
 Printed-none out_of_memory s other = (refl, Appends-nil s.contents)
 Printed-none cannot_write s other = absurd (other refl)
 
@@ -53,6 +58,10 @@ no_input content key_file_too_long = refl
 no_input content key_length = refl
 no_input content (too_long n) = refl
 no_input content (bad_name n) = refl
+no_input content (bad_name_at n) = refl
+no_input content (no_bytes n) = refl
+no_input content (bad_line n k f) = refl
+no_input content (bad_end f) = refl
 no_input content cannot_write = refl
 no_input content out_of_memory = refl
 

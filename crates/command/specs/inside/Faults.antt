@@ -2,6 +2,8 @@
 use Rattle.std.specs.Prelude.{◌==◌, ◌&&◌, ℕ, Bool, Result, Ok, Err, if◌then◌else◌, []}
 use Rattle.std.specs.Borrow.{Bor}
 use Rattle.clap.specs.Words.{Text}
+use Rattle.partlist.specs.declared.fault.JoinFault.{JoinFault}
+use Rattle.partlist.specs.declared.fault.JoinFault.TheVariants as join
 use Rattle.source.specs.declared.pumping.SourceFault.{SourceFault}
 use Rattle.source.specs.declared.pumping.SourceFault.TheVariants as source
 use Rattle.sumlist.specs.declared.checking.CheckFault.{CheckFault}
@@ -13,7 +15,8 @@ use Rattle.task.specs.declared.fault.TaskFault.{TaskFault}
 use Rattle.task.specs.declared.fault.TaskFault.TheVariants as task
 use Rattle.command.specs.Checking.{noted}
 use Rattle.command.specs.declared.fault.Fault.{Fault}
-use Rattle.command.specs.declared.fault.Fault.TheVariants.{CannotRead, CannotWrite, OutOfMemory, TooLong, Usage}
+use Rattle.command.specs.declared.fault.Fault.TheVariants.{BadLine, CannotRead, CannotWrite, OutOfMemory, TooLong}
+use Rattle.command.specs.declared.fault.Fault.TheVariants.{Usage}
 
 -- the request makes no task
 abbrev pub of_task : TaskFault → Fault
@@ -30,6 +33,11 @@ of_open opening.OutOfMemory name = OutOfMemory
 abbrev pub of_source : SourceFault → Bor Text → Fault
 of_source source.Read name = CannotRead name
 of_source source.TooLong name = TooLong name
+
+-- lists of parts were not joined
+abbrev pub of_join : JoinFault → Bor Text → Fault
+of_join join.Read name = CannotRead name
+of_join (join.Line n fault) name = BadLine name n fault
 
 -- a sink in memory fails for want of memory alone
 abbrev pub in_memory : Fault → Fault
