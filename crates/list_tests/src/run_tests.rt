@@ -1,10 +1,10 @@
-// Runs of files: from a position on, up to a number of bytes, and as parts. The digest of the bytes 0, 1, ..
+// Runs of files: from a position on, and as parts, up to a number of bytes. The digest of the bytes 0, 1, ..
 // 250, 0, .. is an official vector of BLAKE3.
 ghost use Rattle.std.specs.Prelude.{◌≡◌, ◌%◌};
 
 use b3::{Mode, PartValue};
 use partlist::Joiner;
-use source::{Bytes, Feed, Front, SourceFault, part_of};
+use source::{Bytes, Feed, SourceFault, part_of};
 use std::alloc::Global;
 use std::collections::BTreeMap;
 use std::test::Fail;
@@ -20,29 +20,6 @@ fn files_of(alloc: Global, content: &[u8]) -> Result<Files, Fail> {
     let content = Vec::from_slice(alloc, content)?;
     let _ = files.insert(name, content).map_err(|_| "memory")?;
     Ok(files)
-}
-
-#[test]
-fn a_front_ends_after_its_bytes(rt: HostRuntime) -> Result<(), Fail> {
-    let mut buffer = [0; 4];
-    let mut front = Front::new(Bytes::new(b"abcdef", 2), 5);
-    assert_eq!(rt; front.read(&mut buffer), Ok(2));
-    assert_eq!(rt; front.read(&mut buffer), Ok(2));
-    assert_eq!(rt; front.read(&mut buffer), Ok(1));
-    assert_eq!(rt; buffer[0], b'e');
-    assert_eq!(rt; front.read(&mut buffer), Ok(0));
-    let mut rest = front.into_inner();
-    assert_eq!(rt; rest.read(&mut buffer), Ok(1));
-    assert_eq!(rt; buffer[0], b'f');
-
-    let mut front = Front::new(Bytes::failing(b"abc", 2, 2), 2);
-    assert_eq!(rt; front.read(&mut buffer), Ok(2));
-    assert_eq!(rt; front.read(&mut buffer), Ok(0));
-    let mut front = Front::new(Bytes::failing(b"abc", 2, 2), 3);
-    assert_eq!(rt; front.read(&mut buffer), Ok(2));
-    assert!(rt; front.read(&mut buffer).is_err());
-    assert_eq!(rt; front.failures(), 1);
-    Ok(())
 }
 
 #[test]
@@ -75,12 +52,39 @@ fn files_are_opened_at_a_position(rt: HostRuntime) -> Result<(), Fail> {
     Ok(())
 }
 
-// The part of at most four chunks that a feed has to come, read two chunks at a time.
-fn part_of_four<F: Feed>(first: u64, feed: &mut F) -> Result<Option<PartValue>, SourceFault>
+// The part of at most four chunks of what a feed has to come, or of its front, read two chunks at a time.
+fn part_of_four<F: Feed>(
+    first: u64,
+    most: Option<u64>,
+    feed: &mut F,
+) -> Result<Option<PartValue>, SourceFault>
     requires { first % 4 ≡ 0 }
 {
     let mut buffer = [0; 2048];
-    part_of(Mode::Hash, first, 4, feed, &mut buffer)
+    part_of(Mode::Hash, first, 4, most, feed, &mut buffer)
+}
+
+#[test]
+fn a_part_takes_no_byte_behind_it(rt: HostRuntime) -> Result<(), Fail> {
+    let mut feed = Bytes::new(b"abcdef", 2);
+    let part = part_of_four(0, Some(5), &mut feed).map_err(|_| "five")?;
+    assert_eq!(rt; part.ok_or("part")?.len(), 5);
+    let mut buffer = [0; 4];
+    assert_eq!(rt; feed.read(&mut buffer), Ok(1));
+    assert_eq!(rt; buffer[0], b'f');
+
+    let mut feed = Bytes::failing(b"abc", 2, 2);
+    let part = part_of_four(0, Some(2), &mut feed).map_err(|_| "two")?;
+    assert_eq!(rt; part.ok_or("part")?.len(), 2);
+    let mut feed = Bytes::failing(b"abc", 2, 2);
+    assert_eq!(rt;
+        part_of_four(0, Some(3), &mut feed).err(),
+        Some(SourceFault::Read)
+    );
+    assert_eq!(rt; feed.failures(), 1);
+    let none = part_of_four(4, Some(0), &mut feed).map_err(|_| "none")?;
+    assert!(rt; none.is_none());
+    Ok(())
 }
 
 #[test]
@@ -93,11 +97,11 @@ fn runs_of_a_file_are_parts_that_come_to_its_digest(rt: HostRuntime) -> Result<(
     let files = files_of(alloc, &content)?;
     let mut joiner = Joiner::new();
     let mut tree = MemoryTree::new(&files, 700);
-    let feed = tree.open_at("f", 0).map_err(|_| "open")?;
-    let part = part_of_four(0, &mut Front::new(feed, 4096)).map_err(|_| "part")?;
+    let mut feed = tree.open_at("f", 0).map_err(|_| "open")?;
+    let part = part_of_four(0, Some(4096), &mut feed).map_err(|_| "part")?;
     joiner.add(part.ok_or("bytes")?).map_err(|_| "first")?;
-    let feed = tree.open_at("f", 4096).map_err(|_| "open")?;
-    let part = part_of_four(4, &mut Front::new(feed, 4096)).map_err(|_| "part")?;
+    let mut feed = tree.open_at("f", 4096).map_err(|_| "open")?;
+    let part = part_of_four(4, Some(4096), &mut feed).map_err(|_| "part")?;
     joiner.add(part.ok_or("bytes")?).map_err(|_| "next")?;
     assert_eq!(rt; joiner.count(), 5120);
     let mut root = [0; 32];
@@ -112,15 +116,15 @@ fn runs_of_a_file_are_parts_that_come_to_its_digest(rt: HostRuntime) -> Result<(
 #[test]
 fn runs_that_are_no_part_are_refused(rt: HostRuntime) -> Result<(), Fail> {
     let content = [7; 4097];
-    let none = part_of_four(4, &mut Bytes::new(&content[..0], 9)).map_err(|_| "none")?;
+    let none = part_of_four(4, None, &mut Bytes::new(&content[..0], 9)).map_err(|_| "none")?;
     assert!(rt; none.is_none());
-    let empty = part_of_four(0, &mut Bytes::new(&content[..0], 9)).map_err(|_| "empty")?;
+    let empty = part_of_four(0, None, &mut Bytes::new(&content[..0], 9)).map_err(|_| "empty")?;
     assert_eq!(rt; empty.ok_or("part")?.len(), 0);
-    let full = part_of_four(8, &mut Bytes::new(&content[..4096], 9)).map_err(|_| "full")?;
+    let full = part_of_four(8, None, &mut Bytes::new(&content[..4096], 9)).map_err(|_| "full")?;
     assert_eq!(rt; full.ok_or("part")?.len(), 4096);
-    let long = part_of_four(8, &mut Bytes::new(&content, 9));
+    let long = part_of_four(8, None, &mut Bytes::new(&content, 9));
     assert_eq!(rt; long.err(), Some(SourceFault::TooLong));
-    let read = part_of_four(8, &mut Bytes::failing(&content, 9, 4096));
+    let read = part_of_four(8, None, &mut Bytes::failing(&content, 9, 4096));
     assert_eq!(rt; read.err(), Some(SourceFault::Read));
     Ok(())
 }

@@ -1,8 +1,11 @@
 -- The front of what a feed has to come is read as the feed is.
-use Rattle.std.proofs.Common.{◌≡◌, ℕ, ◌+◌, ◌-◌, ◌≤◌, List, Option, None, Some, length, take, ap, ◌∙◌, arith}
+use Rattle.std.proofs.Common.{◌≡◌, ℕ, ◌+◌, ◌-◌, ◌≤◌, List, ◌++◌, Option, None, Some, length, take, ap, ◌∙◌, arith}
+use Rattle.std.proofs.KnownBytes.{Consumes-trans}
 use Rattle.std.proofs.Math.Seq.{take-append-add, take-nil}
 use Rattle.std.specs.Io.KnownBytes.{Consumes, IsAtEnd}
 use Rattle.source.specs.Pumped.{front_of}
+use Rattle.source.specs.declared.front.Front.{Front}
+use Rattle.source.specs.inside.Front.{Passes}
 
 pub front-consumes : (a b : Option (List ℕ)) (bytes : List ℕ) (n k : ℕ) → length bytes ≡ k → k ≤ n
     → Consumes a b bytes → Consumes (front_of n a) (front_of (n - k) b) bytes
@@ -16,3 +19,14 @@ front-consumes (Some x) (Some y) bytes n k size few given =
 pub front-end : (a : Option (List ℕ)) (n : ℕ) → IsAtEnd a → IsAtEnd (front_of n a)
 front-end None n end = tt
 front-end (Some x) n end = rw end (take-nil n)
+
+-- some bytes were given, and then some more
+pub Passes-trans : {F : Type 0} (remaining : F → Option (List ℕ)) (a b c : Front F) → Passes remaining a b
+    → Passes remaining b c → Passes remaining a c
+Passes-trans remaining a b c p q = record {
+  lent = q.lent ∙ p.lent;
+  whole = λ none. q.whole (p.whole none);
+  given = p.given ++ q.given;
+  inner = Consumes-trans _ _ _ p.given q.given p.inner q.inner;
+  front = Consumes-trans _ _ _ p.given q.given p.front q.front;
+}

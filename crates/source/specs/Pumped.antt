@@ -1,7 +1,7 @@
 -- What goes from a feed into a hasher.
-use Rattle.std.specs.Prelude.{ℕ, ◌<◌, List, ◌++◌, length, take, Option, None, Some, ⊤}
+use Rattle.std.specs.Prelude.{◌≡◌, ℕ, ◌<◌, List, ◌++◌, drop, length, take, Option, None, Some, IfSome, ⊤}
 use Rattle.std.specs.Borrow.{Bor}
-use Rattle.std.specs.Io.KnownBytes.{Consumes}
+use Rattle.std.specs.Io.KnownBytes.{Consumes, IsAtEnd}
 use Rattle.std.specs.List.{flat_map}
 use Rattle.std.specs.Option.{option_map}
 
@@ -25,3 +25,13 @@ front_of n known = option_map (λ xs. take n xs) known
 -- some of the bytes to come were given
 abbrev pub Gives : Option (List ℕ) → Option (List ℕ) → Type 0
 Gives old new = (given : List ℕ) × Consumes old new given
+
+-- the first n bytes, where there is such a number, or else all
+abbrev pub up_to : Option ℕ → Option (List ℕ) → Option (List ℕ)
+up_to None known = known
+up_to (Some n) known = front_of n known
+
+-- all behind these bytes is still to come
+abbrev pub LeavesBehind : Option ℕ → Option (List ℕ) → Option (List ℕ) → Type 0
+LeavesBehind None old new = IsAtEnd new
+LeavesBehind (Some n) old new = IfSome old (λ xs. new ≡ Some (drop n xs))

@@ -18,7 +18,6 @@ pub use device::Device;
 pub use digests::{digest_of, pieces};
 pub use feed::{Feed, ReadFailed};
 pub use fixed_sink::FixedSink;
-pub use front::Front;
 pub use parts::{output_in_parts, part_of};
 pub use pumping::{SourceFault, pump};
 pub use sink::{Sink, WriteFailed, write_all};

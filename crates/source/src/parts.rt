@@ -8,9 +8,11 @@ ghost use Rattle.b3.specs.Parts.{mode_parameters};
 ghost use Rattle.b3.specs.inside.Rows.{IsValueOf, value_first};
 ghost use Rattle.b3.specs.inside.Output.{output_root, output_position};
 ghost use Rattle.source.specs.Faults.{PumpCounts};
-ghost use Rattle.source.specs.Pumped.{Gives, IsLongerThan};
+ghost use Rattle.source.specs.Pumped.{Gives, IsLongerThan, LeavesBehind, up_to};
+ghost use Rattle.source.specs.inside.Front.{Passes, front_failures, front_remaining};
 ghost use Rattle.source.specs.inside.Parts.{IsFilled, IsTaken};
 
+use crate::front::Front;
 use crate::{Feed, ReadFailed, SourceFault};
 use b3::{Misplaced, Mode, Output, Part, PartValue};
 
@@ -36,19 +38,25 @@ pub fn output_in_parts<F: Feed>(
     ensures gave { Gives (F.remaining feed.old) (F.remaining feed.new) }
     ensures count { PumpCounts result (F.failure_count feed.old) (F.failure_count feed.new) }
 {
-    let ahead = fill(feed, run)?;
-    let (part, _ahead) = take_part(mode, 0, MOST_CHUNKS, feed, run, ahead)?;
+    let mut front = Front {
+        inner: feed,
+        left: None,
+    };
+    let ahead = fill(&mut front, run)?;
+    let (part, _ahead) = take_part(mode, 0, MOST_CHUNKS, &mut front, run, ahead)?;
     Ok(part.root().unwrap())
 }
 
-/// The part of all that is still to come, as bytes from the chunk `first` on, in at most `chunks`
-/// chunks, or `None` exactly where nothing is to come and `first` is not 0, since no part stands there.
-/// It is read in runs that fill `run`, but for the last. `Read` comes exactly where a read failed; where
-/// none did, `TooLong` comes where more came than so many chunks, or than end within 2^64 - 1 bytes.
+/// The part of all that is still to come, or of its first `most` bytes, as bytes from the chunk `first`
+/// on, in at most `chunks` chunks, or `None` exactly where there are no such bytes and `first` is not 0,
+/// since no part stands there. It is read in runs that fill `run`, but for the last, and no byte behind
+/// `most` is read. `Read` comes exactly where a read failed; where none did, `TooLong` comes where these
+/// are more than so many chunks, or than end within 2^64 - 1 bytes.
 pub fn part_of<F: Feed>(
     mode: Mode,
     first: u64,
     chunks: u64,
+    most: Option<u64>,
     feed: &mut F,
     run: &mut [u8],
 ) -> Result<Option<PartValue>, SourceFault>
@@ -56,15 +64,47 @@ pub fn part_of<F: Feed>(
     requires chunks { (e : ℕ) × (chunks ≡ 2 ^ e) }
     requires room { length run.old ≤ 1024 * chunks }
     requires aligned { first % chunks ≡ 0 }
-    ensures part { IfOk result (λ found. MatchOption found ((0 < first) × IsAtEnd (F.remaining feed.old))
+    ensures part { IfOk result (λ found. MatchOption found
+        ((0 < first) × IsAtEnd (up_to most (F.remaining feed.old)))
         (λ part. (value_first part ≡ first)
-        × IfSome (F.remaining feed.old) (λ xs. IsValueOf (mode_parameters mode) part xs))) }
-    ensures fits { OnOk result (IfSome (F.remaining feed.old) (λ xs. length xs ≤ 1024 * chunks)) }
-    ensures end { OnOk result (IsAtEnd (F.remaining feed.new)) }
+        × IfSome (up_to most (F.remaining feed.old)) (λ xs. IsValueOf (mode_parameters mode) part xs))) }
+    ensures fits { OnOk result (IfSome (up_to most (F.remaining feed.old)) (λ xs. length xs ≤ 1024 * chunks)) }
+    ensures end { OnOk result (LeavesBehind most (F.remaining feed.old) (F.remaining feed.new)) }
     ensures too_long { IsErrOf result SourceFault.TooLong
-        → IsLongerThan (F.remaining feed.old) (min (1024 * chunks) (2 ^ 64 - 1 - 1024 * first)) }
+        → IsLongerThan (up_to most (F.remaining feed.old)) (min (1024 * chunks) (2 ^ 64 - 1 - 1024 * first)) }
     ensures gave { Gives (F.remaining feed.old) (F.remaining feed.new) }
     ensures count { PumpCounts result (F.failure_count feed.old) (F.failure_count feed.new) }
+{
+    let mut front = Front {
+        inner: feed,
+        left: most,
+    };
+    part_of_front(mode, first, chunks, &mut front, run)
+}
+
+// The same of the front of a feed.
+fn part_of_front<F: Feed>(
+    mode: Mode,
+    first: u64,
+    chunks: u64,
+    feed: &mut Front<'_, F>,
+    run: &mut [u8],
+) -> Result<Option<PartValue>, SourceFault>
+    requires run { (e : ℕ) × (length run.old ≡ 1024 * 2 ^ e) }
+    requires chunks { (e : ℕ) × (chunks ≡ 2 ^ e) }
+    requires room { length run.old ≤ 1024 * chunks }
+    requires aligned { first % chunks ≡ 0 }
+    ensures part { IfOk result (λ found. MatchOption found
+        ((0 < first) × IsAtEnd (front_remaining F.remaining feed.old))
+        (λ part. (value_first part ≡ first)
+        × IfSome (front_remaining F.remaining feed.old) (λ xs. IsValueOf (mode_parameters mode) part xs))) }
+    ensures fits { OnOk result (IfSome (front_remaining F.remaining feed.old) (λ xs. length xs ≤ 1024 * chunks)) }
+    ensures end { OnOk result (IsAtEnd (front_remaining F.remaining feed.new)) }
+    ensures too_long { IsErrOf result SourceFault.TooLong → IsLongerThan (front_remaining F.remaining feed.old)
+        (min (1024 * chunks) (2 ^ 64 - 1 - 1024 * first)) }
+    ensures passed { Passes F.remaining feed.old feed.new }
+    ensures count { PumpCounts result (front_failures F.failure_count feed.old)
+        (front_failures F.failure_count feed.new) }
 {
     let ahead = fill(feed, run)?;
     if ahead == 0 && first > 0 {
@@ -78,12 +118,13 @@ pub fn part_of<F: Feed>(
 }
 
 // Reads until `run` is full or the feed at its end, and answers how many bytes that is.
-fn fill<F: Feed>(feed: &mut F, run: &mut [u8]) -> Result<usize, SourceFault>
-    ensures filled { IfOk result (λ n. IsFilled F.remaining feed.old feed.new run.new n) }
+fn fill<F: Feed>(feed: &mut Front<'_, F>, run: &mut [u8]) -> Result<usize, SourceFault>
+    ensures filled { IfOk result (λ n. IsFilled (front_remaining F.remaining) feed.old feed.new run.new n) }
     ensures length { length run.new ≡ length run.old }
     ensures fault { IsErrOf result SourceFault.TooLong → ⊥ }
-    ensures gave { Gives (F.remaining feed.old) (F.remaining feed.new) }
-    ensures count { PumpCounts result (F.failure_count feed.old) (F.failure_count feed.new) }
+    ensures passed { Passes F.remaining feed.old feed.new }
+    ensures count { PumpCounts result (front_failures F.failure_count feed.old)
+        (front_failures F.failure_count feed.new) }
 {
     let mut n = 0;
     'reads: while n < run.len() {
@@ -102,7 +143,7 @@ fn take_part<F: Feed>(
     mode: Mode,
     first: u64,
     chunks: u64,
-    feed: &mut F,
+    feed: &mut Front<'_, F>,
     run: &mut [u8],
     ahead: usize,
 ) -> Result<(Part, usize), SourceFault>
@@ -112,14 +153,16 @@ fn take_part<F: Feed>(
     requires aligned { first % chunks ≡ 0 }
     requires bound { ahead ≤ length run.old }
     requires some { ahead ≡ 0 → first ≡ 0 }
-    requires end { ahead < length run.old → IsAtEnd (F.remaining feed.old) }
-    ensures taken { IfOk result (λ r. IsTaken F.remaining mode first chunks
-        (prepend_known (take ahead run.old) (F.remaining feed.old)) feed.new run.new r.0 r.1) }
+    requires end { ahead < length run.old → IsAtEnd (front_remaining F.remaining feed.old) }
+    ensures taken { IfOk result (λ r. IsTaken (front_remaining F.remaining) mode first chunks
+        (prepend_known (take ahead run.old) (front_remaining F.remaining feed.old)) feed.new run.new r.0 r.1) }
     ensures length { length run.new ≡ length run.old }
     ensures too_long { IsErrOf result SourceFault.TooLong
-        → IsLongerThan (prepend_known (take ahead run.old) (F.remaining feed.old)) (2 ^ 64 - 1 - 1024 * first) }
-    ensures gave { Gives (F.remaining feed.old) (F.remaining feed.new) }
-    ensures count { PumpCounts result (F.failure_count feed.old) (F.failure_count feed.new) }
+        → IsLongerThan (prepend_known (take ahead run.old) (front_remaining F.remaining feed.old))
+        (2 ^ 64 - 1 - 1024 * first) }
+    ensures passed { Passes F.remaining feed.old feed.new }
+    ensures count { PumpCounts result (front_failures F.failure_count feed.old)
+        (front_failures F.failure_count feed.new) }
 {
     if chunks <= (run.len() / 1024) as u64 {
         return take_run(mode, first, feed, run, ahead);
@@ -137,21 +180,23 @@ fn take_part<F: Feed>(
 fn take_run<F: Feed>(
     mode: Mode,
     first: u64,
-    feed: &mut F,
+    feed: &mut Front<'_, F>,
     run: &mut [u8],
     ahead: usize,
 ) -> Result<(Part, usize), SourceFault>
     requires run { (e : ℕ) × (length run.old ≡ 1024 * 2 ^ e) × (first % 2 ^ e ≡ 0) }
     requires bound { ahead ≤ length run.old }
     requires some { ahead ≡ 0 → first ≡ 0 }
-    requires end { ahead < length run.old → IsAtEnd (F.remaining feed.old) }
-    ensures taken { IfOk result (λ r. IsTaken F.remaining mode first (length run.old / 1024)
-        (prepend_known (take ahead run.old) (F.remaining feed.old)) feed.new run.new r.0 r.1) }
+    requires end { ahead < length run.old → IsAtEnd (front_remaining F.remaining feed.old) }
+    ensures taken { IfOk result (λ r. IsTaken (front_remaining F.remaining) mode first (length run.old / 1024)
+        (prepend_known (take ahead run.old) (front_remaining F.remaining feed.old)) feed.new run.new r.0 r.1) }
     ensures length { length run.new ≡ length run.old }
     ensures too_long { IsErrOf result SourceFault.TooLong
-        → IsLongerThan (prepend_known (take ahead run.old) (F.remaining feed.old)) (2 ^ 64 - 1 - 1024 * first) }
-    ensures gave { Gives (F.remaining feed.old) (F.remaining feed.new) }
-    ensures count { PumpCounts result (F.failure_count feed.old) (F.failure_count feed.new) }
+        → IsLongerThan (prepend_known (take ahead run.old) (front_remaining F.remaining feed.old))
+        (2 ^ 64 - 1 - 1024 * first) }
+    ensures passed { Passes F.remaining feed.old feed.new }
+    ensures count { PumpCounts result (front_failures F.failure_count feed.old)
+        (front_failures F.failure_count feed.new) }
 {
     match Part::of(mode, first, &run[..ahead]) {
         Err(Misplaced) => Err(SourceFault::TooLong),

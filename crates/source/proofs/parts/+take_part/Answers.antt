@@ -2,8 +2,8 @@ use Rattle.std.proofs.Common.{◌≡◌, ℕ, ◌+◌, ◌*◌, ◌/◌, ◌^◌
 use Rattle.std.proofs.Common.{pow_pos}
 use Rattle.std.proofs.lemmas.Result.{IfOk-at_ok}
 use Rattle.std.proofs.KnownBytes.{Consumes-trans}
+use Rattle.source.proofs.Fronting.{Passes-trans}
 use Rattle.source.proofs.Parting.{at_half, halved}
-use Rattle.source.proofs.Taking.{Gives-trans}
 use Rattle.source.proofs.parts.+take_part.Goals as goal
 
 pub take_part-requires : goal.take_part-requires
@@ -92,8 +92,8 @@ returns-clause-taken g t c =
       end = right.end;
     }
 
-pub returns-in_err-right-clause-gave : goal.returns-in_err-right-clause-gave
-returns-in_err-right-clause-gave g t c = Gives-trans _ _ _ c.take_part.ensures.gave c.take_part-2.ensures.gave
+pub returns-in_err-right-clause-passed : goal.returns-in_err-right-clause-passed
+returns-in_err-right-clause-passed g t c = Passes-trans _ _ _ _ c.take_part.ensures.passed c.take_part-2.ensures.passed
 
-pub returns-clause-gave : goal.returns-clause-gave
-returns-clause-gave g t c = Gives-trans _ _ _ c.take_part.ensures.gave c.take_part-2.ensures.gave
+pub returns-clause-passed : goal.returns-clause-passed
+returns-clause-passed g t c = Passes-trans _ _ _ _ c.take_part.ensures.passed c.take_part-2.ensures.passed

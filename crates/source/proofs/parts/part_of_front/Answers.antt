@@ -1,15 +1,15 @@
 use Rattle.std.proofs.Common.{◌≡◌, ℕ, ◌*◌, ◌≤◌, [], length, take, refl, subst, ◌∙◌, arith, pow_pos}
 use Rattle.b3.specs.Parts.{mode_parameters}
 use Rattle.b3.specs.inside.Rows.{IsValueOf}
+use Rattle.source.proofs.Fronting.{Passes-trans}
 use Rattle.source.proofs.Parting.{all_taken}
-use Rattle.source.proofs.Taking.{Gives-trans}
-use Rattle.source.proofs.parts.part_of.Goals as goal
+use Rattle.source.proofs.parts.part_of_front.Goals as goal
 
-pub returns-in_err-part-clause-gave : goal.returns-in_err-part-clause-gave
-returns-in_err-part-clause-gave g c = Gives-trans _ _ _ c.fill.ensures.gave c.take_part.ensures.gave
+pub returns-in_err-part-clause-passed : goal.returns-in_err-part-clause-passed
+returns-in_err-part-clause-passed g c = Passes-trans _ _ _ _ c.fill.ensures.passed c.take_part.ensures.passed
 
-pub returns-then-ahead-gt0-clause-gave : goal.returns-then-ahead-gt0-clause-gave
-returns-then-ahead-gt0-clause-gave g c = Gives-trans _ _ _ c.fill.ensures.gave c.take_part.ensures.gave
+pub returns-then-ahead-gt0-clause-passed : goal.returns-then-ahead-gt0-clause-passed
+returns-then-ahead-gt0-clause-passed g c = Passes-trans _ _ _ _ c.fill.ensures.passed c.take_part.ensures.passed
 
 pub returns-clause-part : goal.returns-clause-part
 returns-clause-part g c =
@@ -39,3 +39,6 @@ returns-clause-fits g c =
     let end = taken.end (omega (arith, none, some, same, c.requires.run.1, c.take_part.ensures.length)) in
     all_taken _ _ _ _ _ taken.bytes (λ xs. length xs ≤ 1024 * c.args.chunks) c.in_ok-ahead.ensures.filled.given
     taken.given over end (omega (arith, taken.most, taken.part.len))
+
+pub returns-clause-passed : goal.returns-clause-passed
+returns-clause-passed g c = Passes-trans _ _ _ _ c.fill.ensures.passed c.take_part.ensures.passed
