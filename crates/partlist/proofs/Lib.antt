@@ -3,3 +3,4 @@ pub mod Parsing
 pub mod Behind
 pub mod Reading
 pub mod Outcomes
+pub mod Pieces

@@ -7,6 +7,7 @@ use Rattle.std.proofs.lemmas.Bool.{cases_eq}
 use Rattle.std.proofs.lemmas.Bool.Decides.{nat_tests}
 use Rattle.std.proofs.lemmas.Fmt.{length-decimal-le}
 use Rattle.std.proofs.lemmas.List.Elements.{All-nil, All-push}
+use Rattle.std.proofs.KnownBytes.{Consumes-trans}
 use Rattle.std.specs.Fmt.{decimal}
 use Rattle.std.specs.Io.KnownBytes.{Consumes, IsAtEnd}
 use Rattle.hex.specs.Hex.{encode_lower, lower_digits}
@@ -14,6 +15,7 @@ use Rattle.hex.proofs.HexLemmas.{length-encode_with}
 use Rattle.b3.specs.declared.row.PartValue.{PartValue}
 use Rattle.b3.specs.declared.row.Row.{Row}
 use Rattle.b3.specs.inside.Rows.{value_first, value_len}
+use Rattle.source.specs.Pumped.{Gives}
 use Rattle.sumlist.specs.Lines.{lines, HasNoEnd}
 use Rattle.sumlist.proofs.Cutting.{lines-ended, lines-last}
 use Rattle.partlist.specs.Joined.{AllTell, AreInRow, IsWrongBehind, StopsAt, TellsPart}
@@ -85,7 +87,7 @@ most (Some row) = let limit = row.last.1 in omega (arith, limit)
 pub parts-few : (joiner : Joiner) → joined_count joiner ≤ 2 ^ 54
 parts-few joiner = let few = joiner.few in omega (arith, few, most joiner.row)
 
-row-is : (row : Option Row) (parts : List PartValue) → MayBeRowOf row parts → AreInRow parts
+pub row-is : (row : Option Row) (parts : List PartValue) → MayBeRowOf row parts → AreInRow parts
 row-is None parts none = subst AreInRow (sym none) tt
 row-is (Some row) parts is = is.in_row
 
@@ -208,6 +210,10 @@ Halts-at text parts old joiner fault number joined halts place =
       row = row-is joiner.row (parts ++ halts.told) halts.joined.row;
       wrong = halts.wrong;
     }
+
+-- some of the bytes to come were given, and then more
+pub Gives-more : (a b c : Option (List ℕ)) (piece : List ℕ) → Gives a b → Consumes b c piece → Gives a c
+Gives-more a b c piece gave given = (gave.0 ++ piece, Consumes-trans a b c gave.0 piece gave.1 given)
 
 -- what was read of a text was joined, and the rest is to come
 abbrev pub Coming : Option (List ℕ) → Option (List ℕ) → Joiner → Joiner → List ℕ → Type 0

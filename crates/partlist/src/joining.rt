@@ -8,6 +8,7 @@ ghost use Rattle.arrayvec.specs.ArrayVec.{array_vec_len};
 ghost use Rattle.b3.specs.Modes.{hash_root};
 ghost use Rattle.b3.specs.declared.row.PartValue.{PartValue};
 ghost use Rattle.b3.specs.inside.Output.{output_position, output_root};
+ghost use Rattle.source.specs.Pumped.{Gives};
 ghost use Rattle.partlist.specs.Joined.{AllTell, AreValuesOf, EndsWrong, IsAsked, IsWrongBehind, TellsPart, bytes_of};
 ghost use Rattle.sumlist.specs.Lines.{lines};
 ghost use Rattle.partlist.specs.declared.fault.JoinFault.TheVariants.{Line};
@@ -95,6 +96,7 @@ impl Joiner {
             (λ _. (more : List PartValue) × AllTell (lines text) more × HasJoined self.new (parts ++ more))
             (λ fault. StopsSo text parts fault)) }
         ensures end { OnOk result (IsAtEnd (F.remaining feed.new)) }
+        ensures gave { Gives (F.remaining feed.old) (F.remaining feed.new) }
         ensures count { JoinCounts result (F.failure_count feed.old) (F.failure_count feed.new) }
     {
         let start = self.parts;

@@ -1,10 +1,12 @@
-use Rattle.std.proofs.Common.{◌≡◌, ◌<◌, [], length, take, refl, arith, length-take-le}
-use Rattle.partlist.proofs.Reading.{Coming-ended, Coming-start, Coming-wrong, parts-few}
+use Rattle.std.proofs.Common.{◌≡◌, ◌<◌, [], length, take, refl, arith, length-take-le, rules}
+use Rattle.std.proofs.KnownBytes.{Consumes-nil}
+use Rattle.partlist.proofs.Reading.{Coming-ended, Coming-start, Coming-wrong, Gives-more, parts-few}
 use Rattle.partlist.proofs.joining.Joiner.add_lines.Goals as goal
 
 pub reads-init : goal.reads-init
 reads-init g c = record {
   progress = rw c.new-held.ensures (Coming-start (g.F.Feed.remaining c.args.feed.now) c.args.self.now);
+  gave = ([], Consumes-nil (g.F.Feed.remaining c.args.feed.now));
   count = refl;
   bound = rw c.new-held.ensures (omega arith);
   forth = omega arith;
@@ -27,6 +29,20 @@ returns-in-Err-add_piece-clause-joined g c =
     (g.F.Feed.remaining c.reads.feed) (g.F.Feed.remaining c.read.new.self) c.args.self.now c.reads.self
     c.add_piece.new.self c.reads.held.items _ _ c.reads.invariant.progress c.in_ok-count.ensures.given
     c.in-Err-add_piece.ensures.goes)
+
+pub returns-in-Err-add_piece-clause-gave : goal.returns-in-Err-add_piece-clause-gave
+returns-in-Err-add_piece-clause-gave g c =
+    Gives-more _ _ _ _ c.reads.invariant.gave c.in_ok-count.ensures.given
+
+pub reads-preserved : goal.reads-preserved
+reads-preserved g c = record {
+  progress = search rules;
+  gave = Gives-more _ _ _ _ c.reads.invariant.gave c.in_ok-count.ensures.given;
+  count = search rules;
+  bound = search rules;
+  forth = search rules;
+  size = search rules;
+}
 
 pub reads-smaller : goal.reads-smaller
 reads-smaller g c =
