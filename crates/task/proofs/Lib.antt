@@ -2,3 +2,4 @@ pub mod CommandLemmas
 pub mod ParseLemmas
 pub mod ExampleWords
 pub mod Numbers
+pub mod Powers

@@ -8,11 +8,11 @@ use Rattle.clap.proofs.OnLiterals.{clap_on_literals}
 use Rattle.task.specs.CommandLine.{NameList, sums_app}
 
 pub sums_is_simple : (names macs : NameList) → is_simple (sums_app names macs) ≡ true
-unfolding clap_on_literals
+unfolding clap_on_literals sums_app
 sums_is_simple names macs = refl
 
 pub sums_is_free : (names macs : NameList) → is_simple_and_free (sums_app names macs) ≡ true
-unfolding clap_on_literals
+unfolding clap_on_literals sums_app
 sums_is_free names macs = refl
 
 pub rows_from : (a b : App) (words : List Text) (m : ArgMatches) → a ≡ b → is_simple b ≡ true → HasMatchesOf a words m

@@ -74,12 +74,17 @@ files_rule = record file_rule { action = Some Append }
 abbrev pub with_rules : App → List Rule → App
 with_rules = fold with_rule
 
--- `hash -a ALG [-l N] [--seek N] [--parts N] [--salt HEX] [--personal HEX] [--tag] [--raw] [--progress] [FILE]..`
+-- a command with these below it
+abbrev pub with_commands : App → List App → App
+with_commands = fold (λ whole below. with_subcommand whole below.top)
+
+-- `hash -a ALG [-l N] [--seek N] [--parts N] [--salt HEX] [--personal HEX] [--tag] [--raw] [--progress]
+--     [--files0-from F] [FILE]..`
 abbrev pub hash_app : NameList → App
 hash_app names = with_rules (new_app (codes "hash"))
     (algorithm_rule names ∷ length_rule ∷ number_rule (codes "seek") ∷ number_rule (codes "parts")
     ∷ text_rule (codes "salt") ∷ text_rule (codes "personal") ∷ flag_rule (codes "tag") ∷ flag_rule (codes "raw")
-    ∷ flag_rule (codes "progress") ∷ files_rule ∷ [])
+    ∷ flag_rule (codes "progress") ∷ text_rule (codes "files0-from") ∷ files_rule ∷ [])
 
 -- `mac -a MAC [--key HEX] [--key-file F] [-l N] [--verify HEX] [FILE]`
 abbrev pub mac_app : NameList → App
@@ -98,12 +103,26 @@ abbrev pub check_app : NameList → App
 check_app names = with_rules (new_app (codes "check")) (algorithm_rule names ∷ flag_rule (codes "summary")
     ∷ flag_rule (codes "progress") ∷ required_rule file_rule ∷ [])
 
--- the program's command, with the four below it; `names` are those of ALG and `macs` those of MAC
-abbrev pub sums_app : NameList → NameList → App
-sums_app names macs = with_subcommand (with_subcommand (with_subcommand (with_subcommand
-    (record (new_app (codes "sums")) {
-      top = record (new_app (codes "sums")).top { subcommand_required = true; has_version = true };
-    }) (hash_app names).top) (mac_app macs).top) (kdf_app names).top) (check_app names).top
+-- `part -a ALG [--first C] [--chunks N] [FILE]`
+abbrev pub part_app : NameList → App
+part_app names = with_rules (new_app (codes "part")) (algorithm_rule names ∷ number_rule (codes "first")
+    ∷ number_rule (codes "chunks") ∷ file_rule ∷ [])
+
+-- `join -a ALG [--name NAME] [--bytes N] [-l N] [--seek N] [PARTS]..`
+abbrev pub join_app : NameList → App
+join_app names = with_rules (new_app (codes "join")) (algorithm_rule names ∷ text_rule (codes "name")
+    ∷ number_rule (codes "bytes") ∷ length_rule ∷ number_rule (codes "seek") ∷ files_rule ∷ [])
+
+-- the program's command alone
+abbrev pub program_app : App
+program_app = record (new_app (codes "sums")) {
+  top = record (new_app (codes "sums")).top { subcommand_required = true; has_version = true };
+}
+
+-- the same with the six below it; `names` are those of ALG and `macs` those of MAC
+unfoldable pub sums_app : NameList → NameList → App
+sums_app names macs = with_commands program_app
+    (hash_app names ∷ mac_app macs ∷ kdf_app names ∷ check_app names ∷ part_app names ∷ join_app names ∷ [])
 
 -- a flag was given: its value is then the word `true`
 abbrev pub IsGiven : Text → List Row → Type 0
@@ -129,6 +148,11 @@ pub record IsRequestOf (s : Text × List Row) (r : Request) : Type 0 where
   pub personal : option_map (λ t. t.now) r.personal ≡ first_of (codes "personal") s.1
   pub info : option_map (λ t. t.now) r.info ≡ first_of (codes "info") s.1
   pub context : option_map (λ t. t.now) r.context ≡ first_of (codes "context") s.1
+  pub first : option_map (λ t. t.now) r.first ≡ first_of (codes "first") s.1
+  pub chunks : option_map (λ t. t.now) r.chunks ≡ first_of (codes "chunks") s.1
+  pub name : option_map (λ t. t.now) r.name ≡ first_of (codes "name") s.1
+  pub bytes : option_map (λ t. t.now) r.bytes ≡ first_of (codes "bytes") s.1
+  pub files0_from : option_map (λ t. t.now) r.files0_from ≡ first_of (codes "files0-from") s.1
   pub files : map (λ t. t.now) r.files.items ≡ unwrap_or (all_of (codes "file") s.1) []
 
 -- the words make the request r

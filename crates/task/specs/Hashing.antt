@@ -1,7 +1,6 @@
 -- What a request of `hash` has printed, or the first fault of its settings.
-use Rattle.std.specs.Prelude.{ℕ, ◌+◌, ◌-◌, ◌^◌, ◌==◌, ◌&&◌, Bool, true, List, length, Option, None, Some, Result, Ok}
-use Rattle.std.specs.Prelude.{Err, nat_le}
-use Rattle.std.specs.Prelude.{count_ones, nat_lt, if◌then◌else◌}
+use Rattle.std.specs.Prelude.{ℕ, ◌+◌, ◌-◌, ◌^◌, ◌==◌, ◌&&◌, ◌||◌, Bool, true, List, length, Option, None, Some}
+use Rattle.std.specs.Prelude.{Result, Ok, Err, count_ones, is_some, nat_le, nat_lt, if◌then◌else◌}
 use Rattle.source.specs.declared.alg.Alg.{Alg}
 use Rattle.source.specs.declared.alg.Alg.TheVariants as alg
 use Rattle.sumlist.specs.declared.kind.Kind.{Kind}
@@ -77,17 +76,27 @@ stretch_at is_raw position n =
     if nat_le (position + n) (2 ^ 64 - 1) then Ok (record { position = position; length = n; is_raw = is_raw })
     else Err (OutOfRange Seek)
 
--- the bytes themselves are those of one file
-abbrev pub stretch_of : Request → Result Stretch UsageFault
-stretch_of r = do
-  no_salts r
-  unset Raw (r.raw && nat_lt 1 (length r.files.items))
+-- the bytes that `-l` and `--seek` say
+abbrev pub stretch_of : Request → Bool → Result Stretch UsageFault
+stretch_of r is_raw = do
   n ← number Length (given r.length) 32 1 (2 ^ 64 - 1)
   position ← number Seek (given r.seek) 0 0 (2 ^ 64 - 1)
-  stretch_at r.raw position n
+  stretch_at is_raw position n
+
+-- it may name more than one file
+abbrev pub names_several : Request → Bool
+names_several r = nat_lt 1 (length r.files.items) || is_some r.files0_from
+
+-- the bytes themselves are those of one file
+abbrev pub blake3_output : Request → Result Requested UsageFault
+blake3_output r = do
+  no_salts r
+  unset Raw (r.raw && names_several r)
+  stretch ← stretch_of r r.raw
+  Ok (Output stretch)
 
 abbrev pub blake3 : Request → Result Requested UsageFault
-blake3 r = if r.tag then tagged_blake3 r else (stretch_of r >>= (λ s. Ok (Output s)))
+blake3 r = if r.tag then tagged_blake3 r else blake3_output r
 
 -- how many chunks a part has: a power of two
 abbrev pub parts_of_number : ℕ → Result (Option ℕ) UsageFault

@@ -75,6 +75,11 @@ abbrev pub number : Setting → Option Text → ℕ → ℕ → ℕ → Result �
 number setting None default least most = Ok default
 number setting (Some text) default least most = within setting least most (numeral text)
 
+-- the number of a setting, where it was given
+abbrev pub given_number : Setting → Option Text → ℕ → ℕ → Result (Option ℕ) UsageFault
+given_number setting None least most = Ok None
+given_number setting (Some text) least most = within setting least most (numeral text) >>= (λ n. Ok (Some n))
+
 -- the bytes that hexadecimal digits spell
 abbrev pub decoded : Setting → Result (List ℕ) FromHexError → Result (List ℕ) UsageFault
 decoded setting (Ok bytes) = Ok bytes

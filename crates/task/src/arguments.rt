@@ -86,12 +86,12 @@ pub(crate) fn file_argument<'a>(alloc: Global, value: &'a str, help: &'a str) ->
     Arg::new(alloc, "file").value_name(value).help(help)
 }
 
-/// Any number of files.
-pub(crate) fn files_argument<'a>(alloc: Global, help: &'a str) -> Arg<'a>
+/// Any number of files or lists.
+pub(crate) fn files_argument<'a>(alloc: Global, value: &'a str, help: &'a str) -> Arg<'a>
     ensures rule { rule_of result ≡ files_rule }
     ensures local { result.global ≡ false }
 {
-    file_argument(alloc, "FILE", help).action(ArgAction::Append)
+    file_argument(alloc, value, help).action(ArgAction::Append)
 }
 
 /// The same, which has to be there.

@@ -2,8 +2,8 @@
 
 ghost use Rattle.std.specs.Prelude.{◌≡◌, [], ◌∷◌, codes, false, IfOk};
 ghost use Rattle.clap.specs.Words.{app_of, new_app, rule_of};
-ghost use Rattle.task.specs.CommandLine.{check_app, flag_rule, hash_app, kdf_app, mac_app, sums_app, text_rule};
-ghost use Rattle.task.specs.CommandLine.{with_rules};
+ghost use Rattle.task.specs.CommandLine.{check_app, flag_rule, hash_app, join_app, kdf_app, length_rule, mac_app};
+ghost use Rattle.task.specs.CommandLine.{number_rule, part_app, program_app, sums_app, text_rule, with_rules};
 
 use crate::arguments::{
     algorithm_option, file_argument, files_argument, flag_option, length_option, number_option,
@@ -28,15 +28,23 @@ pub(crate) fn sums_command<'a>(
 ) -> Result<Command<'a>, AllocError>
     ensures { IfOk result (λ c. app_of c ≡ sums_app names.entry macs.entry) }
 {
+    program_command(alloc)
+        .subcommand(hash_command(alloc, names)?)?
+        .subcommand(mac_command(alloc, macs)?)?
+        .subcommand(kdf_command(alloc, names)?)?
+        .subcommand(check_command(alloc, names)?)?
+        .subcommand(part_command(alloc, names)?)?
+        .subcommand(join_command(alloc, names)?)
+}
+
+fn program_command<'a>(alloc: Global) -> Command<'a>
+    ensures { app_of result ≡ program_app }
+{
     Command::new(alloc, "sums")
         .about("Hashes files, makes tags and keys, and checks lists of digests")
         .after_help(STATUSES)
         .version("0.1.0")
         .subcommand_required(true)
-        .subcommand(hash_command(alloc, names)?)?
-        .subcommand(mac_command(alloc, macs)?)?
-        .subcommand(kdf_command(alloc, names)?)?
-        .subcommand(check_command(alloc, names)?)
 }
 
 fn described<'a>(alloc: Global, name: &'a str, about: &'a str) -> Command<'a>
@@ -64,8 +72,9 @@ fn hash_command<'a>(alloc: Global, names: &'a [&'a str]) -> Result<Command<'a>, 
     .arg(number_option(
         alloc,
         "seek",
-        "The first byte of the output that is printed, for blake3\n\
-             alone: 0 to 2^64 - 1 less the length [default: 0]",
+        "The first byte of the output that is printed, for\n\
+             blake3 alone: 0 to 2^64 - 1 less the length\n\
+             [default: 0]",
     ))?
     .arg(number_option(
         alloc,
@@ -75,10 +84,20 @@ fn hash_command<'a>(alloc: Global, names: &'a [&'a str]) -> Result<Command<'a>, 
              1024. The line is the same for each N and without it",
     ))?;
     let command = with_salt_options(alloc, command)?;
-    with_form_options(alloc, command)?.arg(files_argument(
-        alloc,
-        "The files, each - standard input [default: -]",
-    ))
+    with_form_options(alloc, command)?
+        .arg(text_option(
+            alloc,
+            "files0-from",
+            "F",
+            "The file that has the names of the files, in place of\n\
+             FILE: each with a NUL byte behind it, as `find -print0`\n\
+             prints them. - is standard input",
+        ))?
+        .arg(files_argument(
+            alloc,
+            "FILE",
+            "The files, each - standard input [default: -]",
+        ))
 }
 
 // What separates the uses of BLAKE2.
@@ -91,15 +110,16 @@ fn with_salt_options<'a>(alloc: Global, command: Command<'a>) -> Result<Command<
             alloc,
             "salt",
             "HEX",
-            "The salt in hexadecimal digits, 16 bytes for blake2b and\n\
-             8 for blake2s, for these two alone [default: zeros]",
+            "The salt in hexadecimal digits, 16 bytes for blake2b\n\
+             and 8 for blake2s, for these two alone [default: zeros]",
         ))?
         .arg(text_option(
             alloc,
             "personal",
             "HEX",
             "The personalization in hexadecimal digits, as long as\n\
-             the salt, for blake2b and blake2s alone [default: zeros]",
+             the salt, for blake2b and blake2s alone\n\
+             [default: zeros]",
         ))
 }
 
@@ -118,8 +138,9 @@ fn with_form_options<'a>(alloc: Global, command: Command<'a>) -> Result<Command<
         .arg(flag_option(
             alloc,
             "raw",
-            "Prints the bytes of the output as they are, without name\n\
-             and line end, for blake3 alone and at most one FILE",
+            "Prints the bytes of the output as they are, without\n\
+             name and line end, for blake3 alone and at most one\n\
+             FILE",
         ))?
         .arg(progress_option(alloc))
 }
@@ -281,4 +302,82 @@ fn check_command<'a>(alloc: Global, names: &'a [&'a str]) -> Result<Command<'a>,
              folder. A list with no line, or with skipped ones alone, is\n\
              status 0: `test -s LIST` tells an empty one",
     )))
+}
+
+fn part_command<'a>(alloc: Global, names: &'a [&'a str]) -> Result<Command<'a>, AllocError>
+    ensures { IfOk result (λ c. app_of c ≡ part_app names.entry) }
+{
+    described(
+        alloc,
+        "part",
+        "Hashes a part of a file, and prints it as a line for `join`",
+    )
+    .arg(algorithm_option(alloc, "ALG", names, "The hash: blake3"))?
+    .arg(number_option(
+        alloc,
+        "first",
+        "The number of the part's first chunk of 1024 bytes:\n\
+             0 to 2^54 - 1 [default: 0]",
+    ))?
+    .arg(number_option(
+        alloc,
+        "chunks",
+        "At most so many chunks: 1 to 2^54, where --first is a\n\
+             multiple of the least power of two that is at least N.\n\
+             Without it all bytes to the end; above chunk 0 there is\n\
+             room for as many chunks as the greatest power of two\n\
+             that divides --first",
+    ))?
+    .arg(file_argument(
+        alloc,
+        "FILE",
+        "The file, read from the first chunk on; - is standard\n\
+             input, whose first byte is the first of that chunk\n\
+             [default: -]",
+    ))
+}
+
+fn join_command<'a>(alloc: Global, names: &'a [&'a str]) -> Result<Command<'a>, AllocError>
+    ensures { IfOk result (λ c. app_of c ≡ join_app names.entry) }
+{
+    let command = described(
+        alloc,
+        "join",
+        "Prints the digest of a file, from the lines of its parts",
+    )
+    .arg(algorithm_option(alloc, "ALG", names, "The hash: blake3"))?
+    .arg(text_option(alloc, "name", "NAME", "The name on the line [default: -]"))?
+    .arg(number_option(
+        alloc,
+        "bytes",
+        "How many bytes the parts have to have in all. Without it\n\
+             parts that are missing at the end are not noticed",
+    ))?;
+    with_stretch_options(alloc, command)?.arg(files_argument(
+        alloc,
+        "PARTS",
+        "The files with the lines of parts, in the order of the\n\
+             file, each - standard input [default: -]. Each part but\n\
+             the last has a power of two of chunks, and begins where\n\
+             the one before it ends. A line is no proof of bytes: the\n\
+             digest of wrong lines is a wrong one",
+    ))
+}
+
+// Which bytes of the output are printed.
+fn with_stretch_options<'a>(alloc: Global, command: Command<'a>) -> Result<Command<'a>, AllocError>
+    ensures { IfOk result (λ c. app_of c ≡ with_rules (app_of command.entry)
+        (length_rule ∷ number_rule (codes "seek") ∷ [])) }
+{
+    command
+        .arg(length_option(
+            alloc,
+            "The digest's length in bytes: 1 to 2^64 - 1 [default: 32]",
+        ))?
+        .arg(number_option(
+            alloc,
+            "seek",
+            "The first byte of the output that is printed: 0 to\n\
+             2^64 - 1 less the length [default: 0]",
+        ))
 }

@@ -35,6 +35,12 @@ pub enum Setting {
     Info,
     /// `--context`.
     Context,
+    /// `--first`.
+    First,
+    /// `--chunks`.
+    Chunks,
+    /// `--bytes`.
+    Bytes,
     /// The list.
     List,
 }
@@ -46,6 +52,8 @@ pub enum UsageFault {
     Needed(Setting),
     /// It says nothing to this algorithm.
     NotForAlgorithm(Setting),
+    /// It names what this command does not have.
+    NotForCommand(Setting),
     /// It is outside its range, or none of its names.
     OutOfRange(Setting),
     /// It is not made of pairs of hexadecimal digits.
@@ -54,6 +62,8 @@ pub enum UsageFault {
     WrongLength(Setting),
     /// Both `--key` and `--key-file` were given, or none.
     OneKey,
+    /// Both files and `--files0-from` were given.
+    OneSource,
 }
 
 /// Why a request makes no task.
@@ -100,6 +110,9 @@ impl Setting {
             Setting::IkmFile => "--ikm-file",
             Setting::Info => "--info",
             Setting::Context => "--context",
+            Setting::First => "--first",
+            Setting::Chunks => "--chunks",
+            Setting::Bytes => "--bytes",
             Setting::List => "LIST",
         }
     }
@@ -113,10 +126,11 @@ impl UsageFault {
         match self {
             UsageFault::Needed(setting)
             | UsageFault::NotForAlgorithm(setting)
+            | UsageFault::NotForCommand(setting)
             | UsageFault::OutOfRange(setting)
             | UsageFault::NotHexadecimal(setting)
             | UsageFault::WrongLength(setting) => setting.text(),
-            UsageFault::OneKey => "",
+            UsageFault::OneKey | UsageFault::OneSource => "",
         }
     }
 
@@ -127,10 +141,12 @@ impl UsageFault {
         match self {
             UsageFault::Needed(_) => ": needed\n",
             UsageFault::NotForAlgorithm(_) => ": not for this algorithm\n",
+            UsageFault::NotForCommand(_) => ": not for this command\n",
             UsageFault::OutOfRange(_) => ": out of range\n",
             UsageFault::NotHexadecimal(_) => ": not hexadecimal\n",
             UsageFault::WrongLength(_) => ": wrong length\n",
             UsageFault::OneKey => "give one of --key and --key-file\n",
+            UsageFault::OneSource => "give only one of FILE and --files0-from\n",
         }
     }
 }

@@ -1,6 +1,6 @@
 // What `hash` is to print of a file.
 
-ghost use Rattle.std.specs.Prelude.{◌≡◌, ◌≤◌, IfOk, IfSome, option_map};
+ghost use Rattle.std.specs.Prelude.{◌≡◌, ◌≤◌, IfOk, IfSome, false, option_map};
 ghost use Rattle.task.specs.Hashing as spec;
 ghost use Rattle.task.specs.Parameters.{Judges};
 ghost use Rattle.task.specs.Requested.{HasDigest, IsPartSize, IsWithin, names_algorithm};
@@ -56,7 +56,7 @@ impl Requested {
             Kind::Blake2b => with_blake2b(alloc, request),
             Kind::Blake2s => with_blake2s(alloc, request),
             Kind::Blake3 if request.tag => Ok(tagged_blake3(request)?),
-            Kind::Blake3 => Ok(Requested::Output(stretch_of(request)?)),
+            Kind::Blake3 => Ok(blake3_output(request)?),
         }
     }
 }
@@ -147,12 +147,29 @@ fn tagged_blake3(request: &Request<'_>) -> Result<Requested, UsageFault>
     Ok(whole(Hash::Plain(Alg::Blake3), true))
 }
 
-fn stretch_of(request: &Request<'_>) -> Result<Stretch, UsageFault>
-    ensures value { result ≡ spec.stretch_of request.now }
-    ensures ends { IfOk result IsWithin }
+fn blake3_output(request: &Request<'_>) -> Result<Requested, UsageFault>
+    ensures value { result ≡ spec.blake3_output request.now }
+    ensures tag { IfOk result (λ asked. names_algorithm asked ≡ false) }
+    ensures range { IfOk result HasDigest }
 {
     unsalted(request)?;
-    refused_flag(Setting::Raw, request.raw && request.files.len() > 1)?;
+    refused_flag(Setting::Raw, request.raw && names_several(request))?;
+    Ok(Requested::Output(stretch_of(request, request.raw)?))
+}
+
+// Whether more than one file may be named.
+fn names_several(request: &Request<'_>) -> bool
+    ensures { result ≡ spec.names_several request.now }
+{
+    request.files.len() > 1 || request.files0_from.is_some()
+}
+
+/// The bytes of BLAKE3's output that `-l` and `--seek` say.
+pub(crate) fn stretch_of(request: &Request<'_>, is_raw: bool) -> Result<Stretch, UsageFault>
+    ensures value { result ≡ spec.stretch_of request.now is_raw }
+    ensures form { IfOk result (λ stretch. stretch.is_raw ≡ is_raw) }
+    ensures ends { IfOk result IsWithin }
+{
     let length = number(Setting::Length, request.length, 32, 1, u64::MAX)?;
     let position = number(Setting::Seek, request.seek, 0, 0, u64::MAX)?;
     if position > u64::MAX - length {
@@ -161,7 +178,7 @@ fn stretch_of(request: &Request<'_>) -> Result<Stretch, UsageFault>
     Ok(Stretch {
         position,
         length,
-        is_raw: request.raw,
+        is_raw,
     })
 }
 

@@ -8,7 +8,7 @@ pub use hashing::{Form, Hash, Requested, Stretch};
 pub use parameters::HmacHash;
 pub use request::{Request, WordsFault, line};
 pub use tagging::{Key, Mac};
-pub use tasks::Task;
+pub use tasks::{Names, Task};
 
 mod arguments;
 mod commands;
@@ -16,6 +16,7 @@ mod derivation;
 mod fault;
 mod hashing;
 mod parameters;
+mod parting;
 mod request;
 mod tagging;
 mod tasks;

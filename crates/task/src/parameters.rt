@@ -1,6 +1,6 @@
 // The texts of settings as names, numbers and bytes, and which fault each can be.
 
-ghost use Rattle.std.specs.Prelude.{◌≡◌, ◌≢◌, ◌-◌, ◌^◌, ◌≤◌, IfOk, IsSomeAnd, MatchResult};
+ghost use Rattle.std.specs.Prelude.{◌≡◌, ◌≢◌, ◌-◌, ◌^◌, ◌≤◌, IfOk, IfSome, IsSomeAnd, MatchResult};
 ghost use Rattle.std.specs.Prelude.{length, option_map, replicate, unwrap_or};
 ghost use Rattle.task.specs.Parameters as spec;
 ghost use Rattle.task.specs.Parameters.{Judges, given, seen};
@@ -99,6 +99,25 @@ pub(crate) fn number(
         Ok(value) => within(setting, least, most, value),
         Err(_) => Err(UsageFault::OutOfRange(setting)),
     }
+}
+
+/// The number of a setting, at least `least` and at most `most`, where it was given.
+pub(crate) fn given_number(
+    setting: Setting,
+    text: Option<&str>,
+    least: u64,
+    most: u64,
+) -> Result<Option<u64>, UsageFault>
+    requires ordered { least ≤ most }
+    requires fits { most ≤ 2 ^ 64 - 1 }
+    ensures value { result ≡ spec.given_number setting (given text.entry) least most }
+    ensures low { IfOk result (λ found. IfSome found (λ n. least ≤ n)) }
+    ensures high { IfOk result (λ found. IfSome found (λ n. n ≤ most)) }
+{
+    if text.is_none() {
+        return Ok(None);
+    }
+    Ok(Some(number(setting, text, least, least, most)?))
 }
 
 fn within(setting: Setting, least: u64, most: u64, value: u64) -> Result<u64, UsageFault>

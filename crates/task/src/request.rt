@@ -66,6 +66,16 @@ pub struct Request<'a> {
     pub info: Option<&'a str>,
     /// The text of `--context`.
     pub context: Option<&'a str>,
+    /// The text of `--first`.
+    pub first: Option<&'a str>,
+    /// The text of `--chunks`.
+    pub chunks: Option<&'a str>,
+    /// The text of `--name`.
+    pub name: Option<&'a str>,
+    /// The text of `--bytes`.
+    pub bytes: Option<&'a str>,
+    /// The text of `--files0-from`.
+    pub files0_from: Option<&'a str>,
     /// The files, or the list.
     pub files: Vec<&'a str>,
 }
@@ -164,6 +174,11 @@ fn request_of<'a>(
         personal: text_of(matches, "personal"),
         info: text_of(matches, "info"),
         context: text_of(matches, "context"),
+        first: text_of(matches, "first"),
+        chunks: text_of(matches, "chunks"),
+        name: text_of(matches, "name"),
+        bytes: text_of(matches, "bytes"),
+        files0_from: text_of(matches, "files0-from"),
         files,
     })
 }

@@ -3,27 +3,48 @@
 ghost use Rattle.std.specs.Prelude.{◌≡◌, IfOk};
 ghost use Rattle.task.specs.Parameters.{Judges, given, seen};
 ghost use Rattle.task.specs.Tasks as spec;
-ghost use Rattle.task.specs.Tasks.{IsPossible, asked, task_shown, texts_of};
+ghost use Rattle.task.specs.Tasks.{IsPossible, asked, names_shown, task_shown, texts_of};
 
 use crate::derivation::Derivation;
 use crate::fault::{Setting, TaskFault, UsageFault};
-use crate::hashing::{Requested, parts_of};
+use crate::hashing::{Requested, Stretch, parts_of};
 use crate::parameters::{kind_of, needed};
+use crate::parting::{joined_of, place_of};
 use crate::request::Request;
 use crate::tagging::{Key, Mac};
 use std::alloc::{AllocError, Global};
 use sumlist::Kind;
 
+/// What `hash` hashes: files that were named, one at least, or those that a file names.
+#[derive(Debug, Drop)]
+pub enum Names<'a> {
+    Given(Vec<&'a str>),
+    From(&'a str),
+}
+
 /// What a run is to do. A name `-` of a file or a list is standard input; names are judged as they
 /// are used.
 #[derive(Debug, Drop)]
 pub enum Task<'a> {
-    /// Print this of each file, one at least, which is hashed in parts of so many chunks where that
-    /// is asked for.
+    /// Print this of each file, which is hashed in parts of so many chunks where that is asked for.
     Hash {
         requested: Requested,
         parts: Option<u64>,
-        files: Vec<&'a str>,
+        names: Names<'a>,
+    },
+    /// Print the part of a file's bytes from that chunk on, to their end or so many chunks of them.
+    Part {
+        first: u64,
+        chunks: Option<u64>,
+        file: &'a str,
+    },
+    /// Print these bytes of the output of the parts in the lists, one at least, which have so many
+    /// bytes in all where that is asked for; the line has this name.
+    Join {
+        stretch: Stretch,
+        bytes: Option<u64>,
+        name: &'a str,
+        lists: Vec<&'a str>,
     },
     /// Print the tag of a file under a key, or whether it is the one that is wanted, of as many bytes.
     Mac {
@@ -58,6 +79,8 @@ impl<'a> Task<'a> {
             "mac" => mac(alloc, &request),
             "kdf" => kdf(alloc, &request),
             "check" => Ok(check(&request)?),
+            "part" => Ok(part(&request)?),
+            "join" => join(request),
             _ => Err(TaskFault::Usage(UsageFault::OutOfRange(Setting::Command))),
         }
     }
@@ -69,15 +92,26 @@ fn hash<'a>(alloc: Global, request: Request<'a>) -> Result<Task<'a>, TaskFault>
 {
     let requested = Requested::of(alloc, &request)?;
     let parts = parts_of(&request)?;
-    let files = names_of(request.files)?;
+    let names = one_source(request.files0_from, request.files)?;
     Ok(Task::Hash {
         requested,
         parts,
-        files,
+        names,
     })
 }
 
-// Without a file standard input is hashed.
+// Files are named by words, or in a file.
+fn one_source<'a>(from: Option<&'a str>, files: Vec<&'a str>) -> Result<Names<'a>, TaskFault>
+    ensures { Judges names_shown (spec.one_source (given from.entry) (texts_of files.entry)) result }
+{
+    match from {
+        None => Ok(Names::Given(names_of(files)?)),
+        Some(file) if files.is_empty() => Ok(Names::From(file)),
+        Some(_) => Err(TaskFault::Usage(UsageFault::OneSource)),
+    }
+}
+
+// Without a file standard input is read.
 fn names_of<'a>(mut files: Vec<&'a str>) -> Result<Vec<&'a str>, AllocError>
     ensures { IfOk result (λ names. texts_of names ≡ spec.names_of (texts_of files.entry)) }
 {
@@ -94,12 +128,11 @@ fn mac<'a>(alloc: Global, request: &Request<'a>) -> Result<Task<'a>, TaskFault>
     let mac = Mac::of(request)?;
     let key = Key::of(alloc, request)?;
     let wanted = mac.wanted(alloc, request)?;
-    let file = file_of(request).unwrap_or("-");
     Ok(Task::Mac {
         mac,
         key,
         wanted,
-        file,
+        file: file_or_input(request),
     })
 }
 
@@ -127,6 +160,40 @@ fn check<'a>(request: &Request<'a>) -> Result<Task<'a>, UsageFault>
         is_summed: request.summary,
         list,
     })
+}
+
+fn part<'a>(request: &Request<'a>) -> Result<Task<'a>, UsageFault>
+    ensures judged { seen task_shown result ≡ spec.part request.now }
+    ensures possible { IfOk result IsPossible }
+{
+    let (first, chunks) = place_of(request)?;
+    Ok(Task::Part {
+        first,
+        chunks,
+        file: file_or_input(request),
+    })
+}
+
+fn join<'a>(request: Request<'a>) -> Result<Task<'a>, TaskFault>
+    ensures judged { Judges task_shown (spec.join request.entry) result }
+    ensures possible { IfOk result IsPossible }
+{
+    let (stretch, bytes) = joined_of(&request)?;
+    let name = request.name.unwrap_or("-");
+    let lists = names_of(request.files)?;
+    Ok(Task::Join {
+        stretch,
+        bytes,
+        name,
+        lists,
+    })
+}
+
+// The one file that was named, or standard input.
+fn file_or_input<'a>(request: &Request<'a>) -> &'a str
+    ensures { result.now ≡ spec.or_input (spec.file_of request.now) }
+{
+    file_of(request).unwrap_or("-")
 }
 
 // The one file or list that was named.

@@ -18,6 +18,8 @@ returns c =
     let with_4 = c.in_ok-command-2.ensures ∙ ap (λ (a : App). with_rules a salts) with_parts in
     let forms = flag_rule (codes "tag") ∷ flag_rule (codes "raw") ∷ flag_rule (codes "progress") ∷ [] in
     let with_5 = c.in_ok-with_form_options.ensures ∙ ap (λ (a : App). with_rules a forms) with_4 in
-    IfOk-weaker c.arg-5.result _ _
-    (λ r h. h.shape c.files_argument.ensures.local ∙ ap₂ with_rule with_5 c.files_argument.ensures.rule)
-    c.arg-5.ensures
+    let with_6 = c.in_ok-arg-4.ensures.shape c.text_option.ensures.local
+    ∙ ap₂ with_rule with_5 c.text_option.ensures.rule in
+    IfOk-weaker c.arg-6.result _ _
+    (λ r h. h.shape c.files_argument.ensures.local ∙ ap₂ with_rule with_6 c.files_argument.ensures.rule)
+    c.arg-6.ensures
