@@ -18,11 +18,11 @@ use Rattle.sumlist.specs.declared.checking.CheckFault.{CheckFault}
 use Rattle.sumlist.specs.declared.checking.CheckFault.TheVariants as check
 use Rattle.sumlist.specs.declared.kind.Kind.{Kind}
 use Rattle.sumlist.specs.declared.summary.Summary.{Summary}
-use Rattle.command.specs.Checking.{CheckRuns, ChecksContent, MayStop, report_status, unread}
+use Rattle.command.specs.Checking.{ChecksContent, ChecksList, MayStop, report_status, unread}
 use Rattle.command.specs.Checking.{noted}
 use Rattle.command.specs.Course.{Counted, Course, Failures, Printed, Takes, behind, failures_from, failures_of, plus}
 use Rattle.command.specs.Course.{Tells, refused_by}
-use Rattle.command.specs.Lines.{MayRefuse, is_input}
+use Rattle.command.specs.Lines.{MayRefuse, content_of, is_input}
 use Rattle.command.specs.Troubles.{Trouble, bad_end, bad_line, bad_name, bad_name_at, cannot_read, cannot_write}
 use Rattle.command.specs.Troubles.{key_file_too_long, key_length, no_bytes}
 use Rattle.command.specs.Troubles.{out_of_memory, too_long, trouble_of, usage}
@@ -42,7 +42,7 @@ plus-none : (f : Failures) (from_input : Bool) → f ≡ plus f (failures_from f
 plus-none f true = pair (omega arith) (omega arith)
 plus-none f false = pair (omega arith) (omega arith)
 
-behind-none : (t : Trouble) → behind None t ≡ 0
+pub behind-none : (t : Trouble) → behind None t ≡ 0
 behind-none (cannot_read n) = refl
 behind-none (too_long n) = refl
 behind-none (bad_name n) = refl
@@ -63,7 +63,7 @@ module _ (is_summed : Bool) (files : Files) (kind : Kind) (name : Bor Text) (lis
       → MayStop name.now list (trouble_of f)
       → ((front : Text) → Appends old.contents new.contents front → Printed (Err (trouble_of f)) old new front)
       → Tells err_old err_new []
-      → ListTaken is_summed files kind name.now list (Err f) old new err_old err_new i j
+      → ListTaken (ChecksList is_summed files kind name.now list) name.now list (Err f) old new err_old err_new i j
   stopped e f old new i j checked may out none =
       let os = checked.0 in
       let k = unreadable_count os in
@@ -87,7 +87,8 @@ module _ (is_summed : Bool) (files : Files) (kind : Kind) (name : Bor Text) (lis
       → WriteCounts answer old.failures new.failures
       → (answer ≡ Err check.ListTooLong → 2 ^ 64 - 1 < length list)
       → Tells err_old err_new (noted_of is_summed answer)
-      → ListTaken is_summed files kind name.now list (of_check answer name) old new err_old err_new i j
+      → ListTaken (ChecksList is_summed files kind name.now list) name.now list (of_check answer name) old new
+      err_old err_new i j
   taken (Ok s) old new i j checked writes long told =
       let os = checked.0 in
       let k = unreadable_count os in (
@@ -131,8 +132,8 @@ pub list_taken : (is_summed : Bool) (coming now : Option (List ℕ)) (tree : Opt
     → IfSome coming (λ _. (given : List ℕ) × Consumes coming now given ×
     (IsErrOf answer check.ListTooLong ↔ (2 ^ 64 - 1 < length given)))
     → Tells err_old err_new (noted_of is_summed answer)
-    → IfSome coming (λ bytes. IfSome tree (λ files. ListTaken is_summed files kind name.now bytes (of_check answer name)
-    old new err_old err_new i j))
+    → IfSome coming (λ bytes. IfSome tree (λ files. ListTaken (ChecksList is_summed files kind name.now bytes) name.now
+    bytes (of_check answer name) old new err_old err_new i j))
 list_taken is_summed None now tree kind name answer old new err_old err_new i j checked writes gave told = tt
 list_taken is_summed (Some bytes) now None kind name answer old new err_old err_new i j checked writes gave told = tt
 list_taken is_summed (Some bytes) now (Some files) kind name answer old new err_old err_new i j checked writes
@@ -182,7 +183,8 @@ Printed-refused most name content key_length s may = absurd may
 Printed-refused most name content cannot_write s may = absurd may
 
 -- a list that did not open
-refused_list : (is_summed : Bool) (files : Files) (kind : Kind) (name : Text) (content : Option (List ℕ)) (t : Trouble)
+pub refused_list : (is_summed : Bool) (files : Files) (kind : Kind) (name : Text) (content : Option (List ℕ))
+    (t : Trouble)
     → MayRefuse 0 name content t → (t ≡ too_long name → ⊥)
     → is_input name ≡ false → ChecksContent is_summed files kind name content (refused_by t (failures_of false
     content t))
@@ -201,24 +203,22 @@ refused_list is_summed files kind name (Some list) t may other is =
       ),
     )
 
--- what the whole command did
-abbrev pub Reports : Kind → Bool → Text → Option (List ℕ) → Option Files → Result ℕ Fault
-    → (old new err_old err_new : Shown) → (i j u v : ℕ) → Type 0
-Reports kind is_summed name first tree r old new err_old err_new i j u v = IfSome first (λ bytes. IfSome tree (λ files.
-    (course : Course) × CheckRuns kind is_summed name files bytes course × Takes course r old new
-    × Tells err_old err_new course.notes ×
-    Counted course.failures i j u v))
+-- what a whole command did over a list: its course is one of these, by the content of the list
+module _ (name : Text) (Is : Files → Option (List ℕ) → Course → Type 0) (err_old err_new : Shown) where
+  abbrev pub Reports : Option (List ℕ) → Option Files → Result ℕ Fault → Shown → Shown → (i j u v : ℕ) → Type 0
+  Reports first tree r old new i j u v = IfSome first (λ bytes. IfSome tree (λ files.
+      (course : Course) × Is files (content_of name bytes files) course × Takes course r old new
+      × Tells err_old err_new course.notes × Counted course.failures i j u v))
 
-module _ (kind : Kind) (is_summed : Bool) (name : Text) (err_old err_new : Shown) where
   abbrev pub Lists : Option (List ℕ) → Option Files → Result ℕ Fault → Shown → Shown → (u v : ℕ) → Type 0
   Lists coming tree r old new u v = IfSome coming
-      (λ bytes. IfSome tree (λ files. ListTaken is_summed files kind name bytes r old new err_old err_new u v))
+      (λ bytes. IfSome tree (λ files. ListTaken (Is files (Some bytes)) name bytes r old new err_old err_new u v))
 
   -- the list is standard input
   pub report_input : (first : Option (List ℕ)) (tree : Option Files) (r : Result ℕ Fault) (old new : Shown)
       (i j u v : ℕ) → is_input name ≡ true
       → Lists first tree r old new u v → IfSome first (λ bytes. j ≡ count_after i (failed true (Some bytes) r).input)
-      → Reports kind is_summed name first tree r old new err_old err_new i j u v
+      → Reports first tree r old new i j u v
   report_input None tree r old new i j u v is lists list = tt
   report_input (Some bytes) None r old new i j u v is lists list = tt
   report_input (Some bytes) (Some files) r old new i j u v is lists list =
@@ -234,29 +234,30 @@ module _ (kind : Kind) (is_summed : Bool) (name : Text) (err_old err_new : Shown
   -- it is a file that did not open
   pub report_refused : {F : Type 0} (remaining : F → Option (List ℕ)) (first : Option (List ℕ)) (tree : Option Files)
       (f : Fault) (r : Result ℕ Fault) (s : Shown) (i u v : ℕ) → is_input name ≡ false
+      → ((files : Files) (content : Option (List ℕ)) (t : Trouble) → MayRefuse 0 name content t
+      → (t ≡ too_long name → ⊥) → Is files content (refused_by t (failures_of false content t)))
       → IsErrAnd r (λ g. g ≡ f) → IfSome tree (λ files. OpensFile remaining name (files name) (Err f))
       → IfSome tree (λ files. let e : Result F Fault = Err f in v ≡ count_after u (failed false (files name) e).files)
-      → Reports kind is_summed name first tree r s s err_old err_old i i u v
-  report_refused remaining None tree f r s i u v is stop opens count = tt
-  report_refused remaining (Some bytes) None f r s i u v is stop opens count = tt
-  report_refused remaining (Some bytes) (Some files) f r s i u v is stop opens count =
+      → err_new ≡ err_old → Reports first tree r s s i i u v
+  report_refused remaining None tree f r s i u v is refused stop opens count quiet = tt
+  report_refused remaining (Some bytes) None f r s i u v is refused stop opens count quiet = tt
+  report_refused remaining (Some bytes) (Some files) f r s i u v is refused stop opens count quiet =
       let e = err_from_is_err_and r stop in
       let t = trouble_of f in (
         refused_by t (failures_of false (files name) t),
-        rw is (refused_list is_summed files kind name (files name) t opens.0 opens.1 is),
+        rw is (refused files (files name) t opens.0 opens.1),
         rw (e.1, e.2) (record { ending = refl; out = Printed-refused 0 name (files name) t s opens.0 }),
-        Tells-none err_old,
+        rw quiet (Tells-none err_old),
         (omega arith, count),
       )
 
   -- it is a file that was opened, and closed
-  listed_file : (files : Files) (bytes content : List ℕ) (r : Result ℕ Fault) (old new : Shown) (i j u v w x y : ℕ)
-      → is_input name ≡ false → files name ≡ Some content
-      → v ≡ count_after u 0 → ListTaken is_summed files kind name content r old new err_old err_new v w
+  pub listed_file : (files : Files) (bytes content : List ℕ) (r : Result ℕ Fault) (old new : Shown)
+      (i j u v w x y : ℕ) → is_input name ≡ false → files name ≡ Some content
+      → v ≡ count_after u 0 → ListTaken (Is files (Some content)) name content r old new err_old err_new v w
       → i ≡ 0 → j ≡ count_after i (failed true (Some content) r).input → x ≡ count_after w j
-      → (course : Course) × CheckRuns kind is_summed name files bytes course × Takes course r old new
-      × Tells err_old err_new course.notes ×
-      Counted course.failures y y u x
+      → (course : Course) × Is files (content_of name bytes files) course × Takes course r old new
+      × Tells err_old err_new course.notes × Counted course.failures y y u x
   listed_file files bytes content r old new i j u v w x y is there opened taken fresh read closed =
       let c = taken.0 in
       let tree_count = taken.6 in (
@@ -273,8 +274,7 @@ module _ (kind : Kind) (is_summed : Bool) (name : Text) (err_old err_new : Shown
       → then_tree ≡ tree
       → IfSome tree (λ files. v ≡ count_after u 0) → Lists (remaining feed) then_tree r old new v w
       → i ≡ 0 → IfSome (remaining feed) (λ bytes. j ≡ count_after i (failed true (Some bytes) r).input)
-      → x ≡ count_after w j
-      → Reports kind is_summed name first tree r old new err_old err_new y y u x
+      → x ≡ count_after w j → Reports first tree r old new y y u x
   report_file remaining feed None tree then_tree r old new i j u v w x y is opens kept opened lists fresh list
       closed = tt
   report_file remaining feed (Some bytes) None then_tree r old new i j u v w x y is opens kept opened lists fresh list

@@ -24,7 +24,8 @@ told_then s told follows =
     IfSome_then s.bytes told (λ bytes. λ p. IfSome_then s.files p (λ files. follows bytes files))
 
 -- what holds of all of them
-told_always : (s : Seen) {P : List ℕ → Files → Type 0} → ((bytes : List ℕ) (files : Files) → P bytes files) → IfTold s P
+pub told_always : (s : Seen) {P : List ℕ → Files → Type 0} → ((bytes : List ℕ) (files : Files) → P bytes files)
+    → IfTold s P
 told_always s always = on s.bytes (λ bytes. on s.files (always bytes))
   where
     on : {X : Type 0} (o : Option X) {P : X → Type 0} → ((x : X) → P x) → IfSome o P

@@ -50,7 +50,7 @@ tell-other stands most name content t may is =
     (subst (λ (x : Trouble). MayTell stands most name content x) is may).1
 
 -- the failures behind a trouble of a file are none of standard input
-no_input : (content : Option (List ℕ)) (t : Trouble) → (failures_of false content t).input ≡ 0
+pub no_input : (content : Option (List ℕ)) (t : Trouble) → (failures_of false content t).input ≡ 0
 no_input None (cannot_read n) = refl
 no_input (Some m) (cannot_read n) = refl
 no_input content (usage fault) = refl

@@ -1,11 +1,14 @@
 -- The course of `hash`: names one after another, each with its line, or passed over with a trouble.
-use Rattle.std.specs.Prelude.{◌⊎◌, ◌≡◌, ℕ, Bool, true, false, List, [], ◌∷◌, ◌++◌, Option, Result, Ok, Err}
+use Rattle.std.specs.Prelude.{◌⊎◌, ◌≡◌, ◌≢◌, ℕ, ◌+◌, ◌-◌, ◌^◌, ◌≤◌, ⊤, Bool, true, false, List, [], ◌∷◌, ◌++◌, length}
+use Rattle.std.specs.Prelude.{Option, Some, None, Result, Ok, Err}
 use Rattle.std.specs.List.{flat_map}
+use Rattle.std.specs.Str.{IsUtf8}
 use Rattle.clap.specs.Words.{Text}
+use Rattle.sumlist.specs.Naming.{names}
 use Rattle.sumlist.specs.Report.{Files}
-use Rattle.command.specs.Course.{Course, Failures, all_told, failures_of, no_failures, plus}
-use Rattle.command.specs.Lines.{IsLine, Lining, MayTell, Stands, content_of, is_input}
-use Rattle.command.specs.Troubles.{Trouble, cannot_write, out_of_memory, status_of}
+use Rattle.command.specs.Course.{Course, Failures, all_told, failures_of, no_failures, plus, refused_by}
+use Rattle.command.specs.Lines.{IsLine, Lining, MayRefuse, MayTell, Stands, content_of, is_input}
+use Rattle.command.specs.Troubles.{Trouble, bad_name_at, cannot_write, out_of_memory, status_of}
 
 -- what became of a name: its line, or a trouble that is passed over, with the failures behind it
 pub data Outcome : Type 0 where
@@ -78,3 +81,39 @@ HashesAll l files input names course =
     × (outcomes : List Outcome) × (left : List ℕ) × AllHashed l files input before outcomes left
     × (t : Trouble) × (text : Text) × StopsAt l name (content_of name left files) t text
     × (course ≡ course_of outcomes text (Err t)))
+
+-- a name that is a file's in a list of names; `-` is none
+abbrev pub IsFileName : Text → Type 0
+IsFileName name = (name ≢ []) × (length name ≤ 65536) × IsUtf8 name × (is_input name ≡ false)
+
+-- an outcome that may stand for the name of this number in such a list
+abbrev pub HashedAt : Lining → Files → ℕ → Text → Outcome → Type 0
+HashedAt l files n name o =
+    (IsFileName name × Hashed l files [] name o)
+    ⊎ ((IsFileName name → ⊥) × (o ≡ passed (bad_name_at n) no_failures))
+
+-- an outcome for each name, the first that of this number
+abbrev pub AllHashedAt : Lining → Files → ℕ → List Text → List Outcome → Type 0
+AllHashedAt l files n [] [] = ⊤
+AllHashedAt l files n [] (o ∷ outcomes) = ⊥
+AllHashedAt l files n (name ∷ names) [] = ⊥
+AllHashedAt l files n (name ∷ names) (o ∷ outcomes) =
+    HashedAt l files n name o × AllHashedAt l files (n + 1) names outcomes
+
+-- the course over the names of a list, where it is there: to the end, to the name where it stops as above, or
+-- to where the list is not read on
+abbrev pub HashesListed : Lining → Files → Text → Option (List ℕ) → Course → Type 0
+HashesListed l files list None course = (t : Trouble) × MayRefuse 0 list None t × (course ≡ refused_by t no_failures)
+HashesListed l files list (Some bytes) course =
+    (before : List Text) × (after : List Text) × (names bytes ≡ before ++ after)
+    × (outcomes : List Outcome) × AllHashedAt l files 1 before outcomes
+    × (((after ≡ []) × (course ≡ course_of outcomes [] (Ok (status_from outcomes))))
+    ⊎ ((name : Text) × (rest : List Text) × (after ≡ name ∷ rest) × IsFileName name
+    × (t : Trouble) × (text : Text) × StopsAt l name (files name) t text × (course ≡ course_of outcomes text (Err t)))
+    ⊎ ((t : Trouble) × MayRefuse (2 ^ 64 - 1) list (Some bytes) t × (course ≡ record (course_of outcomes [] (Err t)) {
+      failures = plus (failures_in outcomes) (failures_of (is_input list) (Some bytes) t);
+    })))
+
+-- the course of `hash` over the names in a file, or in standard input
+abbrev pub HashesFrom : Lining → Text → Files → List ℕ → Course → Type 0
+HashesFrom l list files input course = HashesListed l files list (content_of list input files) course

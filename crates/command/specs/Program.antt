@@ -6,18 +6,25 @@ use Rattle.clap.specs.declared.error.ErrorKind.TheVariants as clap
 use Rattle.source.specs.Written.{Shown}
 use Rattle.sumlist.specs.Report.{Files}
 use Rattle.task.specs.CommandLine.{OfSums, Reads}
-use Rattle.task.specs.Tasks.{Asked, asked, checks, derives, hashes, tags}
+use Rattle.task.specs.Tasks.{Asked, asked, checks, cuts, derives, hashes, in_file, joins, tags, these}
 use Rattle.task.specs.declared.request.Request.{Request}
 use Rattle.command.specs.Checking.{CheckRuns}
 use Rattle.command.specs.Course.{Counted, Course, Runs, no_failures, refused_by}
-use Rattle.command.specs.Hashing.{HashesAll}
+use Rattle.command.specs.Cutting.{PartRuns}
+use Rattle.command.specs.Hashing.{HashesAll, HashesFrom}
+use Rattle.command.specs.Joining.{JoinRuns}
 use Rattle.command.specs.Keying.{KdfRuns, MacRuns}
 use Rattle.command.specs.Lines.{digest_line}
 use Rattle.command.specs.Troubles.{out_of_memory, usage}
 
 -- the course of a task; in how many parts a file is hashed makes no difference
 abbrev pub TaskRuns : Asked → Files → List ℕ → Course → Type 0
-TaskRuns (hashes wanted parts names) files input course = HashesAll (digest_line wanted) files input names course
+TaskRuns (hashes wanted parts (these names)) files input course =
+    HashesAll (digest_line wanted) files input names course
+TaskRuns (hashes wanted parts (in_file list)) files input course =
+    HashesFrom (digest_line wanted) list files input course
+TaskRuns (cuts first chunks name) files input course = PartRuns first chunks name files input course
+TaskRuns (joins stretch bytes name lists) files input course = JoinRuns stretch bytes name lists files input course
 TaskRuns (tags mac key wanted name) files input course = MacRuns mac key wanted name files input course
 TaskRuns (derives derived is_raw name) files input course = KdfRuns derived is_raw name files course
 TaskRuns (checks kind is_summed name) files input course = CheckRuns kind is_summed name files input course

@@ -4,4 +4,7 @@ pub mod Reading
 pub mod Printing
 pub mod Streams
 pub mod Keys
+pub mod Cutting
 pub mod Listing
+pub mod Joining
+pub mod Hashed

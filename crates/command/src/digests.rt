@@ -10,6 +10,7 @@ ghost use Rattle.task.specs.Requested.{HasDigest, IsPartSize, IsWithin, alg_of};
 ghost use Rattle.command.specs.Course.{Tells, all_told};
 ghost use Rattle.command.specs.Hashing.{HashesAll};
 ghost use Rattle.command.specs.Lines.{IsListable, digest_line, hash_of, line_text};
+ghost use Rattle.command.specs.inside.Hashed.{PrintsName, Settles};
 ghost use Rattle.command.specs.inside.Printing.{PrintsLine, PrintsListed};
 ghost use Rattle.command.specs.inside.Reading.{Leaves, Reads, failed};
 ghost use Rattle.command.specs.inside.Streams.{AfterReading, IfContent, SameStreams, TakesCourse};
@@ -44,15 +45,33 @@ impl<'i, 't, 'o, L: Feed, T: Tree, W: Sink> Session<'i, 't, 'o, L, T, W> {
             result (⟦<Self as Streams>⟧.seen self.old) (⟦<Self as Streams>⟧.seen self.new) }
         ensures same { SameStreams self.old self.new }
     {
-        let mut status = 0;
+        let mut status: u8 = 0;
         for name in names {
-            match self.hash_file(requested, parts, name) {
-                Ok(()) => {}
-                Err(fault) if fault.status() == 1 => status = tell(err, fault),
-                Err(fault) => return Err(fault),
-            }
+            status = status.max(self.print_digest(requested, parts, name, err)?);
         }
         Ok(status)
+    }
+
+    /// Prints the line of a file, or tells why it has none, and answers the status of either. Only a
+    /// failed write and want of memory end a run.
+    pub(crate) fn print_digest<'f, E: Sink>(
+        &mut self,
+        requested: Requested,
+        parts: Option<u64>,
+        name: &str,
+        err: &mut E,
+    ) -> Result<u8, Fault<'f>>
+        requires digest { HasDigest requested }
+        requires parts { IfSome parts IsPartSize }
+        ensures name { PrintsName (digest_line requested) name.entry.now result
+            (⟦<Self as Streams>⟧.seen self.old) (⟦<Self as Streams>⟧.seen self.new)
+            (E.shown err.old) (E.shown err.new) }
+        ensures same { SameStreams self.old self.new }
+    {
+        match self.hash_file(requested, parts, name) {
+            Ok(()) => Ok(0),
+            Err(fault) => settle(err, fault),
+        }
     }
 
     // The name is judged before the file is opened, and the file read to its end before the first
@@ -197,10 +216,22 @@ impl<'i, 't, 'o, L: Feed, T: Tree, W: Sink> Session<'i, 't, 'o, L, T, W> {
     }
 }
 
-// Room for a part of so many chunks.
-fn part_buffer(alloc: Global, chunks: u64) -> Result<Vec<u8>, AllocError>
+// Tells the fault of a file, and answers its status. Two faults end a run, and name no file.
+fn settle<'f, E: Sink>(err: &mut E, fault: Fault<'_>) -> Result<u8, Fault<'f>>
+    ensures { Settles fault.entry result (E.shown err.old) (E.shown err.new) }
+{
+    match fault {
+        Fault::CannotWrite => Err(Fault::CannotWrite),
+        Fault::OutOfMemory => Err(Fault::OutOfMemory),
+        fault => Ok(tell(err, fault)),
+    }
+}
+
+/// Room for a part of so many chunks.
+pub(crate) fn part_buffer(alloc: Global, chunks: u64) -> Result<Vec<u8>, AllocError>
     requires { IsPartSize chunks }
-    ensures { IfOk result (λ buffer. (e : ℕ) × (vec_len buffer ≡ 1024 * 2 ^ e)) }
+    ensures power { IfOk result (λ buffer. (e : ℕ) × (vec_len buffer ≡ 1024 * 2 ^ e)) }
+    ensures length { IfOk result (λ buffer. vec_len buffer ≡ 1024 * chunks) }
 {
     vec![in alloc; 0u8; 1024 * chunks as usize]
 }

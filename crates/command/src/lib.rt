@@ -9,12 +9,17 @@ ghost use Rattle.command.specs.inside.Streams.{SameStreams, TakesCourse};
 
 pub use fault::{Fault, tell, write_text};
 pub use files::FileTree;
+pub use laws::join_laws;
 pub use memory::run_in_memory;
 
+mod cutting;
 mod digests;
 mod fault;
 mod files;
+mod joining;
 mod keys;
+mod laws;
+mod listed;
 mod memory;
 mod output;
 mod reports;
@@ -26,7 +31,7 @@ use session::{Session, Streams};
 use source::{Feed, Sink};
 use std::alloc::Global;
 use sumlist::Tree;
-use task::{Request, Task, WordsFault, line};
+use task::{Names, Request, Task, WordsFault, line};
 
 /// One whole run over the words, the program's own name first, with the standard streams and the
 /// files: it answers the status. What `err` does not take is dropped.
@@ -76,8 +81,22 @@ impl<'i, 't, 'o, L: Feed, T: Tree, W: Sink> Session<'i, 't, 'o, L, T, W> {
             Task::Hash {
                 requested,
                 parts,
-                files,
-            } => self.print_digests(requested, parts, files.as_slice(), err),
+                names,
+            } => match names {
+                Names::Given(files) => self.print_digests(requested, parts, files.as_slice(), err),
+                Names::From(list) => self.print_digests_from(requested, parts, list, err),
+            },
+            Task::Part {
+                first,
+                chunks,
+                file,
+            } => self.print_part(first, chunks, file),
+            Task::Join {
+                stretch,
+                bytes,
+                name,
+                lists,
+            } => self.print_joined(stretch, bytes, name, lists.as_slice()),
             Task::Mac {
                 mac,
                 key,

@@ -3,7 +3,7 @@
 ghost use Rattle.std.specs.Prelude.{◌≡◌, [], IfSome, Some, true};
 ghost use Rattle.source.specs.Counts.{count_after};
 ghost use Rattle.source.specs.Written.{Writes};
-ghost use Rattle.command.specs.Checking.{CheckRuns, noted};
+ghost use Rattle.command.specs.Checking.{CheckRuns, ChecksList, noted};
 ghost use Rattle.command.specs.Course.{Tells};
 ghost use Rattle.command.specs.inside.Faults as spec;
 ghost use Rattle.command.specs.inside.Faults.{noted_of, of_check};
@@ -58,8 +58,8 @@ fn check_list<'n, F: Feed, T: Tree, W: Sink, E: Sink>(
     err: &mut E,
 ) -> Result<u8, Fault<'n>>
     ensures list { IfSome (F.remaining list.old) (λ bytes. IfSome (T.files tree.old) (λ files.
-        ListTaken is_summed files kind name.entry.now bytes result (W.shown out.old) (W.shown out.new)
-        (E.shown err.old) (E.shown err.new)
+        ListTaken (ChecksList is_summed files kind name.entry.now bytes) name.entry.now bytes result
+        (W.shown out.old) (W.shown out.new) (E.shown err.old) (E.shown err.new)
         (T.failure_count tree.old) (T.failure_count tree.new))) }
     ensures counted { IfSome (F.remaining list.old) (λ bytes. F.failure_count list.new
         ≡ count_after (F.failure_count list.old) (failed true (Some bytes) result).input) }

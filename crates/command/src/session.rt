@@ -1,6 +1,6 @@
 // What a run reads and writes.
 
-ghost use Rattle.std.specs.Prelude.{◌≡◌, [], false, true, IfOk, IfSome, Some};
+ghost use Rattle.std.specs.Prelude.{◌≡◌, [], drop, false, true, IfOk, IfSome, Some, option_map};
 ghost use Rattle.source.specs.Counts.{count_after};
 ghost use Rattle.command.specs.inside.Reading.{Absorbs, AbsorbsLine, Leaves, OpensFile, failed};
 ghost use Rattle.command.specs.inside.Streams.{AfterReading, IfContent, SameStreams, Seen, seen_of};
@@ -40,6 +40,25 @@ pub(crate) fn open_file<'n, T: Tree>(name: &'n str, tree: &mut T) -> Result<T::F
     ensures kept { T.files tree.new ≡ T.files tree.old }
 {
     match tree.open(name) {
+        Ok(feed) => Ok(feed),
+        Err(fault) => Err(Fault::of_open(fault, name)),
+    }
+}
+
+/// Opens a file by its name at a position in bytes.
+pub(crate) fn open_file_at<'n, T: Tree>(
+    name: &'n str,
+    position: u64,
+    tree: &mut T,
+) -> Result<T::F, Fault<'n>>
+    ensures opened { IfSome (T.files tree.old) (λ files. OpensFile T.F.remaining name.entry.now
+        (option_map (λ m. drop position m) (files name.entry.now)) result) }
+    ensures counted { IfSome (T.files tree.old) (λ files. T.failure_count tree.new
+        ≡ count_after (T.failure_count tree.old) (failed false (files name.entry.now) result).files) }
+    ensures fresh { IfOk result (λ feed. T.F.failure_count feed ≡ 0) }
+    ensures kept { T.files tree.new ≡ T.files tree.old }
+{
+    match tree.open_at(name, position) {
         Ok(feed) => Ok(feed),
         Err(fault) => Err(Fault::of_open(fault, name)),
     }

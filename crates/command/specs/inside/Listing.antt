@@ -1,21 +1,19 @@
--- What the check of one list did, by its answer.
-use Rattle.std.specs.Prelude.{◌≡◌, ℕ, Bool, List, Some, Result}
+-- What the taking of one list did, by its answer.
+use Rattle.std.specs.Prelude.{◌≡◌, ℕ, List, Some, Result}
 use Rattle.clap.specs.Words.{Text}
 use Rattle.source.specs.Counts.{count_after}
 use Rattle.source.specs.Written.{Shown}
-use Rattle.sumlist.specs.Report.{Files}
-use Rattle.sumlist.specs.declared.kind.Kind.{Kind}
-use Rattle.command.specs.Checking.{ChecksList, unread}
+use Rattle.command.specs.Checking.{unread}
 use Rattle.command.specs.Course.{Course, Takes, Tells, plus}
 use Rattle.command.specs.Lines.{is_input}
 use Rattle.command.specs.declared.fault.Fault.{Fault}
 use Rattle.command.specs.inside.Reading.{failed}
 
--- a course of the check was taken; its failures are so many files that were unreadable, and that of the list
-abbrev pub ListTaken : Bool → Files → Kind → Text → List ℕ → Result ℕ Fault → Shown → Shown
+-- a course of these was taken; its failures are so many files that were unreadable, and that of the list
+abbrev pub ListTaken : (Course → Type 0) → Text → List ℕ → Result ℕ Fault → Shown → Shown
     → (err_old err_new : Shown) → (files_old files_new : ℕ)
     → Type 0
-ListTaken is_summed files kind name list r old new err_old err_new files_old files_new =
-    (course : Course) × (unreadable : ℕ) × ChecksList is_summed files kind name list course
+ListTaken is name list r old new err_old err_new files_old files_new =
+    (course : Course) × (unreadable : ℕ) × is course
     × (course.failures ≡ plus (unread unreadable) (failed (is_input name) (Some list) r))
     × Takes course r old new × Tells err_old err_new course.notes × (files_new ≡ count_after files_old unreadable)

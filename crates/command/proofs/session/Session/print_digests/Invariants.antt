@@ -1,7 +1,7 @@
 use Rattle.std.proofs.Common.{map, take}
 use Rattle.command.specs.Lines.{digest_line}
 use Rattle.command.specs.inside.Streams.{SameStreams, seen_of}
-use Rattle.command.proofs.Going.{Goes}
+use Rattle.command.proofs.Given.{Goes}
 use Rattle.command.proofs.session.Session.print_digests.Given as goal
 
 abbrev pub invariant-loop-name : goal.invariant-loop-name

@@ -1,0 +1,115 @@
+// The command `part`: the line that tells a part of a file.
+
+ghost use Rattle.std.specs.Prelude.{◌≡◌, ℕ, ◌*◌, ◌^◌, ◌<◌, ◌≤◌, [], length, true, option_map};
+ghost use Rattle.std.specs.Prelude.{IfSome, MatchOption, None, Some};
+ghost use Rattle.std.specs.Option.{SomeIff};
+ghost use Rattle.source.specs.Counts.{count_after};
+ghost use Rattle.task.specs.Parting.{IsPlace};
+ghost use Rattle.command.specs.Course.{Counted};
+ghost use Rattle.command.specs.Cutting.{PartRuns, cut, first_chunks};
+ghost use Rattle.command.specs.Lines.{is_input};
+ghost use Rattle.command.specs.inside.Cutting.{Cuts, IsRoom};
+ghost use Rattle.command.specs.inside.Reading.{failed};
+ghost use Rattle.command.specs.inside.Streams.{IfContent, SameStreams, TakesCourse};
+
+use crate::digests::part_buffer;
+use crate::fault::Fault;
+use crate::session::{Session, Streams, open_file_at};
+use b3::{Mode, PartValue};
+use partlist::write_part;
+use source::{Feed, Sink, part_of};
+use sumlist::Tree;
+
+// A part is read in runs of at most so many chunks.
+const RUN: u64 = 1024;
+
+impl<'i, 't, 'o, L: Feed, T: Tree, W: Sink> Session<'i, 't, 'o, L, T, W> {
+    /// Prints the line of a part of the file: its bytes from the chunk `first` on, in so many chunks
+    /// or to the end.
+    pub(crate) fn print_part<'n>(
+        &mut self,
+        first: u64,
+        chunks: Option<u64>,
+        name: &'n str,
+    ) -> Result<u8, Fault<'n>>
+        requires { IsPlace first chunks }
+        ensures course { TakesCourse (λ bytes files. PartRuns first chunks name.entry.now files bytes)
+            (λ notes. notes ≡ [])
+            result (⟦<Self as Streams>⟧.seen self.old) (⟦<Self as Streams>⟧.seen self.new) }
+        ensures same { SameStreams self.old self.new }
+    {
+        let part = self.part_in(first, chunks, name)?;
+        write_part(&part, self.out)?;
+        Ok(0)
+    }
+
+    // The part, for which memory is taken before the file is opened.
+    fn part_in<'n>(
+        &mut self,
+        first: u64,
+        chunks: Option<u64>,
+        name: &'n str,
+    ) -> Result<PartValue, Fault<'n>>
+        requires { IsPlace first chunks }
+        ensures part { IfContent name.entry.now (⟦<Self as Streams>⟧.seen self.old) (λ content.
+            Cuts first name.entry.now (option_map (cut first chunks name.entry.now) content) result) }
+        ensures counted { IfContent name.entry.now (⟦<Self as Streams>⟧.seen self.old) (λ content.
+            Counted (failed (is_input name.entry.now) content result)
+            (⟦<Self as Streams>⟧.seen self.old).input_failures (⟦<Self as Streams>⟧.seen self.new).input_failures
+            (⟦<Self as Streams>⟧.seen self.old).file_failures (⟦<Self as Streams>⟧.seen self.new).file_failures) }
+        ensures out { (⟦<Self as Streams>⟧.seen self.new).out ≡ (⟦<Self as Streams>⟧.seen self.old).out }
+        ensures same { SameStreams self.old self.new }
+    {
+        let room = room_from(first, chunks);
+        let mut run = part_buffer(self.alloc, room.min(RUN))?;
+        if name == "-" {
+            return part_of_feed(first, chunks, room, run.as_mut_slice(), name, self.input);
+        }
+        let mut feed = open_file_at(name, 1024 * first, self.tree)?;
+        let answer = part_of_feed(first, chunks, room, run.as_mut_slice(), name, &mut feed);
+        self.tree.close(feed);
+        answer
+    }
+}
+
+// The part of what a feed gives, in so many chunks of it or in all.
+fn part_of_feed<'n, F: Feed>(
+    first: u64,
+    chunks: Option<u64>,
+    room: u64,
+    run: &mut [u8],
+    name: &'n str,
+    feed: &mut F,
+) -> Result<PartValue, Fault<'n>>
+    requires room { IsRoom first chunks room }
+    requires run { (e : ℕ) × (length run.old ≡ 1024 * 2 ^ e) }
+    requires within { length run.old ≤ 1024 * room }
+    ensures part { IfSome (F.remaining feed.old) (λ bytes.
+        Cuts first name.entry.now (Some (first_chunks chunks bytes)) result) }
+    ensures counted { F.failure_count feed.new
+        ≡ count_after (F.failure_count feed.old) (failed true (Some []) result).input }
+{
+    match part_of(Mode::Hash, first, room, bytes_of(chunks), feed, run) {
+        Ok(Some(part)) => Ok(part),
+        Ok(None) => Err(Fault::NoBytes(name)),
+        Err(fault) => Err(Fault::of_source(fault, name)),
+    }
+}
+
+// How many bytes so many chunks have, where that is a number: what is longer is too long.
+fn bytes_of(chunks: Option<u64>) -> Option<u64>
+    ensures { MatchOption chunks (result ≡ None) (λ n. SomeIff result (1024 * n < 2 ^ 64) (1024 * n)) }
+{
+    1024_u64.checked_mul(chunks?)
+}
+
+// The power of two of chunks that a part from this chunk on has room in.
+fn room_from(first: u64, chunks: Option<u64>) -> u64
+    requires { IsPlace first chunks }
+    ensures { IsRoom first chunks result }
+{
+    match chunks {
+        Some(chunks) => chunks.next_power_of_two(),
+        None => 1 << first.trailing_zeros().min(54),
+    }
+}
