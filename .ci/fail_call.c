@@ -42,6 +42,11 @@ int openat(int folder, const char *name, int flags, unsigned mode) {
     return fails("openat") ? -1 : next(folder, name, flags, mode);
 }
 
+long lseek(int file, long place, int from) {
+    long (*next)(int, long, int) = dlsym(AFTER_THIS, "lseek");
+    return fails("lseek") ? -1 : next(file, place, from);
+}
+
 int close(int file) {
     int (*next)(int) = dlsym(AFTER_THIS, "close");
     return fails("close") ? -1 : next(file);

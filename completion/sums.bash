@@ -16,7 +16,7 @@ _sums() {
     local macs='hmac-sha256 hmac-sha512 hmac-blake2b hmac-blake2s blake2b blake2s blake3'
     COMPREPLY=()
     if ((COMP_CWORD == 1)); then
-        _sums_words 'hash mac kdf check help -h --help -V --version' "$word"
+        _sums_words 'hash mac kdf check part join help -h --help -V --version' "$word"
         return
     fi
     # --key-file=F comes as three words
@@ -26,7 +26,7 @@ _sums() {
         before=${COMP_WORDS[COMP_CWORD - 2]}
     fi
     if [[ $command == help ]]; then
-        if ((COMP_CWORD == 2)); then _sums_words 'hash mac kdf check help' "$word"; fi
+        if ((COMP_CWORD == 2)); then _sums_words 'hash mac kdf check part join help' "$word"; fi
         return
     fi
     # behind -- all words are files
@@ -38,23 +38,33 @@ _sums() {
     done
     case $before in
         -a)
-            if [[ $command == mac ]]; then _sums_words "$macs" "$word"; else _sums_words "$hashes" "$word"; fi
+            case $command in
+                mac) _sums_words "$macs" "$word" ;;
+                part | join) _sums_words blake3 "$word" ;;
+                *) _sums_words "$hashes" "$word" ;;
+            esac
             return ;;
         --parts)
             _sums_words '1 2 4 8 16 32 64 128 256 512 1024' "$word"
             return ;;
-        --key-file | --ikm-file)
+        --key-file | --ikm-file | --files0-from)
             _sums_files
             return ;;
         -l | --seek | --salt | --personal | --key | --verify | --info | --context)
             return ;;
+        --first | --chunks | --name | --bytes)
+            return ;;
     esac
     case $command:$word in
-        hash:-*) _sums_words '-a -l --seek --parts --salt --personal --tag --raw --progress -h --help' "$word" ;;
+        hash:-*)
+            _sums_words '-a -l --seek --parts --salt --personal --tag --raw --progress --files0-from -h --help' \
+                "$word" ;;
         mac:-*) _sums_words '-a -l --key --key-file --verify -h --help' "$word" ;;
         kdf:-* | kdf:) _sums_words '-a -l --ikm-file --salt --info --context --raw -h --help' "$word" ;;
         check:-*) _sums_words '-a --summary --progress -h --help' "$word" ;;
-        hash:* | mac:* | check:*) _sums_files ;;
+        part:-*) _sums_words '-a --first --chunks -h --help' "$word" ;;
+        join:-*) _sums_words '-a --name --bytes -l --seek -h --help' "$word" ;;
+        hash:* | mac:* | check:* | part:* | join:*) _sums_files ;;
     esac
 }
 
