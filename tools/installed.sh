@@ -42,7 +42,7 @@ each_file() {
     "$1" link libsums_hash.so.0 lib/libsums_hash.so
     "$1" 644 lib/sums_hash.h include/sums_hash.h
     "$1" 644 lib/sums_hash.pc lib/pkgconfig/sums_hash.pc
-    for page in sums sums-hash sums-mac sums-kdf sums-check; do
+    for page in sums sums-hash sums-mac sums-kdf sums-check sums-part sums-join; do
         "$1" 644 "man/$page.1" "share/man/man1/$page.1"
     done
     "$1" 644 man/sums_hash.3 share/man/man3/sums_hash.3
