@@ -4,5 +4,6 @@ pub mod Tree
 pub mod Bytes
 pub mod Modes
 pub mod Parts
+pub mod Values
 pub mod Laws
 pub mod inside

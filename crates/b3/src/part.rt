@@ -40,7 +40,7 @@ impl Part {
     ghost use Rattle.b3.specs.Parts.{AreNeighbours, mode_parameters};
     ghost use Rattle.b3.specs.inside.Output.{output_root, output_position};
     ghost use Rattle.b3.specs.inside.Parts.{IsPart, part_mode, part_first, part_len};
-    ghost use Rattle.b3.specs.inside.Rows.{IsValueOf, value_first, value_len};
+    ghost use Rattle.b3.specs.Values.{IsValueOf, value_first, value_len};
 
     /// The part of the bytes from a chunk on. It is refused exactly where the chunk's number is no
     /// multiple of the least power of two that is at least the number of chunks of `bytes` (one for

@@ -38,7 +38,7 @@ pub struct PartValue {
 }
 
 impl PartValue {
-    ghost use Rattle.b3.specs.inside.Rows.{value_first, value_len, value_words};
+    ghost use Rattle.b3.specs.Values.{value_first, value_len, value_words};
 
     /// A part as others tell it. It is refused exactly where `Part::of` refuses bytes of that
     /// number at that chunk; nothing says that the value is that of such bytes.
@@ -125,8 +125,8 @@ impl Row {
     ghost use Rattle.b3.specs.Modes.{root_of, tree_of};
     ghost use Rattle.b3.specs.inside.Output.{output_root, output_position};
     ghost use Rattle.b3.specs.Parts.{IsNext, mode_parameters};
-    ghost use Rattle.b3.specs.inside.Rows.{HoldsRow, IsValueOf, row_parameters, row_first, row_count, row_closed};
-    ghost use Rattle.b3.specs.inside.Rows.{row_open, value_first, value_len};
+    ghost use Rattle.b3.specs.Values.{IsValueOf, value_first, value_len};
+    ghost use Rattle.b3.specs.inside.Rows.{HoldsRow, row_parameters, row_first, row_count, row_closed, row_open};
 
     /// The row of one part.
     pub fn of(mode: Mode, part: PartValue) -> Row

@@ -19,9 +19,9 @@ use Rattle.b3.proofs.Powers.{least_power}
 use Rattle.b3.specs.Modes.{hash_parameters}
 use Rattle.b3.specs.Parts.{IsPlacedAt}
 use Rattle.b3.specs.declared.row.PartValue.{PartValue}
-use Rattle.b3.specs.inside.Rows.{IsValueOf, value_first, value_len, value_words}
+use Rattle.b3.specs.Values.{IsValueOf, value_first, value_len, value_words}
 use Rattle.clap.specs.Words.{Text}
-use Rattle.partlist.specs.PartLine.{part_line}
+use Rattle.partlist.specs.PartLine.{line_of, part_line}
 use Rattle.source.specs.Pumped.{IsLongerThan, up_to}
 use Rattle.source.specs.declared.pumping.SourceFault.{SourceFault}
 use Rattle.source.specs.declared.pumping.SourceFault.TheVariants as source
@@ -29,7 +29,7 @@ use Rattle.source.specs.Written.{Done, Failed, Shown}
 use Rattle.sumlist.specs.Report.{Files}
 use Rattle.words.specs.Words.{word_bytes}
 use Rattle.command.specs.Course.{Counted, Course, Failures, failures_of, no_failures, refused_by}
-use Rattle.command.specs.Cutting.{MayRefuseCut, PartRuns, cut, cut_line, first_chunks}
+use Rattle.command.specs.Cutting.{MayRefuseCut, PartRuns, cut, first_chunks}
 use Rattle.command.specs.Keying.{Prints}
 use Rattle.command.specs.Lines.{content_of, is_input}
 use Rattle.command.specs.Troubles.{Trouble, cannot_write}
@@ -249,19 +249,19 @@ module _ (first : ℕ) (chunks : Option ℕ) (name : Text) where
     where
       prints : (m : List ℕ) (course : Course) → content_of name input files ≡ Some m
           → IsPlacedAt first (length (cut first chunks name m))
-          → Prints (cut_line first (cut first chunks name m)) 0 course → PartRuns first chunks name files input course
+          → Prints (line_of first (cut first chunks name m) ++ 10 ∷ []) 0 course → PartRuns first chunks name files input course
       prints m course is placed printed = inl (subst (λ (content : Option (List ℕ)).
           IsSomeAnd (option_map (cut first chunks name) content)
-          (λ x. IsPlacedAt first (length x) × Prints (cut_line first x) 0 course)) (sym is) (placed, printed))
+          (λ x. IsPlacedAt first (length x) × Prints (line_of first x ++ 10 ∷ []) 0 course)) (sym is) (placed, printed))
 
       of_answer : (m : List ℕ) (a : Result ℕ Fault) → content_of name input files ≡ Some m
           → IsPlacedAt first (length (cut first chunks name m))
-          → told_line part ≡ cut_line first (cut first chunks name m)
+          → told_line part ≡ line_of first (cut first chunks name m) ++ 10 ∷ []
           → MatchResult a (λ s. (s ≡ 0) × Done mid new (told_line part))
           (λ fault. (trouble_of fault ≡ cannot_write) × Failed mid new (told_line part))
           → Taken (PartRuns first chunks name files input) a old new i j u v
       of_answer m (Ok s) is placed line q =
-          let x : Text = cut_line first (cut first chunks name m) in (
+          let x : Text = line_of first (cut first chunks name m) ++ 10 ∷ [] in (
             record { text = x; notes = []; ending = Ok 0; failures = no_failures },
             prints m _ is placed (inl refl),
             record { ending = ap Ok (sym q.0); out = rw (same, line) at q.1 },
@@ -269,7 +269,7 @@ module _ (first : ℕ) (chunks : Option ℕ) (name : Text) where
             Counted-quiet (is_input name) i j u v counted,
           )
       of_answer m (Err f) is placed line q =
-          let x : Text = cut_line first (cut first chunks name m) in (
+          let x : Text = line_of first (cut first chunks name m) ++ 10 ∷ [] in (
             record { text = x; notes = []; ending = Err cannot_write; failures = no_failures },
             prints m _ is placed (inr refl),
             record { ending = ap Err (sym q.0); out = rw (same, line) at q.1 },
@@ -288,5 +288,5 @@ module _ (first : ℕ) (chunks : Option ℕ) (name : Text) where
           of_answer m answer is p.1.0 (line_is m begins value) printed
         where
           line_is : (m : List ℕ) → value_first part ≡ first → IsValueOf hash_parameters part (cut first chunks name m)
-              → told_line part ≡ cut_line first (cut first chunks name m)
+              → told_line part ≡ line_of first (cut first chunks name m) ++ 10 ∷ []
           line_is m begins value = cc (begins, value.len, value.value)

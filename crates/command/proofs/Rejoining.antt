@@ -7,7 +7,7 @@ use Rattle.std.specs.Prelude.{IsSomeAnd, ⊤}
 use Rattle.b3.specs.Modes.{hash_parameters, tree_of}
 use Rattle.b3.specs.Node.{cv}
 use Rattle.b3.specs.declared.row.PartValue.{PartValue}
-use Rattle.b3.specs.inside.Rows.{value_first, value_len, value_words}
+use Rattle.b3.specs.Values.{value_first, value_len, value_words}
 use Rattle.clap.specs.Words.{Text}
 use Rattle.partlist.specs.Joined.{AllTell, AreInRow, AreValuesOf, EndsWrong, FollowEachOther, IsAsked, IsWhole}
 use Rattle.partlist.specs.Joined.{bytes_of}

@@ -1,13 +1,10 @@
 -- The course of `part`.
 use Rattle.std.specs.Prelude.{◌⊎◌, ◌≡◌, ℕ, ◌*◌, ◌<◌, ⊤, List, [], ◌∷◌, ◌++◌, drop, length, take, Option, None, Some}
 use Rattle.std.specs.Prelude.{IsSomeAnd, if◌then◌else◌, option_map}
-use Rattle.b3.specs.Modes.{hash_parameters, tree_of}
-use Rattle.b3.specs.Node.{cv}
 use Rattle.b3.specs.Parts.{IsPlacedAt}
 use Rattle.clap.specs.Words.{Text}
-use Rattle.partlist.specs.PartLine.{part_line}
+use Rattle.partlist.specs.PartLine.{line_of}
 use Rattle.sumlist.specs.Report.{Files}
-use Rattle.words.specs.Words.{word_bytes}
 use Rattle.command.specs.Course.{Course, failures_of, refused_by}
 use Rattle.command.specs.Keying.{Prints}
 use Rattle.command.specs.Lines.{content_of, is_input}
@@ -22,10 +19,6 @@ first_chunks (Some n) m = take (1024 * n) m
 abbrev pub cut : ℕ → Option ℕ → Text → List ℕ → List ℕ
 cut first chunks name m = first_chunks chunks (if is_input name then m else drop (1024 * first) m)
 
--- the line of bytes that begin with this chunk: their chaining value is that of their tree (the BLAKE3 paper, 2.1)
-abbrev pub cut_line : ℕ → List ℕ → Text
-cut_line first m = part_line first (length m) (word_bytes 4 (cv (tree_of hash_parameters first m))) ++ 10 ∷ []
-
 -- why there is no part of the bytes that were cut of a name
 abbrev pub MayRefuseCut : ℕ → Text → Option (List ℕ) → Trouble → Type 0
 MayRefuseCut first name bytes (cannot_read n) = n ≡ name
@@ -39,6 +32,6 @@ MayRefuseCut first name bytes t = ⊥
 abbrev pub PartRuns : ℕ → Option ℕ → Text → Files → List ℕ → Course → Type 0
 PartRuns first chunks name files input course =
     IsSomeAnd (option_map (cut first chunks name) (content_of name input files))
-    (λ m. IsPlacedAt first (length m) × Prints (cut_line first m) 0 course)
+    (λ m. IsPlacedAt first (length m) × Prints (line_of first m ++ 10 ∷ []) 0 course)
     ⊎ ((t : Trouble) × MayRefuseCut first name (option_map (cut first chunks name) (content_of name input files)) t
     × (course ≡ refused_by t (failures_of (is_input name) (content_of name input files) t)))

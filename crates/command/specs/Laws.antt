@@ -1,18 +1,15 @@
 -- What the definition of a run comes to.
 use Rattle.std.specs.Prelude.{◌⊎◌, ◌≡◌, ◌≢◌, ℕ, ◌+◌, ◌/◌, ◌<◌, ⊤, List, [], ◌∷◌, ◌++◌, length, Option, IsSomeAnd}
 use Rattle.std.specs.List.{concat}
-use Rattle.b3.specs.Modes.{hash_parameters, tree_of}
-use Rattle.b3.specs.Node.{cv}
 use Rattle.b3.specs.Parts.{IsPlacedAt}
 use Rattle.clap.specs.Words.{Text}
 use Rattle.partlist.specs.Joined.{IsAsked, IsWhole}
-use Rattle.partlist.specs.PartLine.{part_line}
+use Rattle.partlist.specs.PartLine.{line_of}
 use Rattle.sumlist.specs.Entry.{Fits}
 use Rattle.sumlist.specs.Lines.{lines}
 use Rattle.sumlist.specs.Report.{Files}
 use Rattle.task.specs.declared.hashing.Requested.TheVariants.{Output}
 use Rattle.task.specs.declared.hashing.Stretch.{Stretch}
-use Rattle.words.specs.Words.{word_bytes}
 use Rattle.command.specs.Course.{Course, no_failures, refused_by}
 use Rattle.command.specs.Joining.{JoinRuns, left_by}
 use Rattle.command.specs.Keying.{Prints}
@@ -29,8 +26,7 @@ AreCut c (x ∷ pieces) = IsPlacedAt c (length x) × (pieces ≢ [] → IsWhole 
 -- the lines of their parts
 abbrev pub part_lines : ℕ → List (List ℕ) → List Text
 part_lines c [] = []
-part_lines c (x ∷ pieces) = part_line c (length x) (word_bytes 4 (cv (tree_of hash_parameters c x)))
-    ∷ part_lines (c + length x / 1024) pieces
+part_lines c (x ∷ pieces) = line_of c x ∷ part_lines (c + length x / 1024) pieces
 
 -- the lines of these lists, one list after another
 abbrev pub AreLinesOf : Files → List ℕ → List Text → List Text → Type 0

@@ -6,8 +6,8 @@ use Rattle.b3.specs.Modes.{hash_parameters}
 use Rattle.b3.specs.Parts.{IsNext}
 use Rattle.b3.specs.declared.row.PartValue.{PartValue}
 use Rattle.b3.specs.declared.row.Row.{Row}
-use Rattle.b3.specs.inside.Rows.{HoldsRow, IsValueOf, row_closed, row_count, row_first, row_open, row_parameters}
-use Rattle.b3.specs.inside.Rows.{value_first, value_len}
+use Rattle.b3.specs.Values.{IsValueOf, value_first, value_len}
+use Rattle.b3.specs.inside.Rows.{HoldsRow, row_closed, row_count, row_first, row_open, row_parameters}
 use Rattle.partlist.specs.Joined.{AreValuesOf, FollowEachOther, IsWhole, bytes_of, last_of}
 use Rattle.partlist.specs.inside.Joiner.{IsRowOf}
 

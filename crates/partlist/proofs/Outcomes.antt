@@ -2,7 +2,7 @@
 use Rattle.std.proofs.Common.{◌≡◌, ℕ, ◌+◌, ◌*◌, List, [], ◌∷◌, ◌++◌, length, refl, sym, ap, subst, ◌∙◌, arith}
 use Rattle.std.proofs.Common.{◌⊎◌, inl, inr, append_assoc}
 use Rattle.b3.specs.declared.row.PartValue.{PartValue}
-use Rattle.b3.specs.inside.Rows.{value_first, value_len}
+use Rattle.b3.specs.Values.{value_first, value_len}
 use Rattle.partlist.specs.Joined.{AllTell, AreInRow, FollowEachOther, IsWhole, IsWrongBehind, TellsPart}
 use Rattle.partlist.specs.Joined.{bytes_of, last_of}
 use Rattle.partlist.specs.Laws.{NoneStops, OneStop}

@@ -9,7 +9,7 @@ use Rattle.hex.proofs.HexLemmas.{decode_sized-encode_lower}
 use Rattle.std.specs.Result.{result_ok}
 use Rattle.b3.specs.Parts.{IsPlacedAt}
 use Rattle.b3.specs.declared.row.PartValue.{PartValue}
-use Rattle.b3.specs.inside.Rows.{value_first, value_len, value_words}
+use Rattle.b3.specs.Values.{value_first, value_len, value_words}
 use Rattle.words.specs.Words.{words}
 use Rattle.partlist.specs.Laws.{OneMeaning}
 use Rattle.partlist.specs.PartLine.{Tells, part_line}

@@ -14,7 +14,7 @@ use Rattle.hex.specs.Hex.{encode_lower, lower_digits}
 use Rattle.hex.proofs.HexLemmas.{length-encode_with}
 use Rattle.b3.specs.declared.row.PartValue.{PartValue}
 use Rattle.b3.specs.declared.row.Row.{Row}
-use Rattle.b3.specs.inside.Rows.{value_first, value_len}
+use Rattle.b3.specs.Values.{value_first, value_len}
 use Rattle.source.specs.Pumped.{Gives}
 use Rattle.sumlist.specs.Lines.{lines, HasNoEnd}
 use Rattle.sumlist.proofs.Cutting.{lines-ended, lines-last}

@@ -2,7 +2,7 @@
 use Rattle.std.specs.Prelude.{◌≡◌, ℕ, ◌+◌, ◌*◌, ◌^◌, ◌<◌, ⊤, List, [], ◌∷◌, ◌++◌, length, Option, None, Some}
 use Rattle.b3.specs.Modes.{hash_parameters}
 use Rattle.b3.specs.declared.row.PartValue.{PartValue}
-use Rattle.b3.specs.inside.Rows.{IsValueOf, value_first, value_len, value_words}
+use Rattle.b3.specs.Values.{IsValueOf, value_first, value_len, value_words}
 use Rattle.words.specs.Words.{words}
 use Rattle.sumlist.specs.Lines.{lines}
 use Rattle.partlist.specs.PartLine.{Tells}

@@ -1,15 +1,13 @@
 -- What the definitions of a line, and of lines that are joined, come to.
 use Rattle.std.specs.Prelude.{◌≡◌, ℕ, List, ◌++◌, length}
-use Rattle.b3.specs.Modes.{hash_parameters, tree_of}
-use Rattle.b3.specs.Node.{cv}
+use Rattle.b3.specs.Modes.{hash_parameters}
 use Rattle.b3.specs.Parts.{IsPlacedAt}
 use Rattle.b3.specs.declared.row.PartValue.{PartValue}
-use Rattle.b3.specs.inside.Rows.{IsValueOf, value_first}
-use Rattle.words.specs.Words.{word_bytes}
+use Rattle.b3.specs.Values.{IsValueOf, value_first}
 use Rattle.sumlist.specs.Lines.{lines}
 use Rattle.partlist.specs.Joined.{AllTell, AreInRow, StopsAt, TellsPart}
 use Rattle.partlist.specs.declared.fault.LineFault.{LineFault}
-use Rattle.partlist.specs.PartLine.{Tells, part_line}
+use Rattle.partlist.specs.PartLine.{Tells, line_of}
 
 -- a line tells one part
 abbrev pub OneMeaning : Type 0
@@ -20,7 +18,7 @@ OneMeaning = (line : List ℕ) (first len first' len' : ℕ) (value value' : Lis
 -- the line of bytes that can stand from a chunk on tells the part of these bytes
 abbrev pub TellsBytes : Type 0
 TellsBytes = (c : ℕ) (x : List ℕ) → IsPlacedAt c (length x)
-    → (part : PartValue) × TellsPart (part_line c (length x) (word_bytes 4 (cv (tree_of hash_parameters c x)))) part
+    → (part : PartValue) × TellsPart (line_of c x) part
     × (value_first part ≡ c) × IsValueOf hash_parameters part x
 
 -- a text whose lines tell parts that follow does not stop

@@ -5,7 +5,7 @@ ghost use Rattle.std.specs.Prelude.{◌↔◌, length, drop};
 ghost use Rattle.std.specs.Fmt.{decimal};
 ghost use Rattle.hex.specs.Hex.{IsBytes, encode_lower};
 ghost use Rattle.words.specs.Words.{word_bytes, words};
-ghost use Rattle.b3.specs.inside.Rows.{value_first, value_len, value_words};
+ghost use Rattle.b3.specs.Values.{value_first, value_len, value_words};
 ghost use Rattle.source.specs.Written.{Writes};
 ghost use Rattle.partlist.specs.PartLine.{Tells, part_line};
 

@@ -5,7 +5,7 @@ ghost use Rattle.std.specs.Prelude.{OnOk, IfOk, IfSome, IsErrOf, MatchOption};
 ghost use Rattle.std.specs.Io.KnownBytes.{Consumes, IsAtEnd, prepend_known};
 ghost use Rattle.b3.specs.Modes.{root_of};
 ghost use Rattle.b3.specs.Parts.{mode_parameters};
-ghost use Rattle.b3.specs.inside.Rows.{IsValueOf, value_first};
+ghost use Rattle.b3.specs.Values.{IsValueOf, value_first};
 ghost use Rattle.b3.specs.inside.Output.{output_root, output_position};
 ghost use Rattle.source.specs.Faults.{PumpCounts};
 ghost use Rattle.source.specs.Pumped.{Gives, IsLongerThan, LeavesBehind, up_to};

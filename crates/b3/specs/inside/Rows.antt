@@ -1,27 +1,10 @@
--- What a contract sees of a part's chaining value, and of a row of them.
+-- What a contract sees of a row of parts.
 use Rattle.std.specs.Prelude.{◌≡◌, ℕ, ◌+◌, ◌*◌, List, ◌∷◌, drop, length}
 use Rattle.b3.specs.Node.{cv}
 use Rattle.b3.specs.Tree.{tree}
-use Rattle.b3.specs.Modes.{tree_of}
 use Rattle.b3.specs.inside.Runs.{run_cv}
 use Rattle.b3.specs.inside.Subtrees.{subtrees}
-use Rattle.b3.specs.declared.row.PartValue.{PartValue}
 use Rattle.b3.specs.declared.row.Row.{Row}
-
--- the number of its first chunk, how many bytes it has, and its chaining value
-abbrev pub value_first : PartValue → ℕ
-value_first part = part.first_chunk
-
-abbrev pub value_len : PartValue → ℕ
-value_len part = part.len
-
-abbrev pub value_words : PartValue → List ℕ
-value_words part = part.value
-
--- the value is that of the bytes m, under parameters
-pub record IsValueOf (parameters : List ℕ) (part : PartValue) (m : List ℕ) : Type 0 where
-  pub len : value_len part ≡ length m
-  pub value : value_words part ≡ cv (tree_of parameters (value_first part) m)
 
 -- what a row hashes under
 abbrev pub row_parameters : Row → List ℕ

@@ -3,7 +3,7 @@ use Rattle.std.specs.Prelude.{◌≡◌, ℕ, ◌*◌, ◌^◌, ◌%◌, ◌≤�
 use Rattle.b3.specs.Modes.{hash_parameters}
 use Rattle.b3.specs.Parts.{IsPlacedAt}
 use Rattle.b3.specs.declared.row.PartValue.{PartValue}
-use Rattle.b3.specs.inside.Rows.{IsValueOf, value_first}
+use Rattle.b3.specs.Values.{IsValueOf, value_first}
 use Rattle.clap.specs.Words.{Text}
 use Rattle.command.specs.Cutting.{MayRefuseCut}
 use Rattle.command.specs.Troubles.{trouble_of}

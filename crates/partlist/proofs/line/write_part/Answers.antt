@@ -5,7 +5,7 @@ use Rattle.words.specs.Words.{word_bytes}
 use Rattle.sumlist.proofs.Pieces.{Failed-after, Failed-more, Writes-after, Writes-exit}
 use Rattle.b3.specs.declared.row.PartValue.{PartValue}
 use Rattle.partlist.specs.PartLine.{part_line}
-use Rattle.b3.specs.inside.Rows.{value_first, value_len, value_words}
+use Rattle.b3.specs.Values.{value_first, value_len, value_words}
 use Rattle.partlist.proofs.Spelling.{line_pieces}
 use Rattle.partlist.proofs.line.write_part.Goals as goal
 

@@ -1,6 +1,6 @@
 use Rattle.std.proofs.Common.{◌≡◌, ℕ, ◌*◌, ◌≤◌, [], length, take, refl, subst, ◌∙◌, arith, pow_pos}
 use Rattle.b3.specs.Parts.{mode_parameters}
-use Rattle.b3.specs.inside.Rows.{IsValueOf}
+use Rattle.b3.specs.Values.{IsValueOf}
 use Rattle.source.proofs.Fronting.{Passes-trans}
 use Rattle.source.proofs.Parting.{all_taken}
 use Rattle.source.proofs.parts.part_of_front.Goals as goal

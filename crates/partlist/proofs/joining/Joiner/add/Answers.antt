@@ -1,6 +1,6 @@
 use Rattle.std.proofs.Common.{◌≡◌, ◌+◌, ◌*◌, ◌∷◌, ◌++◌, [], length, ap, ◌∙◌, sym, subst, arith, length-append, refl}
 use Rattle.std.proofs.lemmas.Bool.{false≢true}
-use Rattle.b3.specs.inside.Rows.{value_first}
+use Rattle.b3.specs.Values.{value_first}
 use Rattle.partlist.specs.Joined.{IsWhole, bytes_of}
 use Rattle.partlist.specs.inside.Joiner.{MayBeRowOf}
 use Rattle.partlist.proofs.Behind.{next-is, row-first, row-more}
