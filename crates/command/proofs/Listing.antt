@@ -236,7 +236,7 @@ module _ (name : Text) (Is : Files → Option (List ℕ) → Course → Type 0) 
       (f : Fault) (r : Result ℕ Fault) (s : Shown) (i u v : ℕ) → is_input name ≡ false
       → ((files : Files) (content : Option (List ℕ)) (t : Trouble) → MayRefuse 0 name content t
       → (t ≡ too_long name → ⊥) → Is files content (refused_by t (failures_of false content t)))
-      → IsErrAnd r (λ g. g ≡ f) → IfSome tree (λ files. OpensFile remaining name (files name) (Err f))
+      → IsErrAnd r (λ g. g ≡ f) → IfSome tree (λ files. OpensFile remaining name 0 (files name) (Err f))
       → IfSome tree (λ files. let e : Result F Fault = Err f in v ≡ count_after u (failed false (files name) e).files)
       → err_new ≡ err_old → Reports first tree r s s i i u v
   report_refused remaining None tree f r s i u v is refused stop opens count quiet = tt

@@ -14,7 +14,7 @@ ghost use Rattle.command.specs.inside.Streams.{IfContent, SameStreams, TakesCour
 
 use crate::digests::part_buffer;
 use crate::fault::Fault;
-use crate::session::{Session, Streams, open_file_at};
+use crate::session::{Session, Streams, open_file};
 use b3::{Mode, PartValue};
 use partlist::write_part;
 use source::{Feed, Sink, part_of};
@@ -65,7 +65,7 @@ impl<'i, 't, 'o, L: Feed, T: Tree, W: Sink> Session<'i, 't, 'o, L, T, W> {
         if name == "-" {
             return part_of_feed(first, chunks, room, run.as_mut_slice(), name, self.input);
         }
-        let mut feed = open_file_at(name, 1024 * first, self.tree)?;
+        let mut feed = open_file(name, 1024 * first, self.tree)?;
         let answer = part_of_feed(first, chunks, room, run.as_mut_slice(), name, &mut feed);
         self.tree.close(feed);
         answer

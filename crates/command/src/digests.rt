@@ -160,7 +160,7 @@ impl<'i, 't, 'o, L: Feed, T: Tree, W: Sink> Session<'i, 't, 'o, L, T, W> {
         if name == "-" {
             return tag_of_feed(self.alloc, hash, parts, name, self.input);
         }
-        let mut feed = open_file(name, self.tree)?;
+        let mut feed = open_file(name, 0, self.tree)?;
         let answer = tag_of_feed(self.alloc, hash, parts, name, &mut feed);
         self.tree.close(feed);
         answer
@@ -209,7 +209,7 @@ impl<'i, 't, 'o, L: Feed, T: Tree, W: Sink> Session<'i, 't, 'o, L, T, W> {
         if name == "-" {
             return output_of_feed(part.as_mut_slice(), name, self.input);
         }
-        let mut feed = open_file(name, self.tree)?;
+        let mut feed = open_file(name, 0, self.tree)?;
         let answer = output_of_feed(part.as_mut_slice(), name, &mut feed);
         self.tree.close(feed);
         answer

@@ -1,6 +1,7 @@
 // The files of the system, by name.
 
 ghost use Rattle.std.specs.Prelude.{◌≡◌, None};
+ghost use Rattle.source.specs.Counts.{next_count};
 
 use source::{Device, Feed};
 use std::fs::OpenOptions;
@@ -22,6 +23,16 @@ impl<'r, R: Files> FileTree<'r, R> {
     {
         FileTree { rt, failures: 0 }
     }
+
+    // Counts a failure.
+    fn failed(&mut self) -> OpenFault
+        ensures fault { result ≡ OpenFault.Failed }
+        ensures counted { ⟦<FileTree<'r, R> as Tree>⟧.failure_count self.new
+            ≡ next_count (⟦<FileTree<'r, R> as Tree>⟧.failure_count self.old) }
+    {
+        self.failures = self.failures.saturating_add(1);
+        OpenFault::Failed
+    }
 }
 
 impl<'r, R: Files> Tree for FileTree<'r, R> {
@@ -31,29 +42,22 @@ impl<'r, R: Files> Tree for FileTree<'r, R> {
 
     ghost files = { λ _. None };
 
-    fn open(&mut self, name: &str) -> Result<Device<R::File>, OpenFault> {
-        match OpenOptions::new().read(true).open(self.rt, name) {
-            Ok(file) => Ok(Device::new(file)),
-            Err(error) => match error.kind() {
-                ErrorKind::NotFound => Err(OpenFault::Missing),
-                ErrorKind::OutOfMemory => Err(OpenFault::OutOfMemory),
-                _ => {
-                    self.failures = self.failures.saturating_add(1);
-                    Err(OpenFault::Failed)
-                }
-            },
-        }
-    }
-
     fn open_at(&mut self, name: &str, position: u64) -> Result<Device<R::File>, OpenFault> {
-        let mut file = self.open(name)?.into_inner();
-        match file.seek(SeekFrom::Start(position)) {
-            Ok(_) => Ok(Device::new(file)),
-            Err(_) => {
-                self.failures = self.failures.saturating_add(1);
-                Err(OpenFault::Failed)
+        let mut file = match OpenOptions::new().read(true).open(self.rt, name) {
+            Ok(file) => file,
+            Err(error) => {
+                return Err(match error.kind() {
+                    ErrorKind::NotFound => OpenFault::Missing,
+                    ErrorKind::OutOfMemory => OpenFault::OutOfMemory,
+                    _ => self.failed(),
+                });
             }
+        };
+        // The beginning needs no seeking, which a pipe refuses.
+        if position > 0 && file.seek(SeekFrom::Start(position)).is_err() {
+            return Err(self.failed());
         }
+        Ok(Device::new(file))
     }
 
     fn close(&mut self, feed: Device<R::File>) {

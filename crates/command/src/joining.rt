@@ -71,7 +71,7 @@ impl<'i, 't, 'o, L: Feed, T: Tree, W: Sink> Session<'i, 't, 'o, L, T, W> {
         if list == "-" {
             return add_feed(joiner, list, self.input);
         }
-        let mut feed = open_file(list, self.tree)?;
+        let mut feed = open_file(list, 0, self.tree)?;
         let answer = add_feed(joiner, list, &mut feed);
         self.tree.close(feed);
         answer

@@ -39,7 +39,7 @@ impl<'i, 't, 'o, L: Feed, T: Tree, W: Sink> Session<'i, 't, 'o, L, T, W> {
         if list == "-" {
             return self.print_names(requested, parts, list, err);
         }
-        let mut feed = open_file(list, self.tree)?;
+        let mut feed = open_file(list, 0, self.tree)?;
         let answer = print_listed(
             self.alloc, requested, parts, list, &mut feed, self.tree, self.out, err,
         );

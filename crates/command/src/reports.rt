@@ -37,7 +37,7 @@ impl<'i, 't, 'o, L: Feed, T: Tree, W: Sink> Session<'i, 't, 'o, L, T, W> {
                 self.alloc, kind, is_summed, name, self.input, self.tree, self.out, err,
             );
         }
-        let mut list = open_file(name, self.tree)?;
+        let mut list = open_file(name, 0, self.tree)?;
         let answer = check_list(
             self.alloc, kind, is_summed, name, &mut list, self.tree, self.out, err,
         );

@@ -1,6 +1,6 @@
 // What a run reads and writes.
 
-ghost use Rattle.std.specs.Prelude.{◌≡◌, [], drop, false, true, IfOk, IfSome, Some, option_map};
+ghost use Rattle.std.specs.Prelude.{◌≡◌, [], false, true, IfOk, IfSome, Some};
 ghost use Rattle.source.specs.Counts.{count_after};
 ghost use Rattle.command.specs.inside.Reading.{Absorbs, AbsorbsLine, Leaves, OpensFile, failed};
 ghost use Rattle.command.specs.inside.Streams.{AfterReading, IfContent, SameStreams, Seen, seen_of};
@@ -30,29 +30,14 @@ impl<'i, 't, 'o, L: Feed, T: Tree, W: Sink> Streams for Session<'i, 't, 'o, L, T
     ghost seen = { seen_of L.remaining L.failure_count T.files T.failure_count W.shown };
 }
 
-/// Opens a file by its name.
-pub(crate) fn open_file<'n, T: Tree>(name: &'n str, tree: &mut T) -> Result<T::F, Fault<'n>>
-    ensures opened { IfSome (T.files tree.old)
-        (λ files. OpensFile T.F.remaining name.entry.now (files name.entry.now) result) }
-    ensures counted { IfSome (T.files tree.old) (λ files. T.failure_count tree.new
-        ≡ count_after (T.failure_count tree.old) (failed false (files name.entry.now) result).files) }
-    ensures fresh { IfOk result (λ feed. T.F.failure_count feed ≡ 0) }
-    ensures kept { T.files tree.new ≡ T.files tree.old }
-{
-    match tree.open(name) {
-        Ok(feed) => Ok(feed),
-        Err(fault) => Err(Fault::of_open(fault, name)),
-    }
-}
-
-/// Opens a file by its name at a position in bytes.
-pub(crate) fn open_file_at<'n, T: Tree>(
+/// Opens a file by its name, at a position in bytes.
+pub(crate) fn open_file<'n, T: Tree>(
     name: &'n str,
     position: u64,
     tree: &mut T,
 ) -> Result<T::F, Fault<'n>>
-    ensures opened { IfSome (T.files tree.old) (λ files. OpensFile T.F.remaining name.entry.now
-        (option_map (λ m. drop position m) (files name.entry.now)) result) }
+    ensures opened { IfSome (T.files tree.old)
+        (λ files. OpensFile T.F.remaining name.entry.now position (files name.entry.now) result) }
     ensures counted { IfSome (T.files tree.old) (λ files. T.failure_count tree.new
         ≡ count_after (T.failure_count tree.old) (failed false (files name.entry.now) result).files) }
     ensures fresh { IfOk result (λ feed. T.F.failure_count feed ≡ 0) }
@@ -96,7 +81,7 @@ pub(crate) fn absorb_named<'n, A: Absorb, T: Tree>(
     ensures files { T.files tree.new ≡ T.files tree.old }
     ensures kept { A.parameters hasher.new ≡ A.parameters hasher.old }
 {
-    let mut feed = open_file(name, tree)?;
+    let mut feed = open_file(name, 0, tree)?;
     let answer = absorb_feed(hasher, name, &mut feed);
     tree.close(feed);
     answer

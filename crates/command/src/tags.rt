@@ -202,7 +202,7 @@ fn key_in<'n, T: Tree>(alloc: Global, name: &'n str, tree: &mut T) -> Result<Vec
         ≡ count_after (T.failure_count tree.old) (failed false (files name.entry.now) result).files) }
     ensures files { T.files tree.new ≡ T.files tree.old }
 {
-    let mut feed = open_file(name, tree)?;
+    let mut feed = open_file(name, 0, tree)?;
     let answer = read_key(alloc, name, &mut feed);
     tree.close(feed);
     answer

@@ -15,13 +15,6 @@ impl<'a> Tree for &'a BTreeMap<String, Vec<u8>> {
 
     ghost files = { λ t. Some (map_content t.now) };
 
-    fn open(&mut self, name: &str) -> Result<&'a [u8], OpenFault> {
-        match self.get(name) {
-            Some(content) => Ok(content.as_slice()),
-            None => Err(OpenFault::Missing),
-        }
-    }
-
     fn open_at(&mut self, name: &str, position: u64) -> Result<&'a [u8], OpenFault> {
         let content = self.get(name).ok_or(OpenFault::Missing)?;
         let start = position as usize;

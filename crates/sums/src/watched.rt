@@ -70,11 +70,6 @@ impl<'p, T: Tree> Tree for WatchedTree<'p, T> {
 
     ghost files = { λ t. T.files (tree_inner t) };
 
-    fn open(&mut self, name: &str) -> Result<Watched<'p, T::F>, OpenFault> {
-        let feed = self.inner.open(name)?;
-        Ok(Watched::new(feed, self.progress.watch_file(name, 0)))
-    }
-
     fn open_at(&mut self, name: &str, position: u64) -> Result<Watched<'p, T::F>, OpenFault> {
         let feed = self.inner.open_at(name, position)?;
         Ok(Watched::new(feed, self.progress.watch_file(name, position)))

@@ -1,6 +1,6 @@
 -- What the opening and the reading of a file or of standard input leave, and what they answer.
 use Rattle.std.specs.Prelude.{◌≡◌, ◌≤◌, ℕ, List, Option, Some, Bool, true, false, Result, Ok, Err, MatchResult}
-use Rattle.std.specs.Prelude.{IsSomeAnd, OnOk, length}
+use Rattle.std.specs.Prelude.{IsSomeAnd, OnOk, drop, length}
 use Rattle.std.specs.Io.KnownBytes.{IsAtEnd}
 use Rattle.clap.specs.Words.{Text}
 use Rattle.source.specs.Pumped.{Appended, Gives}
@@ -23,10 +23,10 @@ behind_answer content (Err fault) = behind content (trouble_of fault)
 abbrev pub failed : {T : Type 0} → Bool → Option (List ℕ) → Result T Fault → Failures
 failed from_input content r = failures_from from_input (behind_answer content r)
 
--- a file was opened, or a fault tells why not
-abbrev pub OpensFile : {F : Type 0} → (F → Option (List ℕ)) → Text → Option (List ℕ) → Result F Fault → Type 0
-OpensFile remaining name content r =
-    MatchResult r (λ feed. (m : List ℕ) × (content ≡ Some m) × (remaining feed ≡ Some m))
+-- a file was opened at a position in bytes, or a fault tells why not
+abbrev pub OpensFile : {F : Type 0} → (F → Option (List ℕ)) → Text → ℕ → Option (List ℕ) → Result F Fault → Type 0
+OpensFile remaining name position content r =
+    MatchResult r (λ feed. (m : List ℕ) × (content ≡ Some m) × (remaining feed ≡ Some (drop position m)))
     (λ fault. MayRefuse 0 name content (trouble_of fault) × (trouble_of fault ≡ too_long name → ⊥))
 
 -- a hasher took all of a name's content, or a fault tells why not

@@ -493,15 +493,11 @@ impl Tree for Refusing {
 
     ghost files = { λ _. None };
 
-    fn open(&mut self, _name: &str) -> Result<Bytes<'static>, OpenFault> {
+    fn open_at(&mut self, _name: &str, _position: u64) -> Result<Bytes<'static>, OpenFault> {
         if self.fault == OpenFault::Failed {
             self.failures = self.failures.saturating_add(1);
         }
         Err(self.fault)
-    }
-
-    fn open_at(&mut self, name: &str, _position: u64) -> Result<Bytes<'static>, OpenFault> {
-        self.open(name)
     }
 
     fn close(&mut self, feed: Bytes<'static>) {
