@@ -4,7 +4,7 @@ use Rattle.std.proofs.Common.{false, Result, Ok, Err, IfSome, refl, sym, ap, inl
 use Rattle.std.specs.Prelude.{IsErrAnd, IsSomeAnd, MatchResult, if◌then◌else◌}
 use Rattle.std.proofs.lemmas.Bool.Decides.{nat_tests}
 use Rattle.std.proofs.lemmas.Result.{err_from_is_err_and}
-use Rattle.clap.specs.Words.{Text}
+use Rattle.request.specs.CommandLine.{Text}
 use Rattle.kdf.specs.Hkdf.{extract, salt_or_zeros}
 use Rattle.source.specs.Counts.{count_after}
 use Rattle.source.specs.Pumped.{Appended}

@@ -12,7 +12,7 @@ use Rattle.b3.specs.Node.{Node}
 use Rattle.b3.specs.declared.output.Output.{Output}
 use Rattle.b3.specs.declared.row.PartValue.{PartValue}
 use Rattle.b3.specs.inside.Output.{output_position, output_root}
-use Rattle.clap.specs.Words.{Text}
+use Rattle.request.specs.CommandLine.{Text}
 use Rattle.partlist.specs.Joined.{AllTell, AreValuesOf, EndsWrong, IsAsked, bytes_of}
 use Rattle.partlist.specs.declared.fault.EndFault.{EndFault}
 use Rattle.partlist.specs.declared.fault.JoinFault.{JoinFault}

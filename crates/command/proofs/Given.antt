@@ -4,7 +4,7 @@ use Rattle.std.proofs.Common.{refl, sym, ap, inl, inr, append-nil, max}
 use Rattle.std.specs.List.{flat_map}
 use Rattle.std.specs.Prelude.{IsErrAnd}
 use Rattle.std.proofs.lemmas.Result.{err_from_is_err_and}
-use Rattle.clap.specs.Words.{Text}
+use Rattle.request.specs.CommandLine.{Text}
 use Rattle.source.specs.Written.{Shown}
 use Rattle.sumlist.specs.Report.{Files}
 use Rattle.command.specs.Course.{Tells}

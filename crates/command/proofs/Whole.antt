@@ -4,16 +4,14 @@ use Rattle.std.proofs.Common.{sym, ap, ◌∙◌, inl, inr, subst, append-nil, a
 use Rattle.std.specs.Prelude.{IsErrAnd}
 use Rattle.std.proofs.KnownBytes.{Appends-nil}
 use Rattle.std.proofs.lemmas.Result.{err_from_is_err_and}
-use Rattle.clap.specs.Words.{IsAmong, Text, fault_of}
-use Rattle.clap.specs.declared.error.ErrorKind.{ErrorKind}
 use Rattle.source.specs.Written.{Shown}
 use Rattle.sumlist.specs.Report.{Files}
-use Rattle.task.specs.CommandLine.{OfSums, Reads}
+use Rattle.request.specs.CommandLine.{ErrorKind, IsAmong, OfSums, Reads, Text, fault_of}
 use Rattle.task.specs.Parameters.{Judges}
 use Rattle.task.specs.Tasks.{Asked, asked, task_shown}
 use Rattle.task.specs.declared.fault.TaskFault.{TaskFault}
 use Rattle.task.specs.declared.fault.TaskFault.TheVariants as task
-use Rattle.task.specs.declared.request.Request.{Request}
+use Rattle.request.specs.declared.request.Request.{Request}
 use Rattle.command.specs.Course.{Counted, Course, Printed, Runs, Takes, Tells, ending_told, no_failures}
 use Rattle.command.specs.Course.{refused_by, status_at}
 use Rattle.command.specs.Program.{IsAnswered, ProgramRuns, RequestRuns, TaskRuns}

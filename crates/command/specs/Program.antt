@@ -1,13 +1,10 @@
 -- What a run of the program prints, tells and answers, by its words, standard input and files.
-use Rattle.std.specs.Prelude.{◌⊎◌, ◌≡◌, ◌≢◌, ℕ, List, [], MatchResult}
-use Rattle.clap.specs.Words.{IsAmong, Text, fault_of}
-use Rattle.clap.specs.declared.error.ErrorKind.{ErrorKind}
-use Rattle.clap.specs.declared.error.ErrorKind.TheVariants as clap
+use Rattle.std.specs.Prelude.{◌⊎◌, ◌≡◌, ℕ, List, [], MatchResult}
 use Rattle.source.specs.Written.{Shown}
 use Rattle.sumlist.specs.Report.{Files}
-use Rattle.task.specs.CommandLine.{OfSums, Reads}
+use Rattle.request.specs.CommandLine.{ErrorKind, IsAmong, IsWrong, OfSums, Reads, Text, fault_of}
 use Rattle.task.specs.Tasks.{Asked, asked, checks, cuts, derives, hashes, in_file, joins, tags, these}
-use Rattle.task.specs.declared.request.Request.{Request}
+use Rattle.request.specs.declared.request.Request.{Request}
 use Rattle.command.specs.Checking.{CheckRuns}
 use Rattle.command.specs.Course.{Counted, Course, Runs, no_failures, refused_by}
 use Rattle.command.specs.Cutting.{PartRuns}
@@ -35,10 +32,6 @@ RequestRuns r files input course =
     MatchResult (asked r) (λ task. TaskRuns task files input course)
     (λ fault. course ≡ refused_by (usage fault) no_failures)
     ⊎ (course ≡ refused_by out_of_memory no_failures)
-
--- words that are wrong, and no call for help or the version
-abbrev pub IsWrong : ErrorKind → Type 0
-IsWrong kind = (kind ≢ clap.DisplayHelp) × (kind ≢ clap.DisplayVersion)
 
 -- wrong words print nothing, with status 2; help is printed, or status 3 told
 abbrev pub IsAnswered : ErrorKind → ℕ → Shown → Shown → Type 0

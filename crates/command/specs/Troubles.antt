@@ -1,7 +1,7 @@
 -- Why a run ends, or passes a file over: what is told on standard error, and the status.
 use Rattle.std.specs.Prelude.{ℕ, [], ◌++◌, codes}
 use Rattle.std.specs.Fmt.{decimal}
-use Rattle.clap.specs.Words.{Text}
+use Rattle.request.specs.CommandLine.{Text}
 use Rattle.partlist.specs.declared.fault.EndFault.{EndFault}
 use Rattle.partlist.specs.declared.fault.EndFault.TheVariants.{Alone, EndsAfter, NoParts}
 use Rattle.partlist.specs.declared.fault.LineFault.{LineFault}

@@ -2,7 +2,7 @@
 #![tactic(auto)]
 
 ghost use Rattle.std.specs.Prelude.{IfSome, map};
-ghost use Rattle.clap.specs.Words.{kind_of};
+ghost use Rattle.request.specs.CommandLine.{kind_of};
 ghost use Rattle.command.specs.Course.{Tells, all_told};
 ghost use Rattle.command.specs.Program.{IsAnswered, ProgramRuns, RequestRuns};
 ghost use Rattle.command.specs.inside.Streams.{SameStreams, TakesCourse};
@@ -27,11 +27,12 @@ mod session;
 mod tags;
 mod verifying;
 
+use request::{Error, Request, WordsFault, line};
 use session::{Session, Streams};
 use source::{Feed, Sink};
 use std::alloc::Global;
 use sumlist::Tree;
-use task::{Names, Request, Task, WordsFault, line};
+use task::{Names, Task};
 
 /// One whole run over the words, the program's own name first, with the standard streams and the
 /// files: it answers the status. What `err` does not take is dropped.
@@ -118,7 +119,7 @@ impl<'i, 't, 'o, L: Feed, T: Tree, W: Sink> Session<'i, 't, 'o, L, T, W> {
 }
 
 // Help and the version go to standard output, and what is wrong with the words to standard error.
-fn print_clap<W: Sink, E: Sink>(error: &clap::Error, out: &mut W, err: &mut E) -> u8
+fn print_clap<W: Sink, E: Sink>(error: &Error, out: &mut W, err: &mut E) -> u8
     ensures { IsAnswered (kind_of error.now) result (W.shown out.old) (W.shown out.new) }
 {
     if error.use_stderr() {

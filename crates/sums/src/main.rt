@@ -3,7 +3,7 @@
 
 ghost use Rattle.std.specs.Prelude.{IsSomeAnd, IsTrue, codes, map};
 ghost use Rattle.clap.specs.Words.{subcommand_of};
-ghost use Rattle.task.specs.CommandLine.{IsGiven, OfSums};
+ghost use Rattle.request.specs.CommandLine.{IsGiven, OfSums};
 
 mod progress;
 #[cfg(test)]
@@ -12,12 +12,12 @@ mod watched;
 
 use command::{Fault, FileTree, run, tell, write_text};
 use progress::{Erasing, Progress};
+use request::line;
 use source::{Device, FixedSink, Sink, write_all};
 use std::alloc::{AllocError, Global};
 use std::io;
 use std::io::{ErrorKind, LineWriter, Write};
 use std::process::ExitCode;
-use task::line;
 use watched::{Watched, WatchedTree};
 
 // No line of a list or a report is longer, and no fault that tells of a word: Linux takes none of

@@ -7,7 +7,7 @@ use Rattle.std.proofs.lemmas.Result.{Ok-from_Ok_iff, OkIff-at_ok}
 use Rattle.std.proofs.lemmas.Str.Parse.{IsNumeralModel, numerals_by_value, tells_all_ascii_digits}
 use Rattle.std.specs.Str.{all_ascii_digits}
 use Rattle.std.specs.Str.Parse.{IsNumeral, ParsesUnsigned, digits_value, without_leading_plus}
-use Rattle.clap.specs.Words.{Text}
+use Rattle.request.specs.CommandLine.{Text}
 use Rattle.task.specs.declared.fault.Setting.{Setting}
 use Rattle.task.specs.declared.fault.UsageFault.TheVariants.{OutOfRange}
 use Rattle.task.specs.Parameters.{number, numeral, within}

@@ -1,6 +1,6 @@
 -- What a request of `kdf` has printed, or the first fault of its settings.
 use Rattle.std.specs.Prelude.{ℕ, ◌*◌, ◌-◌, ◌^◌, ◌≤◌, List, [], Option, Result, Ok, option_map, unwrap_or}
-use Rattle.clap.specs.Words.{Text}
+use Rattle.request.specs.CommandLine.{Text}
 use Rattle.sumlist.specs.declared.kind.Kind.{Kind}
 use Rattle.sumlist.specs.declared.kind.Kind.TheVariants as kind
 use Rattle.task.specs.Parameters.{◌>>=◌, ◌>>◌, absent, given, given_bytes, hmac_len, kind_of, needed, number}
@@ -10,7 +10,7 @@ use Rattle.task.specs.declared.fault.Setting.TheVariants as setting
 use Rattle.task.specs.declared.fault.UsageFault.{UsageFault}
 use Rattle.task.specs.declared.parameters.HmacHash.{HmacHash}
 use Rattle.task.specs.declared.parameters.HmacHash.TheVariants as hash
-use Rattle.task.specs.declared.request.Request.{Request}
+use Rattle.request.specs.declared.request.Request.{Request}
 
 -- how a key is derived: its length, with the salt and the info of HKDF, or BLAKE3's context
 pub data Derived : Type 0 where

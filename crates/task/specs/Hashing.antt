@@ -14,7 +14,7 @@ use Rattle.task.specs.declared.hashing.Hash.TheVariants.{Plain, Blake2b, Blake2s
 use Rattle.task.specs.declared.hashing.Requested.{Requested}
 use Rattle.task.specs.declared.hashing.Requested.TheVariants.{Digest, Output}
 use Rattle.task.specs.declared.hashing.Stretch.{Stretch}
-use Rattle.task.specs.declared.request.Request.{Request}
+use Rattle.request.specs.declared.request.Request.{Request}
 
 -- a digest, on lines that name their algorithm or do not
 abbrev pub whole : Hash → Bool → Requested

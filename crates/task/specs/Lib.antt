@@ -1,4 +1,3 @@
-pub mod CommandLine
 pub mod Requested
 pub mod Parameters
 pub mod Hashing

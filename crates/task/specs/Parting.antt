@@ -12,7 +12,7 @@ use Rattle.task.specs.declared.fault.Setting.TheVariants.{Algorithm, Bytes, Chun
 use Rattle.task.specs.declared.fault.UsageFault.{UsageFault}
 use Rattle.task.specs.declared.fault.UsageFault.TheVariants.{NotForCommand, OutOfRange}
 use Rattle.task.specs.declared.hashing.Stretch.{Stretch}
-use Rattle.task.specs.declared.request.Request.{Request}
+use Rattle.request.specs.declared.request.Request.{Request}
 
 -- only BLAKE3 has parts
 abbrev pub has_parts : Kind → Result (Unit {0}) UsageFault

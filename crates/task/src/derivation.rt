@@ -6,7 +6,7 @@ ghost use Rattle.task.specs.Parameters.{Judges, seen};
 
 use crate::fault::{Setting, TaskFault, UsageFault};
 use crate::parameters::{HmacHash, given_bytes, kind_of, needed, number, refused};
-use crate::request::Request;
+use request::Request;
 use std::alloc::Global;
 use sumlist::Kind;
 

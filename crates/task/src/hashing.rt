@@ -7,7 +7,7 @@ ghost use Rattle.task.specs.Requested.{HasDigest, IsPartSize, IsWithin, names_al
 
 use crate::fault::{Setting, TaskFault, UsageFault};
 use crate::parameters::{given_bytes, kind_of, needed, number, refused, refused_flag, sized};
-use crate::request::Request;
+use request::Request;
 use source::Alg;
 use std::alloc::Global;
 use sumlist::Kind;

@@ -7,7 +7,7 @@ ghost use Rattle.task.specs.Parting.{IsOfJoin, IsPlace, least_power};
 use crate::fault::{Setting, UsageFault};
 use crate::hashing::{Stretch, stretch_of};
 use crate::parameters::{given_number, kind_of, needed, number};
-use crate::request::Request;
+use request::Request;
 use sumlist::Kind;
 
 // As many as the longest message has, of 2^64 - 1 bytes.

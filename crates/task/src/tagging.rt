@@ -6,7 +6,7 @@ ghost use Rattle.task.specs.Tagging as spec;
 
 use crate::fault::{Setting, TaskFault, UsageFault};
 use crate::parameters::{HmacHash, given_bytes, needed, number};
-use crate::request::Request;
+use request::Request;
 use std::alloc::Global;
 
 /// A keyed function, and the length in bytes of the tags that are printed.

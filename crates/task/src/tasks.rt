@@ -10,8 +10,8 @@ use crate::fault::{Setting, TaskFault, UsageFault};
 use crate::hashing::{Requested, Stretch, parts_of};
 use crate::parameters::{kind_of, needed};
 use crate::parting::{joined_of, place_of};
-use crate::request::Request;
 use crate::tagging::{Key, Mac};
+use request::Request;
 use std::alloc::{AllocError, Global};
 use sumlist::Kind;
 

@@ -1,5 +1,5 @@
 use Rattle.std.proofs.Common.{map, ap, rules, Err, ◌∙◌}
-use Rattle.clap.specs.Words.{kind_of}
+use Rattle.request.specs.CommandLine.{kind_of}
 use Rattle.command.proofs.Whole.{handed_back, run_answered, run_done, run_stopped, run_without_memory}
 use Rattle.command.proofs.run.Goals as goal
 

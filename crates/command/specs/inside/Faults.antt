@@ -1,7 +1,7 @@
 -- The fault of a run that goes no further, by what stopped it.
 use Rattle.std.specs.Prelude.{◌==◌, ◌&&◌, ℕ, Bool, Result, Ok, Err, if◌then◌else◌, []}
 use Rattle.std.specs.Borrow.{Bor}
-use Rattle.clap.specs.Words.{Text}
+use Rattle.request.specs.CommandLine.{Text}
 use Rattle.partlist.specs.declared.fault.JoinFault.{JoinFault}
 use Rattle.partlist.specs.declared.fault.JoinFault.TheVariants as join
 use Rattle.source.specs.declared.pumping.SourceFault.{SourceFault}

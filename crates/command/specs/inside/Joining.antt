@@ -1,7 +1,7 @@
 -- What the joining of lists answers.
 use Rattle.std.specs.Prelude.{ℕ, List, ◌++◌, Option, Result, IsSomeAnd, MatchResult}
 use Rattle.b3.specs.declared.row.PartValue.{PartValue}
-use Rattle.clap.specs.Words.{Text}
+use Rattle.request.specs.CommandLine.{Text}
 use Rattle.partlist.specs.Joined.{AllTell}
 use Rattle.partlist.specs.declared.joining.Joiner.{Joiner}
 use Rattle.partlist.specs.inside.Joiner.{HasJoined}

@@ -1,6 +1,6 @@
 -- What is seen of a session: what it reads from and writes to, and what they count.
 use Rattle.std.specs.Prelude.{◌≡◌, ℕ, false, List, Option, Result, IfSome}
-use Rattle.clap.specs.Words.{Text}
+use Rattle.request.specs.CommandLine.{Text}
 use Rattle.source.specs.Counts.{count_after}
 use Rattle.source.specs.Written.{Shown}
 use Rattle.sumlist.specs.Report.{Files}

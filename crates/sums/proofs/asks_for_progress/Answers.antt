@@ -1,4 +1,4 @@
-use Rattle.task.specs.CommandLine.{IsRequestOf}
+use Rattle.request.specs.CommandLine.{IsRequestOf}
 use Rattle.sums.proofs.Asking.{weaker}
 use Rattle.sums.proofs.asks_for_progress.Goals as goal
 

@@ -1,0 +1,172 @@
+-- The command line of the program, as what a parse by `clap` reads of it.
+use Rattle.std.specs.Prelude.{◌≡◌, ◌≢◌, ◌↔◌, true, List, [], ◌∷◌, Some, codes, map, option_map, IsSomeAnd, IsTrue}
+use Rattle.std.specs.Prelude.{unwrap_or, fold}
+use Rattle.std.specs.Borrow.{Bor}
+pub use Rattle.clap.specs.Words.{IsAmong, Text, fault_of, kind_of}
+pub use Rattle.clap.specs.declared.error.ErrorKind.{ErrorKind}
+use Rattle.clap.specs.Words.{App, Row, Rule, first_of, all_of, new_app, new_rule, subcommand_of, with_rule}
+use Rattle.clap.specs.Words.{with_subcommand}
+use Rattle.request.specs.declared.request.Request.{Request}
+use Rattle.clap.specs.declared.builder.value_parser.ValueParser.TheVariants as vp
+use Rattle.clap.specs.declared.error.ErrorKind.TheVariants as clap
+use Rattle.clap.specs.declared.builder.action.ArgAction.TheVariants.{Append, SetTrue}
+
+-- the names that `-a` takes
+abbrev pub NameList : Type 0
+NameList = Bor (List (Bor Text))
+
+-- their texts
+abbrev pub names_of : NameList → List Text
+names_of names = map (λ n. n.now) names.now
+
+-- the names of ALG
+abbrev pub algorithm_names : List Text
+algorithm_names = codes "sha256" ∷ codes "sha512" ∷ codes "blake2b" ∷ codes "blake2s" ∷ codes "blake3" ∷ []
+
+-- the names of MAC
+abbrev pub mac_names : List Text
+mac_names = codes "hmac-sha256" ∷ codes "hmac-sha512" ∷ codes "hmac-blake2b" ∷ codes "hmac-blake2s" ∷ codes
+    "blake2b" ∷ codes "blake2s" ∷ codes "blake3" ∷ []
+
+-- `-a ALG`, which has to be there
+abbrev pub algorithm_rule : NameList → Rule
+algorithm_rule names = record (new_rule (codes "algorithm")) {
+  short = Some 97;
+  value_names = 1;
+  required = true;
+  parser = Some (vp.Names names);
+}
+
+-- `-l N`
+abbrev pub length_rule : Rule
+length_rule = record (new_rule (codes "length")) {
+  short = Some 108;
+  value_names = 1;
+  parser = Some (vp.Unsigned 0 18446744073709551615);
+}
+
+-- an option `--name` that takes a number
+abbrev pub number_rule : Text → Rule
+number_rule name = record (new_rule name) {
+  long = Some name;
+  value_names = 1;
+  parser = Some (vp.Unsigned 0 18446744073709551615);
+}
+
+-- an option `--name` that takes a text
+abbrev pub text_rule : Text → Rule
+text_rule name = record (new_rule name) { long = Some name; value_names = 1 }
+
+-- the same, which has to be there
+abbrev pub required_rule : Rule → Rule
+required_rule a = record a { required = true }
+
+-- a flag `--name`, which takes no value
+abbrev pub flag_rule : Text → Rule
+flag_rule name = record (new_rule name) { long = Some name; action = Some SetTrue }
+
+-- one FILE or LIST
+abbrev pub file_rule : Rule
+file_rule = record (new_rule (codes "file")) { value_names = 1 }
+
+-- `[FILE]..`
+abbrev pub files_rule : Rule
+files_rule = record file_rule { action = Some Append }
+
+-- a command with these options and arguments
+abbrev pub with_rules : App → List Rule → App
+with_rules = fold with_rule
+
+-- a command with these below it
+abbrev pub with_commands : App → List App → App
+with_commands = fold (λ whole below. with_subcommand whole below.top)
+
+-- `hash -a ALG [-l N] [--seek N] [--parts N] [--salt HEX] [--personal HEX] [--tag] [--raw] [--progress]
+--     [--files0-from F] [FILE]..`
+abbrev pub hash_app : NameList → App
+hash_app names = with_rules (new_app (codes "hash"))
+    (algorithm_rule names ∷ length_rule ∷ number_rule (codes "seek") ∷ number_rule (codes "parts")
+    ∷ text_rule (codes "salt") ∷ text_rule (codes "personal") ∷ flag_rule (codes "tag") ∷ flag_rule (codes "raw")
+    ∷ flag_rule (codes "progress") ∷ text_rule (codes "files0-from") ∷ files_rule ∷ [])
+
+-- `mac -a MAC [--key HEX] [--key-file F] [-l N] [--verify HEX] [FILE]`
+abbrev pub mac_app : NameList → App
+mac_app names = with_rules (new_app (codes "mac")) (algorithm_rule names ∷ text_rule (codes "key")
+    ∷ text_rule (codes "key-file") ∷ length_rule ∷ text_rule (codes "verify") ∷ file_rule ∷ [])
+
+-- `kdf -a ALG --ikm-file F [--salt HEX] [--info HEX] [--context TEXT] -l N [--raw]`
+abbrev pub kdf_app : NameList → App
+kdf_app names = with_rules (new_app (codes "kdf")) (algorithm_rule names
+    ∷ required_rule (text_rule (codes "ikm-file")) ∷ text_rule (codes "salt")
+    ∷ text_rule (codes "info") ∷ text_rule (codes "context") ∷ required_rule length_rule
+    ∷ flag_rule (codes "raw") ∷ [])
+
+-- `check -a ALG [--summary] [--progress] LIST`
+abbrev pub check_app : NameList → App
+check_app names = with_rules (new_app (codes "check")) (algorithm_rule names ∷ flag_rule (codes "summary")
+    ∷ flag_rule (codes "progress") ∷ required_rule file_rule ∷ [])
+
+-- `part -a ALG [--first C] [--chunks N] [FILE]`
+abbrev pub part_app : NameList → App
+part_app names = with_rules (new_app (codes "part")) (algorithm_rule names ∷ number_rule (codes "first")
+    ∷ number_rule (codes "chunks") ∷ file_rule ∷ [])
+
+-- `join -a ALG [--name NAME] [--bytes N] [-l N] [--seek N] [PARTS]..`
+abbrev pub join_app : NameList → App
+join_app names = with_rules (new_app (codes "join")) (algorithm_rule names ∷ text_rule (codes "name")
+    ∷ number_rule (codes "bytes") ∷ length_rule ∷ number_rule (codes "seek") ∷ files_rule ∷ [])
+
+-- the program's command alone
+abbrev pub program_app : App
+program_app = record (new_app (codes "sums")) {
+  top = record (new_app (codes "sums")).top { subcommand_required = true; has_version = true };
+}
+
+-- the same with the six below it; `names` are those of ALG and `macs` those of MAC
+unfoldable pub sums_app : NameList → NameList → App
+sums_app names macs = with_commands program_app
+    (hash_app names ∷ mac_app macs ∷ kdf_app names ∷ check_app names ∷ part_app names ∷ join_app names ∷ [])
+
+-- a flag was given: its value is then the word `true`
+abbrev pub IsGiven : Text → List Row → Type 0
+IsGiven id rows = first_of id rows ≡ Some (codes "true")
+
+-- the words name the subcommand s.0 with the matches s.1, and r has its name, the first value of
+-- each option, and whether a flag was given
+pub record IsRequestOf (s : Text × List Row) (r : Request) : Type 0 where
+  pub command : r.command.now ≡ s.0
+  pub algorithm : option_map (λ t. t.now) r.algorithm ≡ first_of (codes "algorithm") s.1
+  pub length : option_map (λ t. t.now) r.length ≡ first_of (codes "length") s.1
+  pub seek : option_map (λ t. t.now) r.seek ≡ first_of (codes "seek") s.1
+  pub parts : option_map (λ t. t.now) r.parts ≡ first_of (codes "parts") s.1
+  pub tag : IsTrue r.tag ↔ IsGiven (codes "tag") s.1
+  pub raw : IsTrue r.raw ↔ IsGiven (codes "raw") s.1
+  pub summary : IsTrue r.summary ↔ IsGiven (codes "summary") s.1
+  pub progress : IsTrue r.progress ↔ IsGiven (codes "progress") s.1
+  pub key : option_map (λ t. t.now) r.key ≡ first_of (codes "key") s.1
+  pub key_file : option_map (λ t. t.now) r.key_file ≡ first_of (codes "key-file") s.1
+  pub verify : option_map (λ t. t.now) r.verify ≡ first_of (codes "verify") s.1
+  pub ikm_file : option_map (λ t. t.now) r.ikm_file ≡ first_of (codes "ikm-file") s.1
+  pub salt : option_map (λ t. t.now) r.salt ≡ first_of (codes "salt") s.1
+  pub personal : option_map (λ t. t.now) r.personal ≡ first_of (codes "personal") s.1
+  pub info : option_map (λ t. t.now) r.info ≡ first_of (codes "info") s.1
+  pub context : option_map (λ t. t.now) r.context ≡ first_of (codes "context") s.1
+  pub first : option_map (λ t. t.now) r.first ≡ first_of (codes "first") s.1
+  pub chunks : option_map (λ t. t.now) r.chunks ≡ first_of (codes "chunks") s.1
+  pub name : option_map (λ t. t.now) r.name ≡ first_of (codes "name") s.1
+  pub bytes : option_map (λ t. t.now) r.bytes ≡ first_of (codes "bytes") s.1
+  pub files0_from : option_map (λ t. t.now) r.files0_from ≡ first_of (codes "files0-from") s.1
+  pub files : map (λ t. t.now) r.files.items ≡ unwrap_or (all_of (codes "file") s.1) []
+
+-- the words make the request r
+abbrev pub Reads : App → List Text → Request → Type 0
+Reads app words r = IsSomeAnd (subcommand_of app words) (λ s. IsRequestOf s r)
+
+-- a fact of the program's command, whose lists of names hold the names above
+abbrev pub OfSums : (App → Type 0) → Type 0
+OfSums P = (names : NameList) × (macs : NameList) × (names_of names ≡ algorithm_names)
+    × (names_of macs ≡ mac_names) × P (sums_app names macs)
+
+-- words that are wrong, and no call for help or the version
+abbrev pub IsWrong : ErrorKind → Type 0
+IsWrong kind = (kind ≢ clap.DisplayHelp) × (kind ≢ clap.DisplayVersion)
