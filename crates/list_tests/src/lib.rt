@@ -4,8 +4,6 @@
 #[cfg(test)]
 mod join_tests;
 #[cfg(test)]
-mod part_line_tests;
-#[cfg(test)]
 mod run_tests;
 #[cfg(test)]
 mod source_tests;

@@ -1,61 +1,7 @@
-use super::{BLAKE2B_8_EMPTY, BLAKE2S_ABC, NAMES, SHA256_ABC, entry_of, tag_of};
+use super::{BLAKE2B_8_EMPTY, BLAKE2S_ABC, NAMES, SHA256_ABC, entry_of};
 use source::{Alg, FixedSink, VecSink};
 use std::test::Fail;
 use sumlist::{Kind, Line, TaggedFault, parse_line, tagged_fits, write_tagged};
-
-#[test]
-fn tagged_lines_mean_what_their_rows_tell(rt: HostRuntime) -> Result<(), Fail> {
-    let alloc = rt.alloc();
-    let d = SHA256_ABC;
-    let short = &SHA256_ABC[..2];
-    let rows = [
-        ("SHA256 (abc.txt) = ", d, Some("abc.txt")),
-        ("BLAKE2s (abc.txt) = ", BLAKE2S_ABC, Some("abc.txt")),
-        ("BLAKE2s-256 (abc.txt) = ", BLAKE2S_ABC, Some("abc.txt")),
-        ("BLAKE3 (abc.txt) = ", d, Some("abc.txt")),
-        ("BLAKE2b-8 (x) = ", short, Some("x")),
-        ("BLAKE2b-08 (x) = ", short, None),
-        ("BLAKE2b-12 (x) = ", short, None),
-        ("BLAKE2b-520 (x) = ", short, None),
-        ("sha256 (x) = ", d, None),
-        ("SHA256 () = ", d, None),
-        ("SHA256 (x) =", d, None),
-        ("SHA256 (a) = b) = ", d, Some("a) = b")),
-        ("\\SHA256 (a\\\\b\\n) = ", d, Some("a\\b\n")),
-        ("\\SHA256 (a\\x) = ", d, None),
-        ("SHA256(x) = ", d, None),
-        ("SHA256  (x) = ", d, None),
-        ("SHA256 (x) = ", short, None),
-        ("MD5 (x) = ", d, None),
-        (" SHA256 (x) = ", d, None),
-        ("SHA256 (x)  =  ", d, None),
-        ("SHA2-256(x)= ", d, None),
-        ("BLAKE2b (x) = ", short, None),
-    ];
-    for (front, digits, name) in rows {
-        let line = format!(in alloc; "{front}{digits}")?;
-        for kind in [
-            Kind::Sha256,
-            Kind::Sha512,
-            Kind::Blake2b,
-            Kind::Blake2s,
-            Kind::Blake3,
-        ] {
-            match parse_line(alloc, line.as_bytes(), kind) {
-                Ok(Line::Entry(entry)) => {
-                    assert_eq!(rt; Some(entry.name()), name, "{front} {kind:?}");
-                    assert!(rt;
-                        words::same(entry.tag(), tag_of(digits)?.bytes()),
-                        "{front}"
-                    );
-                }
-                Ok(Line::Skipped) => assert!(rt; false, "{front} skipped"),
-                Err(_) => assert_eq!(rt; name, None, "{front} {kind:?}"),
-            }
-        }
-    }
-    Ok(())
-}
 
 #[test]
 fn entries_are_written_tagged_and_read_back(rt: HostRuntime) -> Result<(), Fail> {
