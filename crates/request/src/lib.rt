@@ -1,5 +1,5 @@
-//! The words of the command line of `sums`, read by `clap`: a `Request` holds what was given, judged by
-//! nobody yet.
+//! The words of the command line of `sums`, read by `clap`: a `Request` holds what they give, as texts
+//! that `task` judges.
 #![tactic(auto)]
 
 pub use clap::Error;
