@@ -24,7 +24,8 @@ use Rattle.command.specs.declared.session.Session.{Session}
 use Rattle.command.specs.inside.Hashed.{Answers, PrintsName, Settles}
 use Rattle.command.specs.inside.Printing.{PrintsLine}
 use Rattle.command.specs.inside.Reading.{Leaves, failed}
-use Rattle.command.specs.inside.Streams.{AfterReading, IfContent, SameStreams, Seen}
+use Rattle.command.specs.Streams.{Seen}
+use Rattle.command.specs.inside.Streams.{AfterReading, IfContent, SameStreams}
 use Rattle.command.proofs.Telling.{Tells-more, Tells-none}
 
 Counted-none : (i u : ℕ) → Counted no_failures i i u u

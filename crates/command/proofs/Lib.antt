@@ -18,4 +18,3 @@ pub mod Names
 pub mod Gathering
 pub mod Rejoining
 pub mod Telling
-pub mod Whole

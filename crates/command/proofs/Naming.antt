@@ -25,7 +25,7 @@ use Rattle.command.specs.declared.fault.Fault.TheVariants as code
 use Rattle.command.specs.inside.Hashed.{IsReadOn, PrintsName, PrintsNameAt, ReadsName}
 use Rattle.command.specs.inside.Listing.{ListTaken}
 use Rattle.command.specs.inside.Reading.{failed}
-use Rattle.command.specs.inside.Streams.{IfTold, Seen}
+use Rattle.command.specs.Streams.{IfTold, Seen}
 use Rattle.command.proofs.Going.{Went, ends_heavy, failures-line, failures-passed, goes_on, pair, stops_there}
 use Rattle.command.proofs.Going.{went-none, went-passed, went-still}
 use Rattle.command.proofs.Listing.{Reports, behind-none, listed_file, report_input}

@@ -10,7 +10,8 @@ ghost use Rattle.command.specs.Cutting.{PartRuns, cut, first_chunks};
 ghost use Rattle.command.specs.Lines.{is_input};
 ghost use Rattle.command.specs.inside.Cutting.{Cuts, IsRoom};
 ghost use Rattle.command.specs.inside.Reading.{failed};
-ghost use Rattle.command.specs.inside.Streams.{IfContent, SameStreams, TakesCourse};
+ghost use Rattle.command.specs.Streams.{TakesCourse};
+ghost use Rattle.command.specs.inside.Streams.{IfContent, SameStreams};
 
 use crate::digests::part_buffer;
 use crate::fault::Fault;
@@ -26,7 +27,7 @@ const RUN: u64 = 1024;
 impl<'i, 't, 'o, L: Feed, T: Tree, W: Sink> Session<'i, 't, 'o, L, T, W> {
     /// Prints the line of a part of the file: its bytes from the chunk `first` on, in so many chunks
     /// or to the end.
-    pub(crate) fn print_part<'n>(
+    pub fn print_part<'n>(
         &mut self,
         first: u64,
         chunks: Option<u64>,

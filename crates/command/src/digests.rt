@@ -13,7 +13,8 @@ ghost use Rattle.command.specs.Lines.{IsListable, digest_line, hash_of, line_tex
 ghost use Rattle.command.specs.inside.Hashed.{PrintsName, Settles};
 ghost use Rattle.command.specs.inside.Printing.{PrintsLine, PrintsListed};
 ghost use Rattle.command.specs.inside.Reading.{Leaves, Reads, failed};
-ghost use Rattle.command.specs.inside.Streams.{AfterReading, IfContent, SameStreams, TakesCourse};
+ghost use Rattle.command.specs.Streams.{TakesCourse};
+ghost use Rattle.command.specs.inside.Streams.{AfterReading, IfContent, SameStreams};
 ghost use Rattle.command.specs.declared.fault.Fault.TheVariants.{BadName};
 
 use crate::fault::{Fault, tell};
@@ -30,7 +31,7 @@ use words::Tag;
 impl<'i, 't, 'o, L: Feed, T: Tree, W: Sink> Session<'i, 't, 'o, L, T, W> {
     /// Prints the line of each file, and goes on with the next after a file that can't be read or
     /// named. Answers the status.
-    pub(crate) fn print_digests<'n, E: Sink>(
+    pub fn print_digests<'n, E: Sink>(
         &mut self,
         requested: Requested,
         parts: Option<u64>,

@@ -6,7 +6,8 @@ ghost use Rattle.task.specs.Requested.{IsWithin};
 ghost use Rattle.command.specs.Joining.{JoinRuns};
 ghost use Rattle.command.specs.inside.Joining.{JoinsList, JoinsLists};
 ghost use Rattle.command.specs.inside.Reading.{Leaves, failed};
-ghost use Rattle.command.specs.inside.Streams.{AfterReading, IfContent, IfTold, SameStreams, TakesCourse};
+ghost use Rattle.command.specs.Streams.{IfTold, TakesCourse};
+ghost use Rattle.command.specs.inside.Streams.{AfterReading, IfContent, SameStreams};
 
 use crate::fault::Fault;
 use crate::output::{named, write_output_beside};
@@ -19,7 +20,7 @@ use task::Stretch;
 impl<'i, 't, 'o, L: Feed, T: Tree, W: Sink> Session<'i, 't, 'o, L, T, W> {
     /// Prints the line that `hash` prints of the bytes of which the lists tell the parts, line after line
     /// and list after list. Nothing is written before all lists were read.
-    pub(crate) fn print_joined<'n>(
+    pub fn print_joined<'n>(
         &mut self,
         stretch: Stretch,
         bytes: Option<u64>,

@@ -4,7 +4,8 @@ ghost use Rattle.std.specs.Prelude.{◌≡◌, ◌*◌, ◌-◌, ◌≤◌, [], 
 ghost use Rattle.command.specs.Keying.{KdfRuns, derived_by, expanded};
 ghost use Rattle.command.specs.Keying as spec;
 ghost use Rattle.command.specs.inside.Keys.{Extracts, PrintsDerived, PrintsKey, function_with};
-ghost use Rattle.command.specs.inside.Streams.{AfterFile, SameStreams, TakesCourse};
+ghost use Rattle.command.specs.Streams.{TakesCourse};
+ghost use Rattle.command.specs.inside.Streams.{AfterFile, SameStreams};
 ghost use Rattle.task.specs.Deriving.{HasKey, by_blake3, derivation_shown};
 
 use crate::fault::Fault;
@@ -23,7 +24,7 @@ const OUTPUT_LIMIT: usize = 16320;
 
 impl<'i, 't, 'o, L: Feed, T: Tree, W: Sink> Session<'i, 't, 'o, L, T, W> {
     /// Prints the key that is derived of a file: its digits and LF, or nothing but its bytes.
-    pub(crate) fn print_key<'n>(
+    pub fn print_key<'n>(
         &mut self,
         derivation: &Derivation<'n>,
         is_raw: bool,

@@ -10,7 +10,8 @@ ghost use Rattle.command.specs.Lines.{digest_line};
 ghost use Rattle.command.specs.inside.Hashed.{IsReadOn, PrintsNameAt, ReadsName};
 ghost use Rattle.command.specs.inside.Listing.{ListTaken};
 ghost use Rattle.command.specs.inside.Reading.{failed};
-ghost use Rattle.command.specs.inside.Streams.{IfTold, SameStreams, TakesCourse};
+ghost use Rattle.command.specs.Streams.{IfTold, TakesCourse};
+ghost use Rattle.command.specs.inside.Streams.{SameStreams};
 
 use crate::fault::{Fault, tell};
 use crate::session::{Session, Streams, open_file};
@@ -22,7 +23,7 @@ use task::Requested;
 impl<'i, 't, 'o, L: Feed, T: Tree, W: Sink> Session<'i, 't, 'o, L, T, W> {
     /// Prints the line of each file that a list names, with a NUL between two names, and goes on with
     /// the next after a name that is none. Answers the status.
-    pub(crate) fn print_digests_from<'n, E: Sink>(
+    pub fn print_digests_from<'n, E: Sink>(
         &mut self,
         requested: Requested,
         parts: Option<u64>,

@@ -9,7 +9,8 @@ ghost use Rattle.command.specs.inside.Faults as spec;
 ghost use Rattle.command.specs.inside.Faults.{noted_of, of_check};
 ghost use Rattle.command.specs.inside.Listing.{ListTaken};
 ghost use Rattle.command.specs.inside.Reading.{failed};
-ghost use Rattle.command.specs.inside.Streams.{SameStreams, TakesCourse};
+ghost use Rattle.command.specs.Streams.{TakesCourse};
+ghost use Rattle.command.specs.inside.Streams.{SameStreams};
 
 use crate::fault::Fault;
 use crate::session::{Session, Streams, open_file};
@@ -20,7 +21,7 @@ use sumlist::{CheckFault, Kind, Summary, Tree, check, write_summary};
 impl<'i, 't, 'o, L: Feed, T: Tree, W: Sink> Session<'i, 't, 'o, L, T, W> {
     /// Prints the report, tells how many lines had each outcome where that is asked for, and answers 0
     /// where every line that is not skipped is OK, else 1.
-    pub(crate) fn print_report<'n, E: Sink>(
+    pub fn print_report<'n, E: Sink>(
         &mut self,
         kind: Kind,
         is_summed: bool,

@@ -3,7 +3,8 @@
 ghost use Rattle.std.specs.Prelude.{◌≡◌, [], false, true, IfOk, IfSome, Some};
 ghost use Rattle.source.specs.Counts.{count_after};
 ghost use Rattle.command.specs.inside.Reading.{Absorbs, AbsorbsLine, Leaves, OpensFile, failed};
-ghost use Rattle.command.specs.inside.Streams.{AfterReading, IfContent, SameStreams, Seen, seen_of};
+ghost use Rattle.command.specs.Streams.{Seen};
+ghost use Rattle.command.specs.inside.Streams.{AfterReading, IfContent, SameStreams, seen_of};
 
 use crate::fault::Fault;
 use crate::output::named;
@@ -14,15 +15,15 @@ use words::Absorb;
 
 /// Memory, standard input, the files by name, and standard output.
 #[derive(Drop)]
-pub(crate) struct Session<'i, 't, 'o, L: Feed, T: Tree, W: Sink> {
-    pub(crate) alloc: Global,
-    pub(crate) input: &'i mut L,
-    pub(crate) tree: &'t mut T,
-    pub(crate) out: &'o mut W,
+pub struct Session<'i, 't, 'o, L: Feed, T: Tree, W: Sink> {
+    pub alloc: Global,
+    pub input: &'i mut L,
+    pub tree: &'t mut T,
+    pub out: &'o mut W,
 }
 
 /// What clauses see of a session.
-pub(crate) trait Streams {
+pub trait Streams {
     ghost seen: { Self → Seen };
 }
 

@@ -9,7 +9,8 @@ ghost use Rattle.command.specs.Keying.{key_content, mac_line};
 ghost use Rattle.command.specs.Troubles.{trouble_of};
 ghost use Rattle.command.specs.inside.Keys.{PrintsTag, function_with};
 ghost use Rattle.command.specs.inside.Reading.{failed};
-ghost use Rattle.command.specs.inside.Streams.{AfterReading, IfContent, SameStreams, TakesCourse};
+ghost use Rattle.command.specs.Streams.{TakesCourse};
+ghost use Rattle.command.specs.inside.Streams.{AfterReading, IfContent, SameStreams};
 ghost use Rattle.task.specs.Tagging.{HasTag, key_shown};
 
 use crate::fault::Fault;
@@ -28,7 +29,7 @@ const KEY_LIMIT: usize = 65536;
 
 impl<'i, 't, 'o, L: Feed, T: Tree, W: Sink> Session<'i, 't, 'o, L, T, W> {
     /// Prints the line of the file's tag, or whether it is the one that is wanted.
-    pub(crate) fn print_tag<'n>(
+    pub fn print_tag<'n>(
         &mut self,
         mac: Mac,
         key: Key<'n>,

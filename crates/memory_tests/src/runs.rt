@@ -2,7 +2,7 @@
 
 use crate::calls::Lack;
 use crate::files::files;
-use command::run;
+use program::run;
 use source::{Bytes, Sink};
 use std::alloc::Global;
 use sumlist::MemoryTree;

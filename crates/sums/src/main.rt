@@ -10,7 +10,8 @@ mod progress;
 mod tests;
 mod watched;
 
-use command::{Fault, FileTree, run, tell, write_text};
+use command::{Fault, FileTree, tell, write_text};
+use program::run;
 use progress::{Erasing, Progress};
 use request::line;
 use source::{Device, FixedSink, Sink, write_all};

@@ -11,17 +11,9 @@ use Rattle.sumlist.specs.declared.checking.CheckFault.TheVariants as check
 use Rattle.sumlist.specs.declared.summary.Summary.{Summary}
 use Rattle.sumlist.specs.declared.tree.OpenFault.{OpenFault}
 use Rattle.sumlist.specs.declared.tree.OpenFault.TheVariants as opening
-use Rattle.task.specs.declared.fault.TaskFault.{TaskFault}
-use Rattle.task.specs.declared.fault.TaskFault.TheVariants as task
 use Rattle.command.specs.Checking.{noted}
 use Rattle.command.specs.declared.fault.Fault.{Fault}
 use Rattle.command.specs.declared.fault.Fault.TheVariants.{BadLine, CannotRead, CannotWrite, OutOfMemory, TooLong}
-use Rattle.command.specs.declared.fault.Fault.TheVariants.{Usage}
-
--- the request makes no task
-abbrev pub of_task : TaskFault → Fault
-of_task (task.Usage fault) = Usage fault
-of_task task.OutOfMemory = OutOfMemory
 
 -- a file of this name did not open
 abbrev pub of_open : OpenFault → Bor Text → Fault

@@ -1,5 +1,5 @@
-use Rattle.command.proofs.Whole.{no_task, quiet_task, told_task}
-use Rattle.command.proofs.session.Session.run_request.Goals as goal
+use Rattle.program.proofs.Whole.{no_task, quiet_task, told_task}
+use Rattle.program.proofs.run_request.Goals as goal
 
 pub returns-in_err-requested-clause-course : goal.returns-in_err-requested-clause-course
 returns-in_err-requested-clause-course g c =

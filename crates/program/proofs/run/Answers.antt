@@ -1,7 +1,7 @@
 use Rattle.std.proofs.Common.{map, ap, rules, Err, ◌∙◌}
 use Rattle.request.specs.CommandLine.{kind_of}
-use Rattle.command.proofs.Whole.{handed_back, run_answered, run_done, run_stopped, run_without_memory}
-use Rattle.command.proofs.run.Goals as goal
+use Rattle.program.proofs.Whole.{handed_back, run_answered, run_done, run_stopped, run_without_memory}
+use Rattle.program.proofs.run.Goals as goal
 
 pub returns-in-Err-OutOfMemory : goal.returns-in-Err-OutOfMemory
 returns-in-Err-OutOfMemory g c =
@@ -16,7 +16,7 @@ returns-in-Err-Words g c =
 pub returns-in-Ok-run_request : goal.returns-in-Ok-run_request
 returns-in-Ok-run_request g c =
     let words = map (λ w. w.now) c.args.words.now in
-    let left = c.run_request.new.self in
+    let left = c.run_request.new.session in
     handed_back words g.W.Sink.shown g.L.Feed.failure_count g.T.Tree.failure_count _ _ _ _ _ _ _ _ left.out.now _
     left.input.now _ left.tree.now _ (search rules) (search rules) (search rules)
     (run_done words _ _ c.in-Ok.request _ _ _ _ _ _ _ _ _ c.in-Ok.ensures.passes c.in-Ok.ensures.request
@@ -25,7 +25,7 @@ returns-in-Ok-run_request g c =
 pub returns-in-Err : goal.returns-in-Err
 returns-in-Err g c =
     let words = map (λ w. w.now) c.args.words.now in
-    let left = c.run_request.new.self in
+    let left = c.run_request.new.session in
     handed_back words g.W.Sink.shown g.L.Feed.failure_count g.T.Tree.failure_count _ _ _ _ _ _ _ _ left.out.now _
     left.input.now _ left.tree.now _ (search rules) (search rules) (search rules)
     (run_stopped words _ _ c.in-Ok.request c.in-Err.fault _ _ _ _ _ _ _ _ _ _ c.in-Ok.ensures.passes

@@ -14,11 +14,10 @@ use Rattle.task.specs.declared.fault.TaskFault.TheVariants as task
 use Rattle.request.specs.declared.request.Request.{Request}
 use Rattle.command.specs.Course.{Counted, Course, Printed, Runs, Takes, Tells, ending_told, no_failures}
 use Rattle.command.specs.Course.{refused_by, status_at}
-use Rattle.command.specs.Program.{IsAnswered, ProgramRuns, RequestRuns, TaskRuns}
-use Rattle.command.specs.Troubles.{out_of_memory, status_of, told, trouble_of}
+use Rattle.command.specs.Troubles.{of_task, out_of_memory, status_of, told, trouble_of}
 use Rattle.command.specs.declared.fault.Fault.{Fault}
-use Rattle.command.specs.inside.Faults.{of_task}
 use Rattle.command.proofs.Telling.{Tells-more, Tells-none}
+use Rattle.program.specs.Program.{IsAnswered, ProgramRuns, RequestRuns, TaskRuns}
 
 Counted-none : (i u : ℕ) → Counted no_failures i i u u
 Counted-none i u = (omega arith, omega arith)

@@ -1,0 +1,118 @@
+//! A whole run of `sums`: from the words to the status.
+#![tactic(auto)]
+
+ghost use Rattle.std.specs.Prelude.{IfSome, map};
+ghost use Rattle.request.specs.CommandLine.{kind_of};
+ghost use Rattle.command.specs.Course.{Tells};
+ghost use Rattle.command.specs.Streams.{TakesCourse};
+ghost use Rattle.command.specs.inside.Streams.{SameStreams};
+ghost use Rattle.program.specs.Program.{IsAnswered, ProgramRuns, RequestRuns};
+
+pub use memory::run_in_memory;
+
+mod memory;
+
+use command::{Fault, Session, Streams, tell, write_text};
+use request::{Error, Request, WordsFault, line};
+use source::{Feed, Sink};
+use std::alloc::Global;
+use sumlist::Tree;
+use task::{Names, Task};
+
+/// One whole run over the words, the program's own name first, with the standard streams and the
+/// files: it answers the status. What `err` does not take is dropped.
+pub fn run<L: Feed, T: Tree, W: Sink, E: Sink>(
+    alloc: Global,
+    words: &[&str],
+    input: &mut L,
+    tree: &mut T,
+    out: &mut W,
+    err: &mut E,
+) -> u8
+    ensures { IfSome (L.remaining input.old) (λ bytes. IfSome (T.files tree.old) (λ files.
+        ProgramRuns (map (λ w. w.now) words.entry.now) bytes files result
+        (W.shown out.old) (W.shown out.new) (E.shown err.old) (E.shown err.new)
+        (L.failure_count input.old) (L.failure_count input.new)
+        (T.failure_count tree.old) (T.failure_count tree.new))) }
+{
+    let request = match line(alloc, words) {
+        Ok(request) => request,
+        Err(WordsFault::OutOfMemory) => return tell(err, Fault::OutOfMemory),
+        Err(WordsFault::Words(error)) => return print_clap(&error, out, err),
+    };
+    let mut session = Session {
+        alloc,
+        input,
+        tree,
+        out,
+    };
+    match run_request(&mut session, request, err) {
+        Ok(status) => status,
+        Err(fault) => tell(err, fault),
+    }
+}
+
+// What the request asks for, done over the streams of the session.
+fn run_request<'n, 'i, 't, 'o, L: Feed, T: Tree, W: Sink, E: Sink>(
+    session: &mut Session<'i, 't, 'o, L, T, W>,
+    request: Request<'n>,
+    err: &mut E,
+) -> Result<u8, Fault<'n>>
+    ensures course { TakesCourse (λ bytes files. RequestRuns request.entry files bytes)
+        (λ notes. Tells (E.shown err.old) (E.shown err.new) notes) result
+        (⟦<Session<'i, 't, 'o, L, T, W> as Streams>⟧.seen session.old)
+        (⟦<Session<'i, 't, 'o, L, T, W> as Streams>⟧.seen session.new) }
+    ensures same { SameStreams session.old session.new }
+{
+    match Task::of(session.alloc, request)? {
+        Task::Hash {
+            requested,
+            parts,
+            names,
+        } => match names {
+            Names::Given(files) => session.print_digests(requested, parts, files.as_slice(), err),
+            Names::From(list) => session.print_digests_from(requested, parts, list, err),
+        },
+        Task::Part {
+            first,
+            chunks,
+            file,
+        } => session.print_part(first, chunks, file),
+        Task::Join {
+            stretch,
+            bytes,
+            name,
+            lists,
+        } => session.print_joined(stretch, bytes, name, lists.as_slice()),
+        Task::Mac {
+            mac,
+            key,
+            wanted,
+            file,
+        } => session.print_tag(mac, key, wanted, file),
+        Task::Kdf {
+            derivation,
+            is_raw,
+            material,
+        } => session.print_key(&derivation, is_raw, material),
+        Task::Check {
+            kind,
+            is_summed,
+            list,
+        } => session.print_report(kind, is_summed, list, err),
+    }
+}
+
+// Help and the version go to standard output, and what is wrong with the words to standard error.
+fn print_clap<W: Sink, E: Sink>(error: &Error, out: &mut W, err: &mut E) -> u8
+    ensures { IsAnswered (kind_of error.now) result (W.shown out.old) (W.shown out.new) }
+{
+    if error.use_stderr() {
+        let _ = write_text(err, error);
+        return 2;
+    }
+    match write_text(out, error) {
+        Ok(()) => 0,
+        Err(_) => tell(err, Fault::CannotWrite),
+    }
+}
