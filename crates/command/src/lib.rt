@@ -2,14 +2,12 @@
 #![tactic(auto)]
 
 pub use fault::{Fault, tell, write_text};
-pub use files::FileTree;
 pub use laws::join_laws;
 pub use session::{Session, Streams};
 
 mod cutting;
 mod digests;
 mod fault;
-mod files;
 mod joining;
 mod keys;
 mod laws;

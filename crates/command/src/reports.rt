@@ -5,7 +5,6 @@ ghost use Rattle.source.specs.Counts.{count_after};
 ghost use Rattle.source.specs.Written.{Writes};
 ghost use Rattle.command.specs.Checking.{CheckRuns, ChecksList, noted};
 ghost use Rattle.command.specs.Course.{Tells};
-ghost use Rattle.command.specs.inside.Faults as spec;
 ghost use Rattle.command.specs.inside.Faults.{noted_of, of_check};
 ghost use Rattle.command.specs.inside.Listing.{ListTaken};
 ghost use Rattle.command.specs.inside.Reading.{failed};
@@ -93,21 +92,11 @@ fn status_of(answer: Result<Summary, CheckFault>, name: &str) -> Result<u8, Faul
     ensures { result ≡ of_check answer name.entry }
 {
     match answer {
-        Ok(summary) if is_clean(&summary) => Ok(0),
+        Ok(summary) if summary.is_clean() => Ok(0),
         Ok(_) => Ok(1),
         Err(CheckFault::ListRead) => Err(Fault::CannotRead(name)),
         Err(CheckFault::ListTooLong) => Err(Fault::TooLong(name)),
         Err(CheckFault::Write) => Err(Fault::CannotWrite),
         Err(CheckFault::OutOfMemory) => Err(Fault::OutOfMemory),
     }
-}
-
-fn is_clean(summary: &Summary) -> bool
-    ensures { result ≡ spec.is_clean summary.now }
-{
-    summary.failed == 0
-        && summary.missing == 0
-        && summary.unreadable == 0
-        && summary.too_long == 0
-        && summary.malformed == 0
 }

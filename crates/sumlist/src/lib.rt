@@ -14,6 +14,7 @@
 
 pub use checking::{CheckFault, check};
 pub use entry::{Entry, EntryFault};
+pub use files::FileTree;
 pub use fitting::{fits, tagged_fits};
 pub use kind::Kind;
 pub use laws::report_laws;
@@ -31,6 +32,7 @@ mod body;
 mod checking;
 mod entry;
 mod escaping;
+mod files;
 mod fitting;
 mod kind;
 mod labels;

@@ -10,7 +10,7 @@ mod progress;
 mod tests;
 mod watched;
 
-use command::{Fault, FileTree, tell, write_text};
+use command::{Fault, tell, write_text};
 use program::run;
 use progress::{Erasing, Progress};
 use request::line;
@@ -19,6 +19,7 @@ use std::alloc::{AllocError, Global};
 use std::io;
 use std::io::{ErrorKind, LineWriter, Write};
 use std::process::ExitCode;
+use sumlist::FileTree;
 use watched::{Watched, WatchedTree};
 
 // No line of a list or a report is longer, and no fault that tells of a word: Linux takes none of

@@ -3,11 +3,11 @@
 ghost use Rattle.std.specs.Prelude.{◌≡◌, None};
 ghost use Rattle.source.specs.Counts.{next_count};
 
+use crate::tree::{OpenFault, Tree};
 use source::{Device, Feed};
 use std::fs::OpenOptions;
 use std::io::{ErrorKind, Seek, SeekFrom};
 use std::rt::Files;
-use sumlist::{OpenFault, Tree};
 
 /// The files of the system.
 #[derive(Drop)]
