@@ -26,7 +26,8 @@ const RUN: u64 = 1024;
 
 impl<'i, 't, 'o, L: Feed, T: Tree, W: Sink> Session<'i, 't, 'o, L, T, W> {
     /// Prints the line of a part of the file: its bytes from the chunk `first` on, in so many chunks
-    /// or to the end.
+    /// of 1,024 bytes or to the end. Answers 0. The faults are `CannotRead`, `NoBytes` where none stand
+    /// there, `TooLong` where they are more than can be a part there, `CannotWrite` and `OutOfMemory`.
     pub fn print_part<'n>(
         &mut self,
         first: u64,

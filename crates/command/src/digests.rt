@@ -30,7 +30,9 @@ use words::Tag;
 
 impl<'i, 't, 'o, L: Feed, T: Tree, W: Sink> Session<'i, 't, 'o, L, T, W> {
     /// Prints the line of each file, and goes on with the next after a file that can't be read or
-    /// named. Answers the status.
+    /// named, which is told on `err`. Answers the status: 1 where one had no line, else 0. The faults
+    /// are `CannotWrite` and `OutOfMemory`, after which no further file is read. `parts` is how many
+    /// chunks of 1,024 bytes are hashed as one part.
     pub fn print_digests<'n, E: Sink>(
         &mut self,
         requested: Requested,

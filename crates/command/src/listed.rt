@@ -22,7 +22,9 @@ use task::Requested;
 
 impl<'i, 't, 'o, L: Feed, T: Tree, W: Sink> Session<'i, 't, 'o, L, T, W> {
     /// Prints the line of each file that a list names, with a NUL between two names, and goes on with
-    /// the next after a name that is none. Answers the status.
+    /// the next after a name that is none, which is told by its number. Answers the status, and has the
+    /// faults of `print_digests`, and those of the list: `CannotRead`, and `TooLong` above 2^64 - 1
+    /// bytes.
     pub fn print_digests_from<'n, E: Sink>(
         &mut self,
         requested: Requested,

@@ -19,7 +19,9 @@ use sumlist::{CheckFault, Kind, Summary, Tree, check, write_summary};
 
 impl<'i, 't, 'o, L: Feed, T: Tree, W: Sink> Session<'i, 't, 'o, L, T, W> {
     /// Prints the report, tells how many lines had each outcome where that is asked for, and answers 0
-    /// where every line that is not skipped is OK, else 1.
+    /// where every line that is not skipped is OK, else 1. The faults are `CannotRead` of the list,
+    /// `TooLong` where it has more than 2^64 - 1 bytes, `CannotWrite` and `OutOfMemory`; what was
+    /// written before is a beginning of the report.
     pub fn print_report<'n, E: Sink>(
         &mut self,
         kind: Kind,
