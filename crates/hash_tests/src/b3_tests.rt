@@ -339,58 +339,83 @@ fn as_many_values_are_held_as_the_closed_chunks_have_one_bits(rt: HostRuntime) -
 }
 
 // The lengths at which groups of eight chunks, and runs of such groups, begin and end: on a border, before it
-// and behind it, each cut once, with the last chunk open.
+// and behind it, each cut once, with the last chunk open. A length, where it is cut, and how many chaining
+// values are held.
+const EIGHTS: &[(usize, usize, usize)] = &[
+    (8192, 8192, 3),
+    (8193, 8193, 1),
+    (8193, 8192, 1),
+    (8193, 1, 1),
+    (16384, 16384, 4),
+    (16384, 8191, 4),
+    (16385, 16385, 1),
+    (16385, 1, 1),
+    (16385, 16384, 1),
+    (2048, 2048, 1),
+    (3072, 3072, 1),
+    (4096, 4096, 2),
+    (5120, 5120, 1),
+    (7168, 7168, 2),
+    (17408, 1024, 1),
+    (16384, 3072, 4),
+    (32768, 32768, 5),
+    (32768, 24576, 5),
+    (65536, 65536, 6),
+    (65537, 65537, 1),
+    (65536, 32768, 6),
+];
+
 #[test]
 fn eight_chunks_at_once_are_eight_chunks(rt: HostRuntime) -> Result<(), Fail> {
-    // A length, where it is cut, and how many chaining values are held.
-    let table = [
-        (8192, 8192, 3),
-        (8193, 8193, 1),
-        (8193, 8192, 1),
-        (8193, 1, 1),
-        (16384, 16384, 4),
-        (16384, 8191, 4),
-        (16385, 16385, 1),
-        (16385, 1, 1),
-        (16385, 16384, 1),
-        (2048, 2048, 1),
-        (3072, 3072, 1),
-        (4096, 4096, 2),
-        (5120, 5120, 1),
-        (7168, 7168, 2),
-        (17408, 1024, 1),
-        (16384, 3072, 4),
-        (32768, 32768, 5),
-        (32768, 24576, 5),
-        (65536, 65536, 6),
-        (65537, 65537, 1),
-        (65536, 32768, 6),
-    ];
     let context = slow_tree(&IV, 32, 0, CONTEXT);
     let mut derived = [0; 32];
     slow_bytes(&context, &mut derived);
-    for (length, first, held) in table {
-        let input = counting(rt.alloc(), length)?;
-        let input = input.as_slice();
-        let cut = input.len().min(first);
-        let cases = [
-            (Blake3::new(), IV, 0),
-            (Blake3::keyed(KEY), slow_key(KEY), 16),
-            (Blake3::derive(CONTEXT), slow_key(&derived), 64),
-        ];
-        for (hasher, key, flags) in cases {
-            let mut hasher = hasher;
-            assert!(rt; hasher.update(&input[..cut]).is_ok());
-            assert!(rt; hasher.update(&input[cut..]).is_ok());
-            assert_eq!(rt; hasher.held(), held, "{length} bytes, cut at {first}");
-            let mut fast = [0; 70];
-            assert!(rt; read_at(&hasher, 0, &mut fast));
-            let mut slow = [0; 70];
-            slow_bytes(&slow_tree(&key, flags, 0, input), &mut slow);
-            assert_eq!(rt; fast, slow, "{length} bytes, cut at {first}, flag {flags}");
-        }
+    for (length, first, held) in EIGHTS {
+        let input = counting(rt.alloc(), *length)?;
+        assert_eq!(rt;
+            held_in_each_mode(input.as_slice(), *first, &derived),
+            [Some(*held); 3],
+            "{length} bytes, cut at {first}"
+        );
     }
     Ok(())
+}
+
+// How many chaining values are held behind two pieces, where the output is that of the root.
+fn held_where_right(hasher: Blake3, root: &Root, first: &[u8], second: &[u8]) -> Option<usize> {
+    let mut hasher = hasher;
+    hasher.update(first).ok()?;
+    hasher.update(second).ok()?;
+    let (mut fast, mut slow) = ([0; 70], [0; 70]);
+    if !read_at(&hasher, 0, &mut fast) {
+        return None;
+    }
+    slow_bytes(root, &mut slow);
+    if fast == slow {
+        Some(hasher.held())
+    } else {
+        None
+    }
+}
+
+// The same for each mode, where the key material has this key.
+fn held_in_each_mode(input: &[u8], cut: usize, derived: &[u8; 32]) -> [Option<usize>; 3] {
+    let (first, second) = input.split_at(input.len().min(cut));
+    [
+        held_where_right(Blake3::new(), &slow_tree(&IV, 0, 0, input), first, second),
+        held_where_right(
+            Blake3::keyed(KEY),
+            &slow_tree(&slow_key(KEY), 16, 0, input),
+            first,
+            second,
+        ),
+        held_where_right(
+            Blake3::derive(CONTEXT),
+            &slow_tree(&slow_key(derived), 64, 0, input),
+            first,
+            second,
+        ),
+    ]
 }
 
 #[test]

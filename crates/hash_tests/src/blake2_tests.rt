@@ -600,8 +600,19 @@ fn the_personalized_digests_of_hashlib(rt: HostRuntime) -> Result<(), Fail> {
     Ok(())
 }
 
-fn fault<H: Drop>(made: Result<H, ParameterFault>) -> Option<ParameterFault> {
-    made.err()
+// What the constructors with a key answer, with no salt and no personalization.
+fn faults_2b(digest_length: usize, key: &[u8]) -> [Option<ParameterFault>; 2] {
+    [
+        Blake2b::keyed(digest_length, key).err(),
+        Blake2b::with_parameters(digest_length, key, &[0; 16], &[0; 16]).err(),
+    ]
+}
+
+fn faults_2s(digest_length: usize, key: &[u8]) -> [Option<ParameterFault>; 2] {
+    [
+        Blake2s::keyed(digest_length, key).err(),
+        Blake2s::with_parameters(digest_length, key, &[0; 8], &[0; 8]).err(),
+    ]
 }
 
 #[test]
@@ -628,60 +639,74 @@ fn refused_parameters(rt: HostRuntime) -> Result<(), Fail> {
     ] {
         let key = long.get(..key_length).ok_or("too long a row")?;
         assert_eq!(rt;
-            fault(Blake2b::keyed(digest_length, key)),
-            large,
+            faults_2b(digest_length, key),
+            [large; 2],
             "{digest_length} {key_length}"
         );
         assert_eq!(rt;
-            fault(Blake2s::keyed(digest_length, key)),
-            small,
+            faults_2s(digest_length, key),
+            [small; 2],
             "{digest_length} {key_length}"
         );
-        assert_eq!(rt;
-            fault(Blake2b::with_parameters(digest_length, key, &[0; 16], &[0; 16])),
-            large,
-            "{digest_length} {key_length}"
-        );
-        assert_eq!(rt;
-            fault(Blake2s::with_parameters(digest_length, key, &[0; 8], &[0; 8])),
-            small,
-            "{digest_length} {key_length}"
-        );
-        if key_length == 0 {
-            assert_eq!(rt;
-                fault(Blake2b::new(digest_length)),
-                large,
-                "{digest_length}"
-            );
-            assert_eq!(rt;
-                fault(Blake2s::new(digest_length)),
-                small,
-                "{digest_length}"
-            );
-        }
     }
     Ok(())
 }
 
 #[test]
-fn rooms(rt: HostRuntime) -> Result<(), Fail> {
+fn refused_digest_lengths(rt: HostRuntime) {
+    let digest = Some(ParameterFault::DigestLength);
+    // The digest's length, and what BLAKE2b and BLAKE2s answer.
+    for (digest_length, large, small) in [
+        (0, digest, digest),
+        (1, None, None),
+        (33, None, digest),
+        (65, digest, digest),
+        (usize::MAX, digest, digest),
+    ] {
+        assert_eq!(rt; Blake2b::new(digest_length).err(), large, "{digest_length}");
+        assert_eq!(rt; Blake2s::new(digest_length).err(), small, "{digest_length}");
+    }
+}
+
+fn room_2b(made: Result<Blake2b, ParameterFault>) -> Option<u128> {
+    Some(made.ok()?.room())
+}
+
+fn room_2s(made: Result<Blake2s, ParameterFault>) -> Option<u64> {
+    Some(made.ok()?.room())
+}
+
+#[test]
+fn rooms(rt: HostRuntime) {
+    assert_eq!(rt; room_2s(Blake2s::new(32)), Some(18446744073709551615));
+    assert_eq!(rt;
+        room_2s(Blake2s::keyed(32, b"k")),
+        Some(18446744073709551551)
+    );
+    assert_eq!(rt;
+        room_2s(Blake2s::keyed(32, b"")),
+        Some(18446744073709551615)
+    );
+    assert_eq!(rt;
+        room_2s(Blake2s::with_parameters(32, b"k", &[1; 8], &[2; 8])),
+        Some(18446744073709551551)
+    );
+    assert_eq!(rt; room_2b(Blake2b::new(64)), Some(u128::MAX));
+    assert_eq!(rt; room_2b(Blake2b::keyed(64, b"k")), Some(u128::MAX - 128));
+}
+
+#[test]
+fn room_left_behind_a_piece(rt: HostRuntime) -> Result<(), Fail> {
     let mut hasher = Blake2s::new(32).ok().ok_or("refused")?;
-    assert_eq!(rt; hasher.room(), 18446744073709551615);
     absorb(&mut hasher, &[&[0; 100]])?;
     assert_eq!(rt; hasher.room(), 18446744073709551515);
     assert_eq!(rt; Absorb::room(&hasher), 18446744073709551515);
-    let hasher = Blake2s::keyed(32, b"k").ok().ok_or("refused")?;
-    assert_eq!(rt; hasher.room(), 18446744073709551551);
-    let hasher = Blake2s::keyed(32, b"").ok().ok_or("refused")?;
-    assert_eq!(rt; hasher.room(), 18446744073709551615);
-    let hasher = Blake2s::with_parameters(32, b"k", &[1; 8], &[2; 8])
-        .ok()
-        .ok_or("refused")?;
-    assert_eq!(rt; hasher.room(), 18446744073709551551);
-    let hasher = Blake2b::new(64).ok().ok_or("refused")?;
-    assert_eq!(rt; hasher.room(), u128::MAX);
+    Ok(())
+}
+
+#[test]
+fn room_of_absorb_under_a_key(rt: HostRuntime) -> Result<(), Fail> {
     let hasher = Blake2b::keyed(64, b"k").ok().ok_or("refused")?;
-    assert_eq!(rt; hasher.room(), u128::MAX - 128);
     assert_eq!(rt; Absorb::room(&hasher), u128::MAX - 128);
     Ok(())
 }

@@ -77,22 +77,27 @@ fn two_halves_of_one_subtree_are_joined_and_others_handed_back(
     ];
     let input = counting(rt.alloc(), 3072)?;
     let input = input.as_slice();
-    for (first, length, second, more, expected) in table {
+    for (first, length, second, more, is_joined) in table {
+        let expected = if is_joined {
+            Ok((length + more) as u64)
+        } else {
+            Err((first, second))
+        };
         let left = Part::of(Mode::Hash, first, run(input, 0, length))?;
         let right = Part::of(Mode::Hash, second, run(input, 0, more))?;
-        match Part::join(left, right) {
-            Ok(part) => {
-                assert!(rt; expected, "{first} and {second}");
-                assert_eq!(rt; part.told().len(), (length + more) as u64);
-            }
-            Err(NotNeighbours { left, right }) => {
-                assert!(rt; !expected, "{first} and {second}");
-                assert_eq!(rt; left.told().first_chunk(), first);
-                assert_eq!(rt; right.told().first_chunk(), second);
-            }
-        }
+        assert_eq!(rt; joined_len(left, right), expected, "{first} and {second}");
     }
     Ok(())
+}
+
+// The length of the joined part, or the first chunks of the two that are handed back.
+fn joined_len(left: Part, right: Part) -> Result<u64, (u64, u64)> {
+    match Part::join(left, right) {
+        Ok(part) => Ok(part.told().len()),
+        Err(NotNeighbours { left, right }) => {
+            Err((left.told().first_chunk(), right.told().first_chunk()))
+        }
+    }
 }
 
 #[test]
@@ -368,22 +373,35 @@ fn eight_parts_are_joined_in_80_orders_to_one_root(rt: HostRuntime) -> Result<()
     Ok(())
 }
 
+// Pushes the part of so many chunks of the input from `first` on.
+fn push_chunks(
+    row: &mut Row,
+    input: &[u8],
+    first: u64,
+    count: u64,
+) -> Result<Result<(), NotNext>, Fail> {
+    Ok(row.push(chunks(input, first, count)?.told()))
+}
+
+// The row of parts of 16, 8, 4 and 3 chunks: 31 chunks.
+fn row_of_31(input: &[u8]) -> Result<Row, Fail> {
+    let mut row = Row::of(Mode::Hash, chunks(input, 0, 16)?.told());
+    for (first, count) in [(16, 8), (24, 4), (28, 3)] {
+        push_chunks(&mut row, input, first, count)?.map_err(|_| "refused")?;
+    }
+    Ok(row)
+}
+
 #[test]
 fn a_row_of_told_parts_has_the_digest_of_all(rt: HostRuntime) -> Result<(), Fail> {
-    // Parts of 16, 8, 4 and 3 chunks: 31 chunks, as b3sum hashes them.
     let input = counting(rt.alloc(), 31_744)?;
-    let mut row = Row::of(Mode::Hash, chunks(input.as_slice(), 0, 16)?.told());
-    for (first, count) in [(16, 8), (24, 4), (28, 3)] {
-        assert_eq!(rt;
-            row.push(chunks(input.as_slice(), first, count)?.told()),
-            Ok(())
-        );
-    }
+    let row = row_of_31(input.as_slice())?;
     assert_eq!(rt; row.count(), 31_744);
     let mut out = [0; 32];
     if let Ok(mut output) = row.output() {
         assert!(rt; output.fill(&mut out).is_ok());
     }
+    // As b3sum has it.
     assert_eq!(rt;
         digits(rt.alloc(), &out)?.as_str(),
         "62b6960e1a44bcc1eb1a611a8d6235b6b4b78f32e7abc4fb4c6cdcce94895c47"
@@ -392,19 +410,35 @@ fn a_row_of_told_parts_has_the_digest_of_all(rt: HostRuntime) -> Result<(), Fail
 }
 
 #[test]
-fn a_row_takes_no_part_that_does_not_come_next(rt: HostRuntime) -> Result<(), Fail> {
+fn a_row_of_one_part_tells_no_root(rt: HostRuntime) -> Result<(), Fail> {
     let input = counting(rt.alloc(), 8192)?;
-    let mut row = Row::of(Mode::Hash, chunks(input.as_slice(), 0, 2)?.told());
+    let row = Row::of(Mode::Hash, chunks(input.as_slice(), 0, 2)?.told());
     assert!(rt;
         matches!(row.output(), Err(NotWhole)),
         "a chaining value tells no root"
     );
-    for (first, count) in [(3, 1), (4, 1), (0, 2), (1, 1)] {
-        let part = chunks(input.as_slice(), first, count)?.told();
-        assert_eq!(rt; row.push(part), Err(NotNext), "chunk {first}");
+    Ok(())
+}
+
+#[test]
+fn a_row_takes_no_part_that_does_not_come_next(rt: HostRuntime) -> Result<(), Fail> {
+    let input = counting(rt.alloc(), 8192)?;
+    let input = input.as_slice();
+    let mut row = Row::of(Mode::Hash, chunks(input, 0, 2)?.told());
+    for (first, count, expected) in [
+        (3, 1, Err(NotNext)),
+        (4, 1, Err(NotNext)),
+        (0, 2, Err(NotNext)),
+        (1, 1, Err(NotNext)),
+        (2, 1, Ok(())),
+        (3, 1, Ok(())),
+    ] {
+        assert_eq!(rt;
+            push_chunks(&mut row, input, first, count)?,
+            expected,
+            "chunk {first}"
+        );
     }
-    assert_eq!(rt; row.push(chunks(input.as_slice(), 2, 1)?.told()), Ok(()));
-    assert_eq!(rt; row.push(chunks(input.as_slice(), 3, 1)?.told()), Ok(()));
     assert_eq!(rt; row.count(), 4096);
     Ok(())
 }
