@@ -1,9 +1,8 @@
 //! Hashes files, makes tags and keys, and checks lists of digests.
 #![tactic(auto)]
 
-ghost use Rattle.std.specs.Prelude.{IsSomeAnd, IsTrue, codes, map};
-ghost use Rattle.clap.specs.Words.{subcommand_of};
-ghost use Rattle.request.specs.CommandLine.{IsGiven, OfSums};
+ghost use Rattle.std.specs.Prelude.{IfOk, map};
+ghost use Rattle.sums.specs.Asking.{IsAsked};
 
 mod progress;
 #[cfg(test)]
@@ -13,7 +12,7 @@ mod watched;
 use command::{Fault, tell, write_text};
 use program::run;
 use progress::{Erasing, Progress};
-use request::line;
+use request::{WordsFault, line};
 use source::{Device, FixedSink, Sink, write_all};
 use std::alloc::{AllocError, Global};
 use std::io;
@@ -81,7 +80,9 @@ fn run_words<W: Sink, E: Sink>(
     };
     match texts_of(alloc, words.as_slice()) {
         Ok(texts) => {
-            if texts.contains(&"--progress") && asks_for_progress(alloc, texts.as_slice()) {
+            if texts.contains(&"--progress")
+                && asks_for_progress(alloc, texts.as_slice()).unwrap_or(false)
+            {
                 progress.begin();
             }
             let mut input = Watched::new(Device::new(rt.stdin()), progress.watch_input());
@@ -93,13 +94,13 @@ fn run_words<W: Sink, E: Sink>(
 }
 
 // Whether the words make a request with the flag: a file of its name, behind `--`, is none.
-fn asks_for_progress(alloc: Global, words: &[&str]) -> bool
-    ensures { IsTrue result → OfSums (λ app. IsSomeAnd
-        (subcommand_of app (map (λ w. w.now) words.entry.now)) (λ s. IsGiven (codes "progress") s.1)) }
+fn asks_for_progress(alloc: Global, words: &[&str]) -> Result<bool, AllocError>
+    ensures { IfOk result (λ asks. IsAsked asks (map (λ w. w.now) words.entry.now)) }
 {
     match line(alloc, words) {
-        Ok(request) => request.progress,
-        Err(_) => false,
+        Ok(request) => Ok(request.progress),
+        Err(WordsFault::Words(_)) => Ok(false),
+        Err(WordsFault::OutOfMemory) => Err(AllocError),
     }
 }
 

@@ -1,13 +1,11 @@
-use Rattle.request.specs.CommandLine.{IsRequestOf}
-use Rattle.sums.proofs.Asking.{weaker}
+use Rattle.std.proofs.Common.{Err, ap, inl, inr, refl}
+use Rattle.request.specs.CommandLine.{kind_of}
 use Rattle.sums.proofs.asks_for_progress.Goals as goal
 
 pub returns-in-Ok : goal.returns-in-Ok
-returns-in-Ok c given =
-    let asked = c.in-Ok.ensures.request in (
-      asked.0,
-      asked.1,
-      asked.2,
-      asked.3,
-      weaker _ (λ s (reads : IsRequestOf s c.in-Ok.request). reads.progress.0 given) asked.4,
-    )
+returns-in-Ok c = inl (c.in-Ok.request, c.in-Ok.ensures.passes, c.in-Ok.ensures.request, refl)
+
+pub returns-in-Err-Words : goal.returns-in-Err-Words
+returns-in-Err-Words c =
+    let error = c.in-Err-Words.field-0-0 in
+    inr (kind_of error, c.in-Err-Words.ensures.fault error (ap Err c.in-Err-Words.field-0-is), refl)
