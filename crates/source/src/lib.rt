@@ -20,7 +20,7 @@ pub use feed::{Feed, ReadFailed};
 pub use fixed_sink::FixedSink;
 pub use parts::{output_in_parts, part_of};
 pub use pumping::{SourceFault, pump};
-pub use sink::{Sink, WriteFailed, write_all};
+pub use sink::{Sink, WriteFailed, write_all, write_pieces};
 pub use vec_sink::VecSink;
 
 mod alg;

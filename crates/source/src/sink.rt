@@ -1,5 +1,6 @@
 // What bytes go to.
 
+ghost use Rattle.source.specs.Pumped.{joined};
 ghost use Rattle.source.specs.Written.{IsWrite, Shown, Writes};
 
 use thiserror::Error;
@@ -30,6 +31,17 @@ pub fn write_all<W: Sink>(out: &mut W, bytes: &[u8]) -> Result<(), WriteFailed>
         let count = out.write(rest)?;
         let (_, after) = rest.split_at(count);
         rest = after;
+    }
+    Ok(())
+}
+
+/// Writes the pieces, one after another and each whole. An `Err` wrote a beginning of all that they are
+/// together, and one write failed.
+pub fn write_pieces<W: Sink>(out: &mut W, pieces: &[&[u8]]) -> Result<(), WriteFailed>
+    ensures { Writes result (W.shown out.old) (W.shown out.new) (joined pieces.now) }
+{
+    for piece in pieces {
+        write_all(out, piece)?;
     }
     Ok(())
 }
