@@ -1,5 +1,5 @@
 -- The words of a line are cut out of it in one way.
-use Rattle.std.proofs.Common.{◌≡◌, ℕ, ◌<◌, ◌^◌, List, [], ◌∷◌, ◌++◌, Contains, refl, ap, sym, ◌∙◌, append_assoc, zero}
+use Rattle.std.proofs.Common.{◌≡◌, ℕ, ◌<◌, ◌^◌, List, [], ◌∷◌, ◌++◌, Contains, refl, zero}
 use Rattle.std.proofs.Common.{suc, arith, rules}
 use Rattle.std.specs.Fmt.{decimal}
 use Rattle.std.specs.Str.{IsUtf8}
@@ -51,12 +51,3 @@ pub cut_number_once : (n k : ℕ) (rest x : List ℕ) → n < 2 ^ 64 → k < 2 ^
 cut_number_once n k rest x hn hk e =
     let cut = cut_decimal k (decimal n) rest x hk e (no_space (decimal n) (decimal_is_IsNumeral n hn).0.1) in
     (decimal_injective n k hn hk cut.0, cut.1)
-
--- a written line as its four pieces
-pub line_pieces : (head first len value : List ℕ) → (head ++ (first ++ 32 ∷ (len ++ 32 ∷ value))) ++ 10 ∷ []
-    ≡ head ++ ((first ++ 32 ∷ []) ++ ((len ++ 32 ∷ []) ++ (value ++ 10 ∷ [])))
-line_pieces h f l v =
-    append_assoc h (f ++ 32 ∷ (l ++ 32 ∷ v)) (10 ∷ [])
-    ∙ ap (λ t. h ++ t) (append_assoc f (32 ∷ (l ++ 32 ∷ v)) (10 ∷ [])
-    ∙ ap (λ t. f ++ 32 ∷ t) (append_assoc l (32 ∷ v) (10 ∷ []) ∙ sym (append_assoc l (32 ∷ []) (v ++ 10 ∷ [])))
-    ∙ sym (append_assoc f (32 ∷ []) ((l ++ 32 ∷ []) ++ (v ++ 10 ∷ []))))

@@ -11,7 +11,7 @@ ghost use Rattle.partlist.specs.PartLine.{Tells, part_line};
 
 use b3::PartValue;
 use itoa::Buffer;
-use source::{Sink, WriteFailed, write_all};
+use source::{Sink, WriteFailed, write_pieces};
 
 const HEAD: [u8; 19] = *b"sums-part-1 blake3 ";
 
@@ -21,28 +21,19 @@ pub fn write_part<W: Sink>(part: &PartValue, out: &mut W) -> Result<(), WriteFai
     ensures { Writes result (W.shown out.old) (W.shown out.new)
         (part_line (value_first part.now) (value_len part.now) (word_bytes 4 (value_words part.now)) ++ 10 ∷ []) }
 {
-    write_all(out, &HEAD)?;
-    write_number(part.first_chunk(), out)?;
-    write_number(part.len(), out)?;
-    write_value(&part.bytes(), out)
+    let (mut first, mut len, digits) = (Buffer::new(), Buffer::new(), digits_of(part));
+    let first = first.format(part.first_chunk()).as_bytes();
+    let len = len.format(part.len()).as_bytes();
+    write_pieces(out, &[&HEAD, first, b" ", len, b" ", &digits, b"\n"])
 }
 
-// Writes the number and a space.
-fn write_number<W: Sink>(number: u64, out: &mut W) -> Result<(), WriteFailed>
-    ensures { Writes result (W.shown out.old) (W.shown out.new) (decimal number ++ 32 ∷ []) }
-{
-    write_all(out, Buffer::new().format(number).as_bytes())?;
-    write_all(out, b" ")
-}
-
-// Writes the digits of the value and LF.
-fn write_value<W: Sink>(value: &[u8; 32], out: &mut W) -> Result<(), WriteFailed>
-    ensures { Writes result (W.shown out.old) (W.shown out.new) (encode_lower value.now ++ 10 ∷ []) }
+// The digits of its chaining value.
+fn digits_of(part: &PartValue) -> [u8; 64]
+    ensures { result ≡ encode_lower (word_bytes 4 (value_words part.now)) }
 {
     let mut digits = [0; 64];
-    hex::encode_to_slice(value.as_slice(), &mut digits).unwrap();
-    write_all(out, &digits)?;
-    write_all(out, b"\n")
+    hex::encode_to_slice(part.bytes().as_slice(), &mut digits).unwrap();
+    digits
 }
 
 /// The part that a line tells, which has no LF. A line that is spelt otherwise than `write_part`

@@ -1,10 +1,8 @@
 -- The first piece of a text ends at its first end, and the other pieces are those of the rest.
-use Rattle.sumlist.proofs.Common.{◌≡◌, ◌≢◌, ◌<◌, ◌≤◌, false, true, List, [], ◌∷◌, ◌++◌, length, get_or, take, refl, ap}
-use Rattle.sumlist.proofs.Common.{◌∙◌, arith, eqb, length-take-le, nat_tests, lines, HasNoEnd, ℕ}
+use Rattle.sumlist.proofs.Common.{◌≡◌, ◌<◌, true, List, [], ◌∷◌, ◌++◌, length, refl, ap}
+use Rattle.sumlist.proofs.Common.{◌∙◌, arith, eqb, lines, HasNoEnd, ℕ}
 use Rattle.std.specs.List.{slice_split}
 use Rattle.std.proofs.lemmas.List.Splits.{slice_split_at, slice_split_none, length-slice_split}
-use Rattle.std.proofs.lemmas.List.Elements.{All-from_get_or}
-use Rattle.std.proofs.lemmas.List.{get_or-take}
 use Rattle.sumlist.specs.Lines.{HasNo, pieces, without_empty_last}
 
 without_empty_last-cons : (x y : List ℕ) (ys : List (List ℕ))
@@ -34,15 +32,3 @@ lines-ended line rest h = pieces-ended 10 line rest refl h
 
 pub lines-last : (line : List ℕ) → 0 < length line → HasNoEnd line → lines line ≡ line ∷ lines []
 lines-last line some h = pieces-last 10 line some h
-
-pub HasNo-take : (end : ℕ) (xs : List ℕ) (n : ℕ) → n ≤ length xs → ((k : ℕ) → k < n → get_or xs k 0 ≢ end)
-    → HasNo end (take n xs)
-HasNo-take end xs n fits h =
-    let size = length-take-le n xs fits in
-    All-from_get_or (λ x. eqb x end ≡ false) (take n xs) 0
-    (λ k lt. let below : k < n = omega (arith, size) in let same = get_or-take n xs k 0 below in let apart =
-    h k below in grind (arith, nat_tests))
-
-pub HasNoEnd-take : (xs : List ℕ) (n : ℕ) → n ≤ length xs → ((k : ℕ) → k < n → get_or xs k 0 ≢ 10)
-    → HasNoEnd (take n xs)
-HasNoEnd-take xs n fits h = HasNo-take 10 xs n fits h

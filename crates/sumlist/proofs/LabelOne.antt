@@ -1,7 +1,7 @@
 -- Lines that name their algorithm mean at most one entry.
 use Rattle.sumlist.proofs.Common.{◌≡◌, ◌⊎◌, inl, inr, ◌+◌, ◌*◌, ◌≤◌, List, ◌∷◌, ◌++◌, length, length-append, get_or}
 use Rattle.sumlist.proofs.Common.{take, drop, refl, sym, ap, ◌∙◌, subst, arith, drop-append_seam, decode_of}
-use Rattle.sumlist.proofs.Common.{decode_of-same, Alg, tag_len, IsInRange, IsCut, Ended, IsLabel, Labelled, opening}
+use Rattle.sumlist.proofs.Common.{decode_of-same, Alg, tag_len, IsInRange, IsCut, Ended, IsLabel, Labelled}
 use Rattle.sumlist.proofs.Common.{closing, ℕ, codes, decimal, take-append_seam}
 use Rattle.std.proofs.lemmas.Fmt.{decimal_injective}
 use Rattle.source.specs.declared.alg.Alg.TheVariants.{Sha256, Sha512, Blake2b, Blake2s, Blake3}
@@ -82,28 +82,29 @@ ended_unique rest n x y ds es p q =
     (u.0, ap (drop 4) u.1)
 
 -- a text that is cut at its first space
-module _ {text label rest : List ℕ} (c : IsCut text label rest) where
-  pub labelled_at : {b : Alg} {t y : List ℕ} (q : Labelled text b t y)
-      → (label ≡ q.label) × (rest ≡ opening (y ++ closing q.digits))
-  labelled_at {b} {t} {y} q =
-      cut_word c q.label (40 ∷ (y ++ closing q.digits)) (label_word q.label b q.range q.names) q.whole
+module _ {text label rest : List ℕ} (c : IsCut 32 text label rest) {b : Alg} {t y : List ℕ}
+    (q : Labelled text b t y) where
+  pub labelled_at : (label ≡ q.label) × (rest ≡ 40 ∷ (y ++ closing q.digits))
+  labelled_at = cut_word c q.label (40 ∷ (y ++ closing q.digits)) (label_word q.label b q.range q.names) q.whole
 
-  pub labelled_alg : (a : Alg) → IsInRange a → IsLabel label a → {b : Alg} {t y : List ℕ} → Labelled text b t y → a ≡ b
-  labelled_alg a range names {b} q =
-      label_unique label a b range q.range names (subst (λ l. IsLabel l b) (sym (labelled_at q).0) q.names)
+  pub labelled_alg : (a : Alg) → IsInRange a → IsLabel label a → a ≡ b
+  labelled_alg a range names =
+      label_unique label a b range q.range names (subst (λ l. IsLabel l b) (sym labelled_at.0) q.names)
 
-  pub labelled_end : (a : Alg) → IsInRange a → IsLabel label a → {b : Alg} {t y : List ℕ} (q : Labelled text b t y)
-      → Ended (drop 2 rest) (2 * tag_len a) y q.digits
-  labelled_end a range names q =
-      (ap (drop 2) (labelled_at q).1, q.sized ∙ ap (λ k. 2 * tag_len k) (sym (labelled_alg a range names q)))
+  pub labelled_end : {m : ℕ} {after : List ℕ} → rest ≡ m ∷ after → (a : Alg) → IsInRange a → IsLabel label a
+      → Ended after (2 * tag_len a) y q.digits
+  labelled_end e a range names = (
+    (let both = sym e ∙ labelled_at.1 in cc),
+    q.sized ∙ ap (λ k. 2 * tag_len k) (sym (labelled_alg a range names)),
+  )
 
-pub labelled_unique : (text : List ℕ) (a b : Alg) (s t x y : List ℕ) → Labelled text a s x → Labelled text b t y
+pub labelled_unique : {text : List ℕ} {a b : Alg} {s t x y : List ℕ} → Labelled text a s x → Labelled text b t y
     → (a ≡ b) × (s ≡ t) × (x ≡ y)
-labelled_unique text a b s t x y p q =
-    let c = word_cut text p.label (40 ∷ (x ++ closing p.digits)) (label_word p.label a p.range p.names) p.whole in
-    let u = ended_unique _ _ x y p.digits q.digits (labelled_end c a p.range p.names p)
-    (labelled_end c a p.range p.names q) in (
-      labelled_alg c a p.range p.names q,
+labelled_unique {a} {s} {t} {x} {y} p q =
+    let c = word_cut p.label (40 ∷ (x ++ closing p.digits)) (label_word p.label a p.range p.names) p.whole in
+    let u = ended_unique _ _ x y p.digits q.digits (labelled_end c p refl a p.range p.names)
+    (labelled_end c q refl a p.range p.names) in (
+      labelled_alg c q a p.range p.names,
       decode_of-same p.digits s t p.tag_is (ap decode_of u.1 ∙ q.tag_is),
       u.0,
     )

@@ -1,7 +1,7 @@
 -- Whether a text is a tagged line without a name's escapes.
 use Rattle.sumlist.proofs.Common.{◌≡◌, ◌⊎◌, inl, inr, ◌+◌, ◌-◌, ◌*◌, ◌<◌, ◌≤◌, List, [], ◌∷◌, ◌++◌, length}
 use Rattle.sumlist.proofs.Common.{length-append, take, drop, take-append-drop, refl, sym, ap, ◌∙◌, subst, Option, Some}
-use Rattle.sumlist.proofs.Common.{None, Result, Err, arith, slice_index, MatchOption, drop-append_seam, cases_eq}
+use Rattle.sumlist.proofs.Common.{None, Result, Err, arith, MatchOption, drop-append_seam, cases_eq}
 use Rattle.sumlist.proofs.Common.{cases_lt, decode_of, decode_of-ok, FromHexError, Alg, tag_len, IsInRange, IsCut}
 use Rattle.sumlist.proofs.Common.{NoLabelled, IsLabel, Labelled, closing, Ended, ℕ, Ok, codes, take-append_seam}
 use Rattle.sumlist.proofs.Common.{decimal}
@@ -10,7 +10,8 @@ use Rattle.std.proofs.lemmas.List.{append_cancel_left}
 use Rattle.source.specs.declared.alg.Alg.TheVariants.{Sha256, Sha512, Blake2b, Blake2s, Blake3}
 use Rattle.sumlist.specs.inside.Labels.{NotNamed, NotNumbered, IsNumbered, NotEnded}
 use Rattle.sumlist.proofs.Either.{Either, either_same}
-use Rattle.sumlist.proofs.Words.{cut, first_space}
+use Rattle.sumlist.specs.Lines.{HasNo}
+use Rattle.sumlist.proofs.Words.{cut, no_cut}
 use Rattle.sumlist.proofs.Untagging.{tag_small}
 use Rattle.sumlist.proofs.LabelOne.{ended_unique, labelled_at, labelled_end}
 
@@ -105,68 +106,69 @@ ended_cases rest n = elim (cases_lt (length rest) (n + 4)) [
 abbrev pub SomeLabelled : List ℕ → Type 0
 SomeLabelled text = (a : Alg) × (t : List ℕ) × (x : List ℕ) × Labelled text a t x
 
-module _ {text label rest : List ℕ} (c : IsCut text label rest) where
+module _ {text label rest : List ℕ} (c : IsCut 32 text label rest) where
   pub no_label : NotNamed label → NoLabelled text
   no_label none b t y q = none b q.range (subst (λ l. IsLabel l b) (sym (labelled_at c q).0) q.names)
 
-  pub no_label_short : length rest < 2 → NoLabelled text
-  no_label_short short b t y q = let size = ap length (labelled_at c q).1 in omega (arith, size, short)
+  pub no_label_short : length rest ≡ 0 → NoLabelled text
+  no_label_short none b t y q = let size = ap length (labelled_at c q).1 in omega (arith, size, none)
 
-  pub no_label_mark : (slice_index rest 1 ≡ 40 → ⊥) → NoLabelled text
-  no_label_mark apart b t y q = apart (ap (λ l. slice_index l 1) (labelled_at c q).1)
+  module _ {m : ℕ} {after : List ℕ} (e : rest ≡ m ∷ after) where
+    pub no_label_mark : (m ≡ 40 → ⊥) → NoLabelled text
+    no_label_mark apart b t y q = apart (let both = sym e ∙ (labelled_at c q).1 in cc)
 
-  pub no_label_end : (a : Alg) → IsInRange a → IsLabel label a → NotEnded (drop 2 rest) (2 * tag_len a)
-      → NoLabelled text
-  no_label_end a range names none b t y q = none y q.digits (labelled_end c a range names q)
+    module _ (a : Alg) (range : IsInRange a) (names : IsLabel label a) where
+      pub no_label_end : NotEnded after (2 * tag_len a) → NoLabelled text
+      no_label_end none b t y q = none y q.digits (labelled_end c q e a range names)
 
-  pub no_label_tag : (a : Alg) → IsInRange a → IsLabel label a → (body digits : List ℕ)
-      → Ended (drop 2 rest) (2 * tag_len a) body digits
-      → ((tag : List ℕ) → decode_of digits ≡ Ok tag → 64 < length tag) → NoLabelled text
-  no_label_tag a range names body digits e none b t y q =
-      let end = labelled_end c a range names q in
-      let same = (ended_unique (drop 2 rest) (2 * tag_len a) body y digits q.digits e end).1 in
-      let long = none t (ap decode_of same ∙ q.tag_is) in
-      let whole = (decode_of-ok q.digits t q.tag_is).2 in
-      let size = end.1 in
-      let small = tag_small a range in
-      omega (arith, long, whole, size, small)
+      pub no_label_tag : (body digits : List ℕ) → Ended after (2 * tag_len a) body digits
+          → ((tag : List ℕ) → decode_of digits ≡ Ok tag → 64 < length tag) → NoLabelled text
+      no_label_tag body digits ended none b t y q =
+          let end = labelled_end c q e a range names in
+          let same = (ended_unique after (2 * tag_len a) body y digits q.digits ended end).1 in
+          let long = none t (ap decode_of same ∙ q.tag_is) in
+          let whole = (decode_of-ok q.digits t q.tag_is).2 in
+          let size = end.1 in
+          let small = tag_small a range in
+          omega (arith, long, whole, size, small)
 
-  labelled_by : (a : Alg) → IsInRange a → IsLabel label a → 2 ≤ length rest → slice_index rest 1 ≡ 40
-      → (body digits : List ℕ) → Ended (drop 2 rest) (2 * tag_len a) body digits
-      → (r : Result (List ℕ) FromHexError) → decode_of digits ≡ r → SomeLabelled text ⊎ NoLabelled text
-  labelled_by a range names long mark body digits e (Err f) d =
-      inr (no_label_tag a range names body digits e (λ tag g. let bad : Err f ≡ Ok tag = sym d ∙ g in cc))
-  labelled_by a range names long mark body digits e (Ok t) d = inl (
-    a,
-    t,
-    body,
-    record {
-      label = label;
-      digits = digits;
-      whole = first_space c long ∙ ap (λ m. label ++ 32 ∷ m ∷ drop 2 rest) mark
-          ∙ ap (λ l. label ++ 32 ∷ 40 ∷ l) e.0;
-      range = range;
-      names = names;
-      sized = e.1;
-      tag_is = d;
-    },
-  )
+      labelled_by : m ≡ 40 → (body digits : List ℕ) → Ended after (2 * tag_len a) body digits
+          → (r : Result (List ℕ) FromHexError) → decode_of digits ≡ r → SomeLabelled text ⊎ NoLabelled text
+      labelled_by mark body digits ended (Err f) d =
+          inr (no_label_tag body digits ended (λ tag g. let bad : Err f ≡ Ok tag = sym d ∙ g in cc))
+      labelled_by mark body digits ended (Ok t) d = inl (
+        a,
+        t,
+        body,
+        record {
+          label = label;
+          digits = digits;
+          whole = c.whole ∙ ap (λ l. label ++ 32 ∷ l) (e ∙ ap (λ k. k ∷ after) mark ∙ ap (λ l. 40 ∷ l) ended.0);
+          range = range;
+          names = names;
+          sized = ended.1;
+          tag_is = d;
+        },
+      )
 
-  labelled_named : Named label → SomeLabelled text ⊎ NoLabelled text
-  labelled_named n = elim (cases_lt (length rest) 2) [
-    | inl short ↦ inr (no_label_short short)
-    | inr long ↦ elim (cases_eq (slice_index rest 1) 40) [
-      | inr apart ↦ inr (no_label_mark apart)
-      | inl mark ↦ elim (ended_cases (drop 2 rest) (2 * tag_len n.0)) [
-        | inl e ↦ labelled_by n.0 n.1 n.2 long mark e.0 e.1 e.2 (decode_of e.1) refl
-        | inr none ↦ inr (no_label_end n.0 n.1 n.2 none)
-      ]
+  labelled_named : Named label → (left : List ℕ) → rest ≡ left → SomeLabelled text ⊎ NoLabelled text
+  labelled_named n [] e = inr (no_label_short (ap length e))
+  labelled_named n (m ∷ after) e = elim (cases_eq m 40) [
+    | inr apart ↦ inr (no_label_mark e apart)
+    | inl mark ↦ elim (ended_cases after (2 * tag_len n.0)) [
+      | inl d ↦ labelled_by e n.0 n.1 n.2 mark d.0 d.1 d.2 (decode_of d.1) refl
+      | inr none ↦ inr (no_label_end e n.0 n.1 n.2 none)
     ]
   ]
 
+pub no_labelled : {text : List ℕ} → HasNo 32 text → NoLabelled text
+no_labelled free b t y q = no_cut q.label (40 ∷ (y ++ closing q.digits)) (subst (HasNo 32) q.whole free)
+
 pub labelled_cases : (text : List ℕ) → SomeLabelled text ⊎ NoLabelled text
-labelled_cases text = let c = cut text in
-    elim (named_cases c.0) [ inl n ↦ labelled_named c.2 n | inr none ↦ inr (no_label c.2 none) ]
+labelled_cases text = elim (cut text) [
+  | inr free ↦ inr (no_labelled free)
+  | inl c ↦ elim (named_cases c.0) [ inl n ↦ labelled_named c.2 n c.1 refl | inr none ↦ inr (no_label c.2 none) ]
+]
 
 -- ---- a front and a number
 

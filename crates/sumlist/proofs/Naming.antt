@@ -1,47 +1,16 @@
 -- The names of bytes that come piece by piece, the beginning of a name being held.
-use Rattle.std.proofs.Common.{suc, ap₂, not}
-use Rattle.std.proofs.lemmas.List.{drop-drop}
-use Rattle.std.proofs.Common.{drop-cons}
+use Rattle.std.proofs.Common.{not}
 use Rattle.std.specs.Prelude.{IsTrue, ◌↔◌}
 use Rattle.std.specs.Io.KnownBytes.{IsAtEnd}
-use Rattle.sumlist.proofs.Common.{◌≡◌, ◌+◌, ◌<◌, ◌≤◌, Bool, true, false, List, [], ◌∷◌, ◌++◌, length, get_or, take}
+use Rattle.sumlist.proofs.Common.{◌≡◌, ◌+◌, Bool, true, false, List, [], ◌∷◌, ◌++◌, length}
 use Rattle.sumlist.proofs.Common.{length-append, refl, sym, ap, ◌∙◌, subst, append_assoc, append-nil, Option, Some}
-use Rattle.sumlist.proofs.Common.{drop, None, IfSome, arith, eqb, cond, take-append-drop, nat_le, nat_tests, Consumes, All-append}
+use Rattle.sumlist.proofs.Common.{None, IfSome, arith, eqb, Consumes, All-append}
 use Rattle.sumlist.proofs.Common.{All-nil, IfSome_then, false≢true, ℕ}
-use Rattle.sumlist.specs.Lines.{HasNo}
-use Rattle.sumlist.specs.Naming.{IsKept, IsNext, Reading, names}
-use Rattle.sumlist.specs.inside.Held.{held_after}
+use Rattle.sumlist.specs.Lines.{HasNo, IsKept}
+use Rattle.sumlist.specs.Naming.{IsNext, Reading, names}
 use Rattle.sumlist.specs.inside.Taking.{IsTaken}
 use Rattle.sumlist.proofs.Cutting.{pieces-ended, pieces-last}
-
--- what is ahead, cut behind a NUL
-pub cut_found : (w : List ℕ) (start at : ℕ) (ahead : List ℕ) → ahead ≡ drop start w → at < length ahead
-    → get_or ahead at 0 ≡ 0 → ahead ≡ take at ahead ++ 0 ∷ drop (start + (at + 1)) w
-cut_found w start at ahead is within found =
-    let behind : drop (suc at) ahead ≡ drop (start + (at + 1)) w =
-    ap (drop (suc at)) is ∙ drop-drop (suc at) start w ∙ ap (λ n. drop n w) (omega arith) in
-    sym (take-append-drop at ahead)
-    ∙ ap (λ l. take at ahead ++ l) (drop-cons ahead at 0 within ∙ ap₂ (λ x l. x ∷ l) found behind)
-
-kept_or_not : (bytes front piece : List ℕ) (b : Bool) → nat_le (length (bytes ++ piece)) 65536 ≡ b → front ≡ bytes
-    → IsKept (cond b (Some (bytes ++ piece)) None) (front ++ piece)
-kept_or_not bytes front piece true e same =
-    let short : length (bytes ++ piece) ≤ 65536 = grind (arith, nat_tests) in
-    (ap (λ l. l ++ piece) same, subst (λ l. length (l ++ piece) ≤ 65536) (sym same) short)
-kept_or_not bytes front piece false e same =
-    let long : 65536 < length (bytes ++ piece) = grind (arith, nat_tests) in
-    subst (λ l. 65536 < length (l ++ piece)) (sym same) long
-
-IsKept-after : (held : Option (List ℕ)) (front piece : List ℕ) → IsKept held front
-    → IsKept (held_after held piece) (front ++ piece)
-IsKept-after (Some bytes) front piece h =
-    kept_or_not bytes front piece (nat_le (length (bytes ++ piece)) 65536) refl h.0
-IsKept-after None front piece h = let size = length-append front piece in omega (arith, size, h)
-
-some_kept : (kept : Option (List ℕ)) (front : List ℕ) → (kept ≡ Some [] → ⊥) → IsKept kept front → 0 < length front
-some_kept None front apart h = omega (arith, h)
-some_kept (Some []) front apart h = absurd (apart refl)
-some_kept (Some (x ∷ bytes)) front apart h = let same = ap length h.0 in omega (arith, same)
+use Rattle.sumlist.proofs.Keeping.{IsKept-after, some_kept, taken}
 
 -- how far the next name has come: its beginning, and what is still to be taken
 pub record Coming (whole : List ℕ) (r : Reading) (left : List ℕ) (total : ℕ) : Type 0 where
@@ -106,11 +75,6 @@ found bytes ahead r s now total t h = IfSome_then bytes h (λ xs g. (
         ap names moved ∙ pieces-ended 0 name (s.ahead ++ g.0) refl free,
       )),
 ))
-
-taken : (now after : Option (List ℕ)) (piece left : List ℕ) → now ≡ Some left → Consumes now after piece
-    → (more : List ℕ) × (after ≡ Some more) × (left ≡ piece ++ more)
-taken now None piece left e q = absurd (subst (λ o. Consumes o None piece) e q)
-taken now (Some more) piece left e q = (more, refl, subst (λ o. Consumes o (Some more) piece) e q)
 
 -- a piece was read
 pub more : (bytes : Option (List ℕ)) (ahead piece : List ℕ) (r s : Reading) (now after : Option (List ℕ))

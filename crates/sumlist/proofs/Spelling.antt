@@ -1,10 +1,10 @@
 -- A line that is written of an entry spells it: its core is the whole line, since no CR and no LF is in it.
 use Rattle.sumlist.proofs.Common.{◌≡◌, ◌≢◌, inl, inr, ◌-◌, ◌*◌, ◌/◌, ◌%◌, ◌<◌, ◌≤◌, Bool, true, false, List, [], ◌∷◌}
-use Rattle.sumlist.proofs.Common.{◌++◌, length, append_assoc, length-append, if◌then◌else◌, slice_index, refl, sym, ap}
-use Rattle.sumlist.proofs.Common.{◌∙◌, subst, Some, Result, eqb, leb, arith, rules, All, AllPass, All-append, All-cons}
+use Rattle.sumlist.proofs.Common.{◌++◌, length, length-append, if◌then◌else◌, slice_index, refl, sym, ap}
+use Rattle.sumlist.proofs.Common.{◌∙◌, subst, Some, eqb, leb, arith, rules, All, AllPass, All-append, All-cons}
 use Rattle.sumlist.proofs.Common.{All-nil, All-weaker, nat_tests, decode_of-encode_lower, length-encode_with, IsBytes}
-use Rattle.sumlist.proofs.Common.{encode_lower, lower_digits, tag_len, IsInRange, Alg, Shown, Writes, Kind, Listing}
-use Rattle.sumlist.proofs.Common.{IsEntry, written, written_len, ending, escaped, escape_of, needs_escape, lead}
+use Rattle.sumlist.proofs.Common.{encode_lower, lower_digits, tag_len, IsInRange, Alg, Kind, Listing}
+use Rattle.sumlist.proofs.Common.{IsEntry, written_len, escaped, escape_of, needs_escape, lead}
 use Rattle.sumlist.proofs.Common.{SpellsByte, SpellsName, alg_of, Parts, HasForm, Stated, core, IsBlank, Spells, ℕ}
 use Rattle.std.proofs.lemmas.List.Elements.{All-contains}
 use Rattle.source.specs.declared.alg.Alg.TheVariants.{Sha256 as sha256, Sha512 as sha512, Blake2b as blake2b}
@@ -98,13 +98,6 @@ module _ (e : Listing) (kind : Kind) (word : List ℕ) (more : List ℕ → List
       }
 
 -- ---- the plain line
-
--- the lead, the digits and the end of a line are the written line
-pub Writes-written : {T E : Type 0} (r : Result T E) (old new : Shown) (e : Listing)
-    → Writes r old new (lead e.name ++ (encode_lower e.tag ++ ending e.name)) → Writes r old new (written e)
-Writes-written r old new e w =
-    let same : lead e.name ++ (encode_lower e.tag ++ ending e.name) ≡ written e = simp append_assoc in
-    subst (Writes r old new) same w
 
 named_by : (n m k : ℕ) → m ≡ 2 * n → 1 ≤ n → m ≤ k → (eqb (m % 2) 0 ≡ true) × (leb 2 m ≡ true) × (leb m k ≡ true)
     × (m / 2 ≡ n)

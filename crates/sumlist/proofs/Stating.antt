@@ -1,9 +1,9 @@
 -- No core states two entries, and whether it states one can be told: a core is a text, or a backslash and a text.
 use Rattle.sumlist.proofs.Common.{◌≡◌, ◌⊎◌, inl, inr, Bool, true, false, List, [], ◌∷◌, ◌++◌, refl, sym, ap, ◌∙◌, subst}
-use Rattle.sumlist.proofs.Common.{slice_index, length, Option, Some, None, Result, MatchOption, append_assoc, arith}
-use Rattle.sumlist.proofs.Common.{cases_eq, IsBytes, decode_of-ok, tag_len, IsInRange, Alg, Shown, Writes, Kind}
+use Rattle.sumlist.proofs.Common.{slice_index, length, Option, Some, None, MatchOption, arith}
+use Rattle.sumlist.proofs.Common.{cases_eq, IsBytes, decode_of-ok, tag_len, IsInRange, Alg, Kind}
 use Rattle.sumlist.proofs.Common.{Listing, name_of, NoParts, NoLabelled, HasNoForm, IsUnslashed, Parts, IsMark, HasForm}
-use Rattle.sumlist.proofs.Common.{Stated, Labelled, opening, closing, ℕ}
+use Rattle.sumlist.proofs.Common.{Stated, Labelled, closing, ℕ}
 use Rattle.sumlist.proofs.Unescaping.{unescaped-spelled, spelled-unescaped}
 use Rattle.sumlist.proofs.Words.{cut_word, digits_word, label_word, no_slash, word_cut}
 use Rattle.sumlist.proofs.Untagging.{parts_cases, parts_fit, parts_unique}
@@ -20,17 +20,17 @@ no_bracket m (inr a) e = omega (arith, a, e)
 not_both : (text : List ℕ) (kind : Kind) (a b : Alg) (s t x y : List ℕ) → Parts text kind a s x → Labelled text b t y
     → ⊥
 not_both text kind a b s t x y p q =
-    let c = word_cut text p.digits (p.mark ∷ x) (digits_word p.digits s p.tag_is) p.whole in
+    let c = word_cut p.digits (p.mark ∷ x) (digits_word p.digits s p.tag_is) p.whole in
     let r = cut_word c q.label (40 ∷ (y ++ closing q.digits)) (label_word q.label b q.range q.names) q.whole in
-    no_bracket p.mark p.marked (ap (λ l. slice_index l 1) r.1)
+    no_bracket p.mark p.marked (ap (λ l. slice_index l 0) r.1)
 
 module _ (text : List ℕ) (kind : Kind) where
   pub form_unique : (a b : Alg) (s t x y : List ℕ) → HasForm text kind a s x → HasForm text kind b t y
       → (a ≡ b) × (s ≡ t) × (x ≡ y)
-  form_unique a b s t x y (inl p) (inl q) = parts_unique text kind a b s t x y p q
+  form_unique a b s t x y (inl p) (inl q) = parts_unique kind p q
   form_unique a b s t x y (inl p) (inr q) = absurd (not_both text kind a b s t x y p q)
   form_unique a b s t x y (inr p) (inl q) = absurd (not_both text kind b a t s y x q p)
-  form_unique a b s t x y (inr p) (inr q) = labelled_unique text a b s t x y p q
+  form_unique a b s t x y (inr p) (inr q) = labelled_unique p q
 
   form_no_slash : (a : Alg) (t x : List ℕ) → HasForm (92 ∷ text) kind a t x → ⊥
   form_no_slash a t x (inl p) = no_slash p.digits text (p.mark ∷ x) (digits_word p.digits t p.tag_is) p.whole
@@ -120,8 +120,3 @@ module _ (core : List ℕ) (kind : Kind) where
     | inl p ↦ named c.0 c.1 c.2 p.0 p.1 p.2 p.3 (name_of c.0 p.2) refl
     | inr none ↦ inr (λ e s. let r = stated_parts core kind c.0 c.1 e c.2 s in none e.alg e.tag r.0 r.1)
   ]
-
--- the name in brackets is written in one piece, and the digits in another
-pub Writes-named : {T E : Type 0} (r : Result T E) (a b : Shown) (name digits : List ℕ)
-    → Writes r a b (opening (name ++ closing []) ++ digits) → Writes r a b (opening (name ++ closing digits))
-Writes-named r a b name digits w = subst (Writes r a b) (ap opening (append_assoc name (closing []) digits)) w

@@ -1,25 +1,14 @@
 -- The tagged line of an entry spells it, whatever the kind of its list.
 use Rattle.sumlist.proofs.Common.{◌≡◌, ◌⊎◌, inl, inr, ◌*◌, ◌≤◌, Bool, true, false, List, [], ◌∷◌, ◌++◌, length}
-use Rattle.sumlist.proofs.Common.{append_assoc, length-append, Result, if◌then◌else◌, refl, ap, ◌∙◌, subst, eqb}
+use Rattle.sumlist.proofs.Common.{length-append, if◌then◌else◌, refl, ap, ◌∙◌, eqb}
 use Rattle.sumlist.proofs.Common.{arith, rules, eqb-true, All-append, decode_of-encode_lower, length-encode_with}
-use Rattle.sumlist.proofs.Common.{IsBytes, encode_lower, lower_digits, tag_len, IsInRange, Alg, Shown, Writes, Kind}
+use Rattle.sumlist.proofs.Common.{IsBytes, encode_lower, lower_digits, tag_len, IsInRange, Alg, Kind}
 use Rattle.sumlist.proofs.Common.{Listing, IsEntry, escaped, lead, IsLabel, Labelled, label_of, opening, closing}
-use Rattle.sumlist.proofs.Common.{tagged, tagged_len, Spells, ℕ, codes, decimal}
+use Rattle.sumlist.proofs.Common.{tagged_len, Spells, ℕ, codes, decimal}
 use Rattle.source.specs.declared.alg.Alg.TheVariants.{Sha256, Sha512, Blake2b, Blake2s, Blake3}
 use Rattle.sumlist.specs.Tagged.{tagged_line}
 use Rattle.sumlist.proofs.Spelling.{Inner, escaped_inner, inner_cons, literal_inner, spells_by, word_inner}
 use Rattle.sumlist.proofs.Words.{digits_word, label_word}
-
--- the front, the name and the digits of a line are the tagged line
-tagged_is : (e : Listing) → (lead e.name ++ label_of e.alg)
-    ++ opening (escaped e.name ++ closing (encode_lower e.tag ++ 10 ∷ [])) ≡ tagged e
-tagged_is e = simp append_assoc
-
-pub Writes-tagged : {T E : Type 0} (r : Result T E) (old new : Shown) (e : Listing)
-    → Writes r old new ((lead e.name ++ label_of e.alg)
-    ++ opening (escaped e.name ++ closing (encode_lower e.tag ++ 10 ∷ [])))
-    → Writes r old new (tagged e)
-Writes-tagged r old new e w = subst (Writes r old new) (tagged_is e) w
 
 named_if : (b : Bool) (n k : ℕ) (xs ys : List ℕ) → eqb n k ≡ b
     → ((n ≡ k) × ((if b then xs else ys) ≡ xs)) ⊎ ((if b then xs else ys) ≡ ys)

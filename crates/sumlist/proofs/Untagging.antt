@@ -1,7 +1,7 @@
 -- A text has digits, a mark and a body in one way at most, and whether it has them can be told.
-use Rattle.sumlist.proofs.Common.{slice_index, ◌≡◌, ◌⊎◌, inl, inr, ◌*◌, ◌/◌, ◌%◌, ◌<◌, ◌≤◌, ◌&&◌, Bool, true, false}
-use Rattle.sumlist.proofs.Common.{List, ◌∷◌, length, drop, refl, sym, ap, ◌∙◌, subst, cond, Option, Some, None, Result}
-use Rattle.sumlist.proofs.Common.{Err, arith, nat_le, cases_eq, cases_lt, eqb-true, nat_tests, decode_of, IsBytes}
+use Rattle.sumlist.proofs.Common.{◌≡◌, ◌⊎◌, inl, inr, ◌*◌, ◌/◌, ◌%◌, ◌<◌, ◌≤◌, ◌&&◌, Bool, true, false}
+use Rattle.sumlist.proofs.Common.{List, ◌∷◌, length, refl, sym, ap, ◌∙◌, subst, cond, Option, Some, None, Result}
+use Rattle.sumlist.proofs.Common.{Err, arith, nat_le, cases_eq, eqb-true, nat_tests, decode_of, IsBytes}
 use Rattle.sumlist.proofs.Common.{decode_of-ok, decode_of-same, FromHexError, tag_len, IsInRange, Alg, Kind, IsCut}
 use Rattle.sumlist.proofs.Common.{NoParts, alg_of, Parts, IsMark, ℕ, Ok}
 use Rattle.std.proofs.Common.{◌==◌}
@@ -9,7 +9,9 @@ use Rattle.source.specs.declared.alg.Alg.TheVariants.{Sha256 as sha256, Sha512 a
 use Rattle.source.specs.declared.alg.Alg.TheVariants.{Blake2s as blake2s, Blake3 as blake3}
 use Rattle.sumlist.specs.declared.kind.Kind.TheVariants.{Sha256, Sha512, Blake2b, Blake2s, Blake3}
 use Rattle.sumlist.proofs.Either.{either_or}
-use Rattle.sumlist.proofs.Words.{cut, cut_word, digits_word, first_space, word_cut}
+use Rattle.sumlist.proofs.Common.{◌++◌, []}
+use Rattle.sumlist.specs.Lines.{HasNo}
+use Rattle.sumlist.proofs.Words.{cut, cut_word, digits_word, no_cut, word_cut}
 
 -- ---- the algorithm that a number of digits names
 
@@ -50,15 +52,16 @@ parts_fit {text} {kind} {a} {t} {x} p =
 abbrev pub SomeParts : List ℕ → Kind → Type 0
 SomeParts text kind = (a : Alg) × (t : List ℕ) × (x : List ℕ) × Parts text kind a t x
 
-module _ {text front rest : List ℕ} (kind : Kind) (c : IsCut text front rest) where
-  at : {a : Alg} {t x : List ℕ} (p : Parts text kind a t x) → (front ≡ p.digits) × (rest ≡ 32 ∷ p.mark ∷ x)
-  at {a} {t} {x} p = cut_word c p.digits (p.mark ∷ x) (digits_word p.digits t p.tag_is) p.whole
+module _ {text front rest : List ℕ} (kind : Kind) (c : IsCut 32 text front rest) where
+  at : {a : Alg} {t x : List ℕ} (p : Parts text kind a t x) → (front ≡ p.digits) × (rest ≡ p.mark ∷ x)
+  at {t} {x} p = cut_word c p.digits (p.mark ∷ x) (digits_word p.digits t p.tag_is) p.whole
 
-  pub no_parts_short : length rest < 2 → NoParts text kind
-  no_parts_short short a t x p = let size = ap length (at p).1 in omega (arith, size, short)
+  pub no_parts_short : length rest ≡ 0 → NoParts text kind
+  no_parts_short none a t x p = let size = ap length (at p).1 in omega (arith, size, none)
 
-  pub no_parts_unmarked : (IsMark (slice_index rest 1) → ⊥) → NoParts text kind
-  no_parts_unmarked bad a t x p = bad (subst IsMark (sym (ap (λ l. slice_index l 1) (at p).1)) p.marked)
+  pub no_parts_unmarked : {mark : ℕ} {body : List ℕ} → rest ≡ mark ∷ body → (IsMark mark → ⊥) → NoParts text kind
+  no_parts_unmarked {mark} e bad a t x p = bad (let same : p.mark ≡ mark = (let both = sym (at p).1 ∙ e in cc) in
+      subst IsMark same p.marked)
 
   pub no_parts_alg : alg_of kind (length front) ≡ None → NoParts text kind
   no_parts_alg none a t x p =
@@ -71,40 +74,48 @@ module _ {text front rest : List ℕ} (kind : Kind) (c : IsCut text front rest) 
       let far = long t (ap decode_of (at p).0 ∙ p.tag_is) in
       omega (arith, f.1, small, far)
 
-  pub parts_one : (a b : Alg) (s t x y : List ℕ) → Parts text kind a s x → Parts text kind b t y
+  pub parts_one : {a b : Alg} {s t x y : List ℕ} → Parts text kind a s x → Parts text kind b t y
       → (a ≡ b) × (s ≡ t) × (x ≡ y)
-  parts_one a b s t x y p q =
+  parts_one {a} {b} {s} {t} {x} {y} p q =
       let digits : p.digits ≡ q.digits = sym (at p).0 ∙ (at q).0 in
-      let algs : Some a ≡ Some b = sym p.alg_is ∙ ap (λ d. alg_of kind (length d)) digits ∙ q.alg_is in (
-        cc,
-        decode_of-same p.digits s t p.tag_is (ap decode_of digits ∙ q.tag_is),
-        ap (drop 2) (sym (at p).1 ∙ (at q).1),
-      )
+      let algs : Some a ≡ Some b = sym p.alg_is ∙ ap (λ d. alg_of kind (length d)) digits ∙ q.alg_is in
+      let bodies : p.mark ∷ x ≡ q.mark ∷ y = sym (at p).1 ∙ (at q).1 in
+      (cc, decode_of-same p.digits s t p.tag_is (ap decode_of digits ∙ q.tag_is), cc)
 
-  parts_by : 2 ≤ length rest → IsMark (slice_index rest 1) → (a : Option Alg) → alg_of kind (length front) ≡ a
-      → (t : Result (List ℕ) FromHexError) → decode_of front ≡ t → SomeParts text kind ⊎ NoParts text kind
-  parts_by long marked None p t q = inr (no_parts_alg p)
-  parts_by long marked (Some a) p (Err f) q = inr (no_parts_tag (λ tag e. let bad : Err f ≡ Ok tag = sym q ∙ e in cc))
-  parts_by long marked (Some a) p (Ok t) q = inl (
+  parts_by : {mark : ℕ} {body : List ℕ} → rest ≡ mark ∷ body → IsMark mark → (a : Option Alg)
+      → alg_of kind (length front) ≡ a → (t : Result (List ℕ) FromHexError) → decode_of front ≡ t
+      → SomeParts text kind ⊎ NoParts text kind
+  parts_by e marked None p t q = inr (no_parts_alg p)
+  parts_by e marked (Some a) p (Err f) q = inr (no_parts_tag (λ tag g. let bad : Err f ≡ Ok tag = sym q ∙ g in cc))
+  parts_by {mark} {body} e marked (Some a) p (Ok t) q = inl (
     a,
     t,
-    drop 2 rest,
-    record { digits = front; mark = _; whole = first_space c long; marked = marked; alg_is = p; tag_is = q },
+    body,
+    record {
+      digits = front;
+      mark = mark;
+      whole = c.whole ∙ ap (λ l. front ++ 32 ∷ l) e;
+      marked = marked;
+      alg_is = p;
+      tag_is = q;
+    },
   )
 
-  parts_told : SomeParts text kind ⊎ NoParts text kind
-  parts_told = elim (cases_lt (length rest) 2) [
-    | inl short ↦ inr (no_parts_short short)
-    | inr long ↦ elim (either_or (cases_eq (slice_index rest 1) 32) (cases_eq (slice_index rest 1) 42)) [
-      | inl marked ↦ parts_by long marked (alg_of kind (length front)) refl (decode_of front) refl
-      | inr bad ↦ inr (no_parts_unmarked bad)
-    ]
+  parts_told : (left : List ℕ) → rest ≡ left → SomeParts text kind ⊎ NoParts text kind
+  parts_told [] e = inr (no_parts_short (ap length e))
+  parts_told (mark ∷ body) e = elim (either_or (cases_eq mark 32) (cases_eq mark 42)) [
+    | inl marked ↦ parts_by e marked (alg_of kind (length front)) refl (decode_of front) refl
+    | inr bad ↦ inr (no_parts_unmarked e bad)
   ]
 
-pub parts_cases : (text : List ℕ) (kind : Kind) → SomeParts text kind ⊎ NoParts text kind
-parts_cases text kind = parts_told kind (cut text).2
+pub no_parts : {text : List ℕ} (kind : Kind) → HasNo 32 text → NoParts text kind
+no_parts kind free a t x p = no_cut p.digits (p.mark ∷ x) (subst (HasNo 32) p.whole free)
 
-pub parts_unique : (text : List ℕ) (kind : Kind) (a b : Alg) (s t x y : List ℕ) → Parts text kind a s x
+pub parts_cases : (text : List ℕ) (kind : Kind) → SomeParts text kind ⊎ NoParts text kind
+parts_cases text kind =
+    elim (cut text) [ inl c ↦ parts_told kind c.2 c.1 refl | inr free ↦ inr (no_parts kind free) ]
+
+pub parts_unique : {text : List ℕ} (kind : Kind) {a b : Alg} {s t x y : List ℕ} → Parts text kind a s x
     → Parts text kind b t y → (a ≡ b) × (s ≡ t) × (x ≡ y)
-parts_unique text kind a b s t x y p q =
-    parts_one kind (word_cut text p.digits (p.mark ∷ x) (digits_word p.digits s p.tag_is) p.whole) a b s t x y p q
+parts_unique kind {s} {x} p q =
+    parts_one kind (word_cut p.digits (p.mark ∷ x) (digits_word p.digits s p.tag_is) p.whole) p q

@@ -1,7 +1,7 @@
 -- What stands before the first space of a core is a word, digits or a label: a word has no byte that a line
 -- treats otherwise.
-use Rattle.sumlist.proofs.Common.{◌≡◌, ◌≢◌, inl, inr, ◌+◌, ◌*◌, ◌<◌, ◌≤◌, ◌^◌, ◌%◌, Bool, true, false, ◌&&◌, List, []}
-use Rattle.sumlist.proofs.Common.{◌∷◌, ◌++◌, slice_index, length, drop, append-nil, refl, sym, ap, ◌∙◌, subst, eqb, leb}
+use Rattle.sumlist.proofs.Common.{◌≡◌, ◌≢◌, inl, inr, ◌+◌, ◌*◌, ◌<◌, ◌≤◌, ◌^◌, ◌%◌, true, false, ◌&&◌, List, []}
+use Rattle.sumlist.proofs.Common.{◌∷◌, ◌++◌, slice_index, refl, sym, ap, ◌∙◌, subst, eqb, leb}
 use Rattle.sumlist.proofs.Common.{arith, rules, All, AllPass, All-append, All-cons, All-nil, All-weaker, false≢true}
 use Rattle.sumlist.proofs.Common.{cases_lt, nat_tests, decode_of, decode_of-ok, Alg, IsInRange, IsCut, IsLabel, ℕ}
 use Rattle.sumlist.proofs.Common.{codes, Ok, decimal}
@@ -10,7 +10,9 @@ use Rattle.std.proofs.lemmas.Fmt.{decimal_by_steps}
 use Rattle.std.proofs.lemmas.List.Elements.{All-head, All-tail}
 use Rattle.hex.specs.Hex.{is_hex_digit}
 use Rattle.source.specs.declared.alg.Alg.TheVariants.{Sha256, Sha512, Blake2b, Blake2s, Blake3}
-use Rattle.sumlist.specs.inside.Cut.{NotSpace, HasNoSpace}
+use Rattle.std.proofs.lemmas.Bool.{ne_eqb}
+use Rattle.sumlist.proofs.Common.{cases_eq, eqb-false, ◌⊎◌}
+use Rattle.sumlist.specs.Lines.{HasNo}
 
 -- above a space, `#` and `*`, and no backslash
 abbrev pub InWord : ℕ → Type 0
@@ -74,64 +76,50 @@ pub no_comment : (word rest : List ℕ) → IsWord word → slice_index (word ++
 no_comment [] rest w e = omega (arith, e)
 no_comment (x ∷ word) rest w e = let above = (All-head InWord x word w).0 in omega (arith, e, above)
 
-no_space : (word : List ℕ) → IsWord word → HasNoSpace word
+abbrev NotSpace : ℕ → Type 0
+NotSpace x = eqb x 32 ≡ false
+
+no_space : (word : List ℕ) → IsWord word → HasNo 32 word
 no_space word w = All-weaker InWord NotSpace (λ c h. let above = h.0 in grind (arith, nat_tests)) word w
 
 -- ---- the first space
 
-spaced : (xs rest : List ℕ) → HasNoSpace (xs ++ 32 ∷ rest) → ⊥
-spaced [] rest h = false≢true (sym (All-head NotSpace 32 rest h))
-spaced (x ∷ xs) rest h = spaced xs rest (All-tail NotSpace x (xs ++ 32 ∷ rest) h)
+pub no_cut : (word more : List ℕ) → HasNo 32 (word ++ 32 ∷ more) → ⊥
+no_cut [] more h = false≢true (sym (All-head NotSpace 32 more h))
+no_cut (x ∷ word) more h = no_cut word more (All-tail NotSpace x (word ++ 32 ∷ more) h)
 
 -- it is at one place
-one_cut : (xs ys ms ns : List ℕ) → HasNoSpace xs → HasNoSpace ys → xs ++ 32 ∷ ms ≡ ys ++ 32 ∷ ns
-    → (xs ≡ ys) × (ms ≡ ns)
+one_cut : (xs ys ms ns : List ℕ) → HasNo 32 xs → HasNo 32 ys → xs ++ 32 ∷ ms ≡ ys ++ 32 ∷ ns → (xs ≡ ys) × (ms ≡ ns)
 one_cut [] [] ms ns p q e = (refl, cc)
-one_cut [] (y ∷ ys) ms ns p q e =
-    absurd (let same : y ≡ 32 = cc in false≢true (sym (All-head NotSpace y ys q) ∙ ap (λ k. eqb k 32) same))
-one_cut (x ∷ xs) [] ms ns p q e =
-    absurd (let same : x ≡ 32 = cc in false≢true (sym (All-head NotSpace x xs p) ∙ ap (λ k. eqb k 32) same))
+one_cut [] (y ∷ ys) ms ns p q e = absurd (eqb-false y 32 (All-head NotSpace y ys q) cc)
+one_cut (x ∷ xs) [] ms ns p q e = absurd (eqb-false x 32 (All-head NotSpace x xs p) cc)
 one_cut (x ∷ xs) (y ∷ ys) ms ns p q e =
     let head : x ≡ y = cc in
     let r = one_cut xs ys ms ns (All-tail NotSpace x xs p) (All-tail NotSpace y ys q) cc in
     (ap (λ k. k ∷ xs) head ∙ ap (λ l. y ∷ l) r.0, r.1)
 
 -- a word and a space are what a text is cut into
-pub cut_word : {text front rest : List ℕ} → IsCut text front rest → (word more : List ℕ) → IsWord word
-    → text ≡ word ++ 32 ∷ more → (front ≡ word) × (rest ≡ 32 ∷ more)
-cut_word {text} {front} {rest = []} c word more w e =
-    absurd (spaced word more (subst HasNoSpace (sym (c.whole ∙ append-nil front) ∙ e) c.free))
-cut_word {text} {front} {rest = m ∷ rest} c word more w e =
-    let same : m ≡ 32 = elim c.first [ inl none ↦ absurd cc | inr e ↦ e ] in
-    let whole : front ++ 32 ∷ rest ≡ text = ap (λ k. front ++ k ∷ rest) (sym same) ∙ sym c.whole in
-    let r = one_cut front word rest more c.free (no_space word w) (whole ∙ e) in
-    (r.0, ap (λ k. k ∷ rest) same ∙ ap (λ l. 32 ∷ l) r.1)
+pub cut_word : {text front rest : List ℕ} → IsCut 32 text front rest → (word more : List ℕ) → IsWord word
+    → text ≡ word ++ 32 ∷ more → (front ≡ word) × (rest ≡ more)
+cut_word {front} {rest} c word more w e = one_cut front word rest more c.free (no_space word w) (sym c.whole ∙ e)
 
--- the space is the first byte of the rest, if it has one
-pub first_space : {text front rest : List ℕ} → IsCut text front rest → 2 ≤ length rest
-    → text ≡ front ++ 32 ∷ slice_index rest 1 ∷ drop 2 rest
-first_space {rest = []} c some = absurd (omega (arith, some))
-first_space {rest = j ∷ []} c some = absurd (omega (arith, some))
-first_space {front} {rest = j ∷ k ∷ rest} c some =
-    let same : j ≡ 32 = elim c.first [ inl none ↦ absurd cc | inr e ↦ e ] in
-    c.whole ∙ ap (λ x. front ++ x ∷ k ∷ rest) same
+pub word_cut : {text : List ℕ} (word more : List ℕ) → IsWord word → text ≡ word ++ 32 ∷ more → IsCut 32 text word more
+word_cut word more w e = record { whole = e; free = no_space word w }
 
-pub word_cut : (text word more : List ℕ) → IsWord word → text ≡ word ++ 32 ∷ more → IsCut text word (32 ∷ more)
-word_cut text word more w e = record { whole = e; free = no_space word w; first = inr refl }
-
-abbrev Cut : List ℕ → Type 0
-Cut text = (front : List ℕ) × (rest : List ℕ) × IsCut text front rest
-
--- each text is cut somewhere
-pub cut : (text : List ℕ) → Cut text
-cut [] = ([], [], record { whole = refl; free = All-nil NotSpace; first = inl refl })
-cut (c ∷ text) = go (eqb c 32) refl (cut text)
-  where
-    go : (b : Bool) → eqb c 32 ≡ b → Cut text → Cut (c ∷ text)
-    go true e r = let same : c ≡ 32 = grind (arith, nat_tests) in
-        ([], c ∷ text, record { whole = refl; free = All-nil NotSpace; first = inr same })
-    go false e r = (
+-- each text has a first space, or none
+pub cut : (text : List ℕ) → ((front : List ℕ) × (rest : List ℕ) × IsCut 32 text front rest) ⊎ HasNo 32 text
+cut [] = inr (All-nil NotSpace)
+cut (c ∷ text) = elim (cases_eq c 32) [
+  | inl same ↦ inl ([], text, record { whole = ap (λ k. k ∷ text) same; free = All-nil NotSpace })
+  | inr other ↦ elim (cut text) [
+    | inl r ↦ inl (
       c ∷ r.0,
       r.1,
-      record { whole = ap (λ l. c ∷ l) r.2.whole; free = All-cons NotSpace c r.0 e r.2.free; first = r.2.first },
+      record {
+        whole = ap (λ l. c ∷ l) r.2.whole;
+        free = All-cons NotSpace c r.0 (ne_eqb c 32 other) r.2.free;
+      },
     )
+    | inr free ↦ inr (All-cons NotSpace c text (ne_eqb c 32 other) free)
+  ]
+]

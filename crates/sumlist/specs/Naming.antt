@@ -1,6 +1,6 @@
 -- Names that are separated by NUL.
-use Rattle.std.specs.Prelude.{◌≡◌, ℕ, ◌≤◌, ◌<◌, Bool, true, false, List, [], ◌∷◌, Option, Some, None, length}
-use Rattle.sumlist.specs.Lines.{pieces}
+use Rattle.std.specs.Prelude.{◌≡◌, ℕ, Bool, true, false, List, [], ◌∷◌, Option, Some}
+use Rattle.sumlist.specs.Lines.{IsKept, pieces}
 
 -- the names that bytes spell: the pieces between NULs, but for an empty last one
 abbrev pub names : List ℕ → List (List ℕ)
@@ -13,11 +13,6 @@ pub record Reading : Type 0 where
 
 abbrev pub fresh : Reading
 fresh = record { ahead = []; name = Some [] }
-
--- what is kept of a name: all of it, or none where it is too long
-abbrev pub IsKept : Option (List ℕ) → List ℕ → Type 0
-IsKept (Some bytes) name = (name ≡ bytes) × (length name ≤ 65536)
-IsKept None name = 65536 < length name
 
 -- the first name of some bytes was taken and these are left, or they had none
 abbrev pub IsNext : Bool → Option (List ℕ) → List ℕ → List ℕ → Type 0

@@ -4,15 +4,16 @@ ghost use Rattle.std.specs.Prelude.{◌≡◌, ◌+◌, ◌-◌, ◌<◌, ◌≤
 ghost use Rattle.std.specs.Prelude.{IfOk, IfSome, IsErrOf, MatchResult, OnOk};
 ghost use Rattle.std.specs.Io.KnownBytes.{Consumes, IsAtEnd};
 ghost use Rattle.source.specs.Counts.{count_after};
-ghost use Rattle.sumlist.specs.inside.Ahead.{Goes, Partway, Stops};
+ghost use Rattle.sumlist.specs.inside.Ahead.{Goes, HeldChecked, Stops};
 ghost use Rattle.sumlist.specs.Checked.{ListChecked, ListCounts, WriteCounts};
 ghost use Rattle.sumlist.specs.inside.Stepped.{LineChecked, StepCounts};
-ghost use Rattle.sumlist.specs.inside.Held.{IsHeld, held_len};
+ghost use Rattle.sumlist.specs.Lines.{IsKept};
+ghost use Rattle.sumlist.specs.inside.Held.{held_len};
 ghost use Rattle.sumlist.specs.inside.Marks.{lines_of, part};
 ghost use Rattle.sumlist.specs.declared.checking.CheckFault.TheVariants.{ListRead, OutOfMemory, Write};
 
 use crate::line_buffer::LineBuffer;
-use crate::lines::find_byte;
+use crate::lines::split_at_byte;
 use crate::report::{write_malformed, write_verdict};
 use crate::summary::Mark;
 use crate::verdict::{Verdict, check_entry};
@@ -146,20 +147,16 @@ fn check_piece<T: Tree, W: Sink>(
     ensures writes { StepCounts result (W.shown out.old).failures (W.shown out.new).failures }
 {
     let mut rest = piece;
-    loop {
-        let end = find_byte(rest, b'\n');
-        let (front, back) = rest.split_at(end);
+    while let Some((front, after)) = split_at_byte(rest, b'\n') {
         held.append(front);
-        if back.is_empty() {
-            return Ok(());
-        }
         let number = summary.lines() + 1;
         let mark = check_held(alloc, held, number, kind, tree, out)?;
         held.clear();
         summary.count(mark);
-        let (_, after) = back.split_at(1);
         rest = after;
     }
+    held.append(rest);
+    Ok(())
 }
 
 // Checks a last line that has no LF, if there is one.
@@ -173,9 +170,9 @@ fn check_last<T: Tree, W: Sink>(
 ) -> Result<Summary, CheckFault>
     requires few { lines_of summary + held_len held.now < 2 ^ 64 }
     ensures checked { IfSome (T.files tree.old) (λ files.
-        (whole : List ℕ) (k : ℕ) (a : Option (List ℕ))
-        → Partway files kind whole held.now [] summary k (T.failure_count tree.old) a (W.shown out.old).contents
-        → ListChecked files kind whole result k (T.failure_count tree.new) a (W.shown out.new).contents) }
+        HeldChecked files kind held.now [] summary result
+        (T.failure_count tree.old) (T.failure_count tree.new)
+        (W.shown out.old).contents (W.shown out.new).contents) }
     ensures unreadable { IfOk result
         (λ s. (k : ℕ) → T.failure_count tree.old ≡ count_after k summary.unreadable
         → T.failure_count tree.new ≡ count_after k s.unreadable) }
@@ -200,7 +197,7 @@ fn check_held<T: Tree, W: Sink>(
     tree: &mut T,
     out: &mut W,
 ) -> Result<Mark, CheckFault>
-    ensures checked { IfSome (T.files tree.old) (λ files. (line : List ℕ) → IsHeld held.now line
+    ensures checked { IfSome (T.files tree.old) (λ files. (line : List ℕ) → IsKept held.now line
         → LineChecked files kind line number result
         (T.failure_count tree.old) (T.failure_count tree.new)
         (W.shown out.old).contents (W.shown out.new).contents) }

@@ -7,7 +7,8 @@ ghost use Rattle.sumlist.specs.inside.Cut.{NoLabelled};
 ghost use Rattle.sumlist.specs.Tagged.{IsLabel, Labelled};
 ghost use Rattle.sumlist.specs.inside.Labels.{Ended, IsNumbered, NotEnded, NotNamed, NotNumbered};
 
-use crate::parts::{cut_at_space, decode_tag};
+use crate::lines::split_at_byte;
+use crate::parts::decode_tag;
 use itoa::Buffer;
 use source::Alg;
 use words::Tag;
@@ -16,15 +17,12 @@ use words::Tag;
 pub(crate) fn split_label(text: &[u8]) -> Option<(Alg, Tag, &[u8])>
     ensures { MatchOption result (NoLabelled text.now) (λ p. Labelled text.now p.0 p.1 p.2.now) }
 {
-    let (label, rest) = cut_at_space(text);
+    let (label, rest) = split_at_byte(text, b' ')?;
     let alg = label_alg(label)?;
-    if rest.len() < 2 {
+    let (bracket, after) = rest.split_first()?;
+    if *bracket != b'(' {
         return None;
     }
-    if rest[1] != b'(' {
-        return None;
-    }
-    let (_, after) = rest.split_at(2);
     let (body, digits) = cut_end(after, digits_of(alg))?;
     let tag = decode_tag(digits)?;
     Some((alg, tag, body))

@@ -9,7 +9,6 @@ ghost use Rattle.sumlist.specs.declared.line.LineFault.TheVariants.{OutOfMemory}
 use crate::body::{build_name, name_text};
 use crate::fitting::LINE_LEN;
 use crate::labels::split_label;
-use crate::lines::find_byte;
 use crate::parts::split_parts;
 use crate::{Entry, Kind};
 use source::Alg;
@@ -78,7 +77,7 @@ pub fn parse_line(alloc: Global, line: &[u8], kind: Kind) -> Result<Line, LineFa
 fn is_line(line: &[u8]) -> bool
     ensures { IsTrue result ↔ IsLine line.now }
 {
-    line.len() <= LINE_LEN && find_byte(line, b'\n') == line.len()
+    line.len() <= LINE_LEN && !line.contains(&b'\n')
 }
 
 fn without_cr(line: &[u8]) -> &[u8]

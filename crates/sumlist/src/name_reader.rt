@@ -7,7 +7,7 @@ ghost use Rattle.sumlist.specs.Naming.{IsNext, fresh};
 ghost use Rattle.sumlist.specs.inside.Taking.{IsTaken};
 
 use crate::line_buffer::LineBuffer;
-use crate::lines::find_byte;
+use crate::lines::split_at_byte;
 use source::{Feed, ReadFailed, SourceFault};
 use std::alloc::{AllocError, Global};
 use std::marker::Model;
@@ -98,13 +98,13 @@ impl NameReader {
         ensures { IsTaken result self.old self.new }
     {
         let (_, ahead) = self.buffer[..self.end].split_at(self.start);
-        let at = find_byte(ahead, 0);
-        self.held.append(&ahead[..at]);
-        if at == ahead.len() {
+        let Some((name, _)) = split_at_byte(ahead, 0) else {
+            self.held.append(ahead);
             self.start = self.end;
             return false;
-        }
-        self.start += at + 1;
+        };
+        self.held.append(name);
+        self.start += name.len() + 1;
         true
     }
 }

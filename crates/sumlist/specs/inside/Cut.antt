@@ -1,23 +1,15 @@
--- How a text is cut as a line is read: at its first space, and behind a backslash.
-use Rattle.std.specs.Prelude.{◌⊎◌, ◌≡◌, ◌≢◌, ℕ, Bool, true, false, List, [], ◌∷◌, ◌++◌, slice_index, ◌==◌}
-use Rattle.std.specs.List.{All}
+-- How a text is cut: at the first byte of a value, and as a line is read behind a backslash.
+use Rattle.std.specs.Prelude.{◌≡◌, ◌≢◌, ℕ, Bool, true, false, List, ◌∷◌, ◌++◌, slice_index}
 use Rattle.source.specs.declared.alg.Alg.{Alg}
 use Rattle.sumlist.specs.declared.kind.Kind.{Kind}
 use Rattle.sumlist.specs.Line.{Parts, HasForm}
+use Rattle.sumlist.specs.Lines.{HasNo}
 use Rattle.sumlist.specs.Tagged.{Labelled}
 
-abbrev pub NotSpace : ℕ → Type 0
-NotSpace x = (x == 32) ≡ false
-
--- no space
-abbrev pub HasNoSpace : List ℕ → Type 0
-HasNoSpace xs = All NotSpace xs
-
--- what stands before the first space, and the rest, which is empty or begins with the space
-pub record IsCut (text digits rest : List ℕ) : Type 0 where
-  pub whole : text ≡ digits ++ rest
-  pub free : HasNoSpace digits
-  pub first : (rest ≡ []) ⊎ (slice_index rest 0 ≡ 32)
+-- what stands before the first byte of a value, and what stands behind it
+pub record IsCut (value : ℕ) (text front rest : List ℕ) : Type 0 where
+  pub whole : text ≡ front ++ value ∷ rest
+  pub free : HasNo value front
 
 -- whether a core begins with a backslash, and the text behind it, or else the core
 abbrev pub IsUnslashed : List ℕ → Bool → List ℕ → Type 0

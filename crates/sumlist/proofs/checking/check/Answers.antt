@@ -1,21 +1,19 @@
-use Rattle.sumlist.proofs.Common.{◌≡◌, ◌∙◌, ◌++◌, [], Err, refl, take, length, length-take-le, length-append, arith}
+use Rattle.sumlist.proofs.Common.{◌≡◌, ap, ◌∙◌, ◌++◌, [], Err, refl, take, length, length-take-le, length-append, arith}
 use Rattle.sumlist.proofs.Common.{err_from_is_err_and, ListTooLong}
 use Rattle.std.specs.Bool.{⊤}
 use Rattle.std.proofs.KnownBytes.{Consumes-nil, Consumes-trans}
-use Rattle.sumlist.proofs.Progress.{IfSome-all, ListChecked-none}
-use Rattle.sumlist.proofs.Holding.{no_too_long, Coming-start, Coming-piece, Coming-stop, Coming-halt}
+use Rattle.sumlist.proofs.Remaining.{IfSome-all}
+use Rattle.sumlist.proofs.Holding.{no_too_long, Coming-start, Coming-piece, Coming-stopped, Coming-halted, Coming-last}
 use Rattle.sumlist.proofs.checking.check.Goals as goal
 
 pub returns-in_err-held-clause-checked : goal.returns-in_err-held-clause-checked
-returns-in_err-held-clause-checked g c = IfSome-all (g.L.Feed.remaining c.args.list.now) _ (λ bytes.
-    IfSome-all (g.T.Tree.files c.args.tree.now) _ (λ files. ListChecked-none files c.args.kind bytes _
-    (g.T.Tree.failure_count c.args.tree.now) (g.W.Sink.shown c.args.out.now).contents c.from_residual.ensures.0))
+returns-in_err-held-clause-checked g c = Coming-halted _ _ _ _ _ _ _ _ _ _ (Coming-start
+    (g.L.Feed.remaining c.args.list.now) (g.T.Tree.files c.args.tree.now) _ _ _) _ c.from_residual.ensures.0
 
 pub loop-held-init : goal.loop-held-init
 loop-held-init g c = record {
   progress = rw (c.in_ok-held.ensures, c.new-summary.ensures)
-      (Coming-start (g.L.Feed.remaining c.args.list.now) (g.T.Tree.files c.args.tree.now) c.args.kind
-      (g.T.Tree.failure_count c.args.tree.now) (g.W.Sink.shown c.args.out.now).contents);
+      (Coming-start (g.L.Feed.remaining c.args.list.now) (g.T.Tree.files c.args.tree.now) _ _ _);
   consumed = ([], Consumes-nil (g.L.Feed.remaining c.args.list.now), refl);
   reads = refl;
   writes = refl;
@@ -28,13 +26,15 @@ loop-held-init g c = record {
 
 pub returns-in_err-count-clause-checked : goal.returns-in_err-count-clause-checked
 returns-in_err-count-clause-checked g c =
-    Coming-halt (g.L.Feed.remaining c.args.list.now) (g.T.Tree.files c.args.tree.now) _ _ _ _ _ _ _ _ _
-    c.from_residual-in_err-count.ensures.0 c.loop-held.invariant.progress
+    Coming-halted (g.L.Feed.remaining c.args.list.now) (g.T.Tree.files c.args.tree.now) _ _ _ _ _ _ _ _
+    c.loop-held.invariant.progress _
+    c.from_residual-in_err-count.ensures.0
 
 pub returns-in_default-clause-checked : goal.returns-in_default-clause-checked
 returns-in_default-clause-checked g c =
-    Coming-halt (g.L.Feed.remaining c.args.list.now) (g.T.Tree.files c.args.tree.now) _ _ _ _ _ _ _ _ (Err ListTooLong)
-    refl c.loop-held.invariant.progress
+    Coming-halted (g.L.Feed.remaining c.args.list.now) (g.T.Tree.files c.args.tree.now) _ _ _ _ _ _ _ _
+    c.loop-held.invariant.progress
+    (Err ListTooLong) refl
 
 pub returns-in_default-clause-gave : goal.returns-in_default-clause-gave
 returns-in_default-clause-gave g c =
@@ -58,8 +58,8 @@ loop-held-preserved g c =
     let sum = c.in-Some.ensures in
     record {
       progress = Coming-piece (g.L.Feed.remaining c.args.list.now) (g.T.Tree.files c.args.tree.now) _ _ _ _ _ _ _ _
-          (g.T.Tree.files c.loop-held.tree) _ _ piece _ _ _ c.loop-held.invariant.kept c.in_ok-count.ensures.given
-          c.in_ok-check_piece.ensures.checked c.loop-held.invariant.progress;
+          c.loop-held.invariant.progress (g.T.Tree.files c.loop-held.tree) _ piece c.loop-held.invariant.kept
+          c.in_ok-count.ensures.given _ _ _ _ c.in_ok-check_piece.ensures.checked;
       consumed = (
         c.loop-held.invariant.consumed.0 ++ piece,
         Consumes-trans _ _ _ _ _ c.loop-held.invariant.consumed.1 c.in_ok-count.ensures.given,
@@ -77,10 +77,10 @@ loop-held-preserved g c =
 
 pub returns-in_err-check_piece-clause-checked : goal.returns-in_err-check_piece-clause-checked
 returns-in_err-check_piece-clause-checked g c =
-    Coming-stop (g.L.Feed.remaining c.args.list.now) (g.T.Tree.files c.args.tree.now) _ _ _ _ _ _ _ _
-    (g.T.Tree.files c.loop-held.tree) _ (take c.in_ok-count.count c.read.new.buf) _ _ _ c.loop-held.invariant.kept
-    c.in_ok-count.ensures.given c.in_err-check_piece.ensures.checked c.from_residual-in_err-check_piece.ensures.0
-    c.loop-held.invariant.progress
+    Coming-stopped (g.L.Feed.remaining c.args.list.now) (g.T.Tree.files c.args.tree.now) _ _ _ _ _ _ _ _
+    c.loop-held.invariant.progress (g.T.Tree.files c.loop-held.tree) _ (take c.in_ok-count.count c.read.new.buf)
+    c.loop-held.invariant.kept c.in_ok-count.ensures.given _ _ _ c.from_residual-in_err-check_piece.ensures.0
+    c.in_err-check_piece.ensures.checked
 
 pub returns-in_err-check_piece-clause-gave : goal.returns-in_err-check_piece-clause-gave
 returns-in_err-check_piece-clause-gave g c =
@@ -100,3 +100,13 @@ returns-in_err-check_piece-clause-gave g c =
         (λ long. absurd (omega (arith, piece, size, sized, sum.0, sum.1, long))),
       ),
     )))
+
+pub returns-then-count-eq0-clause-checked : goal.returns-then-count-eq0-clause-checked
+returns-then-count-eq0-clause-checked g c =
+    let none = c.if-count-eq0.true in
+    let same = c.read.auto.buf in
+    let size = c.loop-held.invariant.size in
+    Coming-last (g.L.Feed.remaining c.args.list.now) (g.T.Tree.files c.args.tree.now) _ _ _ _ _ _ _ _
+    c.loop-held.invariant.progress (g.T.Tree.files c.loop-held.tree) _ (take c.in_ok-count.count c.read.new.buf)
+    c.loop-held.invariant.kept c.in_ok-count.ensures.given _ _ _ (ap (λ n. take n c.read.new.buf) none)
+    (c.in_ok-count.ensures.end none (omega (arith, same, size))) c.check_last.ensures.checked

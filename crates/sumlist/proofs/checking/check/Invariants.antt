@@ -1,14 +1,13 @@
-use Rattle.sumlist.proofs.Common.{◌≡◌, ◌+◌, ◌-◌, ◌^◌, ◌≤◌, ◌<◌, List, length, IfSome, Some, Consumes, count_after}
-use Rattle.sumlist.proofs.Common.{Partway, held_len, lines_of, ℕ}
+use Rattle.sumlist.proofs.Common.{◌≡◌, ◌+◌, ◌-◌, ◌^◌, ◌≤◌, ◌<◌, List, length, Consumes, count_after}
+use Rattle.sumlist.proofs.Common.{held_len, lines_of, ℕ}
+use Rattle.sumlist.specs.inside.Ahead.{Coming}
 use Rattle.sumlist.proofs.checking.check.Given as goal
 
 abbrev pub invariant-loop-held : goal.invariant-loop-held
 invariant-loop-held g l = record {
-  progress : IfSome (g.L.Feed.remaining l.initial.list)
-      (λ bytes. IfSome (g.T.Tree.files l.initial.tree)
-      (λ files. (more : List ℕ) × (g.L.Feed.remaining l.list ≡ Some more)
-      × Partway files l.kind bytes l.held more l.summary (g.T.Tree.failure_count l.initial.tree)
-      (g.T.Tree.failure_count l.tree) (g.W.Sink.shown l.initial.out).contents (g.W.Sink.shown l.out).contents));
+  progress : Coming (g.L.Feed.remaining l.initial.list) (g.T.Tree.files l.initial.tree) l.kind
+      (g.L.Feed.remaining l.list) l.held l.summary (g.T.Tree.failure_count l.initial.tree)
+      (g.T.Tree.failure_count l.tree) (g.W.Sink.shown l.initial.out).contents (g.W.Sink.shown l.out).contents;
   consumed : (taken : List ℕ) × Consumes (g.L.Feed.remaining l.initial.list) (g.L.Feed.remaining l.list) taken
       × (l.total ≡ length taken);
   reads : g.L.Feed.failure_count l.list ≡ g.L.Feed.failure_count l.initial.list;

@@ -1,8 +1,8 @@
 use Rattle.sumlist.proofs.Common.{◌≡◌, ◌+◌, ◌≤◌, length, IfSome, count_after, Goes, held_len, lines_of, ℕ}
 use Rattle.sumlist.proofs.checking.check_piece.Given as goal
 
-abbrev pub invariant-loop-back : goal.invariant-loop-back
-invariant-loop-back g l = record {
+abbrev pub invariant-loop-front : goal.invariant-loop-front
+invariant-loop-front g l = record {
   goes : IfSome (g.T.Tree.files l.initial.tree)
       (λ files. Goes files l.kind l.initial.held l.piece l.initial.summary (g.T.Tree.failure_count l.initial.tree)
       (g.W.Sink.shown l.initial.out).contents
@@ -15,5 +15,5 @@ invariant-loop-back g l = record {
       length l.piece;
 }
 
-abbrev pub decreases-loop-back : goal.decreases-loop-back
-decreases-loop-back g l = length l.rest
+abbrev pub decreases-loop-front : goal.decreases-loop-front
+decreases-loop-front g l = length l.rest
