@@ -45,7 +45,7 @@ pub use Rattle.sumlist.specs.declared.verdict.Verdict.{Verdict}
 pub use Rattle.sumlist.specs.declared.verdict.Verdict.TheVariants.{Differs, Matches, Missing, TooLong, Unreadable}
 pub use Rattle.sumlist.specs.inside.Ahead.{Goes}
 pub use Rattle.sumlist.specs.inside.Body.{IsName, IsScanned, escape_value, name_of, onto}
-pub use Rattle.sumlist.specs.inside.Cut.{HasNoForm, IsCut, IsUnslashed, NoLabelled, NoParts}
+pub use Rattle.sumlist.specs.inside.Cut.{IsCut}
 pub use Rattle.sumlist.specs.inside.Held.{held_len}
 pub use Rattle.sumlist.specs.inside.Labels.{Ended}
 pub use Rattle.sumlist.specs.inside.Marks.{IsCounted, lines_of, no_lines, unreadable_by}

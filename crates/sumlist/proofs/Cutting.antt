@@ -1,34 +1,42 @@
--- The first piece of a text ends at its first end, and the other pieces are those of the rest.
-use Rattle.sumlist.proofs.Common.{◌≡◌, ◌<◌, true, List, [], ◌∷◌, ◌++◌, length, refl, ap}
-use Rattle.sumlist.proofs.Common.{◌∙◌, arith, eqb, lines, HasNoEnd, ℕ}
-use Rattle.std.specs.List.{slice_split}
+-- The first piece of a text ends at its first end, and the other pieces are those of the rest; what is kept of a piece
+-- that comes bit by bit.
+use Rattle.sumlist.proofs.Common.{◌≡◌, ◌<◌, List, [], ◌∷◌, ◌++◌, length, refl, ap, ◌∙◌, arith, eqb, lines, HasNoEnd, ℕ}
+use Rattle.sumlist.proofs.Common.{Option, Some, All-append, append_assoc, false, IsCut, length-append, nat_tests}
+use Rattle.sumlist.proofs.Common.{nil_from_length}
+use Rattle.std.proofs.lemmas.Bool.{eq-eqb}
 use Rattle.std.proofs.lemmas.List.Splits.{slice_split_at, slice_split_none, length-slice_split}
-use Rattle.sumlist.specs.Lines.{HasNo, pieces, without_empty_last}
+use Rattle.sumlist.specs.Lines.{HasNo, IsKept, pieces}
+use Rattle.sumlist.specs.inside.Held.{held_after}
 
-without_empty_last-cons : (x y : List ℕ) (ys : List (List ℕ))
-    → without_empty_last (x ∷ y ∷ ys) ≡ x ∷ without_empty_last (y ∷ ys)
-without_empty_last-cons [] y ys = refl
-without_empty_last-cons (c ∷ x) y ys = refl
-
-without_empty_last-more : (x : List ℕ) (ys : List (List ℕ)) → 0 < length ys
-    → without_empty_last (x ∷ ys) ≡ x ∷ without_empty_last ys
-without_empty_last-more x [] h = absurd (omega (arith, h))
-without_empty_last-more x (y ∷ ys) h = without_empty_last-cons x y ys
-
-pub pieces-ended : (end : ℕ) (piece rest : List ℕ) → eqb end end ≡ true → HasNo end piece
+pieces-ended : (end : ℕ) (piece rest : List ℕ) → HasNo end piece
     → pieces end (piece ++ end ∷ rest) ≡ piece ∷ pieces end rest
-pieces-ended end piece rest same h =
-    let more = length-slice_split (λ b. eqb b end) rest in
-    ap without_empty_last (slice_split_at (λ b. eqb b end) piece end rest h same)
-    ∙ without_empty_last-more piece (slice_split (λ b. eqb b end) rest) (omega (arith, more))
+pieces-ended end piece rest h =
+    rw (slice_split_at (λ b. eqb b end) piece end rest h (eq-eqb end end refl)) (grind (
+      arith,
+      length-slice_split (λ b. eqb b end) rest,
+    ))
+
+-- what came before belongs to the first piece
+pub pieces-cut : {end : ℕ} {text piece rest : List ℕ} → IsCut end text piece rest → (start more : List ℕ)
+    → HasNo end start → pieces end (start ++ (text ++ more)) ≡ (start ++ piece) ∷ pieces end (rest ++ more)
+pieces-cut {end} {piece} {rest} cut start more free = rw cut.whole (ap (pieces end) (simp append_assoc)
+    ∙ pieces-ended end (start ++ piece) (rest ++ more) (All-append (λ x. eqb x end ≡ false) start piece free cut.free))
 
 pub pieces-last : (end : ℕ) (piece : List ℕ) → 0 < length piece → HasNo end piece
     → pieces end piece ≡ piece ∷ []
-pieces-last end [] some h = absurd (omega (arith, some))
-pieces-last end (c ∷ piece) some h = ap without_empty_last (slice_split_none (λ b. eqb b end) (c ∷ piece) h)
+pieces-last end piece some h = rw (slice_split_none (λ b. eqb b end) piece h) (grind arith)
 
 pub lines-ended : (line rest : List ℕ) → HasNoEnd line → lines (line ++ 10 ∷ rest) ≡ line ∷ lines rest
-lines-ended line rest h = pieces-ended 10 line rest refl h
+lines-ended line rest h = pieces-ended 10 line rest h
 
 pub lines-last : (line : List ℕ) → 0 < length line → HasNoEnd line → lines line ≡ line ∷ lines []
 lines-last line some h = pieces-last 10 line some h
+
+-- ---- what is kept of a piece
+
+pub IsKept-after : (held : Option (List ℕ)) (front bit : List ℕ) → IsKept held front
+    → IsKept (held_after held bit) (front ++ bit)
+IsKept-after held front bit h = grind (arith, nat_tests, length-append {A = ℕ})
+
+pub some_kept : (held : Option (List ℕ)) (front : List ℕ) → (held ≡ Some [] → ⊥) → IsKept held front → 0 < length front
+some_kept held front apart h = grind (arith, nil_from_length)

@@ -1,59 +1,83 @@
 -- Each line is skipped, spells one entry, or is malformed: every part of the meaning of a line can be decided.
-use Rattle.sumlist.proofs.Common.{◌≡◌, ◌⊎◌, inl, inr, ◌*◌, List, length, subst, cases_eq, tag_len, IsInRange, IsBytes}
-use Rattle.sumlist.proofs.Common.{Kind, Listing, Fits, IsEntry, written_len, Stated, IsLine, IsBlank, core, Spells}
-use Rattle.sumlist.proofs.Common.{IsMalformed, ℕ}
+use Rattle.sumlist.proofs.Common.{◌*◌, ◌∙◌, ◌≡◌, ◌⊎◌, Fits, IsBlank, IsLine, IsMalformed, IsUtf8, Kind, List, Listing}
+use Rattle.sumlist.proofs.Common.{None, Option, Some, Spells, Stated, [], ap, arith, bytes_eq-Decides, core, inl, inr}
+use Rattle.sumlist.proofs.Common.{length, refl, slice_index, subst, sym, written_len, ℕ}
+use Rattle.std.proofs.lemmas.Bool.Decides.{Decides-and, Decides-eqb, Decides-ltb, Decides-not, Decides-or}
+use Rattle.std.proofs.lemmas.Map.Made.{is_member-Decides}
+use Rattle.std.proofs.lemmas.Option.{none-some, same_Some}
+use Rattle.std.proofs.lemmas.Str.{IsUtf8-from_is_utf8, is_utf8-from_IsUtf8}
 use Rattle.sumlist.specs.Line.{IsSkipped}
-use Rattle.sumlist.proofs.Either.{Either, either_both, either_contains, either_empty, either_le, either_map, either_not}
-use Rattle.sumlist.proofs.Either.{either_or, either_utf8}
-use Rattle.sumlist.proofs.Stating.{StatedOrNot, form_fit, stated_cases, stated_unique}
+use Rattle.sumlist.specs.inside.Reading.{IsStated, stated}
+use Rattle.sumlist.proofs.Either.{Either, either_by, either_map}
+use Rattle.sumlist.proofs.Stating.{stated-is, stated-some, stated_fit}
 
-fits_cases : (digits : ℕ) (name : List ℕ) → Either (Fits digits name)
-fits_cases digits name = either_map (λ p. record { nonempty = p.0; without_nul = p.1.0; within = p.1.1 })
-    (λ f. (f.nonempty, (f.without_nul, f.within))) (either_both (either_not (either_empty name))
-    (either_both (either_not (either_contains name 0)) (either_le (written_len digits name) 65536)))
-
-stated_fit : (core : List ℕ) (kind : Kind) (e : Listing) → Stated core kind e
-    → IsInRange e.alg × (length e.tag ≡ tag_len e.alg) × IsBytes e.tag
-stated_fit core kind e (inl p) = form_fit core kind e.alg e.tag e.name p
-stated_fit core kind e (inr p) = form_fit p.0 kind e.alg e.tag p.1 p.3
-
-entry_cases : (core : List ℕ) (kind : Kind) (e : Listing) → Stated core kind e → Either (IsEntry e)
-entry_cases core kind e u =
-    let f = stated_fit core kind e u in
-    either_map (λ p. record { text = p.0; fits = p.1; range = f.0; sized = f.1; bytes = f.2 }) (λ i. (i.text, i.fits))
-    (either_both (either_utf8 e.name) (fits_cases (2 * length e.tag) e.name))
+name_cases : (digits : ℕ) (name : List ℕ) → Either (IsUtf8 name × Fits digits name)
+name_cases digits name = either_map
+    (λ p. (p.0, record { nonempty = p.1.0; without_nul = p.1.1.0; within = omega (arith, p.1.1.1) }))
+    (λ p. (p.0, (p.1.nonempty, (p.1.without_nul, let within = p.1.within in omega (arith, within)))))
+    (either_by _ (Decides-and _ _ (IsUtf8-from_is_utf8 name, is_utf8-from_IsUtf8 name)
+    (Decides-and _ _ (Decides-not _ (bytes_eq-Decides name []))
+    (Decides-and _ _ (Decides-not _ (is_member-Decides Decides-eqb name 0))
+    (Decides-ltb (written_len digits name) 65537)))))
 
 line_is : (line : List ℕ) → Either (IsLine line)
-line_is line = either_map (λ p. record { one = p.0; within = p.1 }) (λ l. (l.one, l.within))
-    (either_both (either_not (either_contains line 10)) (either_le (length line) 65536))
+line_is line = either_map (λ p. record { one = p.0; within = omega (arith, p.1) })
+    (λ l. (l.one, let within = l.within in omega (arith, within)))
+    (either_by _ (Decides-and _ _ (Decides-not _ (is_member-Decides Decides-eqb line 10))
+    (Decides-ltb (length line) 65537)))
 
 blank_cases : (core : List ℕ) → Either (IsBlank core)
-blank_cases core = either_or (either_empty core) (cases_eq _ 35)
+blank_cases core = either_by _ (Decides-or _ _ (bytes_eq-Decides core []) (Decides-eqb (slice_index core 0) 35))
 
 abbrev LineCase : List ℕ → Kind → Type 0
 LineCase line kind = IsSkipped line ⊎ (((e : Listing) × Spells line kind e) ⊎ IsMalformed line kind)
 
-spelled : (line : List ℕ) (kind : Kind) → IsLine line → (IsSkipped line → ⊥) → StatedOrNot (core line) kind
-    → LineCase line kind
-spelled line kind l s (inr none) = inr (inr record { not_skipped = s; spells_none = λ e p. none e p.form })
-spelled line kind l s (inl u) = elim (entry_cases (core line) kind u.0 u.1) [
-  | inl i ↦ inr (inl (u.0, record { is_line = l; not_skipped = s; is_entry = i; form = u.1 }))
-  | inr bad ↦ inr (inr record {
-    not_skipped = s;
-    spells_none =
-        λ e p. bad (subst IsEntry (stated_unique (core line) kind e u.0 p.form u.1) p.is_entry);
-  })
-]
+module _ (line : List ℕ) (kind : Kind) where
+  -- no line spells two entries
+  pub spells_one : (d e : Listing) → Spells line kind d → Spells line kind e → d ≡ e
+  spells_one d e p q =
+      same_Some d e (sym (stated-is kind (core line) d p.form) ∙ stated-is kind (core line) e q.form)
 
-pub line_cases : (line : List ℕ) (kind : Kind) → LineCase line kind
-line_cases line kind = elim (line_is line) [
-  | inr bad ↦ inr (inr record { not_skipped = λ s. bad s.0; spells_none = λ e p. bad p.is_line })
-  | inl l ↦ elim (blank_cases (core line)) [
-    | inl blank ↦ inl (l, blank)
-    | inr more ↦ spelled line kind l (λ s. more s.1) (stated_cases (core line) kind)
+  module _ (k : List ℕ) (is : k ≡ core line) (more : IsBlank k → ⊥) where
+    unskipped : IsSkipped line → ⊥
+    unskipped s = more (subst IsBlank (sym is) s.1)
+
+    -- a line whose core states an entry spells it
+    pub spells_if : IsLine line → (e : Listing) → IsStated kind k e → Spells line kind e
+    spells_if l e s =
+        let form = stated-some kind k e s.0 in
+        let f = stated_fit k kind e form in
+        record {
+          is_line = l;
+          not_skipped = unskipped;
+          is_entry = record { text = s.1; fits = s.2; range = f.0; sized = f.1; bytes = f.2 };
+          form = subst (λ c. Stated c kind e) is form;
+        }
+
+    -- and is malformed where its core states none
+    pub malformed_if : ((e : Listing) → IsStated kind k e → ⊥) → IsMalformed line kind
+    malformed_if none = record {
+      not_skipped = unskipped;
+      spells_none = λ e s. none e (
+        ap (stated kind) is ∙ stated-is kind (core line) e s.form,
+        s.is_entry.text,
+        s.is_entry.fits,
+      );
+    }
+
+    stated_or_not : IsLine line → (o : Option Listing) → stated kind k ≡ o → LineCase line kind
+    stated_or_not l None s = inr (inr (malformed_if (λ e one. none-some e (sym s ∙ one.0))))
+    stated_or_not l (Some e) s = elim (name_cases (2 * length e.tag) e.name) [
+      | inl named ↦ inr (inl (e, spells_if l e (s, named.0, named.1)))
+      | inr bad ↦ inr (inr (malformed_if (λ f one. bad (subst (λ g. IsUtf8 g.name × Fits (2 * length g.tag) g.name)
+          (same_Some f e (sym one.0 ∙ s)) (one.1, one.2)))))
+    ]
+
+  pub line_cases : LineCase line kind
+  line_cases = elim (line_is line) [
+    | inr bad ↦ inr (inr record { not_skipped = λ s. bad s.0; spells_none = λ e p. bad p.is_line })
+    | inl l ↦ elim (blank_cases (core line)) [
+      | inl blank ↦ inl (l, blank)
+      | inr more ↦ stated_or_not (core line) refl more l (stated kind (core line)) refl
+    ]
   ]
-]
-
--- no line spells two entries
-pub spells_one : (line : List ℕ) (kind : Kind) (d e : Listing) → Spells line kind d → Spells line kind e → d ≡ e
-spells_one line kind d e p q = stated_unique (core line) kind d e p.form q.form

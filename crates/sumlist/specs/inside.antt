@@ -7,6 +7,7 @@ pub mod Ahead
 pub mod Labels
 pub mod EntryView
 pub mod Cut
+pub mod Reading
 pub mod Body
 pub mod MemoryTree
 pub mod Marks

@@ -1,32 +1,13 @@
-// Texts that name their algorithm: a label, a body in brackets, and digits.
+// What texts that name their algorithm are made of: a label, and the end behind a body.
 
 ghost use Rattle.std.specs.Prelude.{◌≡◌, ℕ, ◌*◌, ◌<◌, ◌≤◌, ◌↔◌, IsTrue, MatchOption};
 ghost use Rattle.std.specs.Fmt.{decimal};
 ghost use Rattle.source.specs.Digest.{IsInRange, tag_len};
-ghost use Rattle.sumlist.specs.inside.Cut.{NoLabelled};
-ghost use Rattle.sumlist.specs.Tagged.{IsLabel, Labelled};
+ghost use Rattle.sumlist.specs.Tagged.{IsLabel};
 ghost use Rattle.sumlist.specs.inside.Labels.{Ended, IsNumbered, NotEnded, NotNamed, NotNumbered};
 
-use crate::lines::split_at_byte;
-use crate::parts::decode_tag;
 use itoa::Buffer;
 use source::Alg;
-use words::Tag;
-
-// The algorithm, tag and body of a text that has these parts.
-pub(crate) fn split_label(text: &[u8]) -> Option<(Alg, Tag, &[u8])>
-    ensures { MatchOption result (NoLabelled text.now) (λ p. Labelled text.now p.0 p.1 p.2.now) }
-{
-    let (label, rest) = split_at_byte(text, b' ')?;
-    let alg = label_alg(label)?;
-    let (bracket, after) = rest.split_first()?;
-    if *bracket != b'(' {
-        return None;
-    }
-    let (body, digits) = cut_end(after, digits_of(alg))?;
-    let tag = decode_tag(digits)?;
-    Some((alg, tag, body))
-}
 
 // How many digits the tag of an algorithm has.
 pub(crate) fn digits_of(alg: Alg) -> usize
@@ -43,7 +24,7 @@ pub(crate) fn digits_of(alg: Alg) -> usize
 }
 
 // What stands before the last `) = `, behind which there are so many digits, and the digits.
-fn cut_end(rest: &[u8], digits: usize) -> Option<(&[u8], &[u8])>
+pub(crate) fn cut_end(rest: &[u8], digits: usize) -> Option<(&[u8], &[u8])>
     requires { digits ≤ 128 }
     ensures { MatchOption result (NotEnded rest.now digits)
         (λ p. Ended rest.now digits p.0.now p.1.now) }
@@ -61,7 +42,7 @@ fn cut_end(rest: &[u8], digits: usize) -> Option<(&[u8], &[u8])>
 }
 
 // The algorithm that a label names.
-fn label_alg(label: &[u8]) -> Option<Alg>
+pub(crate) fn label_alg(label: &[u8]) -> Option<Alg>
     ensures { MatchOption result (NotNamed label.now) (λ a. IsInRange a × IsLabel label.now a) }
 {
     if label == b"SHA256".as_slice() {
@@ -94,29 +75,13 @@ fn is_same(left: &[u8], right: &[u8]) -> bool
     left == right
 }
 
-// How many bytes a tag has, up to a bound, whose number of bits stands behind the front.
+// How many bytes a tag has, up to a bound, whose number of bits stands behind the front, without a leading zero.
 fn find_number(label: &[u8], front: &[u8], most: usize) -> Option<usize>
     requires { most ≤ 64 }
     ensures { MatchOption result (NotNumbered label.now front.now most)
         (λ n. IsNumbered label.now front.now most n) }
 {
-    if label.len() < front.len() {
-        return None;
-    }
-    let (head, digits) = label.split_at(front.len());
-    if is_same(head, front) {
-        return find_len(digits, most);
-    }
-    None
-}
-
-// The same of the number alone, without a leading zero.
-fn find_len(digits: &[u8], most: usize) -> Option<usize>
-    requires { most ≤ 64 }
-    ensures { MatchOption result
-        ((n : ℕ) → 0 < n → n ≤ most → digits.now ≡ decimal (8 * n) → ⊥)
-        (λ n. (0 < n) × (n ≤ most) × (digits.now ≡ decimal (8 * n))) }
-{
+    let digits = label.strip_prefix(front)?;
     let mut buffer = Buffer::new();
     let mut n = 0;
     while n < most {

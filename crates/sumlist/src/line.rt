@@ -1,15 +1,16 @@
 // Lines as they are read.
 
-ghost use Rattle.std.specs.Prelude.{◌≡◌, ◌<◌, ◌↔◌, length, IsTrue, MatchOption};
-ghost use Rattle.sumlist.specs.inside.Cut.{IsUnslashed, HasNoForm};
-ghost use Rattle.sumlist.specs.Line.{IsLine, IsBlank, HasForm, core as core_of};
+ghost use Rattle.std.specs.Prelude.{◌≡◌, ◌≤◌, ◌↔◌, ℕ, List, Some, length, IsTrue, MatchOption};
+ghost use Rattle.sumlist.specs.Entry.{Listing};
+ghost use Rattle.sumlist.specs.inside.Body.{name_of};
+ghost use Rattle.sumlist.specs.inside.Reading.{IsStated, is_slashed, unslashed};
+ghost use Rattle.sumlist.specs.Line.{IsLine, IsBlank, core as core_of};
 ghost use Rattle.sumlist.specs.Parsed.{Answers};
 ghost use Rattle.sumlist.specs.declared.line.LineFault.TheVariants.{OutOfMemory};
 
-use crate::body::{build_name, name_text};
+use crate::body::{NameText, build_name, name_text};
 use crate::fitting::LINE_LEN;
-use crate::labels::split_label;
-use crate::parts::split_parts;
+use crate::parts::split_text;
 use crate::{Entry, Kind};
 use source::Alg;
 use std::alloc::{AllocError, Global};
@@ -63,11 +64,7 @@ pub fn parse_line(alloc: Global, line: &[u8], kind: Kind) -> Result<Line, LineFa
     if is_blank(core) {
         return Ok(Line::Skipped);
     }
-    let (is_escaped, text) = unslash(core);
-    let Some((alg, tag, body)) = split_text(text, kind) else {
-        return Err(LineFault::Malformed);
-    };
-    let Some(given) = name_text(body, is_escaped, 2 * tag.bytes().len()) else {
+    let Some((alg, tag, given)) = read_core(core, kind) else {
         return Err(LineFault::Malformed);
     };
     let name = build_name(alloc, given)?;
@@ -95,26 +92,26 @@ fn is_blank(core: &[u8]) -> bool
     core.is_empty() || core[0] == b'#'
 }
 
-// Whether a core begins with the backslash of escaped lines, and the text without it.
-fn unslash(core: &[u8]) -> (bool, &[u8])
-    requires { 0 < length core.now }
-    ensures { IsUnslashed core.now result.0 result.1.now }
+// The algorithm and tag of the entry that a core states, and the text that means its name.
+fn read_core(core: &[u8], kind: Kind) -> Option<(Alg, Tag, NameText<'_>)>
+    requires { length core.now ≤ 65536 }
+    ensures { MatchOption result ((e : Listing) → IsStated kind core.now e → ⊥)
+        (λ p. (name : List ℕ) × IsStated kind core.now record { name = name; alg = p.0; tag = p.1 }
+        × (name_of p.2.is_escaped p.2.text.now ≡ Some name)) }
 {
-    let (first, rest) = core.split_at(1);
-    if first[0] == b'\\' {
-        (true, rest)
-    } else {
-        (false, core)
-    }
+    let (is_escaped, text) = unslash(core);
+    let (alg, tag, body) = split_text(text, kind)?;
+    let given = name_text(body, is_escaped, 2 * tag.bytes().len())?;
+    Some((alg, tag, given))
 }
 
-// The algorithm, tag and body of a text in one of the two forms.
-fn split_text(text: &[u8], kind: Kind) -> Option<(Alg, Tag, &[u8])>
-    ensures { MatchOption result (HasNoForm text.now kind)
-        (λ p. HasForm text.now kind p.0 p.1 p.2.now) }
+// Whether a core begins with the backslash of escaped lines, and the text without it.
+fn unslash(core: &[u8]) -> (bool, &[u8])
+    ensures core { (result.0 ≡ is_slashed core.now) × (result.1.now ≡ unslashed core.now) }
+    ensures bound { length result.1.now ≤ length core.now }
 {
-    match split_parts(text, kind) {
-        Some(parts) => Some(parts),
-        None => split_label(text),
+    match core.split_first() {
+        Some((b'\\', rest)) => (true, rest),
+        _ => (false, core),
     }
 }

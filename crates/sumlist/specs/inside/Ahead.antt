@@ -1,5 +1,5 @@
 -- What is left of a check, and what a part of it does, however the list goes on.
-use Rattle.std.specs.Prelude.{◌≡◌, ℕ, ◌+◌, List, [], ◌∷◌, ◌++◌, Option, Some, Result, IfSome, IsErr, MatchResult}
+use Rattle.std.specs.Prelude.{◌≡◌, ℕ, ◌+◌, List, ◌++◌, Option, Result, IsErr, MatchResult}
 use Rattle.std.specs.Io.KnownBytes.{Appends}
 use Rattle.source.specs.Counts.{count_after}
 use Rattle.source.specs.Written.{AppendsPrefix}
@@ -7,14 +7,20 @@ use Rattle.sumlist.specs.declared.kind.Kind.{Kind}
 use Rattle.sumlist.specs.declared.checking.CheckFault.{CheckFault}
 use Rattle.sumlist.specs.declared.summary.Summary.{Summary}
 use Rattle.sumlist.specs.Lines.{lines, HasNoEnd, IsKept}
-use Rattle.sumlist.specs.Report.{Files, Outcome, AllAllowed, report_from, unreadable_count}
-use Rattle.sumlist.specs.Checked.{ListChecked}
-use Rattle.sumlist.specs.inside.Marks.{IsCounted, lines_of, mark_of}
+use Rattle.sumlist.specs.Report.{Files, Outcome, AllAllowed, report_from, unreadable_count, number_of, is_told}
+use Rattle.sumlist.specs.Report.{is_malformed, is_skipped}
+use Rattle.sumlist.specs.declared.verdict.Verdict.TheVariants.{Matches, Differs, Missing, Unreadable, TooLong}
+use Rattle.sumlist.specs.inside.Marks.{lines_of}
 
--- one outcome after another was counted
-abbrev pub Counts : Summary → List Outcome → Summary → Type 0
-Counts old [] new = new ≡ old
-Counts old (o ∷ outcomes) new = (next : Summary) × IsCounted (mark_of o) old next × Counts next outcomes new
+-- the numbers of a summary grew by those of outcomes
+pub record Counts (old : Summary) (outcomes : List Outcome) (new : Summary) : Type 0 where
+  pub ok : new.ok ≡ old.ok + number_of (is_told Matches) outcomes
+  pub failed : new.failed ≡ old.failed + number_of (is_told Differs) outcomes
+  pub missing : new.missing ≡ old.missing + number_of (is_told Missing) outcomes
+  pub unreadable : new.unreadable ≡ old.unreadable + number_of (is_told Unreadable) outcomes
+  pub too_long : new.too_long ≡ old.too_long + number_of (is_told TooLong) outcomes
+  pub malformed : new.malformed ≡ old.malformed + number_of is_malformed outcomes
+  pub skipped : new.skipped ≡ old.skipped + number_of is_skipped outcomes
 
 -- these lines, after those of a summary, have outcomes, which the tree counted; they were counted too, and their report
 -- was appended, or after a fault a beginning of it
@@ -43,11 +49,3 @@ pub record Stops (files : Files) (kind : Kind) (held : Option (List ℕ)) (ahead
     (b : Option (List ℕ)) (n : ℕ) (c : Option (List ℕ)) : Type 0 where
   pub stops : (more : List ℕ) (r : Result Summary CheckFault) → IsErr r
       → HeldChecked files kind held (ahead ++ more) s r m n b c
-
--- where the list and the files are told: if what is held and what is left of the list is checked, the list is
-abbrev pub Coming : Option (List ℕ) → Option Files → Kind → Option (List ℕ) → Option (List ℕ) → Summary → ℕ → ℕ
-    → Option (List ℕ) → Option (List ℕ) → Type 0
-Coming list told kind left held s k m a b = IfSome list (λ bytes. IfSome told (λ files.
-    (more : List ℕ) × (left ≡ Some more)
-    × ((r : Result Summary CheckFault) (n : ℕ) (c : Option (List ℕ))
-    → HeldChecked files kind held more s r m n b c → ListChecked files kind bytes r k n a c)))

@@ -7,12 +7,14 @@ invariant-loop-front g l = record {
       (λ files. Goes files l.kind l.initial.held l.piece l.initial.summary (g.T.Tree.failure_count l.initial.tree)
       (g.W.Sink.shown l.initial.out).contents
       l.held l.rest l.summary (g.T.Tree.failure_count l.tree) (g.W.Sink.shown l.out).contents);
-  kept : g.T.Tree.files l.tree ≡ g.T.Tree.files l.initial.tree;
-  count : (g.W.Sink.shown l.out).failures ≡ (g.W.Sink.shown l.initial.out).failures;
-  unreadable : (k : ℕ) → g.T.Tree.failure_count l.initial.tree ≡ count_after k l.initial.summary.unreadable
-      → g.T.Tree.failure_count l.tree ≡ count_after k l.summary.unreadable;
-  bound : lines_of l.summary + held_len l.held + length l.rest ≤ lines_of l.initial.summary + held_len l.initial.held +
-      length l.piece;
+  counts : record {
+    kept : g.T.Tree.files l.tree ≡ g.T.Tree.files l.initial.tree;
+    count : (g.W.Sink.shown l.out).failures ≡ (g.W.Sink.shown l.initial.out).failures;
+    unreadable : (k : ℕ) → g.T.Tree.failure_count l.initial.tree ≡ count_after k l.initial.summary.unreadable
+        → g.T.Tree.failure_count l.tree ≡ count_after k l.summary.unreadable;
+    bound : lines_of l.summary + held_len l.held + length l.rest
+        ≤ lines_of l.initial.summary + held_len l.initial.held + length l.piece;
+  };
 }
 
 abbrev pub decreases-loop-front : goal.decreases-loop-front

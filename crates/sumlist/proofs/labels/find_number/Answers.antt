@@ -1,12 +1,22 @@
-use Rattle.sumlist.proofs.Common.{refl, false≢true}
-use Rattle.sumlist.proofs.Labelling.{number_front, number_rest}
+use Rattle.sumlist.proofs.Common.{◌*◌, ◌∙◌, None, Some, arith, decimal, rules, sym}
+use Rattle.std.proofs.lemmas.Bool.Decides.{Decides-eqb}
+use Rattle.std.proofs.lemmas.List.{append_cancel_left}
+use Rattle.std.proofs.lemmas.Slice.Eq.{strip_prefix_is}
 use Rattle.sumlist.proofs.labels.find_number.Goals as goal
 
-pub returns : goal.returns
-returns c = number_front c.args.label.now c.args.front.now c.split_at.result.0.now c.args.most c.split_at.ensures.front
-    (λ e. false≢true (c.if-is_same.ensures.1 e))
+pub returns-in_err-digits : goal.returns-in_err-digits
+returns-in_err-digits c = rw c.from_residual.ensures (λ n some fits.
+    strip_prefix_is Decides-eqb c.args.label.now c.args.front.now None c.in_err-digits.ensures.cases (decimal (8 * n)))
 
 pub returns-then-is_same : goal.returns-then-is_same
-returns-then-is_same c = number_rest c.args.label.now c.args.front.now c.split_at.result.0.now c.split_at.result.1.now
-    c.args.most c.find_len.result c.split_at.ensures.front c.split_at.ensures.back (c.if-is_same.ensures.0 refl)
-    c.find_len.ensures
+returns-then-is_same c =
+    let whole = strip_prefix_is Decides-eqb c.args.label.now c.args.front.now (Some c.in_ok-digits.digits)
+    c.in_ok-digits.ensures.cases in
+    search (rules, whole)
+
+pub returns : goal.returns
+returns c = λ n some fits e.
+    let whole = strip_prefix_is Decides-eqb c.args.label.now c.args.front.now (Some c.in_ok-digits.digits)
+    c.in_ok-digits.ensures.cases in
+    c.loop-n.invariant.none n some (omega (arith, fits, c.loop-n-test.false))
+    (append_cancel_left c.args.front.now c.in_ok-digits.digits.now (decimal (8 * n)) (sym whole ∙ e))

@@ -1,14 +1,8 @@
-use Rattle.sumlist.proofs.Common.{arith}
-use Rattle.sumlist.proofs.Deciding.{all_settled}
-use Rattle.sumlist.proofs.Settling.{outcomes_unique}
+use Rattle.sumlist.proofs.Deciding.{all_settled, outcomes_unique}
 use Rattle.sumlist.proofs.laws.report_laws.Goals as goal
 
 pub returns-clause-some : goal.returns-clause-some
 returns-clause-some c = λ files kind lines. (let s = all_settled files kind lines in (s.0, (s.1, s.2)))
 
 pub returns-clause-one : goal.returns-clause-one
-returns-clause-one c =
-    λ files kind lines os rs p q. outcomes_unique files kind lines os rs p.0 q.0 p.1 q.1
-
-pub returns-clause-none : goal.returns-clause-none
-returns-clause-none c = λ n k few same. omega (arith, few, same)
+returns-clause-one c = λ files kind lines os rs p q. outcomes_unique files kind lines os rs p.0 q.0 p.1 q.1

@@ -1,36 +1,91 @@
-use Rattle.sumlist.proofs.Common.{◌∙◌, ap, arith, take, length-take-le, refl}
-use Rattle.sumlist.proofs.Naming.{all_taken, ended, found, more}
+use Rattle.std.specs.Io.KnownBytes.{IsAtEnd}
+use Rattle.std.specs.Prelude.{IsTrue, ◌↔◌}
+use Rattle.std.proofs.Common.{length-drop, not}
+use Rattle.std.proofs.KnownBytes.{Consumes-nil, Consumes-trans}
+use Rattle.sumlist.proofs.Common.{◌≡◌, ◌∙◌, ◌++◌, [], ap, arith, rules, take, length, length-append, length-take-le}
+use Rattle.sumlist.proofs.Common.{refl, Bool, true, false, List, Option, Some, eqb, All-append, ℕ, sym}
+use Rattle.sumlist.proofs.Common.{subst, append_assoc, append-nil}
+use Rattle.sumlist.specs.Lines.{HasNo, IsKept}
+use Rattle.sumlist.specs.Naming.{IsNext, Reading}
+use Rattle.sumlist.specs.inside.Taking.{IsTaken}
+use Rattle.sumlist.proofs.Cutting.{IsKept-after, pieces-cut, pieces-last, some_kept}
+use Rattle.sumlist.proofs.Holding.{IfSome-read}
 use Rattle.sumlist.proofs.name_reader.NameReader.next.Goals as goal
+
+module _ (r s : Reading) (front whole : List ℕ) (kept : IsKept r.name front) (free : HasNo 0 front)
+    (is : whole ≡ front ++ r.ahead) where
+  -- all that is ahead belongs to the name
+  all_taken : IsTaken false r s → HasNo 0 whole × IsKept s.name whole
+  all_taken t = rw (is, t.2) (
+    All-append (λ x. eqb x 0 ≡ false) front r.ahead free t.0,
+    IsKept-after r.name front r.ahead kept,
+  )
+
+  -- a NUL was found
+  found : IsTaken true r s → (left : List ℕ) → IsNext true s.name (whole ++ left) (s.ahead ++ left)
+  found t left = (
+    front ++ t.0,
+    rw t.2 (IsKept-after r.name front t.0 kept),
+    rw (is, append_assoc) (pieces-cut t.1 front left free),
+  )
+
+-- nothing more is to come
+ended : (is_empty : Bool) (kept : Option (List ℕ)) (whole : List ℕ) → IsTrue is_empty ↔ (kept ≡ Some [])
+    → HasNo 0 whole × IsKept kept whole → IsNext (not is_empty) kept whole []
+ended is_empty kept whole empty h = grind (arith, pieces-last, some_kept)
+
+pub loop-total-init : goal.loop-total-init
+loop-total-init g c =
+    let r = c.self.inside in
+    let is = ap (λ r. r.ahead) c.self.view_is in
+    record {
+      read = [];
+      consumed = Consumes-nil (g.F.Feed.remaining c.args.feed.now);
+      front = [];
+      kept = rw c.clear.ensures (refl, omega arith);
+      free = search rules;
+      whole = append-nil c.args.self.now.ahead ∙ sym is;
+      counts = grind (arith, ap length is, length-drop {A = ℕ}, length-take-le {A = ℕ});
+    }
 
 pub returns-then-take-clause-name : goal.returns-then-take-clause-name
 returns-then-take-clause-name g c =
-    found (g.F.Feed.remaining c.args.feed.now) c.args.self.now.ahead c.loop-total.self c.take.new.self _
-    c.loop-total.total c.if-take.ensures c.loop-total.invariant.coming
+    let i = c.loop-total.invariant in
+    IfSome-read (g.F.Feed.remaining c.args.feed.now) _ i.read _ i.consumed (λ left is. (
+      left,
+      is,
+      rw (← append_assoc) (found c.loop-total.self c.take.new.self i.front (c.args.self.now.ahead ++ i.read)
+          i.kept i.free i.whole c.if-take.ensures left),
+    ))
 
 pub returns-then-count-eq0-clause-name : goal.returns-then-count-eq0-clause-name
 returns-then-count-eq0-clause-name g c =
+    let i = c.loop-total.invariant in
     let none = c.if-count-eq0.true in
-    let same = c.read.auto.buf in
-    let size = c.self-in-loop-total.inside.size in
-    let taken = all_taken (g.F.Feed.remaining c.args.feed.now) c.args.self.now.ahead c.loop-total.self c.take.new.self _
-    c.loop-total.total c.if-take.ensures c.loop-total.invariant.coming in
-    ended (g.F.Feed.remaining c.args.feed.now) c.args.self.now.ahead (take c.in-Ok.count c.read.new.buf) c.take.new.self
-    (record { ahead = take c.in-Ok.count c.read.new.buf; name = c.self-in-loop-total.inside.held }) _ _
-    c.loop-total.total c.is_empty.result c.if-take.ensures.1 (ap (λ r. r.name) c.self-in-loop-total.view_is)
-    (ap (λ n. take n c.read.new.buf) none) (ap (λ n. take n c.read.new.buf) none) c.in-Ok.ensures.given
-    (c.in-Ok.ensures.end none (omega (arith, same, size))) c.is_empty.ensures taken
+    let end = c.in-Ok.ensures.end none (omega (arith, c.read.auto.buf, c.self-in-loop-total.inside.size)) in
+    let all = all_taken c.loop-total.self c.take.new.self i.front (c.args.self.now.ahead ++ i.read) i.kept i.free
+    i.whole c.if-take.ensures in
+    IfSome-read (g.F.Feed.remaining c.args.feed.now) _ (i.read ++ take c.in-Ok.count c.read.new.buf) _
+    (Consumes-trans _ _ _ _ _ i.consumed c.in-Ok.ensures.given) (λ left is.
+    let over : left ≡ [] = subst IsAtEnd is end in (
+      left,
+      is,
+      simp (none, over, append-nil) (ended c.is_empty.result _ _ c.is_empty.ensures
+          (rw (← ap (λ r. r.name) c.self-in-loop-total.view_is) at all)),
+    ))
 
 pub loop-total-preserved : goal.loop-total-preserved
 loop-total-preserved g c =
-    let sum = c.in-Some.ensures in
-    let piece = length-take-le c.in-Ok.count c.read.new.buf c.in-Ok.ensures.bound in
-    let taken = all_taken (g.F.Feed.remaining c.args.feed.now) c.args.self.now.ahead c.loop-total.self c.take.new.self _
-    c.loop-total.total c.if-take.ensures c.loop-total.invariant.coming in
+    let i = c.loop-total.invariant in
+    let piece = take c.in-Ok.count c.read.new.buf in
+    let all = all_taken c.loop-total.self c.take.new.self i.front (c.args.self.now.ahead ++ i.read) i.kept i.free
+    i.whole c.if-take.ensures in
     record {
-      coming = more (g.F.Feed.remaining c.args.feed.now) c.args.self.now.ahead (take c.in-Ok.count c.read.new.buf)
-          c.take.new.self _ _ _ c.loop-total.total c.in-Some.sum c.if-take.ensures.1
-          (ap (λ r. r.name) c.self-in-loop-total.view_is) refl (omega (arith, sum.1, piece))
-          c.in-Ok.ensures.given taken;
-      count = c.in-Ok.ensures.counted ∙ c.loop-total.invariant.count;
-      range = omega (arith, sum.0, sum.1);
+      read = i.read ++ piece;
+      consumed = Consumes-trans _ _ _ _ _ i.consumed c.in-Ok.ensures.given;
+      front = c.args.self.now.ahead ++ i.read;
+      kept = rw (← ap (λ r. r.name) c.self-in-loop-total.view_is) at all.1;
+      free = all.0;
+      whole = sym (append_assoc c.args.self.now.ahead i.read piece);
+      counts = grind (arith, length-append {A = ℕ}, length-take-le {A = ℕ});
     }

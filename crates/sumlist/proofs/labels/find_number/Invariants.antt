@@ -1,5 +1,5 @@
 use Rattle.sumlist.proofs.Common.{◌≡◌, ◌<◌, ◌≤◌, ◌*◌, ◌-◌, ℕ, decimal}
-use Rattle.sumlist.proofs.labels.find_len.Given as goal
+use Rattle.sumlist.proofs.labels.find_number.Given as goal
 
 abbrev pub invariant-loop-n : goal.invariant-loop-n
 invariant-loop-n l = record {

@@ -1,0 +1,203 @@
+-- A text is read from its left: what the reading finds is the form that the text has, and it finds each.
+use Rattle.sumlist.proofs.Common.{◌*◌, ◌++◌, ◌+◌, ◌-◌, ◌<◌, ◌∙◌, ◌∷◌, ◌≡◌, ◌≤◌, Alg, Bool, Decides, Ended, HasForm}
+use Rattle.sumlist.proofs.Common.{IsCut, IsInRange, IsLabel, IsMark, Kind, List, None, Ok, Option, Some, [], alg_of, ap}
+use Rattle.sumlist.proofs.Common.{arith, bytes_eq, bytes_eq-Decides, cases_eq, closing, codes, cond, decimal, decode_of}
+use Rattle.sumlist.proofs.Common.{drop, eqb, false, false≢true, inl, inr, length, length-append, nat_tests, refl, subst}
+use Rattle.sumlist.proofs.Common.{sym, tag_len, take, take-append-drop, take-append_seam, text, true, ℕ}
+use Rattle.std.proofs.Common.{◌==◌, ap₂, suc, zero}
+use Rattle.std.proofs.Math.Seq.{drop-append-add}
+use Rattle.std.proofs.lemmas.Bool.{false_from_ne_true}
+use Rattle.std.proofs.lemmas.Bool.Decides.{Decides-eqb, Decides-or}
+use Rattle.std.proofs.lemmas.Fmt.{decimal_injective}
+use Rattle.std.proofs.lemmas.List.Elements.{All-head, All-tail}
+use Rattle.std.proofs.lemmas.Option.{none-some, option_and_then_some, same_Some}
+use Rattle.std.specs.Option.{option_and_then}
+use Rattle.source.specs.declared.alg.Alg.TheVariants.{Blake2b, Blake2s, Blake3, Sha256, Sha512}
+use Rattle.sumlist.specs.Lines.{HasNo}
+use Rattle.sumlist.specs.inside.Labels.{NotEnded, NotNamed}
+use Rattle.sumlist.specs.inside.Reading.{Form, alg_labelled, alg_told, bytes_told, cut, end_at, end_cut, form_at}
+use Rattle.sumlist.specs.inside.Reading.{form_of, is_mark, with_tag}
+use Rattle.sumlist.proofs.Words.{IsWord, digits_word, label_word, no_space}
+
+-- what is told by a test
+pub by_test : {A P Q : Type 0} (b : Bool) → Decides b Q → (x y z : A) → (Q → x ≡ z → P) → ((Q → ⊥) → y ≡ z → P)
+    → cond b x y ≡ z → P
+by_test true d x y z met failed e = met (d.0 refl) e
+by_test false d x y z met failed e = failed (λ q. false≢true (d.1 q)) e
+
+by_text : {A P : Type 0} (xs ys : List ℕ) (x y z : A) → (xs ≡ ys → x ≡ z → P) → (y ≡ z → P)
+    → cond (bytes_eq xs ys) x y ≡ z → P
+by_text xs ys x y z met failed e = by_test (bytes_eq xs ys) (bytes_eq-Decides xs ys) x y z met (λ n. failed) e
+
+none_if : {A : Type 0} (o : Option A) → ((x : A) → o ≡ Some x → ⊥) → o ≡ None
+none_if o h = grind arith
+
+-- ---- the first space
+
+abbrev NotSpace : ℕ → Type 0
+NotSpace x = eqb x 32 ≡ false
+
+cut-at : (word rest : List ℕ) → HasNo 32 word → cut (word ++ 32 ∷ rest) ≡ Some (word, rest)
+cut-at [] rest free = refl
+cut-at (c ∷ word) rest free =
+    rw (All-head NotSpace c word free, cut-at word rest (All-tail NotSpace c word free)) refl
+
+pub cut-none : (text : List ℕ) → HasNo 32 text → cut text ≡ None
+cut-none [] free = refl
+cut-none (c ∷ text) free = rw (All-head NotSpace c text free, cut-none text (All-tail NotSpace c text free)) refl
+
+cut-some : (text : List ℕ) (p : List ℕ × List ℕ) → cut text ≡ Some p → text ≡ p.0 ++ 32 ∷ p.1
+cut-some [] p e = grind arith
+cut-some (c ∷ text) p e = grind (arith, nat_tests, cut-some text)
+
+-- ---- the label
+
+bytes_told-some : (digits : List ℕ) (most n : ℕ) → bytes_told digits most ≡ Some n
+    → (0 < n) × (n ≤ most) × (digits ≡ decimal (8 * n))
+bytes_told-some digits zero n e = grind arith
+bytes_told-some digits (suc k) n e =
+    grind (arith, bytes_told-some digits k n, bytes_eq-Decides digits (decimal (8 * suc k)))
+
+told_once : (m n : ℕ) → m ≤ n → n ≤ 64 → decimal (8 * m) ≡ decimal (8 * n) → m ≡ n
+told_once m n fits small e =
+    let same = decimal_injective (8 * m) (8 * n) (omega (arith, fits, small)) (omega (arith, small)) e in
+    omega (arith, same)
+
+bytes_told-is : (most n : ℕ) → 0 < n → n ≤ most → most ≤ 64 → bytes_told (decimal (8 * n)) most ≡ Some n
+bytes_told-is zero n some fits small = absurd (omega (arith, some, fits))
+bytes_told-is (suc k) n some fits small =
+    let equal = bytes_eq-Decides (decimal (8 * n)) (decimal (8 * suc k)) in
+    elim (cases_eq n (suc k)) [
+      | inl same ↦ rw (equal.1 (ap (λ m. decimal (8 * m)) same)) (ap Some (sym same))
+      | inr other ↦
+          let unequal = false_from_ne_true _ (λ t. other (told_once n (suc k) fits small (equal.0 t))) in
+          rw unequal (bytes_told-is k n some (omega (arith, fits, other)) (omega (arith, small)))
+    ]
+
+abbrev Named : List ℕ → Alg → Type 0
+Named label alg = IsInRange alg × IsLabel label alg
+
+pub alg_labelled-some : (l : List ℕ) (a : Alg) → alg_labelled l ≡ Some a → Named l a
+alg_labelled-some l a e =
+    by_text l (codes "SHA256") _ _ _ (λ s. one Sha256 (tt, s))
+    (by_text l (codes "SHA512") _ _ _ (λ s. one Sha512 (tt, s))
+    (by_text l (codes "BLAKE2b") _ _ _ (λ s. one (Blake2b 64) ((omega arith, omega arith), inl (refl, s)))
+    (by_text l (codes "BLAKE2s") _ _ _ (λ s. one (Blake2s 32) ((omega arith, omega arith), inl (refl, s)))
+    (by_text l (codes "BLAKE3") _ _ _ (λ s. one Blake3 (tt, s))
+    (by_text (take 8 l) (codes "BLAKE2b-") _ _ _ (λ s. number Blake2b 64 (λ n h r.
+    ((h, r.0), inr (behind (codes "BLAKE2b-") s r.1))))
+    (by_text (take 8 l) (codes "BLAKE2s-") _ _ _ (λ s. number Blake2s 32 (λ n h r.
+    ((h, r.0), inr (behind (codes "BLAKE2s-") s r.1))))
+    (λ is. absurd (none-some a is)))))))) e
+  where
+    one : (b : Alg) → Named l b → Some b ≡ Some a → Named l a
+    one b n is = subst (Named l) (same_Some b a is) n
+
+    behind : {digits : List ℕ} (front : List ℕ) → take 8 l ≡ front → drop 8 l ≡ digits → l ≡ front ++ digits
+    behind front s t = sym (take-append-drop 8 l) ∙ ap₂ (λ (x y : List ℕ). x ++ y) s t
+
+    number : (of : ℕ → Alg) (most : ℕ)
+        → ((n : ℕ) → 0 < n → (n ≤ most) × (drop 8 l ≡ decimal (8 * n)) → Named l (of n))
+        → alg_told of (drop 8 l) most ≡ Some a → Named l a
+    number of most named is = option_and_then_some _ (bytes_told (drop 8 l) most) a is (λ n told same.
+        let t = bytes_told-some (drop 8 l) most n told in one (of n) (named n t.0 (t.1, t.2)) same)
+
+pub alg_labelled-is : (l : List ℕ) (a : Alg) → IsInRange a → IsLabel l a → alg_labelled l ≡ Some a
+alg_labelled-is l Sha256 r e = ap alg_labelled e
+alg_labelled-is l Sha512 r e = ap alg_labelled e
+alg_labelled-is l (Blake2b n) r (inl e) = ap alg_labelled e.1 ∙ ap (λ k. Some (Blake2b k)) (sym e.0)
+alg_labelled-is l (Blake2b n) r (inr e) = ap alg_labelled e
+    ∙ ap (option_and_then (λ (k : ℕ). Some (Blake2b k))) (bytes_told-is 64 n r.0 r.1 (omega arith))
+alg_labelled-is l (Blake2s n) r (inl e) = ap alg_labelled e.1 ∙ ap (λ k. Some (Blake2s k)) (sym e.0)
+alg_labelled-is l (Blake2s n) r (inr e) = ap alg_labelled e
+    ∙ ap (option_and_then (λ (k : ℕ). Some (Blake2s k))) (bytes_told-is 32 n r.0 r.1 (omega arith))
+alg_labelled-is l Blake3 r e = ap alg_labelled e
+
+pub alg_labelled-none : (l : List ℕ) → NotNamed l → alg_labelled l ≡ None
+alg_labelled-none l none =
+    none_if (alg_labelled l) (λ a e. let n = alg_labelled-some l a e in none a n.0 n.1)
+
+-- ---- the end behind a body
+
+end_cut-some : (rest : List ℕ) (n : ℕ) (p : List ℕ × List ℕ) → end_cut n rest ≡ Some p → Ended rest n p.0 p.1
+end_cut-some rest n p e = grind (arith, nat_tests, bytes_eq-Decides)
+
+pub end_cut-is : (rest : List ℕ) (n : ℕ) (body digits : List ℕ) → Ended rest n body digits
+    → end_cut n rest ≡ Some (body, digits)
+end_cut-is rest n body digits e =
+    let whole = body ++ closing digits in
+    let parts = length-append body (closing digits) in
+    let size : length whole - (n + 4) ≡ length body = let few = e.1 in omega (arith, parts, few) in
+    ap (end_cut n) e.0 ∙ ap (λ k. end_at k whole n) size
+    ∙ rw (
+      take-append_seam body (closing digits),
+      drop-append-add body (closing digits) 4,
+      (bytes_eq-Decides whole whole).1 refl,
+      (Decides-eqb (length digits) n).1 e.1,
+    ) refl
+
+pub end_cut-none : (rest : List ℕ) (n : ℕ) → NotEnded rest n → end_cut n rest ≡ None
+end_cut-none rest n none = none_if (end_cut n rest) (λ p e. none p.0 p.1 (end_cut-some rest n p e))
+
+-- ---- the forms
+
+with_tag-some : (a : Alg) (digits body : List ℕ) (f : Form) → with_tag a digits body ≡ Some f
+    → (decode_of digits ≡ Ok f.1) × (a ≡ f.0) × (body ≡ f.2)
+with_tag-some a digits body f e = grind arith
+
+mark-Decides : (mark : ℕ) → Decides (is_mark mark) (IsMark mark)
+mark-Decides mark = Decides-or _ _ (Decides-eqb mark 32) (Decides-eqb mark 42)
+
+module _ (kind : Kind) where
+  form_at-some : (word rest : List ℕ) (f : Form) → form_at kind word rest ≡ Some f
+      → HasForm (word ++ 32 ∷ rest) kind f.0 f.1 f.2
+  form_at-some word [] f e = absurd (none-some f e)
+  form_at-some word (mark ∷ rest) f e =
+      by_test (is_mark mark) (mark-Decides mark) _ _ _ (λ marked is.
+      option_and_then_some _ (alg_of kind (length word)) f is (λ a named told.
+      let t = with_tag-some a word rest f told in
+      inl record {
+        digits = word;
+        mark = mark;
+        whole = ap (λ l. word ++ 32 ∷ mark ∷ l) t.2;
+        marked = marked;
+        alg_is = named ∙ ap Some t.1;
+        tag_is = t.0;
+      }))
+      (λ unmarked. by_test (mark == 40) (Decides-eqb mark 40) _ _ _ (λ bracket is.
+      option_and_then_some _ (alg_labelled word) f is (λ a named more.
+      option_and_then_some _ (end_cut (2 * tag_len a) rest) f more (λ p ends told.
+      let t = with_tag-some a p.1 p.0 f told in
+      let n = subst (Named word) t.1 (alg_labelled-some word a named) in
+      let d = end_cut-some rest (2 * tag_len a) p ends in
+      inr record {
+        label = word;
+        digits = p.1;
+        whole = ap₂ (λ (m : ℕ) (l : List ℕ). word ++ 32 ∷ m ∷ l) bracket
+            (d.0 ∙ ap (λ b. b ++ closing p.1) t.2);
+        range = n.0;
+        names = n.1;
+        sized = d.1 ∙ ap (λ b. 2 * tag_len b) t.1;
+        tag_is = t.0;
+      })))
+      (λ neither is. absurd (none-some f is))) e
+
+  pub form_of-some : (text : List ℕ) (f : Form) → form_of kind text ≡ Some f → HasForm text kind f.0 f.1 f.2
+  form_of-some text f e = option_and_then_some _ (cut text) f e (λ p is found.
+      subst (λ t. HasForm t kind f.0 f.1 f.2) (sym (cut-some text p is)) (form_at-some p.0 p.1 f found))
+
+  -- a text that is cut at its first space
+  pub form_of-cut : {text word rest : List ℕ} → IsCut 32 text word rest → form_of kind text ≡ form_at kind word rest
+  form_of-cut {word} {rest} c = rw (c.whole, cut-at word rest c.free) refl
+
+  word_cut : {text : List ℕ} (word rest : List ℕ) → IsWord word → text ≡ word ++ 32 ∷ rest → IsCut 32 text word rest
+  word_cut word rest w e = record { whole = e; free = no_space word w }
+
+  pub form_of-is : (text : List ℕ) (a : Alg) (t x : List ℕ) → HasForm text kind a t x
+      → form_of kind text ≡ Some (a, t, x)
+  form_of-is text a t x (inl p) =
+      form_of-cut (word_cut p.digits (p.mark ∷ x) (digits_word p.digits t p.tag_is) p.whole)
+      ∙ rw ((mark-Decides p.mark).1 p.marked, p.alg_is, p.tag_is) refl
+  form_of-is text a t x (inr q) =
+      form_of-cut (word_cut q.label (40 ∷ (x ++ closing q.digits)) (label_word q.label a q.range q.names) q.whole)
+      ∙ rw (alg_labelled-is q.label a q.range q.names, end_cut-is _ _ x q.digits (refl, q.sized), q.tag_is) refl

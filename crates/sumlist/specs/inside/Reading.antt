@@ -1,0 +1,105 @@
+-- A core read from its left: the entry that it states, if it states one.
+use Rattle.std.specs.Prelude.{◌≡◌, IsUtf8, ℕ, zero, suc, ◌+◌, ◌-◌, ◌*◌, Bool, false, List, [], ◌∷◌, ◌++◌, length, take}
+use Rattle.std.specs.Prelude.{drop, if◌then◌else◌, ◌==◌, ◌&&◌, ◌||◌, Option, Some, None, codes}
+use Rattle.std.specs.Fmt.{decimal}
+use Rattle.std.specs.Option.{option_and_then}
+use Rattle.std.specs.Result.{result_ok}
+use Rattle.std.specs.Str.{bytes_eq}
+use Rattle.hex.specs.Hex.{decode_of}
+use Rattle.source.specs.declared.alg.Alg.{Alg}
+use Rattle.source.specs.declared.alg.Alg.TheVariants.{Sha256, Sha512, Blake2b, Blake2s, Blake3}
+use Rattle.source.specs.Digest.{tag_len}
+use Rattle.sumlist.specs.declared.kind.Kind.{Kind}
+use Rattle.sumlist.specs.Entry.{Listing, Fits}
+use Rattle.sumlist.specs.Kinds.{alg_of}
+use Rattle.sumlist.specs.Tagged.{closing}
+use Rattle.sumlist.specs.inside.Body.{name_of}
+
+-- what stands before the first space, and what stands behind it
+abbrev pub cut : List ℕ → Option (List ℕ × List ℕ)
+cut [] = None
+cut (c ∷ text) =
+    if c == 32 then Some ([], text)
+    else option_and_then (λ (p : List ℕ × List ℕ). Some (c ∷ p.0, p.1)) (cut text)
+
+-- the number of bytes, up to a bound, whose bits these digits tell
+abbrev pub bytes_told : List ℕ → ℕ → Option ℕ
+bytes_told digits zero = None
+bytes_told digits (suc n) = if bytes_eq digits (decimal (8 * suc n)) then Some (suc n) else bytes_told digits n
+
+abbrev pub alg_told : (ℕ → Alg) → List ℕ → ℕ → Option Alg
+alg_told of digits most = option_and_then (λ (n : ℕ). Some (of n)) (bytes_told digits most)
+
+-- the algorithm that a label names
+abbrev pub alg_labelled : List ℕ → Option Alg
+alg_labelled label =
+    if bytes_eq label (codes "SHA256") then Some Sha256
+    else if bytes_eq label (codes "SHA512") then Some Sha512
+    else if bytes_eq label (codes "BLAKE2b") then Some (Blake2b 64)
+    else if bytes_eq label (codes "BLAKE2s") then Some (Blake2s 32)
+    else if bytes_eq label (codes "BLAKE3") then Some Blake3
+    else if bytes_eq (take 8 label) (codes "BLAKE2b-") then alg_told Blake2b (drop 8 label) 64
+    else if bytes_eq (take 8 label) (codes "BLAKE2s-") then alg_told Blake2s (drop 8 label) 32
+    else None
+
+-- a body of so many bytes with the digits behind it, if there are so many
+abbrev pub end_at : ℕ → List ℕ → ℕ → Option (List ℕ × List ℕ)
+end_at size rest digits =
+    if bytes_eq rest (take size rest ++ closing (drop (size + 4) rest)) && (length (drop (size + 4) rest) == digits)
+    then Some (take size rest, drop (size + 4) rest)
+    else None
+
+abbrev pub end_cut : ℕ → List ℕ → Option (List ℕ × List ℕ)
+end_cut digits rest = end_at (length rest - (digits + 4)) rest digits
+
+-- an algorithm, a tag and a body
+abbrev pub Form : Type 0
+Form = Alg × List ℕ × List ℕ
+
+abbrev pub with_tag : Alg → List ℕ → List ℕ → Option Form
+with_tag alg digits body = option_and_then (λ (tag : List ℕ). Some (alg, tag, body)) (result_ok (decode_of digits))
+
+abbrev pub is_mark : ℕ → Bool
+is_mark byte = (byte == 32) || (byte == 42)
+
+-- digits, whose number and the kind name the algorithm, and a body
+abbrev pub plain_at : Kind → List ℕ → List ℕ → Option Form
+plain_at kind digits body = option_and_then (λ (alg : Alg). with_tag alg digits body) (alg_of kind (length digits))
+
+-- a label, which names the algorithm, and a body with its digits behind it
+abbrev pub tagged_at : List ℕ → List ℕ → Option Form
+tagged_at label rest = option_and_then (λ (alg : Alg). option_and_then
+    (λ (p : List ℕ × List ℕ). with_tag alg p.1 p.0) (end_cut (2 * tag_len alg) rest)) (alg_labelled label)
+
+-- what a word and the text behind its space say: a mark tells one form, a bracket the other
+abbrev pub form_at : Kind → List ℕ → List ℕ → Option Form
+form_at kind word [] = None
+form_at kind word (mark ∷ rest) =
+    if is_mark mark then plain_at kind word rest
+    else if mark == 40 then tagged_at word rest
+    else None
+
+abbrev pub form_of : Kind → List ℕ → Option Form
+form_of kind text = option_and_then (λ (p : List ℕ × List ℕ). form_at kind p.0 p.1) (cut text)
+
+-- whether a core begins with a backslash, and the text behind it, or else the core
+abbrev pub is_slashed : List ℕ → Bool
+is_slashed [] = false
+is_slashed (c ∷ text) = c == 92
+
+abbrev pub unslashed : List ℕ → List ℕ
+unslashed [] = []
+unslashed (c ∷ text) = if c == 92 then text else c ∷ text
+
+-- the entry of a form, whose body means a name
+abbrev pub entry_of : Bool → Form → Option Listing
+entry_of is_escaped f = option_and_then
+    (λ (name : List ℕ). Some record { name = name; alg = f.0; tag = f.1 }) (name_of is_escaped f.2)
+
+-- the entry that a core states
+abbrev pub stated : Kind → List ℕ → Option Listing
+stated kind core = option_and_then (entry_of (is_slashed core)) (form_of kind (unslashed core))
+
+-- a core states an entry, whose name can be written
+abbrev pub IsStated : Kind → List ℕ → Listing → Type 0
+IsStated kind core e = (stated kind core ≡ Some e) × IsUtf8 e.name × Fits (2 * length e.tag) e.name
