@@ -17,7 +17,7 @@ pub use entry::{Entry, EntryFault};
 pub use files::FileTree;
 pub use fitting::{fits, tagged_fits};
 pub use kind::Kind;
-pub use laws::report_laws;
+pub use laws::{line_laws, report_laws};
 pub use line::{Line, LineFault, parse_line};
 pub use map::map_laws;
 pub use memory::MemoryTree;
