@@ -1,5 +1,6 @@
 -- Parts of a message: the subtrees that can be hashed apart (the BLAKE3 paper, 2.1 and 5.3).
-use Rattle.std.specs.Prelude.{◌≡◌, ℕ, ◌+◌, ◌-◌, ◌*◌, ◌/◌, ◌%◌, ◌^◌, ◌<◌, ◌≤◌, List, codes}
+use Rattle.std.specs.Prelude.{◌≡◌, ℕ, ◌+◌, ◌-◌, ◌*◌, ◌/◌, ◌%◌, ◌^◌, ◌<◌, ◌≤◌, List, ◌++◌, codes}
+use Rattle.std.specs.Fmt.{decimal}
 use Rattle.b3.specs.Modes.{hash_parameters, keyed_parameters, material_parameters}
 use Rattle.b3.specs.declared.mode.Mode.{Mode}
 use Rattle.b3.specs.declared.mode.Mode.TheVariants.{Hash, Keyed, Material}
@@ -15,6 +16,11 @@ abbrev pub mode_name : Mode → List ℕ
 mode_name Hash = codes "Hash"
 mode_name (Keyed key) = codes "Keyed"
 mode_name (Material key) = codes "Material"
+
+-- how a part is shown: its mode, its first chunk and how many bytes it has
+abbrev pub part_text : Mode → ℕ → ℕ → List ℕ
+part_text mode first len = codes "Part { mode: " ++ (mode_name mode
+    ++ (codes ", first_chunk: " ++ (decimal first ++ (codes ", len: " ++ (decimal len ++ codes " }")))))
 
 -- p is the least power of two that is at least n
 abbrev pub IsLeastPowerFrom : ℕ → ℕ → Type 0

@@ -15,7 +15,7 @@
 #![tactic(auto)]
 
 pub use hasher::Blake3;
-pub use laws::{output_laws, tree_laws};
+pub use laws::{debug_laws, output_laws, tree_laws};
 pub use mode::Mode;
 pub use output::{EndOfOutput, Output};
 pub use part::{NotNeighbours, NotWhole, Part};

@@ -84,12 +84,19 @@ impl Mode {
 
 impl Debug for Mode {
     ghost use Rattle.b3.specs.Parts.{mode_name};
+    ghost use Rattle.std.specs.Fmt.{DisplaysOnOk, WritesStyledOnOk};
     ghost use Rattle.std.specs.Prelude.{Some};
 
     ghost debug_output = { λ mode. Some (mode_name mode) };
 
-    /// Writes the mode's name. The key is not shown.
-    fn fmt<W: Write>(&self, f: &mut fmt::Formatter<W>) -> fmt::Result {
+    /// Writes the mode's name, whatever the options. The key is not shown.
+    fn fmt<W: Write>(&self, f: &mut fmt::Formatter<W>) -> fmt::Result
+        ensures writes { DisplaysOnOk W.write_str_gives f.old result
+            (⟦<Mode as Debug>⟧.debug_output self.now) f.new }
+
+        // So it is whatever `debug_output` says.
+        ensures name { WritesStyledOnOk W.write_str_gives f.old result (mode_name self.now) f.new }
+    {
         match self {
             Mode::Hash => f.write_str("Hash"),
             Mode::Keyed(_) => f.write_str("Keyed"),

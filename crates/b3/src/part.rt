@@ -142,9 +142,23 @@ impl Part {
 }
 
 impl Debug for Part {
+    ghost use Rattle.b3.specs.Parts.{part_text};
+    ghost use Rattle.b3.specs.inside.Parts.{part_first, part_len, part_mode};
+    ghost use Rattle.std.specs.Fmt.{DisplaysOnOk, WritesOnOk};
+    ghost use Rattle.std.specs.Prelude.{Some};
+
+    ghost debug_output = { λ part. Some (part_text (part_mode part) (part_first part) (part_len part)) };
+
     /// Writes the mode's name, where the part stands and how many bytes it has. Neither the key nor
     /// what the bytes came to is shown.
-    fn fmt<W: Write>(&self, f: &mut fmt::Formatter<W>) -> fmt::Result {
+    fn fmt<W: Write>(&self, f: &mut fmt::Formatter<W>) -> fmt::Result
+        ensures writes { DisplaysOnOk W.write_str_gives f.old result
+            (⟦<Part as Debug>⟧.debug_output self.now) f.new }
+
+        // So it is whatever `debug_output` says.
+        ensures text { WritesOnOk W.write_str_gives f.old result
+            (part_text (part_mode self.now) (part_first self.now) (part_len self.now)) f.new }
+    {
         write!(
             f,
             "Part {{ mode: {:?}, first_chunk: {}, len: {} }}",

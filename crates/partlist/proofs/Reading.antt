@@ -23,7 +23,7 @@ use Rattle.partlist.specs.declared.fault.LineFault.{LineFault}
 use Rattle.partlist.specs.declared.fault.LineFault.TheVariants.{NotAPart}
 use Rattle.partlist.specs.declared.joining.Joiner.{Joiner}
 use Rattle.partlist.specs.inside.Few.{most_parts}
-use Rattle.partlist.specs.inside.Joiner.{Halts, HasJoined, MayBeRowOf, Partway, joined_count}
+use Rattle.partlist.specs.inside.Joiner.{Halts, HasJoined, JoinedBefore, MayBeRowOf, Partway, joined_count}
 use Rattle.partlist.proofs.Parsing.{first_fits, len_fits}
 
 -- ---- lines
@@ -192,24 +192,39 @@ Partway-last (Err fault) whole parts old new front some p wrong kept =
     let cut = ap lines (append-nil front) ∙ lines-last front some p.no_end in
     Partway-wrong whole [] parts old new front [] fault p cut wrong kept
 
--- the number of the line that is wrong
-pub Halts-at : (text : List ℕ) (parts : List PartValue) (old joiner : Joiner) (fault : LineFault) (number : ℕ)
-    → HasJoined old parts → Halts text parts joiner fault
-    → number ≡ joined_count joiner - joined_count old + 1 → StopsAt text parts number fault
-Halts-at text parts old joiner fault number joined halts place =
-    let told = length-append parts halts.told in
-    let same = AllTell-length halts.before halts.told halts.tells in
-    record {
-      before = halts.before;
-      line = halts.line;
-      after = halts.after;
-      told = halts.told;
-      split = halts.split;
-      place = omega (arith, place, told, same, joined.size, halts.joined.size);
-      tells = halts.tells;
-      row = row-is joiner.row (parts ++ halts.told) halts.joined.row;
-      wrong = halts.wrong;
-    }
+-- the line of this number can't be joined
+module _ (text : List ℕ) (parts : List PartValue) (old joiner : Joiner) (fault : LineFault) (number : ℕ)
+    (joined : HasJoined old parts) (halts : Halts text parts joiner fault)
+    (is : number ≡ joined_count joiner - joined_count old + 1) where
+  halts-place : number ≡ length halts.before + 1
+  halts-place =
+      let told = length-append parts halts.told in
+      let same = AllTell-length halts.before halts.told halts.tells in
+      omega (arith, is, told, same, joined.size, halts.joined.size)
+
+  pub Halts-at : StopsAt text parts number fault
+  Halts-at = record {
+    before = halts.before;
+    line = halts.line;
+    after = halts.after;
+    told = halts.told;
+    split = halts.split;
+    place = halts-place;
+    tells = halts.tells;
+    row = row-is joiner.row (parts ++ halts.told) halts.joined.row;
+    wrong = halts.wrong;
+  }
+
+  pub Halts-before : JoinedBefore text parts joiner number
+  Halts-before = record {
+    before = halts.before;
+    after = halts.line ∷ halts.after;
+    told = halts.told;
+    split = halts.split;
+    place = halts-place;
+    tells = halts.tells;
+    joined = halts.joined;
+  }
 
 -- some of the bytes to come were given, and then more
 pub Gives-more : (a b c : Option (List ℕ)) (piece : List ℕ) → Gives a b → Consumes b c piece → Gives a c
@@ -224,27 +239,43 @@ pub Coming-start : (whole : Option (List ℕ)) (joiner : Joiner) → Coming whol
 Coming-start None joiner = tt
 Coming-start (Some text) joiner = (text, refl, λ parts joined. Partway-start text parts joiner joined)
 
+-- a line of the text can't be joined
+abbrev pub Halting : Option (List ℕ) → Joiner → Joiner → LineFault → Type 0
+Halting whole old now fault =
+    IfSome whole (λ text. (parts : List PartValue) → HasJoined old parts → Halts text parts now fault)
+
+pub Halting-at : (whole : Option (List ℕ)) (old now : Joiner) (fault : LineFault) → Halting whole old now fault
+    → IfSome whole (λ text. (parts : List PartValue) → HasJoined old parts
+    → StopsAt text parts (joined_count now - joined_count old + 1) fault)
+Halting-at None old now fault halting = tt
+Halting-at (Some text) old now fault halting = λ parts joined.
+    Halts-at text parts old now fault _ joined (halting parts joined) refl
+
+pub Halting-before : (whole : Option (List ℕ)) (old now : Joiner) (fault : LineFault) → Halting whole old now fault
+    → IfSome whole (λ text. (parts : List PartValue) → HasJoined old parts
+    → JoinedBefore text parts now (joined_count now - joined_count old + 1))
+Halting-before None old now fault halting = tt
+Halting-before (Some text) old now fault halting = λ parts joined.
+    Halts-before text parts old now fault _ joined (halting parts joined) refl
+
 -- a line of the piece that was read is wrong
 pub Coming-wrong : (whole rest after : Option (List ℕ)) (old new now : Joiner) (front piece : List ℕ)
     (fault : LineFault) → Coming whole rest old new front → Consumes rest after piece
     → ((text more : List ℕ) (parts : List PartValue) → Partway text parts new front (piece ++ more)
     → Halts text parts now fault)
-    → IfSome whole (λ text. (parts : List PartValue) → HasJoined old parts
-    → StopsAt text parts (joined_count now - joined_count old + 1) fault)
+    → Halting whole old now fault
 Coming-wrong None rest after old new now front piece fault coming given wrong = tt
 Coming-wrong (Some text) rest None old new now front piece fault coming given wrong =
     absurd (subst (λ r. Consumes r None piece) coming.1 given)
 Coming-wrong (Some text) rest (Some left) old new now front piece fault coming given wrong = λ parts joined.
     let all : coming.0 ≡ piece ++ left = subst (λ r. Consumes r (Some left) piece) coming.1 given in
-    Halts-at text parts old now fault _ joined
-    (wrong text left parts (subst (Partway text parts new front) all (coming.2 parts joined))) refl
+    wrong text left parts (subst (Partway text parts new front) all (coming.2 parts joined))
 
 -- nothing was left, and the last line is wrong
 pub Coming-ended : (whole rest after : Option (List ℕ)) (old new now : Joiner) (front piece : List ℕ)
     (fault : LineFault) → Coming whole rest old new front → Consumes rest after piece → piece ≡ [] → IsAtEnd after
     → ((text : List ℕ) (parts : List PartValue) → Partway text parts new front [] → Halts text parts now fault)
-    → IfSome whole (λ text. (parts : List PartValue) → HasJoined old parts
-    → StopsAt text parts (joined_count now - joined_count old + 1) fault)
+    → Halting whole old now fault
 Coming-ended None rest after old new now front piece fault coming given none end wrong = tt
 Coming-ended (Some text) rest None old new now front piece fault coming given none end wrong =
     absurd (subst (λ r. Consumes r None piece) coming.1 given)
@@ -252,5 +283,4 @@ Coming-ended (Some text) rest (Some left) old new now front piece fault coming g
     λ parts joined.
     let all : coming.0 ≡ piece ++ left = subst (λ r. Consumes r (Some left) piece) coming.1 given in
     let over : coming.0 ≡ [] = all ∙ ap (λ (l : List ℕ). l ++ left) none ∙ end in
-    Halts-at text parts old now fault _ joined
-    (wrong text parts (subst (Partway text parts new front) over (coming.2 parts joined))) refl
+    wrong text parts (subst (Partway text parts new front) over (coming.2 parts joined))

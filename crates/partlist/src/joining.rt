@@ -2,7 +2,7 @@
 
 ghost use Rattle.std.specs.Prelude.{◌≡◌, ℕ, ◌+◌, ◌-◌, ◌*◌, ◌<◌, ◌≤◌, List, [], ◌∷◌, ◌++◌, length, MatchResult};
 ghost use Rattle.std.specs.Prelude.{MatchOption};
-ghost use Rattle.std.specs.Prelude.{OnOk, OnErr, IfOk, IfSome};
+ghost use Rattle.std.specs.Prelude.{OnOk, OnErr, IfErr, IfOk, IfSome};
 ghost use Rattle.std.specs.Io.KnownBytes.{IsAtEnd};
 ghost use Rattle.arrayvec.specs.ArrayVec.{array_vec_len};
 ghost use Rattle.b3.specs.Modes.{hash_root};
@@ -36,7 +36,8 @@ pub struct Joiner {
 }
 
 impl Joiner {
-    ghost use Rattle.partlist.specs.inside.Joiner.{Halts, HasJoined, JoinCounts, Partway, StopsSo, joined_count};
+    ghost use Rattle.partlist.specs.inside.Joiner.{Halts, HasJoined, JoinCounts, LeavesJoined, Partway, StopsSo};
+    ghost use Rattle.partlist.specs.inside.Joiner.{joined_count};
 
     /// No part yet.
     pub fn new() -> Joiner
@@ -88,13 +89,15 @@ impl Joiner {
 
     /// Joins the parts that all lines of a feed tell, one after the other, with the first behind the
     /// parts that were joined before. LF ends a line, and at the end of the feed it may be left out. It
-    /// ends at the first line that is wrong, and then the lines before it were joined. Of the feed it
-    /// keeps one read of 4,096 bytes and one line.
+    /// ends at the first line that is wrong, and then the lines before it were joined; where a read
+    /// failed, those whose LF was read. Of the feed it keeps one read of 4,096 bytes and one line.
     pub fn add_lines<F: Feed>(&mut self, feed: &mut F) -> Result<(), JoinFault>
         ensures joined { IfSome (F.remaining feed.old) (λ text. (parts : List PartValue) → HasJoined self.old parts
             → MatchResult result
             (λ _. (more : List PartValue) × AllTell (lines text) more × HasJoined self.new (parts ++ more))
             (λ fault. StopsSo text parts fault)) }
+        ensures stopped { IfSome (F.remaining feed.old) (λ text. (parts : List PartValue) → HasJoined self.old parts
+            → IfErr result (LeavesJoined text parts self.new (F.remaining feed.new))) }
         ensures end { OnOk result (IsAtEnd (F.remaining feed.new)) }
         ensures gave { Gives (F.remaining feed.old) (F.remaining feed.new) }
         ensures count { JoinCounts result (F.failure_count feed.old) (F.failure_count feed.new) }

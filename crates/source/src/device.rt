@@ -5,6 +5,7 @@ ghost use Rattle.std.specs.Io.KnownBytes.{Appends, ReadConsumes};
 ghost use Rattle.source.specs.Counts.{CountsFailure};
 ghost use Rattle.source.specs.Read.{IsRead};
 ghost use Rattle.source.specs.Written.{IsWrite};
+ghost use Rattle.source.specs.inside.Device.{device_failures, device_inner};
 
 use crate::{Feed, ReadFailed, Sink, WriteFailed};
 use std::io;
@@ -20,8 +21,6 @@ pub struct Device<R> {
 }
 
 impl<R> Device<R> {
-    ghost use Rattle.source.specs.inside.Device.{device_inner, device_failures};
-
     /// A device over `inner`, with no failure yet.
     pub fn new(inner: R) -> Device<R>
         ensures inner { device_inner result ≡ inner }
@@ -54,8 +53,6 @@ impl<R> Device<R> {
 }
 
 impl<R: Read> Feed for Device<R> {
-    ghost use Rattle.source.specs.inside.Device.{device_failures, device_inner};
-
     ghost failure_count = { λ s. device_failures s };
 
     ghost remaining = { λ _. None };
@@ -67,18 +64,22 @@ impl<R: Read> Feed for Device<R> {
         // What the reader had to come, where it tells that, is what was read.
         ensures reader { ReadConsumes (R.remaining (device_inner self.old))
             (R.remaining (device_inner self.new)) result buf.new }
+        ensures counted { CountsFailure result (device_failures self.old) (device_failures self.new) }
     {
         let answer = self.inner.read(buf);
         self.counted(answer, ReadFailed)
     }
 
-    fn failures(&self) -> u64 {
+    fn failures(&self) -> u64
+        ensures feed { result ≡ ⟦<Device<R> as Feed>⟧.failure_count self.now }
+        ensures device { result ≡ device_failures self.now }
+    {
         self.failures
     }
 }
 
 impl<W: Write> Sink for Device<W> {
-    ghost use Rattle.source.specs.inside.Device.{device_inner, device_shown};
+    ghost use Rattle.source.specs.inside.Device.{device_shown};
 
     ghost shown = { λ s. device_shown s };
 
@@ -93,9 +94,24 @@ impl<W: Write> Sink for Device<W> {
         ensures whole { IfOk result (λ n. n ≡ length bytes.now) }
         ensures writer { OnOk result (Appends (W.contents (device_inner self.old))
             (W.contents (device_inner self.new)) bytes.now) }
+        ensures counted { CountsFailure result (device_failures self.old) (device_failures self.new) }
     {
         let answer = self.inner.write_all(bytes);
         self.counted(answer, WriteFailed)?;
         Ok(bytes.len())
     }
 }
+
+/// Does nothing. Its contract says what each device tells as a feed: how many of its reads have failed, and
+/// not which bytes are to come.
+pub fn device_feed_laws<R: Read>(device: &Device<R>)
+    ensures untold { ⟦<Device<R> as Feed>⟧.remaining device.now ≡ None }
+    ensures failures { ⟦<Device<R> as Feed>⟧.failure_count device.now ≡ device_failures device.now }
+{}
+
+/// Does nothing. Its contract says what each device shows as a sink: how many of its writes have failed, and
+/// not which bytes were written.
+pub fn device_sink_laws<W: Write>(device: &Device<W>)
+    ensures untold { (⟦<Device<W> as Sink>⟧.shown device.now).contents ≡ None }
+    ensures failures { (⟦<Device<W> as Sink>⟧.shown device.now).failures ≡ device_failures device.now }
+{}

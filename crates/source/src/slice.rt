@@ -1,6 +1,6 @@
 // A lent slice as a feed.
 
-ghost use Rattle.std.specs.Prelude.{Some};
+ghost use Rattle.std.specs.Prelude.{◌≡◌, Some};
 
 use crate::{Feed, ReadFailed};
 
@@ -22,3 +22,10 @@ impl<'a> Feed for &'a [u8] {
         0
     }
 }
+
+/// Does nothing. Its contract says what each slice tells as a feed: all of it is to come, and no read of it
+/// has failed.
+pub fn slice_laws<'a>(slice: &'a [u8])
+    ensures told { ⟦<&'a [u8] as Feed>⟧.remaining slice.entry ≡ Some slice.now }
+    ensures failures { ⟦<&'a [u8] as Feed>⟧.failure_count slice.entry ≡ 0 }
+{}

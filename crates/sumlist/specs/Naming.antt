@@ -1,18 +1,21 @@
 -- Names that are separated by NUL.
-use Rattle.std.specs.Prelude.{◌≡◌, ℕ, Bool, true, false, List, [], ◌∷◌, Option, Some}
+use Rattle.std.specs.Prelude.{◌≡◌, ℕ, Bool, true, false, List, [], ◌∷◌, Option, None, Some}
+use Rattle.source.specs.declared.pumping.SourceFault.{SourceFault}
 use Rattle.sumlist.specs.Lines.{IsKept, pieces}
 
 -- the names that bytes spell: the pieces between NULs, but for an empty last one
 abbrev pub names : List ℕ → List (List ℕ)
 names bytes = pieces 0 bytes
 
--- how far a reader is: the bytes that it has read and are yet to be taken, and what it keeps of the last name
+-- how far a reader is: the bytes that it has read and are yet to be taken, what it keeps of the last name, and the
+-- fault, if there was one
 pub record Reading : Type 0 where
   pub ahead : List ℕ
   pub name : Option (List ℕ)
+  pub fault : Option SourceFault
 
 abbrev pub fresh : Reading
-fresh = record { ahead = []; name = Some [] }
+fresh = record { ahead = []; name = Some []; fault = None }
 
 -- the first name of some bytes was taken and these are left, or they had none
 abbrev pub IsNext : Bool → Option (List ℕ) → List ℕ → List ℕ → Type 0

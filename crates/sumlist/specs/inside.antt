@@ -12,3 +12,4 @@ pub mod Body
 pub mod MemoryTree
 pub mod Marks
 pub mod Stepped
+pub mod Moved

@@ -1,9 +1,11 @@
 // A lent map as files.
 
-ghost use Rattle.std.specs.Prelude.{Some};
+ghost use Rattle.std.specs.Prelude.{◌≡◌, Some, IfErr};
 ghost use Rattle.sumlist.specs.Named.{map_content};
+ghost use Rattle.sumlist.specs.Opening.{IsOpened};
 
 use crate::{OpenFault, Tree};
+use source::Feed;
 use std::collections::BTreeMap;
 
 /// The files of a map from names to contents. No open and no read of them fails, and it takes no
@@ -15,7 +17,21 @@ impl<'a> Tree for &'a BTreeMap<String, Vec<u8>> {
 
     ghost files = { λ t. Some (map_content t.now) };
 
-    fn open_at(&mut self, name: &str, position: u64) -> Result<&'a [u8], OpenFault> {
+    fn open(&mut self, name: &str) -> Result<&'a [u8], OpenFault>
+        ensures opened { IsOpened ⟦<&'a BTreeMap<String, Vec<u8>> as Tree>⟧.files
+            ⟦<&'a BTreeMap<String, Vec<u8>> as Tree>⟧.failure_count result self.old self.new name.now 0
+            ⟦<&'a [u8] as Feed>⟧.remaining ⟦<&'a [u8] as Feed>⟧.failure_count }
+        ensures only_missing { IfErr result (λ fault. fault ≡ OpenFault.Missing) }
+    {
+        self.open_at(name, 0)
+    }
+
+    fn open_at(&mut self, name: &str, position: u64) -> Result<&'a [u8], OpenFault>
+        ensures opened { IsOpened ⟦<&'a BTreeMap<String, Vec<u8>> as Tree>⟧.files
+            ⟦<&'a BTreeMap<String, Vec<u8>> as Tree>⟧.failure_count result self.old self.new name.now position
+            ⟦<&'a [u8] as Feed>⟧.remaining ⟦<&'a [u8] as Feed>⟧.failure_count }
+        ensures only_missing { IfErr result (λ fault. fault ≡ OpenFault.Missing) }
+    {
         let content = self.get(name).ok_or(OpenFault::Missing)?;
         let start = position as usize;
         Ok(&content[start.min(content.len())..])
@@ -23,3 +39,9 @@ impl<'a> Tree for &'a BTreeMap<String, Vec<u8>> {
 
     fn close(&mut self, _feed: &'a [u8]) {}
 }
+
+/// Does nothing. Its contract says what each map tells as files: their contents, and that none has failed.
+pub fn map_laws<'a>(files: &'a BTreeMap<String, Vec<u8>>)
+    ensures told { ⟦<&'a BTreeMap<String, Vec<u8>> as Tree>⟧.files files.entry ≡ Some (map_content files.now) }
+    ensures failures { ⟦<&'a BTreeMap<String, Vec<u8>> as Tree>⟧.failure_count files.entry ≡ 0 }
+{}

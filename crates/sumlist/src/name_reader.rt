@@ -1,7 +1,9 @@
 // Names that are separated by NUL, one after another.
 
-ghost use Rattle.std.specs.Prelude.{◌≡◌, ◌≢◌, ◌≤◌, ◌<◌, ◌++◌, ◌-◌, ◌^◌, List, ℕ, [], length, IfOk, IfSome, IsErrOf};
-ghost use Rattle.std.specs.Prelude.{IsUtf8, MatchOption, Some};
+ghost use Rattle.std.specs.Io.KnownBytes.{Consumes};
+ghost use Rattle.std.specs.Prelude.{◌≡◌, ◌≢◌, ◌≤◌, ◌<◌, ◌↔◌, ◌++◌, ◌-◌, ◌^◌, List, ℕ, [], length, IfOk, IfSome, IsErrOf};
+ghost use Rattle.std.specs.Prelude.{Err, IsUtf8, MatchOption, None, Some};
+ghost use Rattle.std.specs.Result.{result_err};
 ghost use Rattle.source.specs.Faults.{PumpCounts};
 ghost use Rattle.sumlist.specs.Naming.{IsNext, fresh};
 ghost use Rattle.sumlist.specs.inside.Taking.{IsTaken};
@@ -20,6 +22,8 @@ pub struct NameReader {
     start: usize,
     end: usize,
     held: LineBuffer,
+    // the first, which is the last
+    fault: Option<SourceFault>,
     ghost order: { start ≤ end },
     ghost within: { end ≤ 4096 },
     ghost size: { length buffer ≡ 4096 },
@@ -44,18 +48,49 @@ impl NameReader {
             start: 0,
             end: 0,
             held: LineBuffer::new(alloc)?,
+            fault: None,
         })
     }
 
     /// Reads the next name, and answers whether there was one: a last name needs no NUL behind it. A
-    /// name that is longer than 65,536 bytes is passed over, and not kept. `TooLong` comes after 2^64 - 1
-    /// bytes without a NUL.
+    /// name that is longer than 65,536 bytes is passed over, and not kept. `TooLong` comes exactly where
+    /// more than 2^64 - 1 bytes were read for one name. A fault is final: each further call answers it
+    /// again, and reads nothing.
     pub fn next<F: Feed>(&mut self, feed: &mut F) -> Result<bool, SourceFault>
+        ensures name { IfOk result (λ found. IfSome (F.remaining feed.old) (λ bytes.
+            (left : List ℕ) × (F.remaining feed.new ≡ Some left)
+            × IsNext found self.new.name (self.old.ahead ++ bytes) (self.new.ahead ++ left))) }
+        ensures fault { self.new.fault ≡ result_err result }
+        ensures again { IfSome self.old.fault (λ fault. (result ≡ Err fault) × (self.new ≡ self.old)
+            × (feed.new ≡ feed.old)) }
+
+        // When a first fault comes.
+        ensures too_long { self.old.fault ≡ None → IsErrOf result SourceFault.TooLong
+            → IfSome (F.remaining feed.old) (λ bytes. 2 ^ 64 - 1 < length (self.old.ahead ++ bytes)) }
+        ensures gave { self.old.fault ≡ None → IfSome (F.remaining feed.old) (λ _. (given : List ℕ)
+            × Consumes (F.remaining feed.old) (F.remaining feed.new) given
+            × (IsErrOf result SourceFault.TooLong ↔ (2 ^ 64 - 1 < length (self.old.ahead ++ given)))) }
+        ensures count { self.old.fault ≡ None
+            → PumpCounts result (F.failure_count feed.old) (F.failure_count feed.new) }
+    {
+        if let Some(fault) = self.fault {
+            return Err(fault);
+        }
+        let found = self.read_next(feed);
+        self.fault = found.err();
+        found
+    }
+
+    // The same where there was no fault.
+    fn read_next<F: Feed>(&mut self, feed: &mut F) -> Result<bool, SourceFault>
         ensures name { IfOk result (λ found. IfSome (F.remaining feed.old) (λ bytes.
             (left : List ℕ) × (F.remaining feed.new ≡ Some left)
             × IsNext found self.new.name (self.old.ahead ++ bytes) (self.new.ahead ++ left))) }
         ensures too_long { IsErrOf result SourceFault.TooLong → IfSome (F.remaining feed.old) (λ bytes.
             2 ^ 64 - 1 < length (self.old.ahead ++ bytes)) }
+        ensures gave { IfSome (F.remaining feed.old) (λ _. (given : List ℕ)
+            × Consumes (F.remaining feed.old) (F.remaining feed.new) given
+            × (IsErrOf result SourceFault.TooLong ↔ (2 ^ 64 - 1 < length (self.old.ahead ++ given)))) }
         ensures count { PumpCounts result (F.failure_count feed.old) (F.failure_count feed.new) }
     {
         self.held.clear();

@@ -1,5 +1,5 @@
 -- What contracts see of the parts that were joined.
-use Rattle.std.specs.Prelude.{◌≡◌, ℕ, ◌<◌, ◌↔◌, List, [], ◌++◌, ◌∷◌, length, Option, None, Some, Result, Ok, Err}
+use Rattle.std.specs.Prelude.{◌≡◌, ℕ, ◌+◌, ◌<◌, ◌↔◌, List, [], ◌++◌, ◌∷◌, length, Option, None, Some, Result, Ok, Err}
 use Rattle.b3.specs.Modes.{hash_parameters}
 use Rattle.b3.specs.declared.row.PartValue.{PartValue}
 use Rattle.b3.specs.declared.row.Row.{Row}
@@ -60,6 +60,22 @@ pub record Halts (whole : List ℕ) (parts : List PartValue) (joiner : Joiner) (
 abbrev pub StopsSo : List ℕ → List PartValue → JoinFault → Type 0
 StopsSo text parts Read = Unit {0}
 StopsSo text parts (Line number fault) = StopsAt text parts number fault
+
+-- the lines before the one of this number tell parts, and were joined behind these
+pub record JoinedBefore (text : List ℕ) (parts : List PartValue) (joiner : Joiner) (number : ℕ) : Type 0 where
+  pub before : List (List ℕ)
+  pub after : List (List ℕ)
+  pub told : List PartValue
+  pub split : lines text ≡ before ++ after
+  pub place : number ≡ length before + 1
+  pub tells : AllTell before told
+  pub joined : HasJoined joiner (parts ++ told)
+
+-- what was joined before a fault: the lines before the wrong one, or those that had ended when a read failed
+abbrev pub LeavesJoined : List ℕ → List PartValue → Joiner → Option (List ℕ) → JoinFault → Type 0
+LeavesJoined text parts joiner rest Read =
+    (more : List ℕ) × (rest ≡ Some more) × (front : List ℕ) × Partway text parts joiner front more
+LeavesJoined text parts joiner rest (Line number fault) = JoinedBefore text parts joiner number
 
 -- `Read` is one more failure of the feed
 abbrev pub JoinCounts : {T : Type 0} → Result T JoinFault → ℕ → ℕ → Type 0

@@ -4,4 +4,4 @@ use Rattle.sumlist.specs.Naming.{Reading}
 use Rattle.sumlist.specs.declared.name_reader.NameReader.TheInside.{Inside}
 
 abbrev pub seen : Inside → Reading
-seen r = record { ahead = drop r.start (take r.end r.buffer); name = r.held }
+seen r = record { ahead = drop r.start (take r.end r.buffer); name = r.held; fault = r.fault }

@@ -1,6 +1,7 @@
 use Rattle.std.proofs.Common.{◌≡◌, ◌<◌, [], length, take, refl, arith, length-take-le, rules}
 use Rattle.std.proofs.KnownBytes.{Consumes-nil}
-use Rattle.partlist.proofs.Reading.{Coming-ended, Coming-start, Coming-wrong, Gives-more, parts-few}
+use Rattle.partlist.proofs.Reading.{Coming-ended, Coming-start, Coming-wrong, Gives-more, Halting-at, Halting-before}
+use Rattle.partlist.proofs.Reading.{parts-few}
 use Rattle.partlist.proofs.joining.Joiner.add_lines.Goals as goal
 
 pub reads-init : goal.reads-init
@@ -17,18 +18,39 @@ pub returns-in-Err-clause-joined : goal.returns-in-Err-clause-joined
 returns-in-Err-clause-joined g c =
     let count = c.in_ok-count.count in
     let none : take count c.read.new.buf ≡ [] = rw c.if-count-eq0.true refl in
-    rw c.fault_of_line.ensures (Coming-ended (g.F.Feed.remaining c.args.feed.now) (g.F.Feed.remaining c.reads.feed)
+    rw c.fault_of_line.ensures (Halting-at (g.F.Feed.remaining c.args.feed.now) c.args.self.now c.add_last.new.self _
+    (Coming-ended (g.F.Feed.remaining c.args.feed.now) (g.F.Feed.remaining c.reads.feed)
     (g.F.Feed.remaining c.read.new.self) c.args.self.now c.reads.self c.add_last.new.self c.reads.held.items _ _
     c.reads.invariant.progress c.in_ok-count.ensures.given none
     (c.in_ok-count.ensures.end c.if-count-eq0.true (omega (arith, c.reads.invariant.size, c.read.auto.buf)))
-    (rw c.as_slice.ensures.value at c.in-Err.ensures.goes))
+    (rw c.as_slice.ensures.value at c.in-Err.ensures.goes)))
+
+pub returns-in-Err-clause-stopped : goal.returns-in-Err-clause-stopped
+returns-in-Err-clause-stopped g c =
+    let count = c.in_ok-count.count in
+    let none : take count c.read.new.buf ≡ [] = rw c.if-count-eq0.true refl in
+    rw c.fault_of_line.ensures (Halting-before (g.F.Feed.remaining c.args.feed.now) c.args.self.now
+    c.add_last.new.self _ (Coming-ended (g.F.Feed.remaining c.args.feed.now) (g.F.Feed.remaining c.reads.feed)
+    (g.F.Feed.remaining c.read.new.self) c.args.self.now c.reads.self c.add_last.new.self c.reads.held.items _ _
+    c.reads.invariant.progress c.in_ok-count.ensures.given none
+    (c.in_ok-count.ensures.end c.if-count-eq0.true (omega (arith, c.reads.invariant.size, c.read.auto.buf)))
+    (rw c.as_slice.ensures.value at c.in-Err.ensures.goes)))
 
 pub returns-in-Err-add_piece-clause-joined : goal.returns-in-Err-add_piece-clause-joined
 returns-in-Err-add_piece-clause-joined g c =
-    rw c.fault_of_line-in-Err-add_piece.ensures (Coming-wrong (g.F.Feed.remaining c.args.feed.now)
+    rw c.fault_of_line-in-Err-add_piece.ensures (Halting-at (g.F.Feed.remaining c.args.feed.now) c.args.self.now
+    c.add_piece.new.self _ (Coming-wrong (g.F.Feed.remaining c.args.feed.now)
     (g.F.Feed.remaining c.reads.feed) (g.F.Feed.remaining c.read.new.self) c.args.self.now c.reads.self
     c.add_piece.new.self c.reads.held.items _ _ c.reads.invariant.progress c.in_ok-count.ensures.given
-    c.in-Err-add_piece.ensures.goes)
+    c.in-Err-add_piece.ensures.goes))
+
+pub returns-in-Err-add_piece-clause-stopped : goal.returns-in-Err-add_piece-clause-stopped
+returns-in-Err-add_piece-clause-stopped g c =
+    rw c.fault_of_line-in-Err-add_piece.ensures (Halting-before (g.F.Feed.remaining c.args.feed.now) c.args.self.now
+    c.add_piece.new.self _ (Coming-wrong (g.F.Feed.remaining c.args.feed.now)
+    (g.F.Feed.remaining c.reads.feed) (g.F.Feed.remaining c.read.new.self) c.args.self.now c.reads.self
+    c.add_piece.new.self c.reads.held.items _ _ c.reads.invariant.progress c.in_ok-count.ensures.given
+    c.in-Err-add_piece.ensures.goes))
 
 pub returns-in-Err-add_piece-clause-gave : goal.returns-in-Err-add_piece-clause-gave
 returns-in-Err-add_piece-clause-gave g c =

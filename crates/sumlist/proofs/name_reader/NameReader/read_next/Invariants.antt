@@ -1,6 +1,6 @@
 use Rattle.sumlist.proofs.Common.{◌≡◌, ◌-◌, ◌^◌, ◌<◌, ◌+◌, ◌++◌, List, ℕ, length, Consumes}
 use Rattle.sumlist.specs.Lines.{HasNo, IsKept}
-use Rattle.sumlist.proofs.name_reader.NameReader.next.Given as goal
+use Rattle.sumlist.proofs.name_reader.NameReader.read_next.Given as goal
 
 abbrev pub invariant-loop-total : goal.invariant-loop-total
 invariant-loop-total g l = record {

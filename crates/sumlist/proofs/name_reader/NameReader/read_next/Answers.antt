@@ -1,6 +1,6 @@
 use Rattle.std.specs.Io.KnownBytes.{IsAtEnd}
 use Rattle.std.specs.Prelude.{IsTrue, ◌↔◌}
-use Rattle.std.proofs.Common.{length-drop, not}
+use Rattle.std.proofs.Common.{length-drop, not, ◌<◌, ◌-◌, ◌^◌}
 use Rattle.std.proofs.KnownBytes.{Consumes-nil, Consumes-trans}
 use Rattle.sumlist.proofs.Common.{◌≡◌, ◌∙◌, ◌++◌, [], ap, arith, rules, take, length, length-append, length-take-le}
 use Rattle.sumlist.proofs.Common.{refl, Bool, true, false, List, Option, Some, eqb, All-append, ℕ, sym}
@@ -9,8 +9,8 @@ use Rattle.sumlist.specs.Lines.{HasNo, IsKept}
 use Rattle.sumlist.specs.Naming.{IsNext, Reading}
 use Rattle.sumlist.specs.inside.Taking.{IsTaken}
 use Rattle.sumlist.proofs.Cutting.{IsKept-after, pieces-cut, pieces-last, some_kept}
-use Rattle.sumlist.proofs.Holding.{IfSome-read}
-use Rattle.sumlist.proofs.name_reader.NameReader.next.Goals as goal
+use Rattle.sumlist.proofs.Holding.{IfSome-all, IfSome-read}
+use Rattle.sumlist.proofs.name_reader.NameReader.read_next.Goals as goal
 
 module _ (r s : Reading) (front whole : List ℕ) (kept : IsKept r.name front) (free : HasNo 0 front)
     (is : whole ≡ front ++ r.ahead) where
@@ -89,3 +89,15 @@ loop-total-preserved g c =
       whole = sym (append_assoc c.args.self.now.ahead i.read piece);
       counts = grind (arith, length-append {A = ℕ}, length-take-le {A = ℕ});
     }
+
+pub returns-in_default-clause-gave : goal.returns-in_default-clause-gave
+returns-in_default-clause-gave g c =
+    let i = c.loop-total.invariant in
+    let piece = take c.in-Ok.count c.read.new.buf in
+    let far : 2 ^ 64 - 1 < length (c.args.self.now.ahead ++ (i.read ++ piece))
+    = grind (arith, length-append {A = ℕ}, length-take-le {A = ℕ}) in
+    IfSome-all (g.F.Feed.remaining c.args.feed.now) (λ _. (
+      i.read ++ piece,
+      Consumes-trans _ _ _ _ _ i.consumed c.in-Ok.ensures.given,
+      ((λ _. far), λ _. refl),
+    ))
