@@ -324,6 +324,13 @@ def blake2_case(about, name, data, settings):
     each_way(about, lambda given=b"": getattr(sums_hash, name)(given, **settings), data, want)
 
 
+def sha2_lengths():
+    for name in ("sha256", "sha512"):
+        for length in range(261):
+            want = hashlib.new(name, counting(length)).digest()
+            each_way(f"{name} of {length} bytes", getattr(sums_hash, name), counting(length), want)
+
+
 def sequence(length):
     """RFC 7693, appendix E: bytes of a sequence that begins at its own length."""
     a, b, out = 0xDEAD4BAD * length % 2**32, 1, bytearray()
@@ -371,8 +378,17 @@ def blake3_trees():
         for length in [0, 1, 63, 64, 65] + TREES:
             data = cycle(length)
             want = output(tree(mode, 0, data), 0, LONG)
-            each_way(f"blake3 of {length} bytes, {words}", lambda given=b"": sums_hash.blake3(given, **words), data, want,
-                     lambda hasher: hasher.digest(LONG))
+            each_way(f"blake3 of {length} bytes, {words}", lambda given=b"": sums_hash.blake3(given, **words), data,
+                     want, lambda hasher: hasher.digest(LONG))
+
+
+def blake3_contexts():
+    """Contexts about a block and a chunk, and of some chunks."""
+    for length in (0, 1, 63, 64, 65, 1023, 1024, 1025, 3000):
+        context = "c" * length
+        want = output(tree(mode_of(context=context), 0, b"material"), 0, LONG)
+        got = sums_hash.blake3(b"material", derive_key_context=context).digest(LONG)
+        same(f"a context of {length} bytes", got, want)
 
 
 # where groups of eight chunks, and runs of such groups, begin and end: a length, and where it is cut in two
@@ -530,9 +546,10 @@ def vectors():
         each_way(f"a vector of {row['hash']}", lambda given=b"": make(given), row["message"], want)
     for row in rows("blake2"):
         want = bytes.fromhex(row["digest"])
-        settings = {"digest_size": len(want), "key": row["key"], "salt": row["salt"], "person": row["personal"]}
-        blake2_case(f"a vector of {row['hash']}", row["hash"], row["message"], settings)
-        same(f"a vector of {row['hash']}", blake2(row["hash"], row["message"], len(want), *list(settings.values())[1:]), want)
+        name, message, parameters = row["hash"], row["message"], [row["key"], row["salt"], row["personal"]]
+        settings = dict(zip(("digest_size", "key", "salt", "person"), [len(want), *parameters]))
+        same(f"a vector of {name}", blake2(name, message, len(want), *parameters), want)
+        blake2_case(f"a vector of {name}", name, message, settings)
     for row in rows("blake3"):
         want, position = bytes.fromhex(row["output"]), int(row["position"])
         words = {"key": row["key"]} if row["key"] else {}
@@ -567,7 +584,9 @@ def main():
     self_test("blake2s", (16, 20, 28, 32), (0, 3, 64, 65, 255, 1024),
               "6a411f08ce25adcdfb02aba641451cec53c598b24f4fc787fbdc88797f4c1dfe")
     blake2_lengths()
+    sha2_lengths()
     blake3_trees()
+    blake3_contexts()
     blake3_cuts()
     blake3_positions()
     blake3_digests()
