@@ -37,6 +37,11 @@ fn files_in_memory_are_found_by_name_and_fail_at_their_places(rt: HostRuntime) -
         assert_eq!(rt; buffer[0], last, "{name} from {position} on");
         tree.close(feed);
     }
+    // a map that is lent is a tree too
+    for (position, count) in [(4, 2), (6, 0), (u64::MAX, 0)] {
+        let mut feed = (&files).open_at("c", position).map_err(|_| "open")?;
+        assert_eq!(rt; feed.read(&mut [0; 8]), Ok(count), "{position}");
+    }
     for name in ["", "A", "a\n", "none"] {
         let fault = tree.open(name).err();
         assert!(rt; fault == Some(OpenFault::Missing), "{name:?}");
