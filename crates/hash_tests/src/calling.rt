@@ -9,10 +9,10 @@ ghost use Rattle.mac.specs.Hmac.{hmac};
 ghost use Rattle.kdf.specs.Hkdf as spec;
 
 use crate::spelling::is_spelled;
-use b3::Blake3;
-use blake2::Blake2s;
+use b3::{Blake3, output_laws, tree_laws};
+use blake2::{Blake2s, parameter_laws};
 use kdf::{ExpandFault, Extract, expand};
-use mac::{BlockHash, Hmac, Sha256Stream};
+use mac::{BlockHash, Hmac, Sha256Stream, hash_laws};
 use std::test::Fail;
 use words::{Absorb, InputTooLong, Tag};
 
@@ -124,4 +124,12 @@ fn a_tag_and_a_key(rt: HostRuntime) -> Result<(), Fail> {
         .ok_or("refused")?;
     assert!(rt; is_spelled(&key, "779ec38d9b010b1165b5735d925b4c57"));
     Ok(())
+}
+
+#[test]
+fn the_laws_can_be_cited() {
+    tree_laws();
+    output_laws();
+    parameter_laws();
+    hash_laws();
 }

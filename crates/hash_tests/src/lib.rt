@@ -1,4 +1,5 @@
-//! Tests of the hashes, tags and keys, by values from outside.
+//! Tests of the hashes, tags and keys, as far as only a caller in Rust can see them. Digests, tags, keys and output of
+//! each length, in each mode and in pieces are compared through the C library (`.ci/definitions.py`).
 #![tactic(auto)]
 
 #[cfg(test)]
@@ -13,8 +14,6 @@ mod kdf_tests;
 mod mac_tests;
 #[cfg(test)]
 mod part_tests;
-#[cfg(test)]
-mod slow;
 #[cfg(test)]
 mod spelling;
 #[cfg(test)]
