@@ -14,8 +14,9 @@ fn extracted<H: BlockHash>(mut extract: Extract<H>) -> Result<Tag, Fail> {
 // An absent salt is a digest's length of zeros, under which the hash's limit less a block is left.
 fn absent_salt<H: BlockHash>(rt: &impl Abort) -> Result<(), Fail> {
     let zeros = [0; 64];
+    let limit = H::LIMIT;
     let absent = Extract::<H>::new(None)?;
-    assert_eq!(rt; absent.room() + H::BLOCK as u128, H::LIMIT);
+    assert_eq!(rt; absent.room() + H::BLOCK as u128, limit);
     let given = Extract::<H>::new(Some(&zeros[..H::OUT]))?;
     assert_eq!(rt; extracted(absent)?.bytes(), extracted(given)?.bytes());
     Ok(())
