@@ -9,7 +9,9 @@
  * - 32 KiB of stack.
  *
  * What the caller gets: a status. Any status but 0 says that the call wrote nothing: outputs and state are as they
- * were. Nothing is wiped, and no constant time is claimed. */
+ * were. Nothing is wiped, and no constant time is claimed.
+ *
+ * SPDX-License-Identifier: MIT OR Apache-2.0 */
 #ifndef SUMS_HASH_H
 #define SUMS_HASH_H
 

@@ -1,3 +1,4 @@
+# SPDX-License-Identifier: MIT OR Apache-2.0
 """The hashes of libsums_hash, in the manner of hashlib.
 
     import sums_hash
