@@ -2,7 +2,7 @@
 """Compares the C library with a second writing of the standards: BLAKE2 (RFC 7693), BLAKE3 (its paper), HMAC (RFC 2104)
 and HKDF (RFC 5869), each a plain recursion over the whole input that stands here alone; and both with hashlib, hmac and
 b3sum, where that is installed, and with the outside values of .ci/vectors.
-usage: .ci/definitions.py LIBRARY    LIBRARY is a libsums_hash.so.0, which bindings/python calls
+usage: .ci/definitions.py LIBRARY    LIBRARY is a libsums_hash.so.1, which bindings/python calls
 """
 
 import hashlib

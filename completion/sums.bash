@@ -1,4 +1,4 @@
-# Completion for bash of the program sums: its commands, their options, names of algorithms, files.
+# Completion for bash of the program sums. Written by tools/completions.py from completion/options.table.
 
 # Offers those of the words that begin with the one that is being written.
 _sums_words() {
@@ -12,8 +12,6 @@ _sums_files() {
 
 _sums() {
     local word=${COMP_WORDS[COMP_CWORD]} before=${COMP_WORDS[COMP_CWORD - 1]} command=${COMP_WORDS[1]} i
-    local hashes='sha256 sha512 blake2b blake2s blake3'
-    local macs='hmac-sha256 hmac-sha512 hmac-blake2b hmac-blake2s blake2b blake2s blake3'
     COMPREPLY=()
     if ((COMP_CWORD == 1)); then
         _sums_words 'hash mac kdf check part join help -h --help -V --version' "$word"
@@ -25,10 +23,6 @@ _sums() {
     elif [[ $before == = ]]; then
         before=${COMP_WORDS[COMP_CWORD - 2]}
     fi
-    if [[ $command == help ]]; then
-        if ((COMP_CWORD == 2)); then _sums_words 'hash mac kdf check part join help' "$word"; fi
-        return
-    fi
     # behind -- all words are files
     for ((i = 2; i < COMP_CWORD; i++)); do
         if [[ ${COMP_WORDS[i]} == -- ]]; then
@@ -36,34 +30,52 @@ _sums() {
             return
         fi
     done
-    case $before in
-        -a)
-            case $command in
-                mac) _sums_words "$macs" "$word" ;;
-                part | join) _sums_words blake3 "$word" ;;
-                *) _sums_words "$hashes" "$word" ;;
-            esac
+    case $command:$before in
+        hash:-a)
+            _sums_words 'sha256 sha512 blake2b blake2s blake3' "$word"
             return ;;
-        --parts)
+        hash:--parts)
             _sums_words '1 2 4 8 16 32 64 128 256 512 1024' "$word"
             return ;;
-        --key-file | --ikm-file | --files0-from)
-            _sums_files
+        hash:--files0-from) _sums_files; return ;;
+        hash:-l | hash:--seek | hash:--salt | hash:--personal) return ;;
+        mac:-a)
+            _sums_words 'hmac-sha256 hmac-sha512 hmac-blake2b hmac-blake2s blake2b blake2s blake3' "$word"
             return ;;
-        -l | --seek | --salt | --personal | --key | --verify | --info | --context)
+        mac:--key-file) _sums_files; return ;;
+        mac:-l | mac:--key | mac:--verify) return ;;
+        kdf:-a)
+            _sums_words 'sha256 sha512 blake2b blake2s blake3' "$word"
             return ;;
-        --first | --chunks | --name | --bytes)
+        kdf:--ikm-file) _sums_files; return ;;
+        kdf:-l | kdf:--salt | kdf:--info | kdf:--context) return ;;
+        check:-a)
+            _sums_words 'sha256 sha512 blake2b blake2s blake3' "$word"
             return ;;
+        part:-a)
+            _sums_words 'blake3' "$word"
+            return ;;
+        part:--first | part:--chunks) return ;;
+        join:-a)
+            _sums_words 'blake3' "$word"
+            return ;;
+        join:--name | join:--bytes | join:-l | join:--seek) return ;;
     esac
     case $command:$word in
         hash:-*)
-            _sums_words '-a -l --seek --parts --salt --personal --tag --raw --progress --files0-from -h --help' \
-                "$word" ;;
-        mac:-*) _sums_words '-a -l --key --key-file --verify -h --help' "$word" ;;
-        kdf:-* | kdf:) _sums_words '-a -l --ikm-file --salt --info --context --raw -h --help' "$word" ;;
-        check:-*) _sums_words '-a --summary --progress -h --help' "$word" ;;
-        part:-*) _sums_words '-a --first --chunks -h --help' "$word" ;;
-        join:-*) _sums_words '-a --name --bytes -l --seek -h --help' "$word" ;;
+            _sums_words '-a -l --seek --parts --salt --personal --tag --raw --progress --files0-from -h --help' "$word" ;;
+        mac:-*)
+            _sums_words '-a -l --key --key-file --verify -h --help' "$word" ;;
+        kdf:-* | kdf:)
+            _sums_words '-a -l --ikm-file --salt --info --context --raw -h --help' "$word" ;;
+        check:-*)
+            _sums_words '-a --summary --progress -h --help' "$word" ;;
+        part:-*)
+            _sums_words '-a --first --chunks -h --help' "$word" ;;
+        join:-*)
+            _sums_words '-a --name --bytes -l --seek -h --help' "$word" ;;
+        help:*)
+            if ((COMP_CWORD == 2)); then _sums_words 'hash mac kdf check part join help' "$word"; fi ;;
         hash:* | mac:* | check:* | part:* | join:*) _sums_files ;;
     esac
 }

@@ -1,5 +1,18 @@
-# What tools/build, tools/install, tools/uninstall and .ci/library share: the C library's files, and where each file of
-# an installation goes. They run at the top of the repository.
+# What tools/build, tools/install, tools/uninstall, tools/package and the checks share: the version, the C library's
+# files, and where each file of an installation goes. They run at the top of the repository.
+#
+# CC, CFLAGS and LDFLAGS are taken from the environment. LIBDIR is the folder of libraries below the prefix, lib where
+# it is not set; one that begins with the prefix is fine.
+
+version=$(cat VERSION)
+# What would break a program that is linked already changes the first number, and so the name that it asks for.
+soname=libsums_hash.so.${version%%.*}
+
+# refuse TEXT: ends with a fault of the words
+refuse() {
+    echo "$0: $1" >&2
+    exit 2
+}
 
 # pkgconfig PREFIX LIBDIR INCLUDEDIR LIBS: the text of the library's pkg-config file
 pkgconfig() {
@@ -10,20 +23,34 @@ includedir=$3
 
 Name: sums_hash
 Description: BLAKE2, BLAKE3, SHA-2, HMAC and HKDF, proved against their definitions
-Version: 0.1.0
+Version: $version
 Cflags: -I\${includedir}
 Libs: $4
 END
 }
 
-# library ARCHIVE FOLDER: the archive as a library of C, with its shared form, header and pkg-config file. A program
-# that is linked by this pkg-config file takes the archive, and so runs wherever it is.
+# shared ARCHIVE FILE [LEVEL]: the archive as a shared library. Where LEVEL is named, the loader refuses it on a
+# processor below, which would else end the program by a signal. No file of the C compiler's own goes in, since the
+# library has nothing to do at its beginning and end: its bytes depend on the archive and the linker alone.
+shared() {
+    case ${3-} in
+        '') needed= ;;
+        x86-64) needed=,-z,x86-64-baseline ;;
+        *) needed=,-z,$3 ;;
+    esac
+    ${CC:-cc} ${CFLAGS-} -shared -nostartfiles -o "$2" -Wl,-soname,"$soname" \
+        -Wl,--version-script=bindings/c/sums_hash.map -Wl,--build-id=sha1,--hash-style=gnu \
+        -Wl,-z,text,-z,defs,-z,relro,-z,now,-z,noexecstack"$needed" ${LDFLAGS-} \
+        -Wl,--whole-archive "$1" -Wl,--no-whole-archive
+}
+
+# library ARCHIVE FOLDER [LEVEL]: the archive as a library of C, with its shared form, header and pkg-config file. A
+# program that is linked by this pkg-config file takes the archive, and so runs wherever it is.
 library() {
     mkdir -p "$2"
     cp "$1" "$2/libsums_hash.a"
-    ${CC:-cc} -shared -o "$2/libsums_hash.so.0" -Wl,-soname,libsums_hash.so.0 -Wl,-z,text -Wl,-z,defs \
-        -Wl,--whole-archive "$2/libsums_hash.a" -Wl,--no-whole-archive
-    ln -sf libsums_hash.so.0 "$2/libsums_hash.so"
+    shared "$2/libsums_hash.a" "$2/$soname" "${3-}"
+    ln -sf "$soname" "$2/libsums_hash.so"
     cp bindings/c/sums_hash.h "$2"
     pkgconfig '${pcfiledir}' '${prefix}' '${prefix}' '${libdir}/libsums_hash.a' > "$2/sums_hash.pc"
 }
@@ -33,30 +60,65 @@ functions() {
     sed -n 's/^\(uint32_t\|void\) \(sums_[a-z0-9_]*\)(.*/\2/p' bindings/c/sums_hash.h
 }
 
-# each_file DO: calls DO MODE FILE PLACE for each file of an installation, and DO link TARGET PLACE for each link. PLACE
-# is below the prefix. sums_hash.pc is the one file that is written anew.
-each_file() {
-    "$1" 755 bin/sums bin/sums
-    "$1" 644 lib/libsums_hash.a lib/libsums_hash.a
-    "$1" 755 lib/libsums_hash.so.0 lib/libsums_hash.so.0
-    "$1" link libsums_hash.so.0 lib/libsums_hash.so
-    "$1" 644 lib/sums_hash.h include/sums_hash.h
-    "$1" 644 lib/sums_hash.pc lib/pkgconfig/sums_hash.pc
+# Each of the next three calls DO MODE FILE PLACE for each file that belongs to it, and DO link TARGET PLACE for each
+# link. PLACE is below the prefix.
+
+# program_texts DO [ZSH]: the manual pages of the program and its completions; ZSH is the folder of those of zsh
+program_texts() {
     for page in sums sums-hash sums-mac sums-kdf sums-check sums-part sums-join; do
         "$1" 644 "man/$page.1" "share/man/man1/$page.1"
     done
-    "$1" 644 man/sums_hash.3 share/man/man3/sums_hash.3
-    for function in $(functions); do "$1" link sums_hash.3 "share/man/man3/$function.3"; done
     "$1" 644 completion/sums.bash share/bash-completion/completions/sums
+    "$1" 644 completion/_sums "${2:-share/zsh/site-functions}/_sums"
+    "$1" 644 completion/sums.fish share/fish/vendor_completions.d/sums.fish
 }
 
-# root PREFIX: the folder that an installation goes into, or a fault of the words
+# library_texts DO: what a caller of the C library reads
+library_texts() {
+    "$1" 644 bindings/c/sums_hash.h include/sums_hash.h
+    "$1" 644 man/sums_hash.3 share/man/man3/sums_hash.3
+    for function in $(functions); do "$1" link sums_hash.3 "share/man/man3/$function.3"; done
+}
+
+# library_files DO [LIBDIR]: the C library; sums_hash.pc is the one file that is written anew
+library_files() {
+    "$1" 644 lib/libsums_hash.a "${2:-lib}/libsums_hash.a"
+    "$1" 755 "lib/$soname" "${2:-lib}/$soname"
+    "$1" link "$soname" "${2:-lib}/libsums_hash.so"
+    "$1" 644 lib/sums_hash.pc "${2:-lib}/pkgconfig/sums_hash.pc"
+    library_texts "$1"
+}
+
+# program_files DO: the program
+program_files() {
+    "$1" 755 bin/sums bin/sums
+    program_texts "$1"
+}
+
+# each_file DO [LIBDIR]: all of an installation
+each_file() {
+    program_files "$1"
+    library_files "$1" "${2-}"
+}
+
+# root PREFIX: the folder that an installation goes into
 root() {
     case $1:${DESTDIR:-/} in
         /*:/*) echo "${DESTDIR-}${1%/}" ;;
-        /*) echo "$0: DESTDIR has to begin with /: $DESTDIR" >&2; return 2 ;;
-        *) echo "$0: PREFIX has to begin with /: $1" >&2; return 2 ;;
+        /*) refuse "DESTDIR has to begin with /: $DESTDIR" ;;
+        *) refuse "PREFIX has to begin with /: $1" ;;
     esac
+}
+
+# library_folder PREFIX: the folder of libraries, below the prefix
+library_folder() {
+    folder=${LIBDIR:-lib}
+    folder=${folder#"${1%/}/"}
+    case /$folder/ in
+        //*) refuse "LIBDIR is not below $1: $LIBDIR" ;;
+        */../*) refuse "LIBDIR may have no ..: $LIBDIR" ;;
+    esac
+    echo "${folder%/}"
 }
 
 # refresh_loader: has the loader find a shared library that came or went, where it can

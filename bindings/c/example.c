@@ -1,5 +1,6 @@
 /* Prints digests of "abc": the whole message in one call, and in pieces.
- * cc example.c $(pkg-config --cflags --libs sums_hash) && ./a.out */
+ * cc example.c $(pkg-config --cflags --libs sums_hash) && ./a.out
+ * SPDX-License-Identifier: MIT OR Apache-2.0 */
 #include <stdio.h>
 #include <sums_hash.h>
 

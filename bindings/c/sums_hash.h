@@ -9,12 +9,16 @@
  * - 32 KiB of stack.
  *
  * What the caller gets: a status. Any status but 0 says that the call wrote nothing: outputs and state are as they
- * were. Nothing is wiped, and no constant time is claimed. */
+ * were. Nothing is wiped, and no constant time is claimed.
+ *
+ * SPDX-License-Identifier: MIT OR Apache-2.0 */
 #ifndef SUMS_HASH_H
 #define SUMS_HASH_H
 
 #include <stddef.h>
 #include <stdint.h>
+
+#define SUMS_HASH_VERSION "1.0.0" /* whose shared library is libsums_hash.so.1 */
 
 #ifdef __cplusplus
 extern "C" {
@@ -118,9 +122,10 @@ uint32_t sums_hkdf_expand_blake2s(uint8_t *out, size_t out_len, const uint8_t *p
  *
  * A state is plain memory of the caller's: begin it as zeros (= {0}), call init, update for each piece, and then
  * finish or output, after which the message can go on. init begins anew at any time. A state may be copied by
- * assignment, holds no pointer and needs no release. Its fields are the library's own, and no format to keep: they may
- * change with the version of the library. Whatever bytes a state has, a call reads and writes nothing outside it: one
- * that something else has written into is refused, or gives a digest of no meaning.
+ * assignment, holds no pointer and needs no release. Its size stays for as long as the soname of the library does, so
+ * that a program goes on with each later library of that soname. Its fields are the library's own, and no format to
+ * keep: what they hold may change with the version of the library. Whatever bytes a state has, a call reads and writes
+ * nothing outside it: one that something else has written into is refused, or gives a digest of no meaning.
  *
  * init      begins a message; answers as the calls on whole messages do, of those lengths that it is given
  * update    adds a piece; answers SUMS_OK, SUMS_NOT_BEGUN, or else SUMS_INPUT_TOO_LONG where the message would be

@@ -1,3 +1,4 @@
+# SPDX-License-Identifier: MIT OR Apache-2.0
 """Prints digests of "abc" and a tag: python3 bindings/python/example.py"""
 
 import sums_hash

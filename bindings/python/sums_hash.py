@@ -1,3 +1,4 @@
+# SPDX-License-Identifier: MIT OR Apache-2.0
 """The hashes of libsums_hash, in the manner of hashlib.
 
     import sums_hash
@@ -49,8 +50,8 @@ def _open():
     if named:
         return ctypes.CDLL(named)
     here = os.path.dirname(os.path.abspath(__file__))
-    built = os.path.join(here, "..", "..", "lib", "libsums_hash.so.0")
-    return ctypes.CDLL(built if os.path.exists(built) else "libsums_hash.so.0")
+    built = os.path.join(here, "..", "..", "lib", "libsums_hash.so.1")
+    return ctypes.CDLL(built if os.path.exists(built) else "libsums_hash.so.1")
 
 
 _library = _open()

@@ -1,3 +1,4 @@
+// SPDX-License-Identifier: MIT OR Apache-2.0
 //! Prints digests of "abc" and a tag:
 //! rustc --edition 2024 -O -L native=lib bindings/rust/example.rs && ./example
 

@@ -1,3 +1,4 @@
+// SPDX-License-Identifier: MIT OR Apache-2.0
 //! Safe Rust over libsums_hash. Copy this file, say `mod sums_hash;`, and link with `-L native=DIR`, where DIR holds
 //! libsums_hash.a; no build script is needed.
 //!

@@ -1,0 +1,69 @@
+# What tools/package and its checks share: the files of a release, of what was built for several levels of x86-64. It
+# runs at the top of the repository, after tools/installed.sh. BUILT/LEVEL/sums and BUILT/LEVEL/libhash_c.a are there
+# for each of $levels, which are named lowest first.
+
+# launcher FILE LIBEXEC: the program that begins the build for this processor; LIBEXEC is where the builds are if they
+# are not beside it
+launcher() {
+    ${CC:-cc} -std=gnu11 ${CFLAGS:--O2 -fstack-protector-strong -fcf-protection -D_FORTIFY_SOURCE=2} -fPIE -pie \
+        -ffile-prefix-map="$PWD"=. -DLIBEXEC="\"$2\"" -o "$1" packaging/launcher.c \
+        ${LDFLAGS:--Wl,-z,relro,-z,now,-z,noexecstack} -Wl,--build-id=sha1
+}
+
+# program_builds BUILT ROOT PREFIX: the launcher, and the program for each level
+program_builds() {
+    mkdir -p "$2/bin"
+    launcher "$2/bin/sums" "$3/libexec/sums"
+    chmod 755 "$2/bin/sums"
+    for level in $levels; do
+        mkdir -p "$2/libexec/sums/$level"
+        install -m 755 "$1/$level/sums" "$2/libexec/sums/$level/sums"
+    done
+}
+
+# library_builds BUILT ROOT LIBDIR: the library for each level, the lowest in the usual place and as an archive, the
+# others where the loader looks first on a processor that has their level
+library_builds() {
+    place=$2/$3
+    for level in $levels; do
+        mkdir -p "$place"
+        shared "$1/$level/libhash_c.a" "$place/$soname" "$level"
+        chmod 644 "$place/$soname"
+        is_whole "$place/$soname" || refuse "the archive of $level has not the header's calls"
+        place=$2/$3/glibc-hwcaps/$(above "$level")
+    done
+    install -m 644 "$1/${levels%% *}/libhash_c.a" "$2/$3/libsums_hash.a"
+    ln -s "$soname" "$2/$3/libsums_hash.so"
+}
+
+# above LEVEL: the level that is named behind it
+above() {
+    echo "$levels" | tr ' ' '\n' | sed -n "/^$1\$/{ n; p; }"
+}
+
+# is_whole LIBRARY: whether a shared library has the calls that the header declares
+is_whole() {
+    [ "$(nm --quiet --dynamic --defined-only "$1" | sed -n 's/.* T \(.*\)@@.*/\1/p' | sort)" = "$(functions | sort)" ]
+}
+
+# tree BUILT ROOT PREFIX LIBDIR ZSH: all files of a release in the folder ROOT, which is to stand at PREFIX, or anywhere
+# where that is empty; LIBDIR is the folder of libraries below it, ZSH that of zsh's completions
+tree() {
+    root=$2
+    program_builds "$1" "$root" "$3"
+    library_builds "$1" "$root" "$4"
+    mkdir -p "$root/$4/pkgconfig"
+    pkgconfig "${3:-\${pcfiledir\}/../..}" "\${prefix}/$4" '${prefix}/include' '-L${libdir} -lsums_hash' \
+        > "$root/$4/pkgconfig/sums_hash.pc"
+    program_texts put "$5"
+    library_texts put
+}
+
+# put MODE FILE PLACE
+put() {
+    mkdir -p "$root/${3%/*}"
+    case $1 in
+        link) ln -s "$2" "$root/$3" ;;
+        *) install -m "$1" "$2" "$root/$3" ;;
+    esac
+}
