@@ -18,3 +18,5 @@ pub mod Names
 pub mod Gathering
 pub mod Rejoining
 pub mod Telling
+pub mod Vectors
+pub mod VisibleNames

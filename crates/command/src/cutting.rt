@@ -8,6 +8,7 @@ ghost use Rattle.task.specs.Parting.{IsPlace};
 ghost use Rattle.command.specs.Course.{Counted};
 ghost use Rattle.command.specs.Cutting.{PartRuns, cut, first_chunks};
 ghost use Rattle.command.specs.Lines.{is_input};
+ghost use Rattle.command.specs.inside.Cutting as spec;
 ghost use Rattle.command.specs.inside.Cutting.{Cuts, IsRoom};
 ghost use Rattle.command.specs.inside.Reading.{failed};
 ghost use Rattle.command.specs.Streams.{TakesCourse};
@@ -18,16 +19,20 @@ use crate::fault::Fault;
 use crate::session::{Session, Streams, open_file};
 use b3::{Mode, PartValue};
 use partlist::write_part;
-use source::{Feed, Sink, part_of};
+use source::{Feed, Sink, SourceFault, part_of};
 use sumlist::Tree;
 
 // A part is read in runs of at most so many chunks.
 const RUN: u64 = 1024;
 
+// Behind the last chunk of the longest message, of 2^64 - 1 bytes.
+const END: u64 = 1 << 54;
+
 impl<'i, 't, 'o, L: Feed, T: Tree, W: Sink> Session<'i, 't, 'o, L, T, W> {
     /// Prints the line of a part of the file: its bytes from the chunk `first` on, in so many chunks
     /// of 1,024 bytes or to the end. Answers 0. The faults are `CannotRead`, `NoBytes` where none stand
-    /// there, `TooLong` where they are more than can be a part there, `CannotWrite` and `OutOfMemory`.
+    /// there, `MoreThanPart` where they are more than can be a part there, `TooLong` where they end past
+    /// byte 2^64 - 1, `CannotWrite` and `OutOfMemory`.
     pub fn print_part<'n>(
         &mut self,
         first: u64,
@@ -94,7 +99,19 @@ fn part_of_feed<'n, F: Feed>(
     match part_of(Mode::Hash, first, room, bytes_of(chunks), feed, run) {
         Ok(Some(part)) => Ok(part),
         Ok(None) => Err(Fault::NoBytes(name)),
-        Err(fault) => Err(Fault::of_source(fault, name)),
+        Err(fault) => Err(unmade(fault, first.saturating_add(room), name)),
+    }
+}
+
+// The fault of a part that was not made, where it had room up to the chunk `end`. What is too long for
+// a part there is a message that is too long only where that is the message's end.
+fn unmade(fault: SourceFault, end: u64, name: &str) -> Fault<'_>
+    ensures { result ≡ spec.unmade fault end name.entry }
+{
+    match fault {
+        SourceFault::Read => Fault::CannotRead(name),
+        SourceFault::TooLong if end < END => Fault::MoreThanPart(name),
+        SourceFault::TooLong => Fault::TooLong(name),
     }
 }
 

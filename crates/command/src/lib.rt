@@ -2,8 +2,9 @@
 #![tactic(auto)]
 
 pub use fault::{Fault, tell, write_text};
-pub use laws::join_laws;
+pub use laws::{join_laws, visible_laws};
 pub use session::{Session, Streams};
+pub use visible::write_visible;
 
 mod cutting;
 mod digests;
@@ -17,3 +18,4 @@ mod reports;
 mod session;
 mod tags;
 mod verifying;
+mod visible;

@@ -21,9 +21,12 @@ use std::process::ExitCode;
 use sumlist::FileTree;
 use watched::{Watched, WatchedTree};
 
-// No line of a list or a report is longer, and no fault that tells of a word: Linux takes none of
-// more than 131,072 bytes.
+// No line of a list or a report is longer.
 const LINE_ROOM: usize = 131_200;
+
+// No fault that tells of a word is longer: Linux takes none of more than 131,072 bytes, and four bytes
+// at most tell one of them.
+const FAULT_ROOM: usize = 524_800;
 
 fn main(rt: HostRuntime) -> ExitCode {
     match run_lines(&rt) {
@@ -39,7 +42,7 @@ fn run_lines(rt: &HostRuntime) -> io::Result<u8> {
     let out = Erasing::new(&progress, rt.stdout());
     let err = Erasing::new(&progress, rt.stderr());
     let mut out = Device::new(LineWriter::with_capacity(rt.alloc(), LINE_ROOM, out)?);
-    let mut err = Device::new(LineWriter::with_capacity(rt.alloc(), LINE_ROOM, err)?);
+    let mut err = Device::new(LineWriter::with_capacity(rt.alloc(), FAULT_ROOM, err)?);
     let status = run_words(rt, &progress, &mut out, &mut err);
     progress.erase();
     let status = match out.into_inner().flush() {

@@ -8,7 +8,7 @@ use Rattle.sumlist.specs.declared.kind.Kind.TheVariants as kind
 use Rattle.task.specs.Parameters.{◌>>=◌, ◌>>◌, absent, given, given_bytes, kind_of, needed, number, sized, unset}
 use Rattle.task.specs.declared.fault.Setting.TheVariants.{Algorithm, Length, Parts, Personal, Raw, Salt, Seek}
 use Rattle.task.specs.declared.fault.UsageFault.{UsageFault}
-use Rattle.task.specs.declared.fault.UsageFault.TheVariants.{OutOfRange}
+use Rattle.task.specs.declared.fault.UsageFault.TheVariants.{NotForAlgorithm, NotWithTag, OneFile, OutOfRange}
 use Rattle.task.specs.declared.hashing.Hash.{Hash}
 use Rattle.task.specs.declared.hashing.Hash.TheVariants.{Plain, Blake2b, Blake2s}
 use Rattle.task.specs.declared.hashing.Requested.{Requested}
@@ -33,7 +33,7 @@ sha r a = do
   absent Seek (given r.seek)
   no_salts r
   absent Parts (given r.parts)
-  unset Raw r.raw
+  unset (NotForAlgorithm Raw) r.raw
   Ok (whole (Plain a) r.tag)
 
 -- the bytes of salt and personalization: the digits of both are judged before the length of either
@@ -48,7 +48,7 @@ abbrev pub blake2_parameters : Request → ℕ → ℕ → Result (ℕ × List �
 blake2_parameters r most n = do
   absent Seek (given r.seek)
   absent Parts (given r.parts)
-  unset Raw r.raw
+  unset (NotForAlgorithm Raw) r.raw
   length ← number Length (given r.length) most 1 most
   given ← salts r
   salt ← sized Salt n given.0
@@ -65,7 +65,7 @@ blake2s_digest r = blake2_parameters r 32 8 >>= (λ p. Ok (whole (Blake2s p.0 p.
 abbrev pub tagged_blake3 : Request → Result Requested UsageFault
 tagged_blake3 r = do
   no_salts r
-  unset Raw r.raw
+  unset (NotWithTag Raw) r.raw
   number Length (given r.length) 32 32 32
   number Seek (given r.seek) 0 0 0
   Ok (whole (Plain alg.Blake3) true)
@@ -91,7 +91,7 @@ names_several r = nat_lt 1 (length r.files.items) || is_some r.files0_from
 abbrev pub blake3_output : Request → Result Requested UsageFault
 blake3_output r = do
   no_salts r
-  unset Raw (r.raw && names_several r)
+  unset (OneFile Raw) (r.raw && names_several r)
   stretch ← stretch_of r r.raw
   Ok (Output stretch)
 

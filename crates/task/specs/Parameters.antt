@@ -50,9 +50,9 @@ abbrev pub absent : Setting → Option Text → Result (Unit {0}) UsageFault
 absent setting None = Ok tt
 absent setting (Some text) = Err (NotForAlgorithm setting)
 
--- a flag that it does not have
-abbrev pub unset : Setting → Bool → Result (Unit {0}) UsageFault
-unset setting is_given = if is_given then Err (NotForAlgorithm setting) else Ok tt
+-- a flag that is refused by this fault
+abbrev pub unset : UsageFault → Bool → Result (Unit {0}) UsageFault
+unset fault is_given = if is_given then Err fault else Ok tt
 
 -- a setting that has to be there
 abbrev pub needed : Setting → Option Text → Result Text UsageFault

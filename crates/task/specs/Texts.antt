@@ -5,7 +5,8 @@ use Rattle.task.specs.declared.fault.Setting.{Setting}
 use Rattle.task.specs.declared.fault.Setting.TheVariants as setting
 use Rattle.task.specs.declared.fault.UsageFault.{UsageFault}
 use Rattle.task.specs.declared.fault.UsageFault.TheVariants.{Needed, NotForAlgorithm, NotForCommand, NotHexadecimal}
-use Rattle.task.specs.declared.fault.UsageFault.TheVariants.{OneKey, OneSource, OutOfRange, WrongLength}
+use Rattle.task.specs.declared.fault.UsageFault.TheVariants.{NotWithTag, OneFile, OneKey, OneSource, OutOfRange}
+use Rattle.task.specs.declared.fault.UsageFault.TheVariants.{WrongLength}
 
 -- a setting as the command line has it
 abbrev pub setting_text : Setting → Text
@@ -32,6 +33,8 @@ abbrev pub usage_subject : UsageFault → Text
 usage_subject (Needed s) = setting_text s
 usage_subject (NotForAlgorithm s) = setting_text s
 usage_subject (NotForCommand s) = setting_text s
+usage_subject (NotWithTag s) = setting_text s
+usage_subject (OneFile s) = setting_text s
 usage_subject (OutOfRange s) = setting_text s
 usage_subject (NotHexadecimal s) = setting_text s
 usage_subject (WrongLength s) = setting_text s
@@ -42,6 +45,8 @@ abbrev pub usage_complaint : UsageFault → Text
 usage_complaint (Needed s) = codes ": needed\n"
 usage_complaint (NotForAlgorithm s) = codes ": not for this algorithm\n"
 usage_complaint (NotForCommand s) = codes ": not for this command\n"
+usage_complaint (NotWithTag s) = codes ": not with --tag\n"
+usage_complaint (OneFile s) = codes ": one file only\n"
 usage_complaint (OutOfRange s) = codes ": out of range\n"
 usage_complaint (NotHexadecimal s) = codes ": not hexadecimal\n"
 usage_complaint (WrongLength s) = codes ": wrong length\n"

@@ -54,6 +54,10 @@ pub enum UsageFault {
     NotForAlgorithm(Setting),
     /// It names what this command does not have.
     NotForCommand(Setting),
+    /// It says nothing beside `--tag`.
+    NotWithTag(Setting),
+    /// It says nothing of several files.
+    OneFile(Setting),
     /// It is outside its range, or none of its names.
     OutOfRange(Setting),
     /// It is not made of pairs of hexadecimal digits.
@@ -127,6 +131,8 @@ impl UsageFault {
             UsageFault::Needed(setting)
             | UsageFault::NotForAlgorithm(setting)
             | UsageFault::NotForCommand(setting)
+            | UsageFault::NotWithTag(setting)
+            | UsageFault::OneFile(setting)
             | UsageFault::OutOfRange(setting)
             | UsageFault::NotHexadecimal(setting)
             | UsageFault::WrongLength(setting) => setting.text(),
@@ -142,6 +148,8 @@ impl UsageFault {
             UsageFault::Needed(_) => ": needed\n",
             UsageFault::NotForAlgorithm(_) => ": not for this algorithm\n",
             UsageFault::NotForCommand(_) => ": not for this command\n",
+            UsageFault::NotWithTag(_) => ": not with --tag\n",
+            UsageFault::OneFile(_) => ": one file only\n",
             UsageFault::OutOfRange(_) => ": out of range\n",
             UsageFault::NotHexadecimal(_) => ": not hexadecimal\n",
             UsageFault::WrongLength(_) => ": wrong length\n",

@@ -74,7 +74,7 @@ fn sha(request: &Request<'_>, alg: Alg) -> Result<Requested, UsageFault>
     refused(Setting::Seek, request.seek)?;
     unsalted(request)?;
     refused(Setting::Parts, request.parts)?;
-    refused_flag(Setting::Raw, request.raw)?;
+    refused_flag(UsageFault::NotForAlgorithm(Setting::Raw), request.raw)?;
     Ok(whole(Hash::Plain(alg), request.tag))
 }
 
@@ -114,7 +114,7 @@ fn blake2_parameters<const N: usize>(
 {
     refused(Setting::Seek, request.seek)?;
     refused(Setting::Parts, request.parts)?;
-    refused_flag(Setting::Raw, request.raw)?;
+    refused_flag(UsageFault::NotForAlgorithm(Setting::Raw), request.raw)?;
     let length = number(Setting::Length, request.length, most as u64, 1, most as u64)? as usize;
     let (salt, personal) = salts(alloc, request)?;
     let salt = sized(Setting::Salt, salt)?;
@@ -141,7 +141,7 @@ fn tagged_blake3(request: &Request<'_>) -> Result<Requested, UsageFault>
     ensures { result ≡ spec.tagged_blake3 request.now }
 {
     unsalted(request)?;
-    refused_flag(Setting::Raw, request.raw)?;
+    refused_flag(UsageFault::NotWithTag(Setting::Raw), request.raw)?;
     number(Setting::Length, request.length, 32, 32, 32)?;
     number(Setting::Seek, request.seek, 0, 0, 0)?;
     Ok(whole(Hash::Plain(Alg::Blake3), true))
@@ -153,7 +153,8 @@ fn blake3_output(request: &Request<'_>) -> Result<Requested, UsageFault>
     ensures range { IfOk result HasDigest }
 {
     unsalted(request)?;
-    refused_flag(Setting::Raw, request.raw && names_several(request))?;
+    let several = request.raw && names_several(request);
+    refused_flag(UsageFault::OneFile(Setting::Raw), several)?;
     Ok(Requested::Output(stretch_of(request, request.raw)?))
 }
 

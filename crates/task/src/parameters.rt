@@ -56,15 +56,11 @@ pub(crate) fn refused(setting: Setting, text: Option<&str>) -> Result<(), UsageF
     }
 }
 
-/// Refuses a flag that the algorithm does not have.
-pub(crate) fn refused_flag(setting: Setting, is_given: bool) -> Result<(), UsageFault>
-    ensures { result ≡ spec.unset setting is_given }
+/// Refuses a flag by this fault.
+pub(crate) fn refused_flag(fault: UsageFault, is_given: bool) -> Result<(), UsageFault>
+    ensures { result ≡ spec.unset fault is_given }
 {
-    if is_given {
-        Err(UsageFault::NotForAlgorithm(setting))
-    } else {
-        Ok(())
-    }
+    if is_given { Err(fault) } else { Ok(()) }
 }
 
 /// The text of a setting that has to be there.

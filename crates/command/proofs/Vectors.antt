@@ -1,0 +1,31 @@
+-- Worked values of the visible form of names, computed: a wrong escape, digit or class of characters does not check.
+use Rattle.std.proofs.Common.{◌≡◌, ℕ, List, [], ◌∷◌, ◌++◌, refl, codes}
+use Rattle.std.specs.Char.{encode_utf8}
+use Rattle.std.specs.Str.{chars}
+use Rattle.hex.specs.Hex.{encode_with}
+use Rattle.command.specs.Troubles.{cannot_read, told}
+use Rattle.command.specs.Visible.{visible}
+
+-- LF, CR, a backslash, ESC, TAB and DEL
+visible_controls : visible (97 ∷ 10 ∷ 13 ∷ 92 ∷ 27 ∷ 9 ∷ 127 ∷ 98 ∷ []) ≡ codes "a\\n\\r\\\\\\x1b\\x09\\x7fb"
+unfolding visible chars encode_with encode_utf8
+visible_controls = refl
+
+-- U+0080, U+009F, U+202A, U+202E, U+2066 and U+2069
+visible_wide : visible ((0xc2 ∷ 0x80 ∷ 0xc2 ∷ 0x9f ∷ 0xe2 ∷ 0x80 ∷ 0xaa ∷ 0xe2 ∷ 0x80 ∷ 0xae ∷ [])
+    ++ (0xe2 ∷ 0x81 ∷ 0xa6 ∷ 0xe2 ∷ 0x81 ∷ 0xa9 ∷ []))
+    ≡ codes "\\x80\\x9f\\u{202a}\\u{202e}\\u{2066}\\u{2069}"
+unfolding visible chars encode_with encode_utf8
+visible_wide = refl
+
+-- what stands beside those stays: U+00A0, U+2029, U+202F, U+2065, U+206A, and a character of four bytes
+visible_plain : (let name : List ℕ = (32 ∷ 126 ∷ 0xc2 ∷ 0xa0 ∷ 0xe2 ∷ 0x80 ∷ 0xa9 ∷ 0xe2 ∷ 0x80 ∷ 0xaf ∷ [])
+    ++ (0xe2 ∷ 0x81 ∷ 0xa5 ∷ 0xe2 ∷ 0x81 ∷ 0xaa ∷ 0xf0 ∷ 0x9f ∷ 0xa6 ∷ 0x80 ∷ []) in visible name ≡ name)
+unfolding visible chars encode_utf8
+visible_plain = refl
+
+-- a name that would be a line of its own
+told_example : told (cannot_read (120 ∷ 10 ∷ codes "sums: out of memory"))
+    ≡ codes "sums: x\\nsums: out of memory: cannot read\n"
+unfolding visible chars encode_utf8
+told_example = refl

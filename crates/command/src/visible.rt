@@ -1,0 +1,59 @@
+// Names as messages on standard error tell them.
+
+ghost use Rattle.std.specs.Prelude.{◌≡◌, ◌++◌};
+ghost use Rattle.hex.specs.Hex.{encode_lower};
+ghost use Rattle.source.specs.Written.{Writes};
+ghost use Rattle.command.specs.Visible as spec;
+ghost use Rattle.command.specs.Visible.{visible, visible_char};
+
+use crate::output::write_digits;
+use source::{Sink, WriteFailed, write_all};
+
+/// Writes a name, whatever it is, as a text of one line without a command to a terminal: in the escaped
+/// form of lists, and beside it each other control character as `\xHH`, and each character that sets
+/// the direction of a text as `\u{HHHH}`.
+pub fn write_visible<W: Sink>(name: &str, out: &mut W) -> Result<(), WriteFailed>
+    ensures { Writes result (W.shown out.old) (W.shown out.new) (visible name.now) }
+{
+    for character in name.chars() {
+        write_char(character, out)?;
+    }
+    Ok(())
+}
+
+fn write_char<W: Sink>(character: char, out: &mut W) -> Result<(), WriteFailed>
+    ensures { Writes result (W.shown out.old) (W.shown out.new) (visible_char character) }
+{
+    match character {
+        '\\' => write_all(out, b"\\\\"),
+        '\n' => write_all(out, b"\\n"),
+        '\r' => write_all(out, b"\\r"),
+        _ if character.is_control() => write_number("\\x", &[character as u8], "", out),
+        _ if is_directional(character) => {
+            write_number("\\u{", &(character as u16).to_be_bytes(), "}", out)
+        }
+        _ => write_all(out, character.encode_utf8(&mut [0; 4]).as_bytes()),
+    }
+}
+
+// Whether a character embeds, overrides or isolates the direction of a text, or ends that.
+fn is_directional(character: char) -> bool
+    ensures { result ≡ spec.is_directional character }
+{
+    matches!(character, '\u{202a}'..='\u{202e}' | '\u{2066}'..='\u{2069}')
+}
+
+// Writes the digits of a number, given by its bytes, between two texts.
+fn write_number<W: Sink>(
+    before: &str,
+    number: &[u8],
+    after: &str,
+    out: &mut W,
+) -> Result<(), WriteFailed>
+    ensures { Writes result (W.shown out.old) (W.shown out.new)
+        (before.now ++ (encode_lower number.now ++ after.now)) }
+{
+    write_all(out, before.as_bytes())?;
+    write_digits(number, out)?;
+    write_all(out, after.as_bytes())
+}
