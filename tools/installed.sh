@@ -1,3 +1,4 @@
+# shellcheck shell=sh
 # What tools/build, tools/install, tools/uninstall and .ci/library share: the C library's files, and where each file of
 # an installation goes. They run at the top of the repository.
 
@@ -25,7 +26,7 @@ library() {
         -Wl,--whole-archive "$2/libsums_hash.a" -Wl,--no-whole-archive
     ln -sf libsums_hash.so.0 "$2/libsums_hash.so"
     cp bindings/c/sums_hash.h "$2"
-    pkgconfig '${pcfiledir}' '${prefix}' '${prefix}' '${libdir}/libsums_hash.a' > "$2/sums_hash.pc"
+    pkgconfig "\${pcfiledir}" "\${prefix}" "\${prefix}" "\${libdir}/libsums_hash.a" > "$2/sums_hash.pc"
 }
 
 # functions: the names that the header declares, one a line

@@ -1,4 +1,4 @@
-// Lines of parts joined, as feeds give them; more rows stand in `.ci/parts`. The values of parts are those of a second implementation in
+// Lines of parts joined, as feeds give them; more rows stand in `.ci/parts.py`. The values of parts are those of a second implementation in
 // Python, of the bytes 0, 1, .. 250, 0, ..; the digest of 5,120 of them is an official vector of BLAKE3.
 use partlist::{JoinFault, Joiner, LineFault};
 use source::Bytes;

@@ -1,4 +1,4 @@
-// Rows of lines, and what they mean, stand in `.ci/lists`; a line with an LF is no line of a list.
+// Rows of lines, and what they mean, stand in `.ci/lists.py`; a line with an LF is no line of a list.
 use super::{BLAKE2B_8_EMPTY, BLAKE2S_ABC, NAMES, SHA256_ABC, entry_of, line_of, tag_of};
 use source::Alg;
 use std::test::Fail;
