@@ -1,4 +1,4 @@
-//! Calls each function of the module of Rust, and prints what it gives, for .ci/library_python to compare.
+//! Calls each function of the module of Rust, and prints what it gives, for .ci/library_python.py to compare.
 
 mod sums_hash;
 

@@ -1,4 +1,4 @@
-// Lines of parts that feeds give, and feeds that fail; rows of lines stand in `.ci/parts`. The values of parts are those
+// Lines of parts that feeds give, and feeds that fail; rows of lines stand in `.ci/parts.py`. The values of parts are those
 // of a second implementation in Python, of the bytes 0, 1, .. 250, 0, ..; the digest of 5,120 of them is an official
 // vector of BLAKE3.
 use partlist::{JoinFault, Joiner, LineFault};

@@ -1,4 +1,4 @@
-// What no list and no file can show of lines and entries. Rows of lines, read and written, stand in `.ci/lists`.
+// What no list and no file can show of lines and entries. Rows of lines, read and written, stand in `.ci/lists.py`.
 
 ghost use Rattle.std.specs.Prelude.{None};
 

@@ -1,16 +1,18 @@
 #!/usr/bin/env python3
 """Checks random lists by the program and by a second, plain reading of docs/FORMAT.md in this file,
 and compares reports and statuses. No part of tools/test.
-usage: tools/lists PROGRAM [LINES] [SEED]    LINES is 200,000 where it is not named
+usage: tools/lists.py PROGRAM [LINES] [SEED]    LINES is 200,000 where it is not named
 """
 
 import hashlib
 import os
 import random
 import re
-import subprocess
 import sys
-import tempfile
+
+sys.path.append(os.path.join(os.path.dirname(os.path.realpath(__file__)), "../.ci"))
+
+import harness
 
 LONGEST_LINE = 65536
 LINES_A_LIST = 500
@@ -193,13 +195,13 @@ def random_line(source, kind, files):
 
 
 def main():
-    program = os.path.abspath(sys.argv[1])
-    wanted = int(sys.argv[2]) if len(sys.argv) > 2 else 200_000
-    seed = int(sys.argv[3]) if len(sys.argv) > 3 else random.randrange(2**32)
-    print(f"tools/lists: {wanted} lines, seed {seed}")
+    program, *numbers = harness.arguments(1)
+    program = os.path.abspath(program)
+    wanted = int(numbers[0]) if numbers else 200_000
+    seed = int(numbers[1]) if len(numbers) > 1 else random.randrange(2**32)
+    print(f"tools/lists.py: {wanted} lines, seed {seed}")
     source, differences, done = random.Random(seed), 0, 0
-    with tempfile.TemporaryDirectory() as work:
-        os.chdir(work)
+    with harness.folder():
         files = {name: source.choice(CONTENTS) for name in NAMES if source.random() < 0.8}
         for name, content in files.items():
             with open(name, "wb") as file:
@@ -207,17 +209,15 @@ def main():
         while done < wanted:
             kind = source.choice(list(LENGTHS))
             lines = [random_line(source, kind, files) for _ in range(LINES_A_LIST)]
-            given = b"".join(line + b"\n" for line in lines)
-            run = subprocess.run([program, "check", "-a", kind, "-"], input=given, capture_output=True)
-            wanted_report = report(lines, kind)
-            if (run.stdout, run.returncode) != wanted_report or run.stderr:
+            run = harness.run(program, ["check", "-a", kind, "-"], b"".join(line + b"\n" for line in lines))
+            wanted_report, wanted_status = report(lines, kind)
+            if run != (wanted_status, wanted_report, b""):
                 differences += 1
-                pairs = zip(run.stdout.split(b"\n"), wanted_report[0].split(b"\n"))
+                pairs = zip(run.out.split(b"\n"), wanted_report.split(b"\n"))
                 first = next((pair for pair in pairs if pair[0] != pair[1]), None)
                 print(f"list {done // LINES_A_LIST}, {kind}: {first}")
             done += len(lines)
-        os.chdir("/")
-    print(f"tools/lists: {done} lines, {differences} lists with a difference")
+    print(f"tools/lists.py: {done} lines, {differences} lists with a difference")
     return 1 if differences else 0
 
 

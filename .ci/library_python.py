@@ -1,7 +1,7 @@
 #!/usr/bin/env python3
 """Compares the module of Python with hashlib and hmac on random messages, and the sizes of its states with those that
 the C compiler and the sources of the crates give.
-usage: SUMS_HASH_LIBRARY=FILE .ci/library_python HEADER CRATES [TOLD]    TOLD is what .ci/library_rust.rs printed
+usage: SUMS_HASH_LIBRARY=FILE .ci/library_python.py HEADER CRATES [TOLD]    TOLD is what .ci/library_rust.rs printed
 """
 
 import hashlib
@@ -10,20 +10,12 @@ import os
 import random
 import re
 import subprocess
-import sys
 import tempfile
 
 import sums_hash
 
-compared, wrong = 0, 0
-
-
-def same(what, got, want):
-    global compared, wrong
-    compared += 1
-    if got != want:
-        wrong += 1
-        print(f"{what}: {got!r}, not {want!r}")
+import harness
+from harness import same
 
 
 def in_pieces(hasher, data):
@@ -185,16 +177,16 @@ def sizes_in_crates(folder):
 
 
 def main():
-    same("sizes of the states in C", sizes_in_c(sys.argv[1]), sums_hash.STATE_SIZES)
-    same("sizes of the states in the crates", sizes_in_crates(sys.argv[2]), sums_hash.STATE_SIZES)
+    header, crates, *told = harness.arguments(2)
+    same("sizes of the states in C", sizes_in_c(header), sums_hash.STATE_SIZES)
+    same("sizes of the states in the crates", sizes_in_crates(crates), sums_hash.STATE_SIZES)
     for _ in range(300):
         random_message()
     refusals()
-    if len(sys.argv) > 3:
-        with open(sys.argv[3]) as file:
+    for path in told:
+        with open(path) as file:
             same("the module of Rust", file.read().splitlines(), told_by_rust())
-    print(f"python: {compared} comparisons, {wrong} wrong")
-    return 1 if wrong else 0
+    harness.finish()
 
 
-sys.exit(main())
+main()

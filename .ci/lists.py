@@ -1,29 +1,19 @@
 #!/usr/bin/env python3
-"""What the lines of a list mean, row by row, and how names stand in written lines: the built program on
-rows of data. Digests are hashlib's, and for BLAKE3 those of its official vectors and of b3sum.
-usage: .ci/lists PROGRAM"""
+"""What the lines of a list mean, row by row, and how names stand in written lines: the built program on rows of
+data. Digests are hashlib's, and for BLAKE3 those of its official vectors and of b3sum.
+usage: .ci/lists.py PROGRAM
+"""
 
 import hashlib
 import os
-import subprocess
-import sys
-import tempfile
 
-passed = failed = 0
-
-
-def judged(name, is_right, shown=""):
-    global passed, failed
-    if is_right:
-        passed += 1
-    else:
-        failed += 1
-        print(f"{name}: wrong {shown}"[:400])
+import harness
+import tables
+from harness import same
 
 
 def run(*words, given=b""):
-    done = subprocess.run([program, *words], input=given, capture_output=True)
-    return done.returncode, done.stdout, done.stderr
+    return harness.run(program, words, given)
 
 
 # The numbers of a summary, in its order.
@@ -38,17 +28,13 @@ def check(name, alg, given, report, numbers=None):
         words.insert(3, "--summary")
         told = ("sums: " + ", ".join(f"{n} {what}" for n, what in zip(numbers, OUTCOMES)) + "\n").encode()
     status = 0 if all(line.endswith(b": OK") for line in report.split(b"\n")[:-1]) else 1
-    answer = run(*words, given=given)
-    judged(name, answer == (status, report, told), answer)
+    same(name, run(*words, given=given), (status, report, told))
 
 
-# FIPS 180-4, the example of one block; RFC 7693, appendix B; `printf '' | b2sum -l 8`; `printf abc | b3sum`,
-# and BLAKE3's official vector of 1,025 bytes.
-SHA256_ABC = b"ba7816bf8f01cfea414140de5dae2223b00361a396177a9cb410ff61f20015ad"
+# `printf '' | b2sum -l 8`, SHA-256 of no bytes, and BLAKE3's official vector of 1,025 bytes.
+SHA256_ABC, BLAKE2S_ABC, BLAKE3_ABC = map(tables.text, ("{sha256}", "{blake2s}", "{blake3}"))
 SHA256_EMPTY = b"e3b0c44298fc1c149afbf4c8996fb92427ae41e4649b934ca495991b7852b855"
-BLAKE2S_ABC = b"508c5e8c327c14e2e1a72ba34eeb452f37458b209ed63a294d999b4c86675982"
 BLAKE2B_8_EMPTY = b"2e"
-BLAKE3_ABC = b"6437b3ac38465133ffb63b75273a8db548c558465d79db03fd359c6cd5bd9d85"
 BLAKE3_1025 = b"d00278ae47eb27b34faecf67b4fe263f82d5412916c1ffd97c8cb7fb814b8444"
 
 # A name, what stands before the digits of its line, and what stands after them. These are the forms that
@@ -308,13 +294,12 @@ def written():
         report = b"".join(end[2:-1] + b": OK\n" for _, _, end in NAMES)
         for form, want, more in (("lines", plain, []), ("tagged lines", tagged, ["--tag"])):
             answer = run("hash", "-a", alg, *words, *more, "--", *names)
-            judged(f"{form} of {alg} of {size} bytes", answer == (0, want, b""), answer)
+            same(f"{form} of {alg} of {size} bytes", answer, (0, want, b""))
             check(f"{form} of {alg} of {size} bytes, checked", alg, want, report, (len(NAMES), 0, 0, 0, 0, 0, 0))
 
 
-program = os.path.abspath(sys.argv[1])
-with tempfile.TemporaryDirectory() as work:
-    os.chdir(work)
+program = harness.program()
+with harness.folder():
     files()
     lines()
     sizes()
@@ -323,6 +308,4 @@ with tempfile.TemporaryDirectory() as work:
     both_forms()
     ends()
     written()
-    os.chdir("/")
-print(f"{passed} passed, {failed} failed")
-sys.exit(1 if failed else 0)
+harness.finish()

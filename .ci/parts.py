@@ -1,34 +1,27 @@
 #!/usr/bin/env python3
 """Cuts files into parts of each size, joins their lines, and compares with the digest of the whole file, by the
-program and by b3sum where it is installed. Then the lines that `join` refuses, the parts that `part` refuses, and
-parts that come out of one pipe.
-usage: .ci/parts PROGRAM
+program and by b3sum where it is installed; hashes files in parts of each size, with each option. Then the lines that
+`join` refuses, the parts that `part` refuses, and parts that come out of one pipe.
+usage: .ci/parts.py PROGRAM
 """
 
 import os
 import shutil
 import subprocess
-import sys
-import tempfile
+
+import harness
+from harness import judge, same
 
 CHUNK = 1024
-SIZES = [0, 1, 1023, 1024, 1025, 8192, 8193, 1_000_000]
+CHUNKS = [1 << e for e in range(11)]
+SIZES = [0, 1, 1023, 1024, 1025, 8192, 8193, 17_000, 150_000, 1_000_000]
+SIZES_OF_HASH = [0, 1, 1024, 1025, 4096, 8193, 17_000, 102_400]
+OPTIONS_OF_HASH = ([], ["-l", "100"], ["--seek", "33", "-l", "70"], ["--tag"])
 VALUE = b"91333b6a7a918b2ebfcb11c419754631802f5790f4fc714bfce637157e9b1d88"
-passed, failed = 0, 0
-
-
-def judged(name, is_right, shown=""):
-    global passed, failed
-    if is_right:
-        passed += 1
-    else:
-        failed += 1
-        print(f"{name}: wrong {shown}")
 
 
 def run(*words, given=b""):
-    done = subprocess.run([program, *words], input=given, capture_output=True)
-    return done.returncode, done.stdout, done.stderr
+    return harness.run(program, words, given)
 
 
 def part(*words, given=b""):
@@ -40,7 +33,7 @@ def join(*words, given=b""):
 
 
 def expect(name, answer, status, out, err):
-    judged(name, answer == (status, out, err), answer)
+    same(name, answer, (status, out, err))
 
 
 def content(size):
@@ -59,29 +52,48 @@ def whole(size, *words):
     return run("hash", "-a", "blake3", *words, str(size))
 
 
-def sizes():
-    for size in SIZES:
+def files():
+    for size in sorted({*SIZES, *SIZES_OF_HASH}):
         with open(str(size), "wb") as file:
             file.write(content(size))
+
+
+def sizes():
+    for size in SIZES:
         want = whole(size)
         if shutil.which("b3sum"):
             by_peer = subprocess.run(["b3sum", str(size)], capture_output=True).stdout
-            judged(f"b3sum of {size} bytes", want == (0, by_peer, b""), want)
-        for chunks in [1 << e for e in range(11)]:
+            same(f"b3sum of {size} bytes", want, (0, by_peer, b""))
+        for chunks in CHUNKS:
             lines = lines_of(size, chunks)
-            answer = join("--name", str(size), "--bytes", str(size), given=b"".join(lines))
-            if len(lines) == 1:
-                want_of_parts = (1, b"", b"sums: one part alone: hash the file itself\n")
-            else:
-                want_of_parts = want
-            judged(f"{size} bytes in parts of {chunks} chunks", answer == want_of_parts, answer)
+            for words in ([], ["-l", "100", "--seek", "33"]):
+                answer = join("--name", str(size), "--bytes", str(size), *words, given=b"".join(lines))
+                if len(lines) == 1:
+                    want = (1, b"", b"sums: one part alone: hash the file itself\n")
+                else:
+                    want = whole(size, *words)
+                same(" ".join([f"{size} bytes in parts of {chunks} chunks, joined", *words]), answer, want)
+
+
+def hash_in_parts():
+    """The line of a file, and of standard input, is that without parts."""
+    for size in SIZES_OF_HASH:
+        for words in OPTIONS_OF_HASH:
+            want = whole(size, *words)
+            of_input = run("hash", "-a", "blake3", *words, given=content(size))
+            judge(" ".join([f"hash of {size} bytes", *words]), want.status == of_input.status == 0, want, of_input)
+            for chunks in CHUNKS:
+                name = " ".join([f"hash of {size} bytes in parts of {chunks} chunks", *words])
+                same(name, whole(size, *words, "--parts", str(chunks)), want)
+                answer = run("hash", "-a", "blake3", *words, "--parts", str(chunks), given=content(size))
+                same(f"{name}, standard input", answer, of_input)
 
 
 def stretches():
     lines = b"".join(lines_of(8193, 2))
     for words in (["-l", "1"], ["-l", "64"], ["--seek", "31", "-l", "64"], ["--seek", "18446744073709551583"]):
         want = whole(8193, *words)
-        judged(f"join {' '.join(words)}", join(*words, "--name", "8193", given=lines) == want, want)
+        same(f"join {' '.join(words)}", join(*words, "--name", "8193", given=lines), want)
 
 
 def ways():
@@ -91,10 +103,10 @@ def ways():
         want = part("--first", str(first), "--chunks", str(chunks), "8193")
         piece = data[CHUNK * first :][: CHUNK * chunks]
         name = f"chunk {first}, {chunks} of them"
-        judged(f"{name}: a line", want[0] == 0 and want[1].count(b"\n") == 1 and not want[2], want)
-        judged(f"{name}: standard input", part("--first", str(first), given=piece) == want)
+        judge(f"{name}: a line", want.status == 0 and want.out.count(b"\n") == 1 and not want.err, want)
+        same(f"{name}: standard input", part("--first", str(first), given=piece), want)
         more = part("--first", str(first), "--chunks", str(chunks), "-", given=piece + b"more")
-        judged(f"{name}: its front", len(piece) < CHUNK * chunks or more == want, more)
+        judge(f"{name}: its front", len(piece) < CHUNK * chunks or more == want, more)
     expect("the line of a part", part("--first", "256", given=data[:1]), 0, *LINE_OF_ONE_BYTE)
 
 
@@ -112,9 +124,9 @@ def pipe():
     done = subprocess.run(["sh", "-c", script, program], capture_output=True)
     feeder.wait()
     answer = join("--name", "8193", "--bytes", "8193", given=done.stdout)
-    judged("three parts out of one pipe", answer == whole(8193), (done, answer))
+    same("three parts out of one pipe", answer, whole(8193))
     answer = part("--chunks", "4", "/dev/stdin", given=content(8193))
-    judged("the first part of a pipe by its name", answer == part("--chunks", "4", "8193"), answer)
+    same("the first part of a pipe by its name", answer, part("--chunks", "4", "8193"))
 
 
 # ---- what is refused
@@ -202,8 +214,8 @@ def refused_parts():
         expect(name, part(*words), status, b"", f"sums: {told}\n".encode())
     end = content(1024)
     expect("a byte past the limit", part("--first", at_limit, given=end), 1, b"", b"sums: -: too long\n")
-    judged("a part at the limit", part("--first", at_limit, given=end[:1023])[0] == 0)
-    judged("room for all chunks", part("--chunks", str(2**54), "8193") == part("8193"))
+    judge("a part at the limit", part("--first", at_limit, given=end[:1023]).status == 0)
+    same("room for all chunks", part("--chunks", str(2**54), "8193"), part("8193"))
     for command in ("part", "join"):
         for alg in ("sha256", "sha512", "blake2b", "blake2s"):
             answer = run(command, "-a", alg)
@@ -266,10 +278,11 @@ def refused_from_outside():
         expect(f"{line}", join(given=line + b"\n"), 1, b"", b"sums: -: line 1: not a part\n")
 
 
-program = os.path.abspath(sys.argv[1])
-with tempfile.TemporaryDirectory() as work:
-    os.chdir(work)
+program = harness.program()
+with harness.folder():
+    files()
     sizes()
+    hash_in_parts()
     stretches()
     ways()
     pipe()
@@ -277,6 +290,4 @@ with tempfile.TemporaryDirectory() as work:
     refused_parts()
     from_outside()
     refused_from_outside()
-    os.chdir("/")
-print(f"{passed} passed, {failed} failed")
-sys.exit(1 if failed else 0)
+harness.finish()

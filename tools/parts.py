@@ -3,16 +3,18 @@
 each digest and each refusal with a second, plain implementation in this file. Each case is also joined with its
 lines changed: out of order, doubled, left out, cut short, of another file, or with other words. No part of
 tools/test.
-usage: tools/parts PROGRAM [CASES] [SEED]    CASES is 10,000 where it is not named
+usage: tools/parts.py PROGRAM [CASES] [SEED]    CASES is 10,000 where it is not named
 """
 
 import functools
 import os
 import random
 import re
-import subprocess
 import sys
-import tempfile
+
+sys.path.append(os.path.join(os.path.dirname(os.path.realpath(__file__)), "../.ci"))
+
+import harness
 
 CHUNK = 1024
 LIMIT = 2**64 - 1
@@ -296,22 +298,20 @@ def hashed(data):
 
 
 def main():
-    program = os.path.abspath(sys.argv[1])
-    cases = int(sys.argv[2]) if len(sys.argv) > 2 else 10_000
-    seed = int(sys.argv[3]) if len(sys.argv) > 3 else random.randrange(2**32)
-    print(f"tools/parts: {cases} cases, seed {seed}")
+    program, *numbers = harness.arguments(1)
+    program = os.path.abspath(program)
+    cases = int(numbers[0]) if numbers else 10_000
+    seed = int(numbers[1]) if len(numbers) > 1 else random.randrange(2**32)
+    print(f"tools/parts.py: {cases} cases, seed {seed}")
     source, differences = random.Random(seed), 0
 
     def run(words, given=b""):
-        done = subprocess.run([program, *words], input=given, capture_output=True)
-        return done.returncode, done.stdout, done.stderr
+        return harness.run(program, words, given)
 
-    with tempfile.TemporaryDirectory() as work:
-        os.chdir(work)
+    with harness.folder():
         for _ in range(cases):
             differences += case(source, run)
-        os.chdir("/")
-    print(f"tools/parts: {cases} cases, {differences} differences")
+    print(f"tools/parts.py: {cases} cases, {differences} differences")
     return 1 if differences else 0
 
 

@@ -1,0 +1,91 @@
+"""What the Python scripts of .ci share: their words, the folder they work in, runs of the program, the count of
+cases and the last line, and calls of C that are loaded before the program's own."""
+
+import contextlib
+import os
+import shutil
+import subprocess
+import sys
+import tempfile
+from typing import NamedTuple
+
+HERE = os.path.dirname(os.path.abspath(__file__))
+SHOWN = 600
+
+passed = failed = 0
+
+
+class Run(NamedTuple):
+    """What a run answers."""
+
+    status: int
+    out: bytes
+    err: bytes
+
+
+def arguments(least):
+    """The script's words; where there are fewer it stops, and tells its usage, which its first text has."""
+    if len(sys.argv) <= least:
+        lines = sys.modules["__main__"].__doc__.splitlines()
+        print(next(line for line in lines if line.startswith("usage: ")), file=sys.stderr)
+        sys.exit(2)
+    return sys.argv[1:]
+
+
+def program():
+    """The path of the program that the first word names."""
+    path = os.path.abspath(arguments(1)[0])
+    if not os.access(path, os.X_OK):
+        print(f"there is no {path}\n0 passed, 1 failed")
+        sys.exit(1)
+    return path
+
+
+@contextlib.contextmanager
+def folder():
+    """A new folder to work in, which goes at the end."""
+    with tempfile.TemporaryDirectory() as work:
+        os.chdir(work)
+        try:
+            yield
+        finally:
+            os.chdir("/")
+
+
+def run(path, words, given=b"", **options):
+    """One run of a program. The options are those of subprocess.run."""
+    done = subprocess.run([path, *words], input=given, capture_output=True, **options)
+    return Run(done.returncode, done.stdout, done.stderr)
+
+
+def judge(name, is_right, *shown):
+    """Counts a case, and tells what is wrong with it."""
+    global passed, failed
+    if is_right:
+        passed += 1
+    else:
+        failed += 1
+        print(f"{name}: wrong")
+        for line in shown:
+            print(f"    {line}"[:SHOWN])
+    return is_right
+
+
+def same(name, got, wanted):
+    """Counts a case that has to give this."""
+    return judge(name, got == wanted, f"got    {got}", f"wanted {wanted}")
+
+
+def finish():
+    """The last line, and the status that goes with it."""
+    print(f"{passed} passed, {failed} failed")
+    sys.exit(1 if failed else 0)
+
+
+def preloaded(name):
+    """A C file of this folder as a library that LD_PRELOAD takes, built by the kit's compiler."""
+    tools = os.path.join(os.path.dirname(os.path.dirname(os.path.realpath(shutil.which("rt")))), "toolchain/bin")
+    library = os.path.abspath(f"{name}.so")
+    flags = ["-O1", "-shared", "-fPIC", "-nostdlib", f"-fuse-ld={tools}/ld.lld"]
+    subprocess.run([f"{tools}/clang", *flags, "-o", library, f"{HERE}/{name}.c"], check=True)
+    return library

@@ -1,0 +1,91 @@
+# shellcheck shell=sh
+# What the shell scripts of .ci share. They source it first: `here` is then this folder, `work` a new one that goes at
+# the end, and cases are counted. POSIX functions have no variables of their own, so those of this file begin with
+# `case_`.
+set -u
+here=$(cd "$(dirname "$0")" && pwd) || exit 1
+work=$(mktemp -d) || exit 1
+trap 'rm -rf "$work"' EXIT
+passed=0 failed=0 missing=
+
+# takes_program WORD..: sets `program` to the path in the first word; without one the script stops and tells its usage
+takes_program() {
+    if [ $# = 0 ]; then
+        sed -n 's/^# usage: /usage: /p' "$0" >&2
+        exit 2
+    fi
+    program=$(realpath "$1")
+    if [ ! -x "$program" ]; then
+        echo "there is no $program"
+        echo '0 passed, 1 failed'
+        exit 1
+    fi
+}
+
+# holds NAME COMMAND..: counts a case, whose command has to succeed; else what it said is shown
+holds() {
+    case_name=$1
+    shift
+    if "$@" > "$work/said" 2>&1; then
+        passed=$((passed + 1))
+    else
+        failed=$((failed + 1))
+        echo "$case_name: wrong"
+        head -c 2000 "$work/said"
+    fi
+}
+
+# equal NAME GOT WANTED: counts a case, whose two texts have to be the same
+equal() {
+    holds "$1" is_equal "$2" "$3"
+}
+
+is_equal() {
+    printf 'got    %s\nwanted %s\n' "$1" "$2"
+    [ "$1" = "$2" ]
+}
+
+# is_empty FILE: for `holds`; else its content is said
+is_empty() {
+    cat "$1"
+    [ ! -s "$1" ]
+}
+
+# ends STATUS COMMAND..: for `holds`: the command ends with this status
+ends() {
+    case_status=$1
+    shift
+    "$@"
+    case_got=$?
+    echo "status $case_got, wanted $case_status"
+    [ $case_got = "$case_status" ]
+}
+
+# has TOOL WHAT: whether a command is installed; else it is told at the end that WHAT was not tried
+has() {
+    command -v "$1" > /dev/null || lacks "$1" "$2"
+}
+
+# lacks NAME WHAT: tells at the end that something is not installed
+lacks() {
+    missing="$missing$1 is not installed: $2
+"
+    return 1
+}
+
+# make_files: the files of files.tsv, in this folder
+make_files() {
+    "$here/tables.py" files
+}
+
+# text CELL: what a cell of a table stands for
+text() {
+    "$here/tables.py" text "$1"
+}
+
+# finish: what was not tried, and the last line with its status
+finish() {
+    printf '%s' "$missing"
+    echo "$passed passed, $failed failed"
+    [ "$failed" = 0 ]
+}

@@ -1,0 +1,41 @@
+#!/usr/bin/env python3
+"""Runs the program on each row of rows/*.tsv, over the files of files.tsv: status, standard output and standard error
+have to be those of the row, byte for byte. tables.py tells how a table is written.
+usage: .ci/rows.py PROGRAM
+"""
+
+import harness
+import tables
+
+
+def differences(got, wanted):
+    """What is another, in lines."""
+    for what, is_got, is_wanted in zip(("status", "output", "error"), got, wanted):
+        if is_got != is_wanted:
+            yield f"{what}: got    {is_got}"
+            yield f"{what}: wanted {is_wanted}"
+
+
+def once(rows):
+    """No row stands twice, and no name."""
+    places = {}
+    for row in rows:
+        for what in (row.name, (tuple(row.words), row.given)):
+            if what in places:
+                harness.judge(f"{row.place}: {row.name}", False, f"stands in {places[what]} too")
+            places[what] = row.place
+
+
+def main():
+    program = harness.program()
+    rows = list(tables.rows())
+    once(rows)
+    with harness.folder():
+        tables.make_files()
+        for row in rows:
+            got = harness.run(program, row.words, row.given)
+            harness.judge(f"{row.place}: {row.name}", got == row.answer, row.words, *differences(got, row.answer))
+    harness.finish()
+
+
+main()

@@ -1,0 +1,122 @@
+#!/usr/bin/env python3
+"""Runs the program where its streams are more than a text: devices that take nothing, inputs and outputs that are
+longer than a buffer, a pipe that comes in two pieces, and the names that `find` prints.
+usage: .ci/streams.py PROGRAM
+"""
+
+import hashlib
+import hmac
+import os
+import subprocess
+import time
+
+import harness
+import tables
+from harness import same
+
+ABC = tables.text("{sha256}")
+# What is not written to a full device: each command, and each way to write of it.
+FULL = [
+    ("hash", "hash -a blake2s"),
+    ("a long output", "hash -a blake3 -l 100000"),
+    ("a report", "check -a sha256 good-list"),
+    ("a report with a summary", "check -a sha256 --summary good-list"),
+    ("help", "--help"),
+    ("a tagged line", "hash -a blake2s --tag"),
+    ("a tag", "mac -a hmac-sha256 --key 00"),
+    ("a key", "kdf -a sha256 --ikm-file abc.txt -l 1"),
+    ("a verdict", "mac -a blake2s --key 00 -l 1 --verify 00"),
+    ("a raw key", "kdf -a sha256 --ikm-file abc.txt -l 1 --raw"),
+    ("raw bytes", "hash -a blake3 -l 200000 --raw"),
+    ("a part", "part -a blake3"),
+    ("a joined line", "join -a blake3 chunk.0 chunk.1"),
+    ("names from a file", "hash -a blake3 --files0-from mixed-names"),
+]
+# What a full standard error has no effect on: the words, the status and standard output.
+UNTOLD = [
+    ("a full standard error", "hash -a sha256 abc.txt", 0, ABC + b"  abc.txt\n"),
+    ("a summary told to a full standard error", "check -a sha256 --summary good-list", 0, b"abc.txt: OK\n"),
+    ("a fault told to a full standard error", "hash -a sha256 none abc.txt", 1, ABC + b"  abc.txt\n"),
+]
+LONG = b"x" * 300_000
+
+
+def run(words, given=b""):
+    return harness.run(program, words.split(), given)
+
+
+def full_devices():
+    with open("/dev/full", "wb") as full:
+        for name, words in FULL:
+            done = subprocess.run([program, *words.split()], input=b"abc", stdout=full, stderr=subprocess.PIPE)
+            same(f"{name} to a full device", (done.returncode, done.stderr), (3, b"sums: cannot write\n"))
+        for name, words, status, out in UNTOLD:
+            done = subprocess.run([program, *words.split()], stdout=subprocess.PIPE, stderr=full)
+            same(name, (done.returncode, done.stdout), (status, out))
+
+
+def long_inputs():
+    """Inputs that are longer than a read."""
+    with open("300000", "wb") as file:
+        file.write(LONG)
+    for name in ("sha256", "sha512", "blake2b", "blake2s"):
+        wanted = hashlib.new(name, LONG).hexdigest().encode()
+        same(f"{name} of a long file", run(f"hash -a {name} 300000"), (0, wanted + b"  300000\n", b""))
+    wanted = hashlib.blake2b(LONG).hexdigest().encode()
+    same("blake2b of a long pipe", slow_pipe("hash -a blake2b"), (0, wanted + b"  -\n"))
+    line = hashlib.blake2b(LONG, digest_size=20).hexdigest().encode() + b"  300000\n"
+    same("a list over a long file", run("check -a blake2b -", line), (0, b"300000: OK\n", b""))
+
+
+def slow_pipe(words):
+    """A run whose input pauses behind a third of it."""
+    pipes = {"stdin": subprocess.PIPE, "stdout": subprocess.PIPE}
+    with subprocess.Popen([program, *words.split()], **pipes) as running:
+        running.stdin.write(LONG[:100_000])
+        running.stdin.flush()
+        time.sleep(0.1)
+        out, _ = running.communicate(LONG[100_000:])
+    return running.returncode, out
+
+
+def long_outputs():
+    """100,000 bytes of BLAKE3's output, raw and in digits, and the longest key of HKDF over each hash."""
+    digits = run("hash -a blake3 -l 100000 abc.txt").out.removesuffix(b"  abc.txt\n").decode()
+    same("100000 raw bytes", run("hash -a blake3 -l 100000 --raw abc.txt"), (0, bytes.fromhex(digits), b""))
+    same("100000 raw bytes, their number", len(digits), 200_000)
+    for name in ("sha256", "sha512", "blake2b", "blake2s"):
+        key = longest_key(name, b"")
+        words = f"kdf -a {name} --ikm-file empty -l {len(key)}"
+        same(f"the longest key over {name}", run(words), (0, key.hex().encode() + b"\n", b""))
+        same(f"the longest key over {name}, raw", run(f"{words} --raw"), (0, key, b""))
+
+
+def longest_key(name, material):
+    """HKDF (RFC 5869) without salt and info: 255 blocks."""
+    extracted = hmac.new(b"", material, name).digest()
+    key, block = b"", b""
+    for number in range(1, 256):
+        block = hmac.new(extracted, block + bytes([number]), name).digest()
+        key += block
+    return key
+
+
+def names_of_find():
+    os.mkdir("many")
+    for i in range(200):
+        with open(f"many/a file {i}", "w") as file:
+            file.write(str(i))
+    names = subprocess.run(["find", "many", "-type", "f", "-print0"], capture_output=True, check=True).stdout
+    wanted = harness.run(program, [b"hash", b"-a", b"blake3", *names.split(b"\0")[:-1]])
+    same("names that find prints", run("hash -a blake3 --files0-from -", names), wanted)
+    same("names that find prints, their number", wanted.out.count(b"\n"), 200)
+
+
+program = harness.program()
+with harness.folder():
+    tables.make_files()
+    full_devices()
+    long_inputs()
+    long_outputs()
+    names_of_find()
+harness.finish()
