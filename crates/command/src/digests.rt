@@ -7,7 +7,7 @@ ghost use Rattle.b3.specs.inside.Output.{output_position, output_root};
 ghost use Rattle.source.specs.Counts.{count_after};
 ghost use Rattle.source.specs.Digest.{IsInRange, digest, input_limit, tag_len};
 ghost use Rattle.task.specs.Requested.{HasDigest, IsPartSize, IsWithin, alg_of};
-ghost use Rattle.command.specs.Course.{Tells, all_told};
+ghost use Rattle.command.specs.Course.{TellsAll};
 ghost use Rattle.command.specs.Hashing.{HashesAll};
 ghost use Rattle.command.specs.Lines.{IsListable, digest_line, hash_of, line_text};
 ghost use Rattle.command.specs.inside.Hashed.{PrintsName, Settles};
@@ -44,7 +44,7 @@ impl<'i, 't, 'o, L: Feed, T: Tree, W: Sink> Session<'i, 't, 'o, L, T, W> {
         requires parts { IfSome parts IsPartSize }
         ensures course { TakesCourse (λ bytes files.
             HashesAll (digest_line requested) files bytes (map (λ n. n.now) names.entry.now))
-            (λ notes. Tells (E.shown err.old) (E.shown err.new) notes)
+            (λ notes. TellsAll (E.shown err.old) (E.shown err.new) notes)
             result (⟦<Self as Streams>⟧.seen self.old) (⟦<Self as Streams>⟧.seen self.new) }
         ensures same { SameStreams self.old self.new }
     {

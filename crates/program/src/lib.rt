@@ -3,7 +3,7 @@
 
 ghost use Rattle.std.specs.Prelude.{IfSome, map};
 ghost use Rattle.request.specs.CommandLine.{kind_of};
-ghost use Rattle.command.specs.Course.{Tells};
+ghost use Rattle.command.specs.Course.{TellsAll};
 ghost use Rattle.command.specs.Streams.{TakesCourse};
 ghost use Rattle.command.specs.inside.Streams.{SameStreams};
 ghost use Rattle.program.specs.Program.{IsAnswered, ProgramRuns, RequestRuns};
@@ -59,7 +59,7 @@ fn run_request<'n, 'i, 't, 'o, L: Feed, T: Tree, W: Sink, E: Sink>(
     err: &mut E,
 ) -> Result<u8, Fault<'n>>
     ensures course { TakesCourse (λ bytes files. RequestRuns request.entry files bytes)
-        (λ notes. Tells (E.shown err.old) (E.shown err.new) notes) result
+        (λ notes. TellsAll (E.shown err.old) (E.shown err.new) notes) result
         (⟦<Session<'i, 't, 'o, L, T, W> as Streams>⟧.seen session.old)
         (⟦<Session<'i, 't, 'o, L, T, W> as Streams>⟧.seen session.new) }
     ensures same { SameStreams session.old session.new }
