@@ -162,14 +162,15 @@ module _ (words : List Text) where
         inr refl,
       )
 
-  pub run_answered : (first : Option (List ℕ)) (tree : Option Files) (kind : ErrorKind) (status : ℕ)
+  pub run_answered : (first : Option (List ℕ)) (tree : Option Files) (kind : ErrorKind) (text : Text) (status : ℕ)
       (out_old out_new err_old err_new : Shown) (i u : ℕ)
-      → OfSums (λ app. IsAmong kind (fault_of app words)) → IsAnswered kind status out_old out_new
+      → OfSums (λ app. IsAmong kind (fault_of app words))
+      → IsAnswered kind text status out_old out_new err_old err_new
       → Program first tree words status out_old out_new err_old err_new i i u u
-  run_answered None tree kind status out_old out_new err_old err_new i u among h = tt
-  run_answered (Some bytes) None kind status out_old out_new err_old err_new i u among h = tt
-  run_answered (Some bytes) (Some files) kind status out_old out_new err_old err_new i u among h = inr
-      (kind, among, h, Counted-none i u)
+  run_answered None tree kind text status out_old out_new err_old err_new i u among h = tt
+  run_answered (Some bytes) None kind text status out_old out_new err_old err_new i u among h = tt
+  run_answered (Some bytes) (Some files) kind text status out_old out_new err_old err_new i u among h =
+      inr (kind, text, among, h, Counted-none i u)
 
   -- the streams are handed back as the session left them
   pub handed_back : {L T W : Type 0} (shown : W → Shown) (reads : L → ℕ) (opens : T → ℕ) (first : Option (List ℕ))
