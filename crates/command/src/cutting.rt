@@ -1,7 +1,7 @@
 // The command `part`: the line that tells a part of a file.
 
 ghost use Rattle.std.specs.Prelude.{◌≡◌, ℕ, ◌*◌, ◌^◌, ◌<◌, ◌≤◌, [], length, true, option_map};
-ghost use Rattle.std.specs.Prelude.{IfSome, MatchOption, None, Some};
+ghost use Rattle.std.specs.Prelude.{IfSome, IsErrOf, MatchOption, None, Some};
 ghost use Rattle.std.specs.Option.{SomeIff};
 ghost use Rattle.source.specs.Counts.{count_after};
 ghost use Rattle.task.specs.Parting.{IsPlace};
@@ -95,6 +95,7 @@ fn part_of_feed<'n, F: Feed>(
         Cuts first name.entry.now (Some (first_chunks chunks bytes)) result) }
     ensures counted { F.failure_count feed.new
         ≡ count_after (F.failure_count feed.old) (failed true (Some []) result).input }
+    ensures memory { IsErrOf result Fault.OutOfMemory → ⊥ }
 {
     match part_of(Mode::Hash, first, room, bytes_of(chunks), feed, run) {
         Ok(Some(part)) => Ok(part),

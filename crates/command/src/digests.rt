@@ -1,13 +1,13 @@
 // The command `hash`: the digest of each file, as a line of a list.
 
 ghost use Rattle.std.specs.Prelude.{◌≡◌, ◌-◌, ◌*◌, ◌^◌, ◌≤◌, ℕ, [], length, vec_len, Some, true, IfOk, IfSome};
-ghost use Rattle.std.specs.Prelude.{MatchResult, map};
+ghost use Rattle.std.specs.Prelude.{IsErrOf, MatchResult, None, map};
 ghost use Rattle.b3.specs.Modes.{hash_root};
 ghost use Rattle.b3.specs.inside.Output.{output_position, output_root};
 ghost use Rattle.source.specs.Counts.{count_after};
 ghost use Rattle.source.specs.Digest.{IsInRange, digest, input_limit, tag_len};
 ghost use Rattle.task.specs.Requested.{HasDigest, IsPartSize, IsWithin, alg_of};
-ghost use Rattle.command.specs.Course.{Tells, all_told};
+ghost use Rattle.command.specs.Course.{TellsAll};
 ghost use Rattle.command.specs.Hashing.{HashesAll};
 ghost use Rattle.command.specs.Lines.{IsListable, digest_line, hash_of, line_text};
 ghost use Rattle.command.specs.inside.Hashed.{PrintsName, Settles};
@@ -44,7 +44,7 @@ impl<'i, 't, 'o, L: Feed, T: Tree, W: Sink> Session<'i, 't, 'o, L, T, W> {
         requires parts { IfSome parts IsPartSize }
         ensures course { TakesCourse (λ bytes files.
             HashesAll (digest_line requested) files bytes (map (λ n. n.now) names.entry.now))
-            (λ notes. Tells (E.shown err.old) (E.shown err.new) notes)
+            (λ notes. TellsAll (E.shown err.old) (E.shown err.new) notes)
             result (⟦<Self as Streams>⟧.seen self.old) (⟦<Self as Streams>⟧.seen self.new) }
         ensures same { SameStreams self.old self.new }
     {
@@ -268,6 +268,7 @@ fn tag_of_feed<'n, F: Feed>(
     ensures counted { F.failure_count feed.new
         ≡ count_after (F.failure_count feed.old) (failed true (Some []) result).input }
     ensures gave { Leaves true result (F.remaining feed.old) (F.remaining feed.new) }
+    ensures memory { parts ≡ None → IsErrOf result Fault.OutOfMemory → ⊥ }
 {
     match (hash, parts) {
         (Hash::Plain(Alg::Blake3), Some(chunks)) => digest_of_parts(alloc, chunks, name, feed),
@@ -309,6 +310,7 @@ fn output_of_feed<'n, F: Feed>(
     ensures counted { F.failure_count feed.new
         ≡ count_after (F.failure_count feed.old) (failed true (Some []) result).input }
     ensures gave { Leaves true result (F.remaining feed.old) (F.remaining feed.new) }
+    ensures memory { IsErrOf result Fault.OutOfMemory → ⊥ }
 {
     match output_in_parts(Mode::Hash, feed, part) {
         Ok(output) => Ok(output),
@@ -325,6 +327,7 @@ fn digest_of_feed<'n, F: Feed>(hash: Hash, name: &'n str, feed: &mut F) -> Resul
     ensures counted { F.failure_count feed.new
         ≡ count_after (F.failure_count feed.old) (failed true (Some []) result).input }
     ensures gave { Leaves true result (F.remaining feed.old) (F.remaining feed.new) }
+    ensures memory { IsErrOf result Fault.OutOfMemory → ⊥ }
 {
     match hash {
         Hash::Plain(alg) => plain_digest(alg, name, feed),
@@ -353,6 +356,7 @@ fn plain_digest<'n, F: Feed>(alg: Alg, name: &'n str, feed: &mut F) -> Result<Ta
     ensures counted { F.failure_count feed.new
         ≡ count_after (F.failure_count feed.old) (failed true (Some []) result).input }
     ensures gave { Leaves true result (F.remaining feed.old) (F.remaining feed.new) }
+    ensures memory { IsErrOf result Fault.OutOfMemory → ⊥ }
 {
     let Ok(hasher) = AnyHash::new(alg) else {
         unreachable!()

@@ -1,7 +1,7 @@
 //! The commands of `sums`, each over the streams of a session.
 #![tactic(auto)]
 
-pub use fault::{Fault, tell, write_text};
+pub use fault::{Fault, tell};
 pub use laws::{join_laws, visible_laws};
 pub use session::{Session, Streams};
 pub use visible::write_visible;

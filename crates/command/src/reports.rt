@@ -1,10 +1,11 @@
 // The command `check`: the report on a list.
 
-ghost use Rattle.std.specs.Prelude.{◌≡◌, [], IfSome, Some, true};
+ghost use Rattle.std.specs.Prelude.{◌≡◌, ◌++◌, [], IfSome, Some, codes, true};
 ghost use Rattle.source.specs.Counts.{count_after};
 ghost use Rattle.source.specs.Written.{Writes};
-ghost use Rattle.command.specs.Checking.{CheckRuns, ChecksList, noted};
-ghost use Rattle.command.specs.Course.{Tells};
+ghost use Rattle.sumlist.specs.Tally.{summary_text};
+ghost use Rattle.command.specs.Checking.{CheckRuns, ChecksList};
+ghost use Rattle.command.specs.Course.{TellsAll};
 ghost use Rattle.command.specs.inside.Faults.{noted_of, of_check};
 ghost use Rattle.command.specs.inside.Listing.{ListTaken};
 ghost use Rattle.command.specs.inside.Reading.{failed};
@@ -30,7 +31,7 @@ impl<'i, 't, 'o, L: Feed, T: Tree, W: Sink> Session<'i, 't, 'o, L, T, W> {
         err: &mut E,
     ) -> Result<u8, Fault<'n>>
         ensures course { TakesCourse (λ bytes files. CheckRuns kind is_summed name.entry.now files bytes)
-            (λ notes. Tells (E.shown err.old) (E.shown err.new) notes)
+            (λ notes. TellsAll (E.shown err.old) (E.shown err.new) notes)
             result (⟦<Self as Streams>⟧.seen self.old) (⟦<Self as Streams>⟧.seen self.new) }
         ensures same { SameStreams self.old self.new }
     {
@@ -71,9 +72,9 @@ fn check_list<'n, F: Feed, T: Tree, W: Sink, E: Sink>(
     status_of(answer, name)
 }
 
-// Tells the numbers of a list on standard error, which may drop them.
+// Tells the numbers of a list on standard error, in one text: what is not taken of it is dropped.
 fn note<E: Sink>(is_summed: bool, answer: &Result<Summary, CheckFault>, err: &mut E)
-    ensures { Tells (E.shown err.old) (E.shown err.new) (noted_of is_summed answer.now) }
+    ensures { TellsAll (E.shown err.old) (E.shown err.new) (noted_of is_summed answer.now) }
 {
     match answer {
         Ok(summary) if is_summed => {
@@ -84,7 +85,7 @@ fn note<E: Sink>(is_summed: bool, answer: &Result<Summary, CheckFault>, err: &mu
 }
 
 fn write_note<E: Sink>(summary: &Summary, err: &mut E) -> Result<(), WriteFailed>
-    ensures { Writes result (E.shown err.old) (E.shown err.new) (noted true summary.now) }
+    ensures { Writes result (E.shown err.old) (E.shown err.new) (codes "sums: " ++ summary_text summary.now) }
 {
     write_all(err, b"sums: ")?;
     write_summary(summary, err)

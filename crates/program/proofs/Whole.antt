@@ -1,5 +1,5 @@
 -- The course of a run is that of its request, with the last trouble told.
-use Rattle.std.proofs.Common.{◌≡◌, ℕ, List, [], ◌++◌, Option, Some, None, Result, Ok, Err, IfSome, refl}
+use Rattle.std.proofs.Common.{◌≡◌, ℕ, List, [], ◌∷◌, ◌++◌, Option, Some, None, Result, Ok, Err, IfSome, refl}
 use Rattle.std.proofs.Common.{sym, ap, ◌∙◌, inl, inr, subst, append-nil, arith}
 use Rattle.std.specs.Prelude.{IsErrAnd}
 use Rattle.std.proofs.KnownBytes.{Appends-nil}
@@ -12,35 +12,36 @@ use Rattle.task.specs.Tasks.{Asked, asked, task_shown}
 use Rattle.task.specs.declared.fault.TaskFault.{TaskFault}
 use Rattle.task.specs.declared.fault.TaskFault.TheVariants as task
 use Rattle.request.specs.declared.request.Request.{Request}
-use Rattle.command.specs.Course.{Counted, Course, Printed, Runs, Takes, Tells, ending_told, no_failures}
+use Rattle.command.specs.Course.{Counted, Course, Printed, Runs, Takes, Tells, TellsAll, ending_told, no_failures}
 use Rattle.command.specs.Course.{refused_by, status_at}
 use Rattle.command.specs.Troubles.{of_task, out_of_memory, status_of, told, trouble_of}
 use Rattle.command.specs.declared.fault.Fault.{Fault}
-use Rattle.command.proofs.Telling.{Tells-more, Tells-none}
+use Rattle.command.proofs.Telling.{TellsAll-append, TellsAll-one}
 use Rattle.program.specs.Program.{IsAnswered, ProgramRuns, RequestRuns, TaskRuns}
 
 Counted-none : (i u : ℕ) → Counted no_failures i i u u
 Counted-none i u = (omega arith, omega arith)
 
 Runs-done : (course : Course) (status : ℕ) (out_old out_new err_old err_new : Shown)
-    → Takes course (Ok status) out_old out_new → Tells err_old err_new course.notes
+    → Takes course (Ok status) out_old out_new → TellsAll err_old err_new course.notes
     → Runs course status out_old out_new err_old err_new
 Runs-done course status out_old out_new err_old err_new takes tells = record {
   status = sym (ap status_at takes.ending);
   out = takes.out;
-  err = subst (Tells err_old err_new) (sym (ap (λ l. course.notes ++ l) (ap ending_told takes.ending) ∙
+  err = subst (TellsAll err_old err_new) (sym (ap (λ l. course.notes ++ l) (ap ending_told takes.ending) ∙
       append-nil course.notes)) tells;
 }
 
 Runs-stopped : (course : Course) (f : Fault) (status : ℕ) (out_old out_new err_old err_mid err_new : Shown)
-    → Takes course (Err f) out_old out_new → Tells err_old err_mid course.notes
+    → Takes course (Err f) out_old out_new → TellsAll err_old err_mid course.notes
     → status ≡ status_of (trouble_of f) → Tells err_mid err_new (told (trouble_of f))
     → Runs course status out_old out_new err_old err_new
 Runs-stopped course f status out_old out_new err_old err_mid err_new takes tells is last = record {
   status = is ∙ sym (ap status_at takes.ending);
   out = takes.out;
-  err = subst (Tells err_old err_new) (sym (ap (λ l. course.notes ++ l) (ap ending_told takes.ending)))
-      (Tells-more err_old err_mid err_new course.notes (told (trouble_of f)) tells last);
+  err = subst (TellsAll err_old err_new) (sym (ap (λ l. course.notes ++ l) (ap ending_told takes.ending)))
+      (TellsAll-append err_old err_mid err_new course.notes (told (trouble_of f) ∷ []) tells
+      (TellsAll-one err_mid err_new (told (trouble_of f)) last));
 }
 
 module _ (first : Option (List ℕ)) (tree : Option Files) where
@@ -48,7 +49,7 @@ module _ (first : Option (List ℕ)) (tree : Option Files) where
   abbrev pub Requested : Request → Result ℕ Fault → (out_old out_new err_old err_new : Shown) → (i j u v : ℕ) → Type 0
   Requested r answer out_old out_new err_old err_new i j u v =
       IfSome first (λ bytes. IfSome tree (λ files. (course : Course) × RequestRuns r files bytes course × Takes course
-      answer out_old out_new × Tells err_old err_new course.notes × Counted course.failures i j u v))
+      answer out_old out_new × TellsAll err_old err_new course.notes × Counted course.failures i j u v))
 
   -- what was done of a task by a command that passes over nothing
   abbrev pub Quietly : Asked → Result ℕ Fault → (out_old out_new : Shown) → (i j u v : ℕ) → Type 0
@@ -60,7 +61,7 @@ module _ (first : Option (List ℕ)) (tree : Option Files) where
   abbrev pub Tellingly : Asked → Result ℕ Fault → (out_old out_new err_old err_new : Shown) → (i j u v : ℕ) → Type 0
   Tellingly asked answer out_old out_new err_old err_new i j u v =
       IfSome first (λ bytes. IfSome tree (λ files. (course : Course) × TaskRuns asked files bytes course × Takes
-      course answer out_old out_new × Tells err_old err_new course.notes × Counted course.failures i j
+      course answer out_old out_new × TellsAll err_old err_new course.notes × Counted course.failures i j
       u v))
 
   -- what a run did
@@ -89,7 +90,7 @@ pub quiet_task : (first : Option (List ℕ)) (tree : Option Files) (r : Request)
 quiet_task None tree r task answer out_old out_new err i j u v is h = tt
 quiet_task (Some bytes) None r task answer out_old out_new err i j u v is h = tt
 quiet_task (Some bytes) (Some files) r task answer out_old out_new err i j u v is h =
-    (h.0, requested r task files bytes h.0 is h.1, h.2, rw h.3 (Tells-none err), h.4)
+    (h.0, requested r task files bytes h.0 is h.1, h.2, rw h.3 refl, h.4)
 
 refused : (r : Request) (e : TaskFault) (files : Files) (bytes : List ℕ) → Judges task_shown (asked r) (Err e)
     → RequestRuns r files bytes (refused_by (trouble_of (of_task e)) no_failures)
@@ -111,7 +112,7 @@ no_task (Some bytes) (Some files) r e answer out err i u stop judged =
       refused_by (trouble_of (of_task e)) no_failures,
       refused r e files bytes judged,
       rw (s.1, s.2) (record { ending = refl; out = nothing_printed e out }),
-      Tells-none err,
+      refl,
       Counted-none i u,
     )
 
@@ -152,19 +153,24 @@ module _ (words : List Text) where
   run_without_memory (Some bytes) (Some files) status out err_old err_new i u is last =
       inl (
         refused_by out_of_memory no_failures,
-        record { status = is; out = (refl, Appends-nil out.contents); err = last },
+        record {
+          status = is;
+          out = (refl, Appends-nil out.contents);
+          err = TellsAll-one err_old err_new (told out_of_memory) last;
+        },
         Counted-none i u,
         inr refl,
       )
 
-  pub run_answered : (first : Option (List ℕ)) (tree : Option Files) (kind : ErrorKind) (status : ℕ)
+  pub run_answered : (first : Option (List ℕ)) (tree : Option Files) (kind : ErrorKind) (text : Text) (status : ℕ)
       (out_old out_new err_old err_new : Shown) (i u : ℕ)
-      → OfSums (λ app. IsAmong kind (fault_of app words)) → IsAnswered kind status out_old out_new
+      → OfSums (λ app. IsAmong kind (fault_of app words))
+      → IsAnswered kind text status out_old out_new err_old err_new
       → Program first tree words status out_old out_new err_old err_new i i u u
-  run_answered None tree kind status out_old out_new err_old err_new i u among h = tt
-  run_answered (Some bytes) None kind status out_old out_new err_old err_new i u among h = tt
-  run_answered (Some bytes) (Some files) kind status out_old out_new err_old err_new i u among h = inr
-      (kind, among, h, Counted-none i u)
+  run_answered None tree kind text status out_old out_new err_old err_new i u among h = tt
+  run_answered (Some bytes) None kind text status out_old out_new err_old err_new i u among h = tt
+  run_answered (Some bytes) (Some files) kind text status out_old out_new err_old err_new i u among h =
+      inr (kind, text, among, h, Counted-none i u)
 
   -- the streams are handed back as the session left them
   pub handed_back : {L T W : Type 0} (shown : W → Shown) (reads : L → ℕ) (opens : T → ℕ) (first : Option (List ℕ))

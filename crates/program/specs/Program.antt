@@ -1,18 +1,18 @@
 -- What a run of the program prints, tells and answers, by its words, standard input and files.
 use Rattle.std.specs.Prelude.{◌⊎◌, ◌≡◌, ℕ, List, [], MatchResult}
-use Rattle.source.specs.Written.{Shown}
+use Rattle.source.specs.Written.{Done, Failed, Shown}
 use Rattle.sumlist.specs.Report.{Files}
 use Rattle.request.specs.CommandLine.{ErrorKind, IsAmong, IsWrong, OfSums, Reads, Text, fault_of}
 use Rattle.task.specs.Tasks.{Asked, asked, checks, cuts, derives, hashes, in_file, joins, tags, these}
 use Rattle.request.specs.declared.request.Request.{Request}
 use Rattle.command.specs.Checking.{CheckRuns}
-use Rattle.command.specs.Course.{Counted, Course, Runs, no_failures, refused_by}
+use Rattle.command.specs.Course.{Counted, Course, Runs, Tells, no_failures, refused_by}
 use Rattle.command.specs.Cutting.{PartRuns}
 use Rattle.command.specs.Hashing.{HashesAll, HashesFrom}
 use Rattle.command.specs.Joining.{JoinRuns}
 use Rattle.command.specs.Keying.{KdfRuns, MacRuns}
 use Rattle.command.specs.Lines.{digest_line}
-use Rattle.command.specs.Troubles.{out_of_memory, usage}
+use Rattle.command.specs.Troubles.{cannot_write, out_of_memory, told, usage}
 
 -- the course of a task; in how many parts a file is hashed makes no difference
 abbrev pub TaskRuns : Asked → Files → List ℕ → Course → Type 0
@@ -33,11 +33,13 @@ RequestRuns r files input course =
     (λ fault. course ≡ refused_by (usage fault) no_failures)
     ⊎ (course ≡ refused_by out_of_memory no_failures)
 
--- wrong words print nothing, with status 2; help is printed, or status 3 told
-abbrev pub IsAnswered : ErrorKind → ℕ → Shown → Shown → Type 0
-IsAnswered kind status old new =
-    (IsWrong kind → (status ≡ 2) × (new ≡ old))
-    × ((IsWrong kind → ⊥) → (status ≡ 0) ⊎ (status ≡ 3))
+-- the text of wrong words is told, and nothing printed; that of help and of the version is printed, and nothing told
+-- but a failed write
+abbrev pub IsAnswered : ErrorKind → Text → ℕ → (out_old out_new err_old err_new : Shown) → Type 0
+IsAnswered kind text status out_old out_new err_old err_new =
+    (IsWrong kind → (status ≡ 2) × (out_new ≡ out_old) × Tells err_old err_new text)
+    × ((IsWrong kind → ⊥) → ((status ≡ 0) × Done out_old out_new text × (err_new ≡ err_old))
+    ⊎ ((status ≡ 3) × Failed out_old out_new text × Tells err_old err_new (told cannot_write)))
 
 -- what a run of the program may be, where standard input has these bytes and the files these contents: what
 -- standard output and standard error show before and after it, and the counts of failed reads
@@ -48,5 +50,5 @@ ProgramRuns words input files status out_old out_new err_old err_new i j f g =
     × (((r : Request) × OfSums (λ app. fault_of app words ≡ []) × OfSums (λ app. Reads app words r)
     × RequestRuns r files input course)
     ⊎ (course ≡ refused_by out_of_memory no_failures)))
-    ⊎ ((kind : ErrorKind) × OfSums (λ app. IsAmong kind (fault_of app words))
-    × IsAnswered kind status out_old out_new × Counted no_failures i j f g)
+    ⊎ ((kind : ErrorKind) × (text : Text) × OfSums (λ app. IsAmong kind (fault_of app words))
+    × IsAnswered kind text status out_old out_new err_old err_new × Counted no_failures i j f g)

@@ -3,7 +3,7 @@
 
 ghost use Rattle.std.specs.Prelude.{IfSome, map};
 ghost use Rattle.request.specs.CommandLine.{kind_of};
-ghost use Rattle.command.specs.Course.{Tells};
+ghost use Rattle.command.specs.Course.{TellsAll};
 ghost use Rattle.command.specs.Streams.{TakesCourse};
 ghost use Rattle.command.specs.inside.Streams.{SameStreams};
 ghost use Rattle.program.specs.Program.{IsAnswered, ProgramRuns, RequestRuns};
@@ -12,15 +12,15 @@ pub use memory::run_in_memory;
 
 mod memory;
 
-use command::{Fault, Session, Streams, tell, write_text};
+use command::{Fault, Session, Streams, tell};
 use request::{Error, Request, WordsFault, line};
-use source::{Feed, Sink};
+use source::{Feed, Sink, WriteFailed, write_all};
 use std::alloc::Global;
 use sumlist::Tree;
 use task::{Names, Task};
 
 /// One whole run over the words, the program's own name first, with the standard streams and the
-/// files: it answers the status. What `err` does not take is dropped.
+/// files: it answers the status. After a write to `err` that fails the rest of its line is dropped.
 pub fn run<L: Feed, T: Tree, W: Sink, E: Sink>(
     alloc: Global,
     words: &[&str],
@@ -38,7 +38,12 @@ pub fn run<L: Feed, T: Tree, W: Sink, E: Sink>(
     let request = match line(alloc, words) {
         Ok(request) => request,
         Err(WordsFault::OutOfMemory) => return tell(err, Fault::OutOfMemory),
-        Err(WordsFault::Words(error)) => return print_clap(&error, out, err),
+        Err(WordsFault::Words(error)) => {
+            let Ok(text) = format!(in alloc; "{error}") else {
+                return tell(err, Fault::OutOfMemory);
+            };
+            return print_clap(&error, text.as_str(), out, err);
+        }
     };
     let mut session = Session {
         alloc,
@@ -59,7 +64,7 @@ fn run_request<'n, 'i, 't, 'o, L: Feed, T: Tree, W: Sink, E: Sink>(
     err: &mut E,
 ) -> Result<u8, Fault<'n>>
     ensures course { TakesCourse (λ bytes files. RequestRuns request.entry files bytes)
-        (λ notes. Tells (E.shown err.old) (E.shown err.new) notes) result
+        (λ notes. TellsAll (E.shown err.old) (E.shown err.new) notes) result
         (⟦<Session<'i, 't, 'o, L, T, W> as Streams>⟧.seen session.old)
         (⟦<Session<'i, 't, 'o, L, T, W> as Streams>⟧.seen session.new) }
     ensures same { SameStreams session.old session.new }
@@ -103,16 +108,17 @@ fn run_request<'n, 'i, 't, 'o, L: Feed, T: Tree, W: Sink, E: Sink>(
     }
 }
 
-// Help and the version go to standard output, and what is wrong with the words to standard error.
-fn print_clap<W: Sink, E: Sink>(error: &Error, out: &mut W, err: &mut E) -> u8
-    ensures { IsAnswered (kind_of error.now) result (W.shown out.old) (W.shown out.new) }
+// Prints the text of help and of the version, and tells that of what is wrong with the words.
+fn print_clap<W: Sink, E: Sink>(error: &Error, text: &str, out: &mut W, err: &mut E) -> u8
+    ensures { IsAnswered (kind_of error.now) text.now result
+        (W.shown out.old) (W.shown out.new) (E.shown err.old) (E.shown err.new) }
 {
     if error.use_stderr() {
-        let _ = write_text(err, error);
+        let _ = write_all(err, text.as_bytes());
         return 2;
     }
-    match write_text(out, error) {
+    match write_all(out, text.as_bytes()) {
         Ok(()) => 0,
-        Err(_) => tell(err, Fault::CannotWrite),
+        Err(WriteFailed) => tell(err, Fault::CannotWrite),
     }
 }

@@ -9,7 +9,7 @@ mod progress;
 mod tests;
 mod watched;
 
-use command::{Fault, tell, write_text};
+use command::{Fault, tell};
 use program::run;
 use progress::{Erasing, Progress};
 use request::{WordsFault, line};
@@ -77,7 +77,7 @@ fn run_words<W: Sink, E: Sink>(
             Fault::OutOfMemory,
         ),
         Err(_) => {
-            let _ = write_text(err, &"sums: a word is not UTF-8\n");
+            let _ = write_all(err, b"sums: a word is not UTF-8\n");
             return 2;
         }
     };

@@ -9,9 +9,14 @@ returns-in-Err-OutOfMemory g c =
 
 pub returns-in-Err-Words : goal.returns-in-Err-Words
 returns-in-Err-Words g c =
-    run_answered (map (λ w. w.now) c.args.words.now) _ _ (kind_of c.in-Err-Words.error) _ _ _ _ _ _ _
+    run_answered (map (λ w. w.now) c.args.words.now) _ _ (kind_of c.in-Err-Words.error) _ _ _ _ _ _ _ _
     (c.line.ensures.fault c.in-Err-Words.error (c.in-Err-Words.is ∙ ap Err c.in-Err-Words.field-0-is))
     (rw c.in-Err-Words.error-is at c.print_clap.ensures)
+
+pub returns-in_default : goal.returns-in_default
+returns-in_default g c =
+    run_without_memory (map (λ w. w.now) c.args.words.now) _ _ _ _ _ _ _ _ c.tell-in_default.ensures.status
+    c.tell-in_default.ensures.told
 
 pub returns-in-Ok-run_request : goal.returns-in-Ok-run_request
 returns-in-Ok-run_request g c =
