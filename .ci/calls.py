@@ -1,8 +1,9 @@
 #!/usr/bin/env python3
-"""Runs the program with each of its calls of read, write, openat, lseek and close failed in turn, under several
-errors, and with reads and writes of one byte each. A digest or an OK that is wrong, a line that the usual run does
-not print, a status that is not documented, or a fault that is not told is a failure. The runs are those of runs.tsv;
-the rows of rows/ answer as they say with reads and writes of one byte too.
+"""Runs the program with each of its calls of read, write, open, lseek and close failed in turn, under several
+errors, and with reads and writes of one byte, of 7 and of 4,096. A digest or an OK that is wrong, a line that the
+usual run does not print, a status that is not documented, or a fault that is not told is a failure. The runs are those
+of runs.tsv; the rows of failed.tsv say the very answer where one call fails, and those of rows/ answer as they say with
+short reads and writes too.
 usage: .ci/calls.py PROGRAM
 """
 
@@ -15,23 +16,29 @@ import tables
 ERRORS = {
     "read": [errno.EIO, errno.EINTR, errno.EISDIR],
     "write": [errno.ENOSPC, errno.EIO, errno.EPIPE],
-    "openat": [errno.EACCES, errno.EMFILE, errno.ENOENT],
+    "open": [errno.ENOENT, errno.EACCES, errno.ENOTDIR, errno.ELOOP, errno.EMFILE, errno.ENOMEM],
     "close": [errno.EIO, errno.EINTR],
     "lseek": [errno.ESPIPE, errno.EINVAL],
 }
+SIZES = (1, 7, 4096)
 
 
-def is_line_of(line, wanted):
-    """A report's line may have UNREADABLE or MISSING for the verdict."""
+def verdict(call, error):
+    """What a report says of a file of which a call failed so."""
+    return b": MISSING" if (call, error) == ("open", errno.ENOENT) else b": UNREADABLE"
+
+
+def is_line_of(line, wanted, verdict):
+    """A report's line may have this for its verdict."""
     name = wanted.rpartition(b": ")[0]
-    return line == wanted or (name and line in (name + b": UNREADABLE", name + b": MISSING"))
+    return line == wanted or (name and line == name + verdict)
 
 
-def follows(lines, wanted):
+def follows(lines, wanted, verdict):
     """Each line is one of those wanted, in their order, and at most one is left out between."""
     left = list(wanted)
     for line in lines:
-        while left and not is_line_of(line, left[0]):
+        while left and not is_line_of(line, left[0], verdict):
             left.pop(0)
         if not left:
             return False
@@ -39,13 +46,13 @@ def follows(lines, wanted):
     return True
 
 
-def complaint(usual, got, call):
-    """What is wrong with a run in which one call failed, or None."""
+def complaint(usual, got, call, error):
+    """What is wrong with a run in which one call failed so, or None."""
     if got.status not in (0, 1, 2, 3):
         return f"status {got.status}"
     *lines, rest = got.out.split(b"\n")
     *wanted, _ = usual.out.split(b"\n")
-    if not follows(lines, wanted):
+    if not follows(lines, wanted, verdict(call, error)):
         return "a line that the usual run does not print"
     if rest and got.out != usual.out and not (got.status == 3 and usual.out.startswith(got.out)):
         return "a line that is cut, and no status 3"
@@ -71,6 +78,7 @@ class Failing:
 
     def __init__(self, program):
         self.program, self.library = program, harness.preloaded("fail_call")
+        self.failed = dict.fromkeys(ERRORS, 0)
 
     def run(self, words, given, **settings):
         loaded = {"LD_PRELOAD": self.library, **settings} if settings else {}
@@ -88,16 +96,26 @@ class Failing:
                 with open("count") as file:
                     if int(file.read()) < number:
                         break
-                text = complaint(usual, got, call)
+                text = complaint(usual, got, call, error)
                 if text:
                     complaints.append(f"{call} {number} with {errno.errorcode[error]}: {text}")
+                self.failed[call] += 1
                 runs, number = runs + 1, number + 1
         print(f"{name}: {runs} runs, {len(complaints)} wrong")
         harness.judge(name, runs > 0 and not complaints, *complaints[:5])
 
     def short(self, name, words, given, wanted):
-        """Each read and each write is of one byte."""
-        harness.same(f"{name}, byte by byte", self.run(words, given, SHORT="1"), wanted)
+        """Each read and each write is of so many bytes at most."""
+        for size in SIZES:
+            harness.same(f"{name}, {size} bytes at a time", self.run(words, given, SHORT=str(size)), wanted)
+
+    def one(self, row, failure):
+        """One call fails, under each of the errors of the row."""
+        for name in failure.errors:
+            settings = {"CALL": failure.call, "CALL_NUMBER": str(failure.number), "CALL_ERROR": str(getattr(errno, name))}
+            if failure.reads:
+                settings["SHORT"] = failure.reads
+            harness.same(f"{row.place}: {row.name}, {name}", self.run(row.words, row.given, **settings), row.answer)
 
 
 def main():
@@ -108,6 +126,9 @@ def main():
         for name, words, given in tables.runs():
             failing.each(name, words, given)
             failing.short(name, words, given, failing.run(words, given))
+        harness.judge("each call is made, and failed", all(failing.failed.values()), failing.failed)
+        for row, failure in tables.failed_rows():
+            failing.one(row, failure)
         for row in tables.rows():
             failing.short(row.name, row.words, row.given, row.answer)
     harness.finish()

@@ -1,7 +1,7 @@
 /* Loaded before the C library. Of the calls of the function that CALL names, the one whose number
-   CALL_NUMBER gives does nothing and fails with the error CALL_ERROR. With SHORT set, each read gives
-   at most one byte, and each write takes at most one. At the end the number of calls is written into
-   the file that CALL_COUNT names. */
+   CALL_NUMBER gives does nothing and fails with the error CALL_ERROR. Each read gives at most SHORT
+   bytes, and each write takes at most as many, where that is set. At the end the number of calls is
+   written into the file that CALL_COUNT names. */
 typedef unsigned long size_t;
 
 extern void *dlsym(void *, const char *);
@@ -24,7 +24,9 @@ static int fails(const char *name) {
 }
 
 static size_t cut(size_t size) {
-    return size > 1 && getenv("SHORT") ? 1 : size;
+    const char *text = getenv("SHORT");
+    size_t most = text ? strtol(text, 0, 10) : size;
+    return size < most ? size : most;
 }
 
 long read(int file, void *buffer, size_t size) {
@@ -37,9 +39,9 @@ long write(int file, const void *buffer, size_t size) {
     return fails("write") ? -1 : next(file, buffer, cut(size));
 }
 
-int openat(int folder, const char *name, int flags, unsigned mode) {
-    int (*next)(int, const char *, int, unsigned) = dlsym(AFTER_THIS, "openat");
-    return fails("openat") ? -1 : next(folder, name, flags, mode);
+int open(const char *name, int flags, unsigned mode) {
+    int (*next)(const char *, int, unsigned) = dlsym(AFTER_THIS, "open");
+    return fails("open") ? -1 : next(name, flags, mode);
 }
 
 long lseek(int file, long place, int from) {
@@ -53,7 +55,7 @@ int close(int file) {
 }
 
 __attribute__((destructor)) static void tell_count(void) {
-    int (*next)(int, const char *, int, unsigned) = dlsym(AFTER_THIS, "openat");
+    int (*next)(const char *, int, unsigned) = dlsym(AFTER_THIS, "open");
     const char *name = getenv("CALL_COUNT");
-    if (name) dprintf(next(-100, name, CREATE_TO_WRITE, 0600), "%ld\n", count);
+    if (name) dprintf(next(name, CREATE_TO_WRITE, 0600), "%ld\n", count);
 }

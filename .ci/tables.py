@@ -1,6 +1,7 @@
 #!/usr/bin/env python3
-r"""Reads the tables of .ci: rows/*.tsv (runs of the program and what they answer), runs.tsv (runs whose calls and
-allocations are failed), files.tsv (the files that both find) and values.tsv (texts with names).
+r"""Reads the tables of .ci: rows/*.tsv (runs of the program and what they answer), failed.tsv (the same where a call
+fails), runs.tsv (runs whose calls and allocations are failed), files.tsv (the files that all find) and values.tsv
+(texts with names).
 
 A table has a line of headings, and then a row a line, with a tab between two cells. Lines that begin with # are
 comments. In a cell `-` alone stands for nothing, `\n`, `\t`, `\\` and `\xHH` for bytes, and braces for
@@ -36,6 +37,15 @@ class Row(NamedTuple):
     words: list
     given: bytes
     answer: Run
+
+
+class Failure(NamedTuple):
+    """The call of this name and number fails with one of these errors, and each read gives at most so many bytes."""
+
+    call: str
+    number: int
+    errors: list
+    reads: str
 
 
 def table(path):
@@ -95,12 +105,23 @@ def words_of(cell):
     return [word.encode("latin-1") for word in shlex.split(text(cell).decode("latin-1"))]
 
 
+def row(place, cells):
+    answer = Run(int(cells["status"]), text(cells["output"]), text(cells["error"]))
+    return Row(place, cells["name"], words_of(cells["words"]), text(cells["input"]), answer)
+
+
 def rows():
     """All rows of all tables, in their order."""
     for path in sorted(glob.glob(f"{HERE}/rows/*.tsv")):
         for place, cells in table(os.path.relpath(path, HERE)):
-            answer = Run(int(cells["status"]), text(cells["output"]), text(cells["error"]))
-            yield Row(place, cells["name"], words_of(cells["words"]), text(cells["input"]), answer)
+            yield row(place, cells)
+
+
+def failed_rows():
+    """The rows in which a call fails, each with its failure."""
+    for place, cells in table("failed.tsv"):
+        reads = "" if cells["reads"] == "-" else cells["reads"]
+        yield row(place, cells), Failure(cells["call"], int(cells["number"]), cells["errors"].split(), reads)
 
 
 def runs():
