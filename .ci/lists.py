@@ -1,6 +1,7 @@
 #!/usr/bin/env python3
 """What the lines of a list mean, row by row, and how names stand in written lines: the built program on rows of
-data. Digests are hashlib's, and for BLAKE3 those of its official vectors and of b3sum.
+data, with reads as they come and with reads and writes of at most 1, 7 and 4,096 bytes. Digests are hashlib's, and for
+BLAKE3 those of its official vectors and of b3sum.
 usage: .ci/lists.py PROGRAM
 """
 
@@ -12,8 +13,19 @@ import tables
 from harness import same
 
 
+# How many bytes a read gives at most, beside reads as they come.
+SIZES = (1, 7, 4096)
+
+settings = {}
+
+
 def run(*words, given=b""):
-    return harness.run(program, words, given)
+    return harness.run(program, words, given, env={**os.environ, **settings})
+
+
+def sized(name):
+    """The name of a case, with the size of its reads."""
+    return f"{name}, {settings['SHORT']} bytes at a time" if settings else name
 
 
 # The numbers of a summary, in its order.
@@ -28,7 +40,7 @@ def check(name, alg, given, report, numbers=None):
         words.insert(3, "--summary")
         told = ("sums: " + ", ".join(f"{n} {what}" for n, what in zip(numbers, OUTCOMES)) + "\n").encode()
     status = 0 if all(line.endswith(b": OK") for line in report.split(b"\n")[:-1]) else 1
-    same(name, run(*words, given=given), (status, report, told))
+    same(sized(name), run(*words, given=given), (status, report, told))
 
 
 # `printf '' | b2sum -l 8`, SHA-256 of no bytes, and BLAKE3's official vector of 1,025 bytes.
@@ -222,10 +234,16 @@ def longest_lines():
         numbers = (1, 0, 0, 1, 0, 0, 0) if is_read else (1, 0, 0, 0, 0, 1, 0)
         check(about, "sha256", line, first + b"abc.txt: OK\n", numbers)
     check("a comment of 65,536 bytes", "sha256", b"#" * 65_536, b"", (0, 0, 0, 0, 0, 0, 1))
+    too_long_lines(65_537)
+
+
+def too_long_lines(size):
+    """A line of so many bytes, as the whole list without an LF, and with a line behind it."""
     for byte in (b"#", b"a"):
-        for size in (65_537, 1_048_576):
-            line = byte * size + b"\n" + SHA256_ABC + b"  abc.txt\n"
-            check(f"{size} bytes of {byte!r}", "sha256", line, b"line 1: MALFORMED\nabc.txt: OK\n")
+        line = byte * size
+        check(f"{size} bytes of {byte!r} without an LF", "sha256", line, b"line 1: MALFORMED\n")
+        line += b"\n" + SHA256_ABC + b"  abc.txt\n"
+        check(f"{size} bytes of {byte!r}", "sha256", line, b"line 1: MALFORMED\nabc.txt: OK\n")
 
 
 # ---- lists
@@ -294,18 +312,21 @@ def written():
         report = b"".join(end[2:-1] + b": OK\n" for _, _, end in NAMES)
         for form, want, more in (("lines", plain, []), ("tagged lines", tagged, ["--tag"])):
             answer = run("hash", "-a", alg, *words, *more, "--", *names)
-            same(f"{form} of {alg} of {size} bytes", answer, (0, want, b""))
+            same(sized(f"{form} of {alg} of {size} bytes"), answer, (0, want, b""))
             check(f"{form} of {alg} of {size} bytes, checked", alg, want, report, (len(NAMES), 0, 0, 0, 0, 0, 0))
 
 
 program = harness.program()
 with harness.folder():
     files()
-    lines()
     sizes()
-    longest_lines()
-    lists()
-    both_forms()
-    ends()
-    written()
+    too_long_lines(1_048_576)
+    library = harness.preloaded("fail_call")
+    for settings in ({}, *({"LD_PRELOAD": library, "SHORT": str(size)} for size in SIZES)):
+        lines()
+        longest_lines()
+        lists()
+        both_forms()
+        ends()
+        written()
 harness.finish()
