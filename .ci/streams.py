@@ -1,13 +1,17 @@
 #!/usr/bin/env python3
-"""Runs the program where its streams are more than a text: devices that take nothing, inputs and outputs that are
-longer than a buffer, a pipe that comes in two pieces, and the names that `find` prints.
+"""Runs the program where its streams and files are more than a text: devices that take nothing, inputs and outputs
+that are longer than a buffer, a pipe that comes in two pieces, the names that `find` prints, files that are pipes, and
+files of another user.
 usage: .ci/streams.py PROGRAM
 """
 
+import contextlib
 import hashlib
 import hmac
 import os
+import shutil
 import subprocess
+import threading
 import time
 
 import harness
@@ -39,6 +43,10 @@ UNTOLD = [
     ("a fault told to a full standard error", "hash -a sha256 none abc.txt", 1, ABC + b"  abc.txt\n"),
 ]
 LONG = b"x" * 300_000
+# How many seconds a run has whose files are pipes, and the number of the user that has no files.
+PATIENCE = 60
+NOBODY = 65534
+CANNOT_READ = b"sums: this: cannot read\n"
 
 
 def run(words, given=b""):
@@ -112,11 +120,54 @@ def names_of_find():
     same("names that find prints, their number", wanted.out.count(b"\n"), 200)
 
 
+def named_pipes():
+    """Each file is a pipe that is filled once, so that a run that opens it twice waits for ever."""
+    for content, row in tables.places():
+        same(f"{row.place}: {row.name}, a pipe", of_pipe(content, row.words, row.given), row.answer)
+    same("a pipe has no positions", of_pipe(LONG, ["part", "-a", "blake3", "--first", "2", "this"]), (1, b"", CANNOT_READ))
+
+
+def of_pipe(content, words, given=b""):
+    """A run over a pipe of this content."""
+    os.mkfifo("this")
+    threading.Thread(target=fill, args=(os.path.abspath("this"), content), daemon=True).start()
+    try:
+        return harness.run(program, words, given, timeout=PATIENCE)
+    except subprocess.TimeoutExpired:
+        return f"no end after {PATIENCE} seconds"
+    finally:
+        os.remove("this")
+
+
+def fill(pipe, content):
+    with contextlib.suppress(BrokenPipeError), open(pipe, "wb") as file:
+        file.write(content)
+
+
+def files_of_another_user():
+    """Each file may be read and not written, and then not be read either; root, who may do all, gives its rights up."""
+    user = {"user": NOBODY, "group": NOBODY, "extra_groups": []} if os.geteuid() == 0 else {}
+    os.chmod(".", 0o755)
+    copy = shutil.copy(program, os.path.abspath("program"))
+    for content, row in tables.places():
+        with open("this", "wb") as file:
+            file.write(content)
+        os.chmod("this", 0o444)
+        same(f"{row.place}: {row.name}, read-only", harness.run(copy, row.words, row.given, **user), row.answer)
+        os.chmod("this", 0)
+        refused = (1, b"this: UNREADABLE\n", b"") if row.name == "a listed file" else (1, b"", CANNOT_READ)
+        same(f"{row.place}: {row.name}, unreadable", harness.run(copy, row.words, row.given, **user), refused)
+        os.remove("this")
+
+
 program = harness.program()
+os.umask(0o022)
 with harness.folder():
     tables.make_files()
     full_devices()
     long_inputs()
     long_outputs()
     names_of_find()
+    named_pipes()
+    files_of_another_user()
 harness.finish()

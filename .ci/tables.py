@@ -1,7 +1,7 @@
 #!/usr/bin/env python3
 r"""Reads the tables of .ci: rows/*.tsv (runs of the program and what they answer), failed.tsv (the same where a call
-fails), runs.tsv (runs whose calls and allocations are failed), files.tsv (the files that all find) and values.tsv
-(texts with names).
+fails), places.tsv (each place of a file in the words and in a list), runs.tsv (runs whose calls and allocations are
+failed), files.tsv (the files that all find) and values.tsv (texts with names).
 
 A table has a line of headings, and then a row a line, with a tab between two cells. Lines that begin with # are
 comments. In a cell `-` alone stands for nothing, `\n`, `\t`, `\\` and `\xHH` for bytes, and braces for
@@ -122,6 +122,13 @@ def failed_rows():
     for place, cells in table("failed.tsv"):
         reads = "" if cells["reads"] == "-" else cells["reads"]
         yield row(place, cells), Failure(cells["call"], int(cells["number"]), cells["errors"].split(), reads)
+
+
+def places():
+    """The runs over the file `this`: the content of that, and the run where it can be read."""
+    for place, cells in table("places.tsv"):
+        answer = Run(0, text(cells["output"]), b"")
+        yield text(cells["this"]), Row(place, cells["name"], words_of(cells["words"]), text(cells["input"]), answer)
 
 
 def runs():
