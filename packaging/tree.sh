@@ -1,10 +1,12 @@
+# shellcheck shell=sh disable=SC2154
 # What tools/package and its checks share: the files of a release, of what was built for several levels of x86-64. It
-# runs at the top of the repository, after tools/installed.sh. BUILT/LEVEL/sums and BUILT/LEVEL/libhash_c.a are there
+# runs at the top of the repository, after tools/installed.sh, whose soname it takes. BUILT/LEVEL/sums and BUILT/LEVEL/libhash_c.a are there
 # for each of $levels, which are named lowest first.
 
 # launcher FILE LIBEXEC: the program that begins the build for this processor; LIBEXEC is where the builds are if they
 # are not beside it
 launcher() {
+    # shellcheck disable=SC2086 # CC and the flags are words
     ${CC:-cc} -std=gnu11 ${CFLAGS:--O2 -fstack-protector-strong -fcf-protection -D_FORTIFY_SOURCE=2} -fPIE -pie \
         -ffile-prefix-map="$PWD"=. -DLIBEXEC="\"$2\"" -o "$1" packaging/launcher.c \
         ${LDFLAGS:--Wl,-z,relro,-z,now,-z,noexecstack} -Wl,--build-id=sha1
@@ -53,7 +55,7 @@ tree() {
     program_builds "$1" "$root" "$3"
     library_builds "$1" "$root" "$4"
     mkdir -p "$root/$4/pkgconfig"
-    pkgconfig "${3:-\${pcfiledir\}/../..}" "\${prefix}/$4" '${prefix}/include' '-L${libdir} -lsums_hash' \
+    pkgconfig "${3:-\${pcfiledir\}/../..}" "\${prefix}/$4" "\${prefix}/include" "-L\${libdir} -lsums_hash" \
         > "$root/$4/pkgconfig/sums_hash.pc"
     program_texts put "$5"
     library_texts put

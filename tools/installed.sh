@@ -1,3 +1,4 @@
+# shellcheck shell=sh
 # What tools/build, tools/install, tools/uninstall, tools/package and the checks share: the version, the C library's
 # files, and where each file of an installation goes. They run at the top of the repository.
 #
@@ -38,6 +39,7 @@ shared() {
         x86-64) needed=,-z,x86-64-baseline ;;
         *) needed=,-z,$3 ;;
     esac
+    # shellcheck disable=SC2086 # CC and the flags are words
     ${CC:-cc} ${CFLAGS-} -shared -nostartfiles -o "$2" -Wl,-soname,"$soname" \
         -Wl,--version-script=bindings/c/sums_hash.map -Wl,--build-id=sha1,--hash-style=gnu \
         -Wl,-z,text,-z,defs,-z,relro,-z,now,-z,noexecstack"$needed" ${LDFLAGS-} \
@@ -52,7 +54,7 @@ library() {
     shared "$2/libsums_hash.a" "$2/$soname" "${3-}"
     ln -sf "$soname" "$2/libsums_hash.so"
     cp bindings/c/sums_hash.h "$2"
-    pkgconfig '${pcfiledir}' '${prefix}' '${prefix}' '${libdir}/libsums_hash.a' > "$2/sums_hash.pc"
+    pkgconfig "\${pcfiledir}" "\${prefix}" "\${prefix}" "\${libdir}/libsums_hash.a" > "$2/sums_hash.pc"
 }
 
 # functions: the names that the header declares, one a line
