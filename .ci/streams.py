@@ -120,6 +120,15 @@ def names_of_find():
     same("names that find prints, their number", wanted.out.count(b"\n"), 200)
 
 
+def rest_of_input():
+    """Behind a part nothing is read of standard input: the next command has it."""
+    for chunks, size in (("1", 1024), ("2", 2048), ("4", 3000)):
+        with open("zeros", "rb") as given:
+            done = subprocess.run([program, "part", "-a", "blake3", "--chunks", chunks], stdin=given, capture_output=True)
+            place = os.lseek(given.fileno(), 0, os.SEEK_CUR)
+        same(f"the bytes read for {chunks} chunks", (done.returncode, place), (0, size))
+
+
 def named_pipes():
     """Each file is a pipe that is filled once, so that a run that opens it twice waits for ever."""
     for content, row in tables.places():
@@ -168,6 +177,7 @@ with harness.folder():
     long_inputs()
     long_outputs()
     names_of_find()
+    rest_of_input()
     named_pipes()
     files_of_another_user()
 harness.finish()
