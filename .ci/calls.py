@@ -124,11 +124,12 @@ class Failing:
 
     def one(self, row, failure):
         """One call fails, under each of the errors of the row."""
+        settings = {"CALL": failure.call, "CALL_NUMBER": str(failure.number)}
+        if failure.reads:
+            settings["SHORT"] = failure.reads
         for name in failure.errors:
-            settings = {"CALL": failure.call, "CALL_NUMBER": str(failure.number), "CALL_ERROR": str(getattr(errno, name))}
-            if failure.reads:
-                settings["SHORT"] = failure.reads
-            harness.same(f"{row.place}: {row.name}, {name}", self.run(row.words, row.given, **settings), row.answer)
+            got = self.run(row.words, row.given, CALL_ERROR=str(getattr(errno, name)), **settings)
+            harness.same(f"{row.place}: {row.name}, {name}", got, row.answer)
 
 
 def main():
