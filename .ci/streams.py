@@ -124,7 +124,8 @@ def rest_of_input():
     """Behind a part nothing is read of standard input: the next command has it."""
     for chunks, size in (("1", 1024), ("2", 2048), ("4", 3000)):
         with open("zeros", "rb") as given:
-            done = subprocess.run([program, "part", "-a", "blake3", "--chunks", chunks], stdin=given, capture_output=True)
+            words = [program, "part", "-a", "blake3", "--chunks", chunks]
+            done = subprocess.run(words, stdin=given, capture_output=True)
             place = os.lseek(given.fileno(), 0, os.SEEK_CUR)
         same(f"the bytes read for {chunks} chunks", (done.returncode, place), (0, size))
 
@@ -133,7 +134,8 @@ def named_pipes():
     """Each file is a pipe that is filled once, so that a run that opens it twice waits for ever."""
     for content, row in tables.places():
         same(f"{row.place}: {row.name}, a pipe", of_pipe(content, row.words, row.given), row.answer)
-    same("a pipe has no positions", of_pipe(LONG, ["part", "-a", "blake3", "--first", "2", "this"]), (1, b"", CANNOT_READ))
+    behind = of_pipe(LONG, ["part", "-a", "blake3", "--first", "2", "this"])
+    same("a pipe has no positions", behind, (1, b"", CANNOT_READ))
 
 
 def of_pipe(content, words, given=b""):
