@@ -261,7 +261,10 @@ class _Hmac(_Hasher):
     def digest(self, length: Optional[int] = None) -> bytes:
         """The tag of the message so far, or its first bytes, half of them at least. Compare it by
         hmac.compare_digest."""
-        return self._digest(self.digest_size if length is None else _number(length))
+        length = self.digest_size if length is None else _number(length)
+        if length > self.digest_size:
+            raise Refused(1)  # before there has to be room for it
+        return self._digest(length)
 
     def hexdigest(self, length: Optional[int] = None) -> str:
         """The same in hexadecimal digits."""
@@ -353,6 +356,8 @@ def _known(name: str) -> str:
 
 def _derived(size: int, write: Call, *data: Buffer, sized: bool = True) -> bytes:
     """What a call writes into an output of this size, which it is told or knows, of these data."""
+    if size > 255 * max(DIGEST_SIZES.values()):
+        raise Refused(5)  # more than any hash has, before there has to be room for it
     out = ctypes.create_string_buffer(size)
     words = [out, size] if sized else [out]
     with contextlib.ExitStack() as lent:
