@@ -1,0 +1,9 @@
+// SPDX-License-Identifier: MIT OR Apache-2.0
+
+//go:build !sums_system
+
+package hash
+
+// #cgo linux,amd64 CFLAGS: -I${SRCDIR}/native
+// #cgo linux,amd64 LDFLAGS: ${SRCDIR}/native/libsums_hash.a
+import "C"
