@@ -4,6 +4,5 @@
 
 package hash
 
-// #cgo linux,amd64 CFLAGS: -I${SRCDIR}/native
-// #cgo linux,amd64 LDFLAGS: ${SRCDIR}/native/libsums_hash.a
+// #cgo linux,amd64 LDFLAGS: ${SRCDIR}/libsums_hash.a
 import "C"
