@@ -83,13 +83,8 @@ class _Hasher:
 
     def update(self, data: Buffer, /) -> None:
         """Adds a piece to the message."""
-        if type(data) is bytes:
-            # the usual data, of which ctypes takes the pointer itself
-            with self._lock:
-                status = self._calls.update(self._state, data, len(data))
-        else:
-            with Lent(data) as (pointer, length), self._lock:
-                status = self._calls.update(self._state, pointer, length)
+        with Lent(data) as (pointer, length), self._lock:
+            status = self._calls.update(self._state, pointer, length)
         _check(status)
 
     def copy(self: _H) -> _H:
@@ -133,10 +128,12 @@ class _Hasher:
 
 def _filled(data: Buffer, size: int, name: str) -> bytes:
     """A parameter of BLAKE2, with zeros behind it."""
-    with Lent(data) as (pointer, length):
-        if length > size:
-            raise ValueError(f"maximum {name} length is {size} bytes")
-        return ctypes.string_at(pointer, length).ljust(size, b"\0") if length else bytes(size)
+    if type(data) is not bytes:
+        with Lent(data) as (pointer, length):
+            data = ctypes.string_at(pointer, length) if length else b""
+    if len(data) > size:
+        raise ValueError(f"maximum {name} length is {size} bytes")
+    return data.ljust(size, b"\0")
 
 
 class _Blake2(_Hasher):

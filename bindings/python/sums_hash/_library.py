@@ -157,30 +157,30 @@ class Lent:
 
     def __init__(self, data: Any) -> None:
         self._data = data
+        self._view: Optional[_View] = None
 
-    if sys.implementation.name == "cpython":
-        def __enter__(self) -> Tuple[Any, int]:
-            if isinstance(self._data, str):
-                raise TypeError("Strings must be encoded before hashing")
-            self._view = _View()
-            try:
-                ctypes.pythonapi.PyObject_GetBuffer(self._data, ctypes.byref(self._view), 0)
-            except TypeError:
-                raise TypeError("object supporting the buffer API required") from None
-            return self._view.buf, self._view.len
-
-        def __exit__(self, *_: Any) -> None:
-            ctypes.pythonapi.PyBuffer_Release(ctypes.byref(self._view))
-    else:
-        # another interpreter has no such call: the bytes are copied
-        def __enter__(self) -> Tuple[Any, int]:
-            if isinstance(self._data, str):
-                raise TypeError("Strings must be encoded before hashing")
+    def __enter__(self) -> Tuple[Any, int]:
+        if type(self._data) is bytes:
+            # the usual data, of which ctypes takes the pointer itself
+            return self._data, len(self._data)
+        if isinstance(self._data, str):
+            raise TypeError("Strings must be encoded before hashing")
+        if sys.implementation.name != "cpython":
+            # another interpreter has no such call: the bytes are copied
             copied = bytes(memoryview(self._data))
             return copied, len(copied)
+        view = _View()
+        try:
+            ctypes.pythonapi.PyObject_GetBuffer(self._data, ctypes.byref(view), 0)
+        except TypeError:
+            raise TypeError("object supporting the buffer API required") from None
+        self._view = view
+        return view.buf, view.len
 
-        def __exit__(self, *_: Any) -> None:
-            pass
+    def __exit__(self, *_: Any) -> None:
+        if self._view is not None:
+            ctypes.pythonapi.PyBuffer_Release(ctypes.byref(self._view))
+            self._view = None
 
 
 if sys.implementation.name == "cpython":
