@@ -117,7 +117,10 @@ Call = Callable[..., Optional[int]]
 
 def call(name: str) -> Call:
     """The function of this name."""
-    function = getattr(library, f"sums_{name}")
+    try:
+        function = getattr(library, f"sums_{name}")
+    except AttributeError as missing:
+        raise ImportError(f"sums_hash: {missing}") from None
     function.restype, function.argtypes = DECLARATIONS[name]
     return function
 
