@@ -1,5 +1,5 @@
 # SPDX-License-Identifier: MIT OR Apache-2.0
-"""Prints digests of "abc" and a tag: python3 bindings/python/example.py"""
+"""Prints digests of "abc" and a tag: PYTHONPATH=bindings/python python3 bindings/python/examples/digests.py"""
 
 import sums_hash
 

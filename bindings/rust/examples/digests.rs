@@ -1,8 +1,5 @@
 // SPDX-License-Identifier: MIT OR Apache-2.0
-//! Prints digests of "abc" and a tag:
-//! rustc --edition 2024 -O -L native=lib bindings/rust/example.rs && ./example
-
-mod sums_hash;
+//! Prints digests of "abc" and a tag: SUMS_HASH_LIB_DIR=$PWD/lib cargo run --example digests
 
 use sums_hash::{Blake2b, Blake3, Refusal};
 
@@ -16,11 +13,11 @@ fn main() -> Result<(), Refusal> {
     sums_hash::blake2s(&mut digest, b"abc", b"")?;
     print("blake2s", &digest);
 
-    let mut hasher = Blake3::new();
+    let mut message = Blake3::new();
     for piece in [b"a", b"b", b"c"] {
-        hasher.update(piece)?;
+        message.update(piece)?;
     }
-    hasher.output(0, &mut digest)?;
+    message.output(0, &mut digest)?;
     print("blake3 ", &digest);
 
     sums_hash::hmac_sha256(&mut digest, b"abc", b"key")?;

@@ -1,0 +1,88 @@
+#!/usr/bin/env python3
+"""Compares the calls and states that the packages of Python and Rust declare with those of the header of C. That of Go
+compiles the header itself.
+usage: SUMS_HASH_LIBRARY=FILE .ci/declarations.py HEADER NATIVE    NATIVE is src/native.rs of the crate
+"""
+
+import ctypes
+import re
+
+from sums_hash import _library
+
+import harness
+from harness import same
+
+KINDS_OF_RUST = {"uint8_t": "u8", "size_t": "usize", "uint64_t": "u64"}
+KINDS_OF_PYTHON = {"size_t": ctypes.c_size_t, "uint64_t": ctypes.c_uint64}
+
+
+def words(text):
+    return " ".join(text.split())
+
+
+def of_header(path):
+    """For each call whether it answers a status, and of each argument whether it is constant, its type, whether it is
+    memory, its name, and how many bytes it has where that is fixed."""
+    with open(path) as file:
+        text = re.sub(r"/\*.*?\*/", "", file.read(), flags=re.S)
+    argument = re.compile(r"(const )?(\w+) (\*?)(\w+)(?:\[(\d+)\])?")
+    return {
+        name: (answer == "uint32_t", [argument.fullmatch(words(each)).groups() for each in arguments.split(",")])
+        for answer, name, arguments in re.findall(r"^(\w+) (sums_\w+)\(([^;]*)\);", text, flags=re.M)
+    }
+
+
+def in_rust(argument):
+    """An argument as native.rs has it."""
+    constant, kind, pointer, name, bytes_of = argument
+    if kind.endswith("_state"):
+        kind = "".join(part.capitalize() for part in kind.split("_")[1:])
+    else:
+        kind = KINDS_OF_RUST[kind]
+    kind = f"[{kind}; {bytes_of}]" if bytes_of else kind
+    is_memory = pointer or bytes_of
+    return f"{name}: " + (f"*{'const' if constant else 'mut'} " if is_memory else "") + kind
+
+
+def compare_rust(header, path):
+    with open(path) as file:
+        text = file.read()
+    found = re.findall(r"fn (sums_\w+)\(([^)]*)\)( -> u32)?;", text)
+    same("calls in Rust", sorted(name for name, _, _ in found), sorted(header))
+    for name, arguments, status in found:
+        got = [each.strip() for each in arguments.split(",") if each.strip()]
+        answers, wanted = header.get(name, (None, []))
+        same(f"{name} in Rust", (bool(status), got), (answers, [in_rust(each) for each in wanted]))
+    sizes = {f"{name}State": size for name, size in sizes_in_words().items()}
+    same("states in Rust", {name: int(size) for name, size in re.findall(r"(\w+State): (\d+),", text)}, sizes)
+
+
+def sizes_in_words():
+    """The bytes of each state, named as a type of Rust is. .ci/library_python.py compares them with C and the crates."""
+    return {
+        "".join(part.capitalize() for part in name.split("_")): size for name, size in _library.STATE_SIZES.items()
+    }
+
+
+def compare_python(header):
+    for name, (answer, arguments) in _library.DECLARATIONS.items():
+        answers, wanted = header.get(f"sums_{name}", (None, []))
+        same(f"{name} in Python", (answer, list(arguments)), (
+            ctypes.c_uint32 if answers else None,
+            [ctypes.c_void_p if pointer or bytes_of else KINDS_OF_PYTHON[kind]
+             for _, kind, pointer, _, bytes_of in wanted],
+        ))
+    used = {f"sums_{name}" for name in _library.DECLARATIONS}
+    same("calls in Python that the header has not", used - set(header), set())
+
+
+def main():
+    header_path, native = harness.arguments(2)
+    header = of_header(header_path)
+    same("calls in the header", len(header) > 50, True)
+    compare_rust(header, native)
+    compare_python(header)
+    harness.finish()
+
+
+main()

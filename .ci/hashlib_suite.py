@@ -1,0 +1,84 @@
+#!/usr/bin/env python3
+"""Runs CPython's own tests of hashlib over sums_hash, as far as they are of its hashes.
+usage: .ci/hashlib_suite.py [-v]    with sums_hash and the tests on the path (Debian: libpython3.11-testsuite)
+"""
+
+import sys
+import types
+import unittest
+
+import sums_hash
+from test import test_hashlib as suite
+
+import harness
+
+NAMES = ("sha256", "SHA256", "sha512", "SHA512", "blake2b", "blake2s")
+# What speaks of other hashes alone, of CPython's own modules and types, or wants the network.
+OTHERS = ("md5", "sha1", "sha224", "sha384", "sha3", "shake", "builtin", "readonly_types", "disallow_instantiation",
+          "fips", "openssl", "vectors")
+# Those that ask for trees of BLAKE2 at some point: what stands before it is tried.
+WITH_TREES = ("test_blake2b", "test_blake2s", "test_case_blake2b_all_parameters", "test_case_blake2s_all_parameters")
+
+
+def stand_in():
+    """What the tests ask of hashlib, by sums_hash. Where they take md5 or sha1 for any hash, as in those of threads
+    and of faulty names, it is SHA-256."""
+    module = types.ModuleType("hashlib")
+    for name in ("sha256", "sha512", "blake2b", "blake2s", "file_digest"):
+        setattr(module, name, getattr(sums_hash, name))
+    module.md5 = module.sha1 = sums_hash.sha256
+    module.new = lambda name, *data, **words: sums_hash.new("sha256" if name == "md5" else name, *data, **words)
+    module.algorithms_available = module.algorithms_guaranteed = frozenset(name for name in NAMES if name.islower())
+    return module
+
+
+def if_there(method):
+    """The check of one hash, of those that there are."""
+    return lambda self, name, *rest: name in self.constructors_to_test and method(self, name, *rest)
+
+
+def up_to_trees(method):
+    def test(self):
+        try:
+            method(self)
+        except ValueError as fault:
+            if str(fault) != "trees of BLAKE2 are not offered":
+                raise
+            self.skipTest("the rest asks for trees of BLAKE2")
+
+    return test
+
+
+def adapted():
+    """CPython's tests, over sums_hash."""
+    suite.hashlib = stand_in()
+    suite._blake2 = types.ModuleType("_blake2")  # else those of BLAKE2 are skipped
+    kind = suite.HashLibTestCase
+    kind.supported_hash_names = NAMES
+    kind._conditional_import_module = lambda *_: None
+    for name in ("check_blocksize_name", "check_no_unicode"):
+        setattr(kind, name, if_there(getattr(kind, name)))
+    for name in WITH_TREES:
+        setattr(kind, name, up_to_trees(getattr(kind, name)))
+    return unittest.defaultTestLoader.loadTestsFromTestCase(kind)
+
+
+def main():
+    tests = unittest.TestSuite(
+        test for test in adapted() if not any(word in test.id().rpartition(".")[2] for word in OTHERS)
+    )
+    result = unittest.TextTestRunner(verbosity=2 if "-v" in sys.argv else 1).run(tests)
+    wrong = len(result.errors) + len(result.failures)
+    # a test that stops at the trees has passed up to there; any other that is skipped shows nothing
+    skipped = [test.id() for test, why in result.skipped if "trees" not in why]
+    for name in skipped:
+        print(f"{name}: skipped")
+    print(f"Python {sys.version.split()[0]}: {result.testsRun - wrong - len(result.skipped)} whole, "
+          f"{len(result.skipped) - len(skipped)} up to the trees of BLAKE2")
+    harness.failed = wrong + len(skipped)
+    harness.passed = result.testsRun - harness.failed
+    harness.judge("there are tests", result.testsRun)
+    harness.finish()
+
+
+main()

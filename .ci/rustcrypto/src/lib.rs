@@ -1,0 +1,162 @@
+//! The hashes and HMAC of sums-hash by the vectors of RustCrypto's crates, through the traits of the crate digest.
+#![cfg(test)]
+
+use std::fmt::Debug;
+
+use blobby::{Blob2Iterator, Blob3Iterator, Blob4Iterator};
+use digest::{dev, Digest, DynDigest, ExtendableOutput, FixedOutputReset, HashMarker, KeyInit, Mac, Update, XofReader};
+use sums_hash::traits::*;
+
+fn vectors(name: &str) -> Vec<u8> {
+    std::fs::read(format!("/usr/share/cargo/registry/{name}.blb")).unwrap_or_else(|fault| panic!("{name}: {fault}"))
+}
+
+/// Counts rows as they pass, and tells how many there were.
+fn each<T>(name: &str, rows: impl Iterator<Item = Result<T, blobby::Error>>, passes: impl Fn(T)) {
+    let mut count = 0;
+    for row in rows {
+        passes(row.unwrap());
+        count += 1;
+    }
+    println!("{name}: {count} rows");
+    assert!(count > 0, "{name} has no rows");
+}
+
+fn digests<D: FixedOutputReset + Clone + Default + Update + HashMarker + Debug>(name: &str) {
+    each(name, Blob2Iterator::new(&vectors(name)).unwrap(), |[input, output]| {
+        assert_eq!(dev::fixed_reset_test::<D>(input, output), None);
+    });
+}
+
+#[test]
+fn sha2() {
+    digests::<Sha256>("sha2-0.10.5/tests/data/sha256");
+    digests::<Sha512>("sha2-0.10.5/tests/data/sha512");
+}
+
+/// A vector may have the beginning of a tag alone.
+fn tags<M: Mac + KeyInit + Clone>(name: &str) {
+    each(name, Blob3Iterator::new(&vectors(name)).unwrap(), |[key, input, tag]| {
+        for size in [1, 7, 64, 1000] {
+            let mut mac = <M as Mac>::new_from_slice(key).unwrap();
+            for piece in input.chunks(size) {
+                Mac::update(&mut mac, piece);
+            }
+            assert_eq!(&mac.clone().finalize().into_bytes()[..tag.len()], tag);
+            mac.clone().verify_truncated_left(tag).unwrap();
+            let mut wrong = tag.to_vec();
+            wrong[0] ^= 1;
+            mac.verify_truncated_left(&wrong).unwrap_err();
+        }
+    });
+}
+
+#[test]
+fn hmac() {
+    tags::<HmacSha256>("hmac-0.12.1/tests/data/sha256");
+    tags::<HmacSha512>("hmac-0.12.1/tests/data/sha512");
+    tags::<HmacSha256>("hmac-0.12.1/tests/data/wycheproof-sha256");
+    tags::<HmacSha512>("hmac-0.12.1/tests/data/wycheproof-sha512");
+}
+
+fn keys(name: &str, derive: fn(&mut [u8], &[u8], &[u8], &[u8]) -> Result<(), sums_hash::Refusal>) {
+    each(
+        name,
+        Blob4Iterator::new(&vectors(name)).unwrap(),
+        |[material, salt, info, key]| {
+            let mut out = vec![0; key.len()];
+            derive(&mut out, material, salt, info).unwrap();
+            assert_eq!(out, key);
+        },
+    );
+}
+
+#[test]
+fn hkdf() {
+    keys("hkdf-0.12.3/tests/data/wycheproof-sha256", sums_hash::hkdf_sha256);
+    keys("hkdf-0.12.3/tests/data/wycheproof-sha512", sums_hash::hkdf_sha512);
+}
+
+fn as_digest<D: Digest + FixedOutputReset>(abc: &[u8]) {
+    let mut hasher = D::new();
+    Digest::update(&mut hasher, b"a");
+    Digest::update(&mut hasher, b"bc");
+    assert_eq!(hasher.finalize_reset()[..], *abc);
+    assert_eq!(D::digest(b""), hasher.finalize());
+}
+
+#[test]
+fn as_digests() {
+    let (mut short, mut long) = ([0; 32], [0; 64]);
+    as_digest::<Sha256>(&sums_hash::sha256(b"abc"));
+    as_digest::<Sha512>(&sums_hash::sha512(b"abc"));
+    sums_hash::blake2s(&mut short, b"abc", b"").unwrap();
+    as_digest::<Blake2s256>(&short);
+    sums_hash::blake2b(&mut long, b"abc", b"").unwrap();
+    as_digest::<Blake2b512>(&long);
+    sums_hash::blake3(&mut short, 0, b"abc").unwrap();
+    as_digest::<Blake3>(&short);
+}
+
+#[test]
+fn as_any_digest() {
+    let mut boxed: Box<dyn DynDigest> = Box::new(Sha512::default());
+    boxed.update(b"abc");
+    let mut digest = [0; 64];
+    boxed.finalize_into_reset(&mut digest).unwrap();
+    assert_eq!(digest, sums_hash::sha512(b"abc"));
+    boxed.finalize_into_reset(&mut digest).unwrap();
+    assert_eq!(digest, sums_hash::sha512(b""));
+}
+
+#[test]
+fn output_of_blake3() {
+    let (mut whole, mut read) = ([0; 1000], [0; 1000]);
+    sums_hash::blake3(&mut whole, 0, b"abc").unwrap();
+    let mut message = Blake3::default();
+    Update::update(&mut message, b"abc");
+    let mut reader = message.finalize_xof();
+    for piece in read.chunks_mut(33) {
+        reader.read(piece);
+    }
+    assert_eq!(read, whole);
+}
+
+/// HMAC over BLAKE2 by RFC 2104, of the hash alone.
+fn hmac_by_hash<D: Digest>(key: &[u8], block: usize, input: &[u8]) -> Vec<u8> {
+    let mut padded = if key.len() > block {
+        D::digest(key).to_vec()
+    } else {
+        key.to_vec()
+    };
+    padded.resize(block, 0);
+    let pad = |with: u8| -> Vec<u8> { padded.iter().map(|byte| byte ^ with).collect() };
+    let inner = D::new_with_prefix(pad(0x36)).chain_update(input).finalize();
+    D::new_with_prefix(pad(0x5c)).chain_update(inner).finalize().to_vec()
+}
+
+#[test]
+fn hmac_over_blake2() {
+    for length in [0, 1, 63, 64, 65, 127, 128, 129, 500] {
+        let (key, input) = (vec![7; length], vec![9; 3 * length]);
+        let tag = <HmacBlake2b512 as Mac>::new_from_slice(&key)
+            .unwrap()
+            .chain_update(&input)
+            .finalize();
+        assert_eq!(tag.into_bytes().to_vec(), hmac_by_hash::<Blake2b512>(&key, 128, &input));
+        let tag = <HmacBlake2s256 as Mac>::new_from_slice(&key)
+            .unwrap()
+            .chain_update(&input)
+            .finalize();
+        assert_eq!(tag.into_bytes().to_vec(), hmac_by_hash::<Blake2s256>(&key, 64, &input));
+    }
+}
+
+#[test]
+fn nothing_is_shown() {
+    let mut hasher = Blake3::default();
+    Update::update(&mut hasher, b"secret");
+    assert_eq!(format!("{hasher:?}"), "Blake3 { .. }");
+    let mac = <HmacSha256 as Mac>::new_from_slice(b"secret").unwrap();
+    assert_eq!(format!("{mac:?}"), "HmacSha256 { .. }");
+}

@@ -1,0 +1,8 @@
+// SPDX-License-Identifier: MIT OR Apache-2.0
+
+//go:build !sums_system
+
+package hash
+
+// #cgo linux,amd64 LDFLAGS: ${SRCDIR}/libsums_hash.a
+import "C"

@@ -1,0 +1,60 @@
+// SPDX-License-Identifier: MIT OR Apache-2.0
+//! Finds libsums_hash: with the feature `bundled` the archive in native/, else in the folder SUMS_HASH_LIB_DIR, else by
+//! pkg-config, which PKG_CONFIG names.
+
+use std::{env, path::Path, process::Command};
+
+fn main() {
+    for name in ["SUMS_HASH_LIB_DIR", "PKG_CONFIG", "PKG_CONFIG_PATH"] {
+        println!("cargo:rerun-if-env-changed={name}");
+    }
+    if env::var_os("CARGO_FEATURE_BUNDLED").is_some() {
+        bundled();
+    } else if let Ok(folder) = env::var("SUMS_HASH_LIB_DIR") {
+        let has_archive = Path::new(&folder).join("libsums_hash.a").exists();
+        link(&folder, if has_archive { "static" } else { "dylib" });
+    } else {
+        by_pkg_config();
+    }
+}
+
+fn link(folder: &str, kind: &str) {
+    println!("cargo:rustc-link-search=native={folder}");
+    println!("cargo:rustc-link-lib={kind}=sums_hash");
+}
+
+fn bundled() {
+    let target = ["ARCH", "OS", "ENV"].map(|word| env::var(format!("CARGO_CFG_TARGET_{word}")).unwrap_or_default());
+    if target != ["x86_64", "linux", "gnu"] {
+        panic!(
+            "sums-hash: the bundled archive is for x86_64-linux-gnu, not {}",
+            target.join("-")
+        );
+    }
+    let folder = env::var("CARGO_MANIFEST_DIR").expect("cargo sets it") + "/native";
+    if !Path::new(&folder).join("libsums_hash.a").exists() {
+        panic!(
+            "sums-hash: no archive is in {folder}: it comes with the crate as it is published, not with its sources"
+        );
+    }
+    link(&folder, "static");
+}
+
+fn by_pkg_config() {
+    const ADVICE: &str = "install libsums_hash, set SUMS_HASH_LIB_DIR, or take the feature `bundled`";
+    let tool = env::var("PKG_CONFIG").unwrap_or_else(|_| "pkg-config".to_owned());
+    let told = Command::new(tool).args(["--libs", "sums_hash >= 1.0.0"]).output();
+    let words = match told {
+        Ok(told) if told.status.success() => String::from_utf8_lossy(&told.stdout).into_owned(),
+        Ok(told) => panic!("sums-hash: {}{ADVICE}", String::from_utf8_lossy(&told.stderr)),
+        Err(fault) => panic!("sums-hash: no pkg-config ({fault}): {ADVICE}"),
+    };
+    for word in words.split_whitespace() {
+        if let Some(folder) = word.strip_prefix("-L") {
+            println!("cargo:rustc-link-search=native={folder}");
+        } else if let Some(archive) = word.strip_suffix("/libsums_hash.a") {
+            return link(archive, "static");
+        }
+    }
+    println!("cargo:rustc-link-lib=dylib=sums_hash");
+}

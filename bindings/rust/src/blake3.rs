@@ -1,0 +1,64 @@
+// SPDX-License-Identifier: MIT OR Apache-2.0
+use crate::message::message;
+use crate::native;
+use crate::refusal::{checked, Refusal};
+
+/// Bytes of the BLAKE3 output of a message, from a position on; a digest is the first 32. They are refused where they
+/// would end behind byte 2^64 - 1.
+pub fn blake3(out: &mut [u8], position: u64, input: &[u8]) -> Result<(), Refusal> {
+    checked(unsafe { native::sums_blake3(out.as_mut_ptr(), out.len(), position, input.as_ptr(), input.len()) })
+}
+
+/// The same under a key.
+pub fn blake3_keyed(out: &mut [u8], position: u64, input: &[u8], key: &[u8; 32]) -> Result<(), Refusal> {
+    let (into, from) = (out.as_mut_ptr(), input.as_ptr());
+    checked(unsafe { native::sums_blake3_keyed(into, out.len(), position, from, input.len(), key) })
+}
+
+/// Bytes that are derived from key material for a context, which is a text of the application.
+pub fn blake3_derive(out: &mut [u8], position: u64, material: &[u8], context: &[u8]) -> Result<(), Refusal> {
+    let (into, from, about) = (out.as_mut_ptr(), material.as_ptr(), context.as_ptr());
+    checked(unsafe {
+        native::sums_blake3_derive(into, out.len(), position, from, material.len(), about, context.len())
+    })
+}
+
+message! {
+    /// BLAKE3 of a message that comes in pieces.
+    Blake3, Blake3State, sums_blake3_update
+}
+
+impl Blake3 {
+    /// Begins a message.
+    pub fn new() -> Self {
+        let mut state = native::Blake3State::ZERO;
+        unsafe { native::sums_blake3_init(&mut state) };
+        Self(state)
+    }
+
+    /// Begins a message under a key.
+    pub fn keyed(key: &[u8; 32]) -> Self {
+        let mut state = native::Blake3State::ZERO;
+        unsafe { native::sums_blake3_init_keyed(&mut state, key) };
+        Self(state)
+    }
+
+    /// Begins key material for a context, which is a text of the application.
+    pub fn derive(context: &[u8]) -> Self {
+        let mut state = native::Blake3State::ZERO;
+        unsafe { native::sums_blake3_init_derive(&mut state, context.as_ptr(), context.len()) };
+        Self(state)
+    }
+
+    /// Bytes of the output, from a position on; a digest is the first 32. The message can go on. They are refused where
+    /// they would end behind byte 2^64 - 1.
+    pub fn output(&self, position: u64, out: &mut [u8]) -> Result<(), Refusal> {
+        checked(unsafe { native::sums_blake3_output(&self.0, position, out.as_mut_ptr(), out.len()) })
+    }
+}
+
+impl Default for Blake3 {
+    fn default() -> Self {
+        Self::new()
+    }
+}

@@ -1,0 +1,44 @@
+// SPDX-License-Identifier: MIT OR Apache-2.0
+//! BLAKE2, BLAKE3, SHA-2, HMAC and HKDF over the C library libsums_hash, whose every call is proved equal to its
+//! definition.
+//!
+//! ```
+//! let mut digest = [0; 32];
+//! sums_hash::blake3(&mut digest, 0, b"abc")?;
+//!
+//! let mut message = sums_hash::Sha256::new();
+//! message.update(b"a")?;
+//! message.update(b"bc")?;
+//! assert_eq!(message.finish(), sums_hash::sha256(b"abc"));
+//! # Ok::<(), sums_hash::Refusal>(())
+//! ```
+//!
+//! Lengths and positions are in bytes. A refused call has written nothing. A message in pieces owns the memory of its
+//! state; its `Debug` shows nothing of it. Neither is wiped when it is dropped, and no constant time is claimed.
+//!
+//! With the feature `digest` the module `traits` has the hashes and HMAC under the traits of the crate digest. With
+//! `std`, which is on by default, each message in pieces is a `std::io::Write`.
+#![no_std]
+#![warn(missing_docs)]
+
+#[cfg(feature = "std")]
+extern crate std;
+
+// Each call of `native` is sound for one reason: the declarations are those of sums_hash.h, each pointer and length are
+// those of one slice or array, and a state is borrowed for the call.
+mod native;
+
+mod blake2;
+mod blake3;
+mod keyed;
+mod message;
+mod refusal;
+mod sha2;
+#[cfg(feature = "digest")]
+pub mod traits;
+
+pub use self::blake2::*;
+pub use self::blake3::*;
+pub use self::keyed::*;
+pub use self::refusal::Refusal;
+pub use self::sha2::*;

@@ -1,0 +1,52 @@
+// SPDX-License-Identifier: MIT OR Apache-2.0
+use core::fmt;
+
+/// Why a call was refused. A refused call has written nothing.
+#[derive(Clone, Copy, Debug, PartialEq, Eq)]
+#[non_exhaustive]
+pub enum Refusal {
+    /// The function has no output of that length.
+    DigestLength,
+    /// The function takes no key or salt of that length.
+    KeyLength,
+    /// The message is longer than the function takes.
+    InputTooLong,
+    /// The output has no such bytes.
+    EndOfOutput,
+    /// A status that this version of the crate does not know.
+    Other(u32),
+}
+
+impl fmt::Display for Refusal {
+    fn fmt(&self, f: &mut fmt::Formatter<'_>) -> fmt::Result {
+        match self {
+            Refusal::DigestLength => write!(f, "the function has no output of that length"),
+            Refusal::KeyLength => write!(f, "the function takes no key or salt of that length"),
+            Refusal::InputTooLong => write!(f, "the message is longer than the function takes"),
+            Refusal::EndOfOutput => write!(f, "the output has no such bytes"),
+            Refusal::Other(status) => write!(f, "status {status}"),
+        }
+    }
+}
+
+#[cfg(feature = "std")]
+impl std::error::Error for Refusal {}
+
+#[cfg(feature = "std")]
+impl From<Refusal> for std::io::Error {
+    fn from(refusal: Refusal) -> Self {
+        std::io::Error::new(std::io::ErrorKind::InvalidInput, refusal)
+    }
+}
+
+/// What a status of the library means.
+pub(crate) fn checked(status: u32) -> Result<(), Refusal> {
+    match status {
+        0 => Ok(()),
+        1 => Err(Refusal::DigestLength),
+        2 => Err(Refusal::KeyLength),
+        3 => Err(Refusal::InputTooLong),
+        5 => Err(Refusal::EndOfOutput),
+        _ => Err(Refusal::Other(status)),
+    }
+}

@@ -1,0 +1,171 @@
+// SPDX-License-Identifier: MIT OR Apache-2.0
+//! The hashes and HMAC under the traits of the crate `digest` 0.10.
+//!
+//! ```
+//! use digest::Digest;
+//! use sums_hash::traits::Sha256;
+//! assert_eq!(Sha256::digest(b"abc")[..], sums_hash::sha256(b"abc"));
+//! ```
+//!
+//! These traits have no refusals: `update` panics where the message would be longer than the function takes, which is
+//! 2^61 - 1 bytes at least, and a reader where the output ends, behind byte 2^64 - 1.
+
+use core::fmt;
+
+use digest::consts::{U128, U32, U64};
+use digest::crypto_common::{BlockSizeUser, KeySizeUser};
+use digest::{
+    ExtendableOutput, FixedOutput, FixedOutputReset, HashMarker, InvalidLength, Key, KeyInit, MacMarker, Output,
+    OutputSizeUser, Reset, Update, XofReader,
+};
+
+const BEGUN: &str = "a state that was begun is not refused";
+
+// What a hash and a tag have in common.
+macro_rules! of_size {
+    ($(#[$about:meta])* $Name:ident, $Message:ident, $Size:ty, $Block:ty, |$message:ident, $out:ident| $finish:expr) => {
+        $(#[$about])*
+        #[derive(Clone)]
+        pub struct $Name(crate::$Message);
+
+        impl fmt::Debug for $Name {
+            fn fmt(&self, f: &mut fmt::Formatter<'_>) -> fmt::Result {
+                self.0.fmt(f)
+            }
+        }
+
+        impl OutputSizeUser for $Name {
+            type OutputSize = $Size;
+        }
+
+        impl BlockSizeUser for $Name {
+            type BlockSize = $Block;
+        }
+
+        impl Update for $Name {
+            fn update(&mut self, data: &[u8]) {
+                self.0.update(data).expect("the message is longer than the function takes");
+            }
+        }
+
+        impl FixedOutput for $Name {
+            fn finalize_into(self, $out: &mut Output<Self>) {
+                let $message = &self.0;
+                $finish;
+            }
+        }
+    };
+}
+
+macro_rules! hash {
+    ($(#[$about:meta])* $Name:ident, $Message:ident, $Size:ty, $Block:ty, |$message:ident, $out:ident| $finish:expr) => {
+        of_size!($(#[$about])* $Name, $Message, $Size, $Block, |$message, $out| $finish);
+
+        impl Default for $Name {
+            fn default() -> Self {
+                Self(crate::$Message::default())
+            }
+        }
+
+        impl HashMarker for $Name {}
+
+        impl Reset for $Name {
+            fn reset(&mut self) {
+                *self = Self::default();
+            }
+        }
+
+        impl FixedOutputReset for $Name {
+            fn finalize_into_reset(&mut self, out: &mut Output<Self>) {
+                core::mem::take(self).finalize_into(out);
+            }
+        }
+    };
+}
+
+macro_rules! hmac {
+    ($(#[$about:meta])* $Name:ident, $Message:ident, $Size:ty, $Block:ty) => {
+        of_size!($(#[$about])* $Name, $Message, $Size, $Block, |message, out| message.finish(out).expect(BEGUN));
+
+        impl MacMarker for $Name {}
+
+        impl KeySizeUser for $Name {
+            type KeySize = $Block;
+        }
+
+        impl KeyInit for $Name {
+            fn new(key: &Key<Self>) -> Self {
+                Self(crate::$Message::new(key).expect("a key of one block is not refused"))
+            }
+
+            fn new_from_slice(key: &[u8]) -> Result<Self, InvalidLength> {
+                crate::$Message::new(key).map(Self).map_err(|_| InvalidLength)
+            }
+        }
+    };
+}
+
+hash!(
+    /// SHA-256.
+    Sha256, Sha256, U32, U64, |message, out| out.copy_from_slice(&message.finish())
+);
+hash!(
+    /// SHA-512.
+    Sha512, Sha512, U64, U128, |message, out| out.copy_from_slice(&message.finish())
+);
+hash!(
+    /// BLAKE2b of 64 bytes.
+    Blake2b512, Blake2b, U64, U128, |message, out| message.finish(out).expect(BEGUN)
+);
+hash!(
+    /// BLAKE2s of 32 bytes.
+    Blake2s256, Blake2s, U32, U64, |message, out| message.finish(out).expect(BEGUN)
+);
+hash!(
+    /// BLAKE3 of 32 bytes, or by [`ExtendableOutput`] of any length.
+    Blake3, Blake3, U32, U64, |message, out| message.output(0, out).expect(BEGUN)
+);
+
+hmac!(
+    /// HMAC over SHA-256.
+    HmacSha256, HmacSha256, U32, U64
+);
+hmac!(
+    /// HMAC over SHA-512.
+    HmacSha512, HmacSha512, U64, U128
+);
+hmac!(
+    /// HMAC over BLAKE2b of 64 bytes.
+    HmacBlake2b512, HmacBlake2b, U64, U128
+);
+hmac!(
+    /// HMAC over BLAKE2s of 32 bytes.
+    HmacBlake2s256, HmacBlake2s, U32, U64
+);
+
+/// A reader of BLAKE3's output, from its first byte on.
+#[derive(Clone, Debug)]
+pub struct Blake3Reader {
+    message: crate::Blake3,
+    position: u64,
+}
+
+impl XofReader for Blake3Reader {
+    fn read(&mut self, buffer: &mut [u8]) {
+        self.message
+            .output(self.position, buffer)
+            .expect("the output has no more bytes");
+        self.position += buffer.len() as u64;
+    }
+}
+
+impl ExtendableOutput for Blake3 {
+    type Reader = Blake3Reader;
+
+    fn finalize_xof(self) -> Blake3Reader {
+        Blake3Reader {
+            message: self.0,
+            position: 0,
+        }
+    }
+}
