@@ -353,8 +353,8 @@ def _known(name: str) -> str:
 
 def _derived(size: int, write: Call, *data: Buffer, sized: bool = True) -> bytes:
     """What a call writes into an output of this size, which it is told or knows, of these data."""
-    if size > 255 * max(DIGEST_SIZES.values()):
-        raise Refused(5)  # more than any hash has, before there has to be room for it
+    # one byte more than any hash has is refused as every longer output is, and takes little room
+    size = min(size, 255 * max(DIGEST_SIZES.values()) + 1)
     out = ctypes.create_string_buffer(size)
     words = [out, size] if sized else [out]
     with contextlib.ExitStack() as lent:
