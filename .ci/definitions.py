@@ -15,32 +15,16 @@ import tempfile
 from functools import lru_cache
 from typing import NamedTuple
 
-HERE = os.path.dirname(os.path.abspath(__file__))
-
-
-SHOWN = 20
-passed = failed = 0
+import harness
 
 
 def same(name, got, wanted):
-    """Counts a case that has to give this. Of those that are wrong the first are told."""
-    global passed, failed
-    if got == wanted:
-        passed += 1
-        return
-    failed += 1
-    if failed <= SHOWN:
-        print(f"{name}: wrong\n    got    {told(got)}\n    wanted {told(wanted)}")
+    """Counts a case that has to give this."""
+    harness.judge(name, got == wanted, f"got    {told(got)}", f"wanted {told(wanted)}")
 
 
 def told(value):
-    return (value.hex() if isinstance(value, bytes) else repr(value))[:160]
-
-
-def finish():
-    """The last line, and the status that goes with it."""
-    print(f"{passed} passed, {failed} failed")
-    sys.exit(1 if failed else 0)
+    return value[:80].hex() if isinstance(value, bytes) else repr(value)
 
 
 # ---- the mixing of BLAKE2 and BLAKE3: RFC 7693, section 3.1; the BLAKE3 paper, section 2.2
@@ -533,7 +517,7 @@ def spelled(text):
 
 def rows(name):
     """The rows of a table, under the names of its first line."""
-    with open(os.path.join(HERE, "vectors", name + ".tsv")) as file:
+    with open(os.path.join(harness.HERE, "vectors", name + ".tsv")) as file:
         columns, *lines = [line.rstrip("\n").split("\t") for line in file if not line.startswith("#")]
     for line in lines:
         yield {name: spelled(value) if name in SPELLED else value for name, value in zip(columns, line, strict=True)}
@@ -592,19 +576,13 @@ def main():
     blake3_digests()
     b3sum()
     keyed_lengths()
-    finish()
+    harness.finish()
 
 
 if __name__ == "__main__":
-    if len(sys.argv) != 2:
-        print(__doc__.splitlines()[-1], file=sys.stderr)
-        sys.exit(2)
-    os.environ["SUMS_HASH_LIBRARY"] = os.path.abspath(sys.argv[1])
-    if not os.path.exists(sys.argv[1]):
-        print(f"there is no {sys.argv[1]}\n0 passed, 1 failed")
-        sys.exit(1)
+    os.environ["SUMS_HASH_LIBRARY"] = harness.program(os.R_OK)
     sys.dont_write_bytecode = True
-    sys.path.insert(0, os.path.join(HERE, "..", "bindings", "python"))
+    sys.path.insert(0, os.path.join(harness.HERE, "..", "bindings", "python"))
     import sums_hash
 
     main()

@@ -11,6 +11,7 @@ from typing import NamedTuple
 
 HERE = os.path.dirname(os.path.abspath(__file__))
 SHOWN = 600
+TOLD = 100
 
 passed = failed = 0
 
@@ -32,10 +33,10 @@ def arguments(least):
     return sys.argv[1:]
 
 
-def program():
-    """The path of the program that the first word names."""
+def program(access=os.X_OK):
+    """The path of the program that the first word names, or with os.R_OK of another file."""
     path = os.path.abspath(arguments(1)[0])
-    if not os.access(path, os.X_OK):
+    if not os.access(path, access):
         print(f"there is no {path}\n0 passed, 1 failed")
         sys.exit(1)
     return path
@@ -59,16 +60,17 @@ def run(path, words, given=b"", **options):
 
 
 def judge(name, is_right, *shown):
-    """Counts a case, and tells what is wrong with it."""
+    """Counts a case, and tells what is wrong with it. Of those that are wrong the first are told."""
     global passed, failed
     if is_right:
         passed += 1
-    else:
-        failed += 1
+        return True
+    failed += 1
+    if failed <= TOLD:
         print(f"{name}: wrong")
         for line in shown:
             print(f"    {line}"[:SHOWN])
-    return is_right
+    return False
 
 
 def same(name, got, wanted):

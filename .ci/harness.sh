@@ -61,6 +61,35 @@ ends() {
     [ $case_got = "$case_status" ]
 }
 
+# prints NAME TEXT COMMAND..: counts a case, whose command has to succeed and print this on standard output
+prints() {
+    case_name=$1
+    shift
+    holds "$case_name" is_printed "$@"
+}
+
+is_printed() {
+    case_wanted="status 0, $1"
+    shift
+    "$@" > "$work/printed"
+    is_equal "status $?, $(cat "$work/printed")" "$case_wanted"
+}
+
+# answers NAME STATUS TEXT COMMAND..: counts a case, whose command has to end with this status and print this on both
+# streams together
+answers() {
+    case_name=$1
+    shift
+    holds "$case_name" is_answered "$@"
+}
+
+is_answered() {
+    case_wanted="status $1, $2"
+    shift 2
+    "$@" > "$work/printed" 2>&1
+    is_equal "status $?, $(cat "$work/printed")" "$case_wanted"
+}
+
 # has TOOL WHAT: whether a command is installed; else it is told at the end that WHAT was not tried
 has() {
     command -v "$1" > /dev/null || lacks "$1" "$2"

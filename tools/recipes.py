@@ -3,7 +3,7 @@
 a language and a name, in man/*.1 those behind a comment `recipe NAME`. Where a recipe has a name of a file to choose, it
 is run with each of NAMES too. A recipe has to print what is wanted, end with the status that is wanted, tell nothing on
 standard error, and run nothing that a name spells. What is not installed is told, and not run. No part of tools/test.
-usage: tools/recipes PROGRAM [NAME..]    the recipes of these names; all of them where none is named
+usage: tools/recipes.py PROGRAM [NAME..]    the recipes of these names; all of them where none is named
 """
 
 import glob
