@@ -637,6 +637,12 @@ def readme_download(bench):
     got = bench.run(text, folder)
     bench.judge("README.md download, a wrong file",
                 lambda: same((got[0], b"two.iso: FAILED\n" in got[1]), (1, True), "status and report"))
+    some = bench.text("README.md", "some")
+    bench.judge("README.md some, wrong", lambda: ends(bench.run(some, folder), 1, b"two.iso: FAILED\n"))
+    fill(os.path.join(folder, "two.iso"), 100 + len(NAMES) + 1)
+    bench.judge("README.md some", lambda: ends(bench.run(some, folder), 0, b"two.iso: OK\n"))
+    write(folder, "SHA256SUMS", "")
+    bench.judge("README.md some, none", lambda: ends(bench.run(some, folder), 1, b""))
 
 
 def hash_page(bench):
@@ -673,27 +679,27 @@ def shown_name(name):
 
 def one_of(bench):
     """One file of a long list: its line, or status 1."""
-    for page in ["README.md", "man/sums-check.1"]:
-        text = bench.text(page, "one")
+    page = "man/sums-check.1"
+    text = bench.text(page, "one")
 
-        def case(name):
-            folder = bench.folder()
-            for number, other in enumerate(NAMES):
-                fill(os.path.join(folder, other), 50 + number)
-            listed = bench.sums(folder, "hash", "-a", "sha256", "--", *NAMES)
-            with open(os.path.join(folder, "SHA256SUMS"), "wb") as file:
-                file.write(listed)
-            ends(bench.run(text, folder, f=name), 0, bench.sums(folder, "hash", "-a", "sha256", "--", name))
-            with open(os.path.join(folder, "SHA256SUMS"), "wb") as file:
-                file.write(bench.sums(folder, "hash", "-a", "sha256", "--", name).replace(b"\n", b"x\n"))
-            ends(bench.run(text, folder, f=name), 1, b"")
-            with open(os.path.join(folder, "SHA256SUMS"), "wb") as file:
-                file.write(listed)
-            fill(os.path.join(folder, name), 7)
-            ends(bench.run(text, folder, f=name), 1, b"")
+    def case(name):
+        folder = bench.folder()
+        for number, other in enumerate(NAMES):
+            fill(os.path.join(folder, other), 50 + number)
+        listed = bench.sums(folder, "hash", "-a", "sha256", "--", *NAMES)
+        with open(os.path.join(folder, "SHA256SUMS"), "wb") as file:
+            file.write(listed)
+        ends(bench.run(text, folder, f=name), 0, bench.sums(folder, "hash", "-a", "sha256", "--", name))
+        with open(os.path.join(folder, "SHA256SUMS"), "wb") as file:
+            file.write(bench.sums(folder, "hash", "-a", "sha256", "--", name).replace(b"\n", b"x\n"))
+        ends(bench.run(text, folder, f=name), 1, b"")
+        with open(os.path.join(folder, "SHA256SUMS"), "wb") as file:
+            file.write(listed)
+        fill(os.path.join(folder, name), 7)
+        ends(bench.run(text, folder, f=name), 1, b"")
 
-        for name in NAMES:
-            bench.judge(f"{page} one, {name!r}", lambda: case(name))
+    for name in NAMES:
+        bench.judge(f"{page} one, {name!r}", lambda: case(name))
 
 
 def check_page(bench):
@@ -809,7 +815,7 @@ def scale_folder(bench):
 
 # each recipe of each page, and what runs it
 RUNS = {
-    "README.md": {"download": readme_download, "one": one_of, "use": readme_use},
+    "README.md": {"download": readme_download, "some": readme_download, "use": readme_use},
     "docs/SCALE.md": {"folder": scale_folder, "pieces": scale_folder, "file": scale_parts, "device": scale_parts,
                       "parts": scale_parts, "parallel": scale_parallel, "pipepart": scale_parallel,
                       "hosts": scale_parallel, "own": scale_own, "lines": scale_own, "job.sh": scale_slurm,
