@@ -25,28 +25,9 @@ fn run_level(closed: u64, left: usize) -> u32
     ensures run { 8192 * 2 ^ result ≤ left }
     ensures bound { result ≤ 7 }
 {
-    if closed % 1024 == 0 && left >= 1048576 {
-        return 7;
-    }
-    if closed % 512 == 0 && left >= 524288 {
-        return 6;
-    }
-    if closed % 256 == 0 && left >= 262144 {
-        return 5;
-    }
-    if closed % 128 == 0 && left >= 131072 {
-        return 4;
-    }
-    if closed % 64 == 0 && left >= 65536 {
-        return 3;
-    }
-    if closed % 32 == 0 && left >= 32768 {
-        return 2;
-    }
-    if closed % 16 == 0 && left >= 16384 {
-        return 1;
-    }
-    0
+    let aligned = (closed / 8).trailing_zeros();
+    let longest = (left / GROUP_LEN).ilog2();
+    aligned.min(longest).min(7)
 }
 
 // The bytes of a run of 8 * 2 ^ level chunks.

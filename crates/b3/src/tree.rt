@@ -25,13 +25,12 @@ fn greatest_power_below(n: usize) -> usize
 fn level_of(len: usize) -> Option<u32>
     ensures { IfSome result (λ level. len ≡ 8192 * 2 ^ level) }
 {
-    let mut run = GROUP_LEN;
-    let mut level = 0;
-    while level < 50 && run <= len / 2 {
-        run *= 2;
-        level += 1;
+    let groups = len / GROUP_LEN;
+    if len % GROUP_LEN == 0 && groups.is_power_of_two() {
+        Some(groups.ilog2())
+    } else {
+        None
     }
-    if run == len { Some(level) } else { None }
 }
 
 // The node of the chunk of these bytes.
