@@ -3,7 +3,7 @@
 ghost use Rattle.std.specs.Prelude.{◌≡◌, ◌↔◌, ℕ, List, IsTrue, IsSome, IfSome};
 ghost use Rattle.b3.specs.inside.States.{IsBegun, IsKept, StateHolds};
 
-use crate::chunk::Chunk;
+use crate::chunk::{Chunk, MOST_CHUNKS};
 use crate::hasher::Blake3;
 use arrayvec::ArrayVec;
 use words::Absorb;
@@ -57,7 +57,7 @@ impl Blake3State {
         0 < self.mode
             && self.mode <= 256
             && self.len <= 1024
-            && self.closed < 0x40_0000_0000_0000
+            && self.closed < MOST_CHUNKS
             && 1024 * self.closed <= u64::MAX - self.len
             && self.closed.count_ones() <= 54
     }
