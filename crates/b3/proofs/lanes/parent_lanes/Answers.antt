@@ -1,7 +1,7 @@
 use Rattle.std.proofs.Common.{◌≡◌, ◌+◌, refl, ◌∙◌, arith}
 use Rattle.b3.specs.Node.{cv}
 use Rattle.b3.specs.Tree.{parent}
-use Rattle.b3.proofs.Lanes8.{below_four}
+use Rattle.words.proofs.LaneLemmas.{below_four}
 use Rattle.b3.proofs.lanes.parent_lanes.Goals as goal
 
 pub returns-clause-left : goal.returns-clause-left
