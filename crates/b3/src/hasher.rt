@@ -6,12 +6,12 @@ ghost use Rattle.arrayvec.specs.ArrayVec.{array_vec_len};
 
 use crate::chunk::{CHUNK_LEN, Chunk};
 use crate::lanes::{chunk_values, open_lefts, subtree_of};
-use crate::mode::{DERIVE_KEY_MATERIAL, KEYED_HASH, key_of_context, words_of_key};
+use crate::mode::{Mode, Parameters};
 use crate::node::{BLOCK_LEN, Node};
 use crate::output::Output;
 use crate::stack::push_subtree;
 use arrayvec::ArrayVec;
-use words::{Absorb, IV32};
+use words::Absorb;
 
 // The bytes of eight chunks.
 pub(crate) const GROUP_LEN: usize = 8192;
@@ -62,8 +62,7 @@ fn whole_chunks(closed: u64, left: usize) -> usize
 /// bytes in all, takes no memory, and holds at most 54 chaining values.
 #[derive(Drop)]
 pub struct Blake3 {
-    pub(crate) key: [u32; 8],
-    pub(crate) flags: u8,
+    pub(crate) parameters: Parameters,
     // the chaining values of the subtrees of closed chunks
     pub(crate) stack: ArrayVec<[u32; 8], 54>,
     // how many chunks are closed, which is the number of the open one
@@ -88,7 +87,7 @@ impl Blake3 {
         ensures room { ⟦<Blake3 as Absorb>⟧.room_left result ≡ 2 ^ 64 - 1 }
         ensures holds { ⟦<Blake3 as Absorb>⟧.holds result [] }
     {
-        Blake3::under(IV32, 0)
+        Blake3::under(Mode::Hash.parameters())
     }
 
     /// A hasher of the empty input in the mode `keyed_hash`, under a key of 32 bytes (section 2.3).
@@ -97,7 +96,7 @@ impl Blake3 {
         ensures room { ⟦<Blake3 as Absorb>⟧.room_left result ≡ 2 ^ 64 - 1 }
         ensures holds { ⟦<Blake3 as Absorb>⟧.holds result [] }
     {
-        Blake3::under(words_of_key(key), KEYED_HASH)
+        Blake3::under(Mode::Keyed(*key).parameters())
     }
 
     /// A hasher of no key material yet in the mode `derive_key`, under a context (section 2.3). The
@@ -108,21 +107,20 @@ impl Blake3 {
         ensures room { ⟦<Blake3 as Absorb>⟧.room_left result ≡ 2 ^ 64 - 1 }
         ensures holds { ⟦<Blake3 as Absorb>⟧.holds result [] }
     {
-        Blake3::under(words_of_key(&key_of_context(context)), DERIVE_KEY_MATERIAL)
+        Blake3::under(Mode::derive(context).parameters())
     }
 
-    /// A hasher of the empty input under key words and a mode's flag.
-    pub(crate) fn under(key: [u32; 8], flags: u8) -> Blake3
-        ensures parameters { hasher_parameters result ≡ flags ∷ key }
+    /// A hasher of the empty input under a mode's key words and flag.
+    pub(crate) fn under(parameters: Parameters) -> Blake3
+        ensures parameters { hasher_parameters result ≡ parameters.flags ∷ parameters.key }
         ensures room { hasher_room result ≡ 2 ^ 64 - 1 }
         ensures holds { Holds result [] }
     {
         Blake3 {
-            key,
-            flags,
+            parameters,
             stack: ArrayVec::new(),
             closed: 0,
-            chunk: Chunk::new(&key),
+            chunk: Chunk::new(&parameters.key),
         }
     }
 
@@ -150,12 +148,12 @@ impl Blake3 {
             → output_root result ≡ root_of (⟦<Blake3 as Absorb>⟧.parameters self.now) m }
         ensures position { output_position result ≡ 0 }
     {
-        let mut node = self.chunk.node(self.closed, self.flags);
+        let mut node = self.chunk.node(self.closed, self.parameters.flags);
         let mut left = self.stack.len();
         let stack = self.stack.as_slice();
         while left > 0 {
             left -= 1;
-            node = Node::parent(&self.key, self.flags, &stack[left], &node.chaining_value());
+            node = Node::parent(&self.parameters, &stack[left], &node.chaining_value());
         }
         Output::of(node)
     }
@@ -171,10 +169,13 @@ impl Blake3 {
         if self.chunk.len() < CHUNK_LEN {
             return;
         }
-        let value = self.chunk.node(self.closed, self.flags).chaining_value();
+        let value = self
+            .chunk
+            .node(self.closed, self.parameters.flags)
+            .chaining_value();
         self.closed += 1;
-        push_subtree(&mut self.stack, &self.key, self.flags, value, self.closed);
-        self.chunk = Chunk::new(&self.key);
+        push_subtree(&mut self.stack, &self.parameters, value, self.closed);
+        self.chunk = Chunk::new(&self.parameters.key);
     }
 
     // Adds a subtree of 2 ^ level chunks by its chaining value; more bytes follow it.
@@ -183,19 +184,17 @@ impl Blake3 {
         requires bound { level ≤ 10 }
         requires aligned { self.old.closed % 2 ^ level ≡ 0 }
         requires more { 1024 * self.old.closed + 1024 * 2 ^ level + 1 < 2 ^ 64 }
-        ensures key { self.new.key ≡ self.old.key }
-        ensures flags { self.new.flags ≡ self.old.flags }
+        ensures parameters { self.new.parameters ≡ self.old.parameters }
         ensures closed { self.new.closed ≡ self.old.closed + 2 ^ level }
         ensures chunk { self.new.chunk.len ≡ 0 }
         ensures split { (m y : List ℕ) → IsSplit self.old m → length y ≡ 1024 * 2 ^ level
-            → value ≡ cv (tree self.old.key self.old.flags self.old.closed y) → IsSplit self.new (m ++ y) }
+            → value ≡ cv (tree self.old.parameters.key self.old.parameters.flags self.old.closed y) → IsSplit self.new (m ++ y) }
     {
         let chunks = subtree_chunks(level);
         self.closed += chunks;
         push_subtree(
             &mut self.stack,
-            &self.key,
-            self.flags,
+            &self.parameters,
             value,
             self.closed / chunks,
         );
@@ -208,13 +207,12 @@ impl Blake3 {
         requires aligned { self.old.closed % (8 * 2 ^ level) ≡ 0 }
         requires length { length bytes.now ≡ 8192 * 2 ^ level }
         requires more { 1024 * self.old.closed + length bytes.now + 1 < 2 ^ 64 }
-        ensures key { self.new.key ≡ self.old.key }
-        ensures flags { self.new.flags ≡ self.old.flags }
+        ensures parameters { self.new.parameters ≡ self.old.parameters }
         ensures closed { 1024 * self.new.closed ≡ 1024 * self.old.closed + length bytes.now }
         ensures chunk { self.new.chunk.len ≡ 0 }
         ensures split { (m : List ℕ) → IsSplit self.old m → IsSplit self.new (m ++ bytes.now) }
     {
-        let value = subtree_of(&self.key, self.flags, self.closed, level, bytes);
+        let value = subtree_of(&self.parameters, self.closed, level, bytes);
         self.push_value(level + 3, value);
     }
 
@@ -225,13 +223,12 @@ impl Blake3 {
         requires aligned { self.old.closed % (8 * 2 ^ level) ≡ 0 }
         requires length { length bytes.now ≡ 8192 * 2 ^ level }
         requires more { 1024 * self.old.closed + length bytes.now < 2 ^ 64 }
-        ensures key { self.new.key ≡ self.old.key }
-        ensures flags { self.new.flags ≡ self.old.flags }
+        ensures parameters { self.new.parameters ≡ self.old.parameters }
         ensures closed { 1024 * self.new.closed + 1024 ≡ 1024 * self.old.closed + length bytes.now }
         ensures chunk { self.new.chunk.len ≡ 1024 }
         ensures split { (m : List ℕ) → IsSplit self.old m → IsSplit self.new (m ++ bytes.now) }
     {
-        let (lefts, before) = open_lefts(&self.key, self.flags, self.closed, level, bytes);
+        let (lefts, before) = open_lefts(&self.parameters, self.closed, level, bytes);
         let mut left = level + 3;
         'lefts: while left > 0 {
             left -= 1;
@@ -245,13 +242,12 @@ impl Blake3 {
         requires empty { self.old.chunk.len ≡ 0 }
         requires bound { n ≤ 8 }
         requires more { 1024 * self.old.closed + 1024 * n + 1 < 2 ^ 64 }
-        ensures key { self.new.key ≡ self.old.key }
-        ensures flags { self.new.flags ≡ self.old.flags }
+        ensures parameters { self.new.parameters ≡ self.old.parameters }
         ensures closed { self.new.closed ≡ self.old.closed + n }
         ensures chunk { self.new.chunk.len ≡ 0 }
         ensures split { (m y : List ℕ) → IsSplit self.old m → length y ≡ 1024 * n
             → ((i : ℕ) → i < n
-            → slice_index_or values.now i [] ≡ run_cv self.old.key self.old.flags self.old.closed y 0 i)
+            → slice_index_or values.now i [] ≡ run_cv self.old.parameters.key self.old.parameters.flags self.old.closed y 0 i)
             → IsSplit self.new (m ++ y) }
     {
         'chunks: for i in 0..n {
@@ -264,12 +260,11 @@ impl Blake3 {
         requires empty { self.old.chunk.len ≡ 0 }
         requires whole { length bytes.now ≡ 1024 }
         requires bound { 1024 * self.old.closed + 1024 < 2 ^ 64 }
-        ensures key { self.new.key ≡ self.old.key }
-        ensures flags { self.new.flags ≡ self.old.flags }
+        ensures parameters { self.new.parameters ≡ self.old.parameters }
         ensures closed { self.new.closed ≡ self.old.closed }
         ensures chunk { self.new.chunk.len ≡ 1024 }
         ensures split { (m : List ℕ) → IsSplit self.old m
-            → before ≡ value_before self.old.key self.old.flags self.old.closed bytes.now 15
+            → before ≡ value_before self.old.parameters.key self.old.parameters.flags self.old.closed bytes.now 15
             → IsSplit self.new (m ++ bytes.now) }
     {
         self.chunk = Chunk::full(before, &bytes[CHUNK_LEN - BLOCK_LEN..]);
@@ -282,13 +277,12 @@ impl Blake3 {
         requires whole { length bytes.now % 1024 ≡ 0 }
         requires bound { length bytes.now ≤ 8192 }
         requires more { 1024 * self.old.closed + length bytes.now + 1 < 2 ^ 64 }
-        ensures key { self.new.key ≡ self.old.key }
-        ensures flags { self.new.flags ≡ self.old.flags }
+        ensures parameters { self.new.parameters ≡ self.old.parameters }
         ensures closed { 1024 * self.new.closed ≡ 1024 * self.old.closed + length bytes.now }
         ensures chunk { self.new.chunk.len ≡ 0 }
         ensures split { (m : List ℕ) → IsSplit self.old m → IsSplit self.new (m ++ bytes.now) }
     {
-        let (values, _before) = chunk_values(&self.key, self.flags, self.closed, bytes);
+        let (values, _before) = chunk_values(&self.parameters, self.closed, bytes);
         self.push_values(&values, bytes.len() / CHUNK_LEN);
     }
 
@@ -299,13 +293,12 @@ impl Blake3 {
         requires whole { length bytes.now % 1024 ≡ 0 }
         requires bound { length bytes.now ≤ 8192 }
         requires more { 1024 * self.old.closed + length bytes.now < 2 ^ 64 }
-        ensures key { self.new.key ≡ self.old.key }
-        ensures flags { self.new.flags ≡ self.old.flags }
+        ensures parameters { self.new.parameters ≡ self.old.parameters }
         ensures closed { 1024 * self.new.closed + 1024 ≡ 1024 * self.old.closed + length bytes.now }
         ensures chunk { self.new.chunk.len ≡ 1024 }
         ensures split { (m : List ℕ) → IsSplit self.old m → IsSplit self.new (m ++ bytes.now) }
     {
-        let (values, before) = chunk_values(&self.key, self.flags, self.closed, bytes);
+        let (values, before) = chunk_values(&self.parameters, self.closed, bytes);
         let last = bytes.len() / CHUNK_LEN - 1;
         self.push_values(&values, last);
         self.open_chunk(before[last], &bytes[CHUNK_LEN * last..]);
@@ -347,7 +340,8 @@ impl Blake3 {
             }
         }
         let n = (CHUNK_LEN - self.chunk.len()).min(rest.len());
-        self.chunk.update(self.closed, self.flags, &rest[..n]);
+        let flags = self.parameters.flags;
+        self.chunk.update(self.closed, flags, &rest[..n]);
         n
     }
 }

@@ -8,7 +8,7 @@ ghost use Rattle.b3.specs.Node.{cv};
 ghost use Rattle.b3.specs.Parts.{IsPlacedAt};
 
 use crate::chunk::CHUNK_LEN;
-use crate::mode::{Mode, words_of_key};
+use crate::mode::{Mode, Parameters, words_of_key};
 use crate::node::Node;
 use crate::output::Output;
 use crate::part::NotWhole;
@@ -106,8 +106,7 @@ pub struct NotNext;
 /// Parts that follow each other, and are one part together.
 #[derive(Drop)]
 pub struct Row {
-    key: [u32; 8],
-    flags: u8,
+    parameters: Parameters,
     first_chunk: u64,
     // the chaining values of the subtrees of all parts but the last
     stack: ArrayVec<[u32; 8], 54>,
@@ -137,11 +136,9 @@ impl Row {
         ensures open { row_open result ≡ value_len part }
         ensures holds { (m : List ℕ) → IsValueOf (mode_parameters mode) part m → HoldsRow result m }
     {
-        let key = mode.key();
         let value = part.value;
         Row {
-            key,
-            flags: mode.flags(),
+            parameters: mode.parameters(),
             first_chunk: part.first_chunk,
             stack: ArrayVec::new(),
             closed: 0,
@@ -209,8 +206,7 @@ impl Row {
         self.closed += chunks;
         push_subtree(
             &mut self.stack,
-            &self.key,
-            self.flags,
+            &self.parameters,
             self.value,
             self.closed / chunks,
         );
@@ -226,10 +222,10 @@ impl Row {
     {
         let stack = self.stack.as_slice();
         let mut left = stack.len() - 1;
-        let mut node = Node::parent(&self.key, self.flags, &stack[left], &self.value);
+        let mut node = Node::parent(&self.parameters, &stack[left], &self.value);
         while left > 0 {
             left -= 1;
-            node = Node::parent(&self.key, self.flags, &stack[left], &node.chaining_value());
+            node = Node::parent(&self.parameters, &stack[left], &node.chaining_value());
         }
         node
     }

@@ -5,6 +5,7 @@ ghost use Rattle.b3.specs.inside.States.{IsBegun, IsKept, StateHolds};
 
 use crate::chunk::{Chunk, MOST_CHUNKS};
 use crate::hasher::Blake3;
+use crate::mode::Parameters;
 use arrayvec::ArrayVec;
 use words::Absorb;
 
@@ -70,8 +71,10 @@ impl Blake3State {
         let mut stack = ArrayVec::new();
         stack.try_extend_from_slice(&self.stack[..held]).unwrap();
         Blake3 {
-            key: self.key,
-            flags: (self.mode - 1) as u8,
+            parameters: Parameters {
+                key: self.key,
+                flags: (self.mode - 1) as u8,
+            },
             stack,
             closed: self.closed,
             chunk: Chunk {
@@ -88,8 +91,8 @@ impl Blake3State {
     {
         let stack = hasher.stack.as_slice();
         self.stack[..stack.len()].copy_from_slice(stack);
-        self.key = hasher.key;
-        self.mode = u64::from(hasher.flags) + 1;
+        self.key = hasher.parameters.key;
+        self.mode = u64::from(hasher.parameters.flags) + 1;
         self.closed = hasher.closed;
         self.value = hasher.chunk.value;
         self.block = hasher.chunk.block;

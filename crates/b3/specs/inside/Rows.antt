@@ -8,7 +8,7 @@ use Rattle.b3.specs.declared.row.Row.{Row}
 
 -- what a row hashes under
 abbrev pub row_parameters : Row → List ℕ
-row_parameters row = row.flags ∷ row.key
+row_parameters row = row.parameters.flags ∷ row.parameters.key
 
 -- the number of its first chunk, how many chunks stand before its last part, and how many bytes that
 -- part has
@@ -29,5 +29,5 @@ row_count row = 1024 * row_closed row + row_open row
 -- values of subtrees
 pub record HoldsRow (row : Row) (m : List ℕ) : Type 0 where
   pub len : row_count row ≡ length m
-  pub stack : row.stack.items ≡ subtrees (run_cv row.key row.flags row.first_chunk m) 54 0 row.closed
-  pub value : row.value ≡ cv (tree row.key row.flags (row.first_chunk + row.closed) (drop (1024 * row.closed) m))
+  pub stack : row.stack.items ≡ subtrees (run_cv row.parameters.key row.parameters.flags row.first_chunk m) 54 0 row.closed
+  pub value : row.value ≡ cv (tree row.parameters.key row.parameters.flags (row.first_chunk + row.closed) (drop (1024 * row.closed) m))

@@ -14,8 +14,8 @@ IsBegun s = (0 < s.mode)
 
 -- the fields of the hasher h are those of s
 abbrev pub IsKept : Blake3State → Blake3 → Type 0
-IsKept s h = (h.flags + 1 ≡ s.mode)
-    × (h.key ≡ s.key)
+IsKept s h = (h.parameters.flags + 1 ≡ s.mode)
+    × (h.parameters.key ≡ s.key)
     × (h.closed ≡ s.closed)
     × (h.stack.items ≡ take (count_ones s.closed) s.stack)
     × (h.chunk.value ≡ s.value)

@@ -12,24 +12,24 @@ each_block-init c (suc (suc k)) h = absurd (omega arith)
 
 pub each_block-preserved : goal.each_block-preserved
 each_block-preserved c zero h =
-    block_more c.args.key.now c.args.flags c.args.first _ c.args.bytes.now 0 c.each_block.j c.args.first
+    block_more c.args.parameters.now.key c.args.parameters.now.flags c.args.first _ c.args.bytes.now 0 c.each_block.j c.args.first
     (64 * c.each_block.j) _ _ _
     (omega arith) (omega arith) ((c.each_block.invariant 0 h).0 (omega arith)) c.block_words-left.ensures (omega arith)
-    (omega arith) c.next_two-next.ensures.first c.block_flags.ensures.first c.block_flags.ensures.later
-    c.block_flags.ensures.last
+    (omega arith) c.next_two-next.ensures.first c.block_flags-d.ensures.first c.block_flags-d.ensures.later
+    c.block_flags-d.ensures.last
 each_block-preserved c (suc zero) h =
-    block_more c.args.key.now c.args.flags c.args.first _ c.args.bytes.now 1 c.each_block.j (c.args.first + 1)
+    block_more c.args.parameters.now.key c.args.parameters.now.flags c.args.first _ c.args.bytes.now 1 c.each_block.j (c.args.first + 1)
     (1024 + 64 * c.each_block.j) _ _ _
     (omega arith) (omega arith) ((c.each_block.invariant 1 h).0 (omega arith)) c.block_words-right.ensures (omega arith)
-    (omega arith) c.next_two-next.ensures.second c.block_flags.ensures.first c.block_flags.ensures.later
-    c.block_flags.ensures.last
+    (omega arith) c.next_two-next.ensures.second c.block_flags-d.ensures.first c.block_flags-d.ensures.later
+    c.block_flags-d.ensures.last
 each_block-preserved c (suc (suc k)) h = absurd (omega arith)
 
 pub returns-clause-values : goal.returns-clause-values
 returns-clause-values c zero h =
     c.padded.ensures 0 (omega arith) ∙ (c.each_block.invariant 0 h).2 (omega arith)
-    ∙ sym (run_chunk c.args.key.now c.args.flags c.args.first c.args.bytes.now 0 (omega arith))
+    ∙ sym (run_chunk c.args.parameters.now.key c.args.parameters.now.flags c.args.first c.args.bytes.now 0 (omega arith))
 returns-clause-values c (suc zero) h =
     c.padded.ensures 1 (omega arith) ∙ (c.each_block.invariant 1 h).2 (omega arith)
-    ∙ sym (run_chunk c.args.key.now c.args.flags c.args.first c.args.bytes.now 1 (omega arith))
+    ∙ sym (run_chunk c.args.parameters.now.key c.args.parameters.now.flags c.args.first c.args.bytes.now 1 (omega arith))
 returns-clause-values c (suc (suc k)) h = absurd (omega arith)

@@ -14,9 +14,9 @@ returns-clause-split c = λ m held.
     let rest : List ℕ = drop (1024 * n) bytes in
     let size : length most ≡ 1024 * n = length-take-le (1024 * n) bytes (omega arith) in
     let before = c.push_values.ensures.split m most
-    (IsSplit_alike c.args.self.now _ m refl refl refl refl refl held) size
+    (IsSplit_alike c.args.self.now _ m refl refl refl refl held) size
     (λ i h. c.chunk_values.ensures.values i (omega arith) (omega arith)
-    ∙ sym (run_part c.args.self.now.key c.args.self.now.flags c.args.self.now.closed n bytes 0 i (omega arith)
+    ∙ sym (run_part c.args.self.now.parameters.key c.args.self.now.parameters.flags c.args.self.now.closed n bytes 0 i (omega arith)
     (omega arith))) in
     let one : length bytes - 1024 * n ≡ 1024 = omega arith in
     let last : take (length bytes - 1024 * n) rest ≡ take 1024 rest = ap (λ (k : ℕ). take k rest) one in
@@ -25,5 +25,5 @@ returns-clause-split c = λ m held.
     ∙ take_further m bytes (1024 * n) 1024 in
     IsSplit_same _ (m ++ bytes) _ (all ∙ ap (λ (ys : List ℕ). (m ++ most) ++ ys) (sym last))
     (c.open_chunk.ensures.split (m ++ most) before
-    (rw (c.push_values.ensures.key, c.push_values.ensures.flags, c.push_values.ensures.closed, last)
+    (rw (c.push_values.ensures.parameters, c.push_values.ensures.closed, last)
     (c.chunk_values.ensures.before n (omega arith) (omega arith))))

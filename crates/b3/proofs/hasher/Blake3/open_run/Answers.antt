@@ -13,13 +13,12 @@ lefts-init c =
     let none : 1024 * (8 * 2 ^ c.args.level - 2 ^ (c.args.level + 3)) ≡ 0 = omega (arith, power) in
     record {
       below = omega arith;
-      key = refl;
-      flags = refl;
+      parameters = refl;
       closed = omega (arith, power);
       empty = c.requires.empty;
       split = λ m held.
           IsSplit_same _ _ m (ap (λ (n : ℕ). m ++ take n c.args.bytes.now) none ∙ append-nil m)
-          (IsSplit_alike c.args.self.now _ m refl refl refl refl refl held);
+          (IsSplit_alike c.args.self.now _ m refl refl refl refl held);
     }
 
 pub push_value-requires-clause-aligned : goal.push_value-requires-clause-aligned
@@ -45,11 +44,10 @@ lefts-preserved c =
     let after : 1024 * (v - 2 ^ j) ≡ 1024 * at + n = omega arith in
     let place : c.lefts.self.closed ≡ c.args.self.now.closed + at = omega (arith, half, c.lefts.invariant.closed) in
     let value = c.open_lefts.ensures.lefts j below
-    ∙ run_at c.args.self.now.key c.args.self.now.flags c.args.self.now.closed bytes j at c.lefts.self.closed place in
+    ∙ run_at c.args.self.now.parameters.key c.args.self.now.parameters.flags c.args.self.now.closed bytes j at c.lefts.self.closed place in
     record {
       below = omega (arith, c.lefts.invariant.below);
-      key = c.push_value.ensures.key ∙ c.lefts.invariant.key;
-      flags = c.push_value.ensures.flags ∙ c.lefts.invariant.flags;
+      parameters = c.push_value.ensures.parameters ∙ c.lefts.invariant.parameters;
       closed = omega (arith, half, c.lefts.invariant.closed, c.push_value.ensures.closed);
       empty = c.push_value.ensures.chunk;
       split = λ m held.
@@ -57,7 +55,7 @@ lefts-preserved c =
           (ap (λ (k : ℕ). m ++ take k bytes) after ∙ take_further m bytes (1024 * at) n)
           (c.push_value.ensures.split (m ++ take (1024 * at) bytes) y
           (rw before at (c.lefts.invariant.split m held)) size
-          (rw (c.lefts.invariant.key, c.lefts.invariant.flags) value));
+          (rw c.lefts.invariant.parameters value));
     }
 
 pub returns-clause-split : goal.returns-clause-split
@@ -80,4 +78,4 @@ returns-clause-split c = λ m held.
     ≡ take 1024 (drop (1024 * n) bytes) = ap₂ (λ (k i : ℕ). take k (drop i bytes)) size start in
     IsSplit_same _ (m ++ bytes) _ (all ∙ ap (λ (ys : List ℕ). (m ++ most) ++ ys) (sym last))
     (c.open_chunk.ensures.split (m ++ most) before
-    (rw (c.lefts.invariant.key, c.lefts.invariant.flags, closed, last) c.open_lefts.ensures.before))
+    (rw (c.lefts.invariant.parameters, closed, last) c.open_lefts.ensures.before))

@@ -5,8 +5,7 @@ use Rattle.b3.proofs.hasher.Blake3.open_run.Given as goal
 abbrev pub invariant-lefts : goal.invariant-lefts
 invariant-lefts l = record {
   below : l.left ≤ l.level + 3;
-  key : l.self.key ≡ l.fn.self.key;
-  flags : l.self.flags ≡ l.fn.self.flags;
+  parameters : l.self.parameters ≡ l.fn.self.parameters;
   closed : l.self.closed + 2 ^ l.left ≡ l.fn.self.closed + 8 * 2 ^ l.level;
   empty : l.self.chunk.len ≡ 0;
   split : (m : List ℕ) → IsSplit l.fn.self m

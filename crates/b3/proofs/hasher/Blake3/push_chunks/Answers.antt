@@ -4,6 +4,6 @@ use Rattle.b3.proofs.hasher.Blake3.push_chunks.Goals as goal
 
 pub returns-clause-split : goal.returns-clause-split
 returns-clause-split c = λ m held.
-    c.push_values.ensures.split m c.args.bytes.now (IsSplit_alike c.args.self.now _ m refl refl refl refl refl held)
+    c.push_values.ensures.split m c.args.bytes.now (IsSplit_alike c.args.self.now _ m refl refl refl refl held)
     (omega arith)
     (λ i h. c.chunk_values.ensures.values i (omega arith) (omega arith))

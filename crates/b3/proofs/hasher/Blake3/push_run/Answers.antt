@@ -16,7 +16,7 @@ returns-clause-closed c = omega (arith, eight_pow c.args.level)
 pub returns-clause-split : goal.returns-clause-split
 returns-clause-split c = λ m held.
     let size : length c.args.bytes.now ≡ 1024 * 2 ^ (c.args.level + 3) = omega (arith, eight_pow c.args.level) in
-    c.push_value.ensures.split m c.args.bytes.now (IsSplit_alike c.args.self.now _ m refl refl refl refl refl held) size
+    c.push_value.ensures.split m c.args.bytes.now (IsSplit_alike c.args.self.now _ m refl refl refl refl held) size
     (c.subtree_of-value.ensures
-    ∙ run_whole c.args.self.now.key c.args.self.now.flags c.args.self.now.closed c.args.bytes.now
+    ∙ run_whole c.args.self.now.parameters.key c.args.self.now.parameters.flags c.args.self.now.closed c.args.bytes.now
     (c.args.level + 3) size)

@@ -22,6 +22,6 @@ invariant_of-self c = record {
 pub returns-clause-split : goal.returns-clause-split
 returns-clause-split c = λ m y held size is.
     IsSplit_subtree c.args.self.now _ m y c.args.value c.args.level held c.requires.empty c.requires.aligned
-    size refl refl
+    size refl
     (ap (λ (n : ℕ). c.args.self.now.closed + n) c.subtree_chunks-chunks.ensures) (omega arith) refl is
     (rw c.subtree_chunks-chunks.ensures at c.push_subtree.ensures.subtrees)

@@ -60,7 +60,7 @@ returns-clause-holds c = λ m x held is_value.
     let pushed = rw size at c.push_subtree.ensures.subtrees in
     record {
       len = omega (arith, length-append m x);
-      stack = rw size (row_push self.key self.flags self.first_chunk m x self.value _ _ j self.closed aligned
+      stack = rw size (row_push self.parameters.key self.parameters.flags self.first_chunk m x self.value _ _ j self.closed aligned
           (omega arith) (omega arith) held.stack held.value pushed);
       value = rw (behind, ← next) is_value.value;
     }

@@ -39,12 +39,12 @@ loop-left-init c =
     record {
       within = omega arith;
       root = λ m held.
-          let last : Node = tree self.key self.flags (self.first_chunk + self.closed) (drop (1024 * self.closed) m) in
-          let over : root_over self.key self.flags items last ≡ tree self.key self.flags self.first_chunk m
-          = rw c.as_slice-stack.ensures.value (row_root self.key self.flags self.first_chunk m self.stack.items
+          let last : Node = tree self.parameters.key self.parameters.flags (self.first_chunk + self.closed) (drop (1024 * self.closed) m) in
+          let over : root_over self.parameters.key self.parameters.flags items last ≡ tree self.parameters.key self.parameters.flags self.first_chunk m
+          = rw c.as_slice-stack.ensures.value (row_root self.parameters.key self.parameters.flags self.first_chunk m self.stack.items
           self.closed self.len self.last used (sym held.len) held.stack) in
           rw (c.parent-node.ensures, held.value)
-          (root_over_more self.key self.flags items (n - 1) _ [] last _ (omega arith) refl
+          (root_over_more self.parameters.key self.parameters.flags items (n - 1) _ [] last _ (omega arith) refl
           (rw (whole, take_all n items (omega arith)) over));
     }
 
@@ -58,7 +58,7 @@ loop-left-preserved c =
       root = λ m held.
           let next : left ≡ left - 1 + 1 = omega arith in
           rw (c.parent-node-in-loop-left.ensures, c.chaining_value.ensures)
-          (root_over_more self.key self.flags items (left - 1) _ [] c.loop-left.node _ (omega arith) refl
+          (root_over_more self.parameters.key self.parameters.flags items (left - 1) _ [] c.loop-left.node _ (omega arith) refl
           (rw next at (c.loop-left.invariant.root m held)));
     }
 

@@ -8,8 +8,8 @@ abbrev pub invariant-loop-left : goal.invariant-loop-left
 invariant-loop-left l = record {
   within : l.left ≤ length l.stack;
   root : (m : List ℕ) → HoldsRow l.self m
-      → root_over l.self.key l.self.flags (take l.left l.stack) l.node
-      ≡ tree l.self.key l.self.flags l.self.first_chunk m;
+      → root_over l.self.parameters.key l.self.parameters.flags (take l.left l.stack) l.node
+      ≡ tree l.self.parameters.key l.self.parameters.flags l.self.first_chunk m;
 }
 
 abbrev pub decreases-loop-left : goal.decreases-loop-left

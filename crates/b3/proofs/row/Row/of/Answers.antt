@@ -22,6 +22,6 @@ invariant_of-result-clause-last c =
 pub returns-clause-holds : goal.returns-clause-holds
 returns-clause-holds c = λ m is_value. record {
   len = omega (arith, is_value.len);
-  stack = c.new.ensures ∙ sym (subtrees_none (run_cv c.key-key.result c.flags.result c.args.part.first_chunk m) 54 0);
-  value = rw (c.key-key.ensures, c.flags.ensures, add-zero) is_value.value;
+  stack = c.new.ensures ∙ sym (subtrees_none (run_cv c.parameters.result.key c.parameters.result.flags c.args.part.first_chunk m) 54 0);
+  value = rw (c.parameters.ensures.key, c.parameters.ensures.flags, add-zero) is_value.value;
 }
