@@ -1,18 +1,15 @@
 -- The recursion of the tree from the top is a fold of its subtrees from the end: over k closed
 -- chunks and a last one, the left subtrees of the recursion are the trees of the one-bits of k.
 use Rattle.std.proofs.Common.{◌≡◌, ℕ, zero, suc, ◌+◌, ◌-◌, ◌*◌, ◌^◌, ◌<◌, ◌≤◌, List, [], ◌∷◌, ◌++◌, length, take}
-use Rattle.std.proofs.Common.{drop, refl, sym, ap, ap₂, ◌∙◌, inl, inr, arith, add-zero, zero-add, pow_pos, pow_mono}
+use Rattle.std.proofs.Common.{drop, refl, sym, ap, ◌∙◌, arith, add-zero, pow_pos, pow_mono}
 use Rattle.std.proofs.Common.{length-drop, length-take-le}
 use Rattle.std.proofs.Math.Nat.{pow-succ'}
-use Rattle.std.proofs.lemmas.Bool.{cases_lt, le-leb, lt-leb}
+use Rattle.std.proofs.lemmas.Bool.{le-leb, lt-leb}
 use Rattle.std.proofs.lemmas.List.{drop-drop, take-take, drop-take, take-append-le, drop-append-le}
-use Rattle.b3.specs.inside.Subtrees.{subtrees}
 use Rattle.b3.specs.Node.{Node, cv}
 use Rattle.b3.specs.Chunk.{chunk}
 use Rattle.b3.specs.Tree.{parent, tree_within, tree, chunk_count, IsGreatestPowerBelow}
-use Rattle.b3.specs.inside.Stack.{subtree_cv}
 use Rattle.b3.specs.inside.Runs.{run_cv}
-use Rattle.b3.proofs.Subtrees.{subtrees_low, subtrees_high}
 
 n-lt-pow : (n : ℕ) → n < 2 ^ n
 n-lt-pow zero = pow_pos 0
@@ -84,45 +81,6 @@ root_over-push key flags [] x last = refl
 root_over-push key flags (y ∷ ys) x last =
     ap (λ (n : Node). parent key flags y (cv n)) (root_over-push key flags ys x last)
 
-module _ (key : List ℕ) (flags : ℕ) (m : List ℕ) where
-  -- the tree from chunk i on is folded from the subtrees of its closed chunks and its last chunk
-  pub tree_fold : (l i k : ℕ) → k + 1 ≡ chunk_count (drop (1024 * i) m) → k < 2 ^ l
-      → tree_within l key flags i (drop (1024 * i) m)
-      ≡ root_over key flags (subtrees (subtree_cv key flags m) l i k)
-      (chunk key flags (i + k) (drop (1024 * (i + k)) m))
-  unfolding root_over subtrees tree_within subtree_cv
-  tree_fold zero i k n h =
-      let z : k ≡ 0 = omega arith in
-      rw (z, add-zero) refl
-  tree_fold (suc l) i k n h =
-      let p : ℕ = 2 ^ l in
-      let double : 2 ^ suc l ≡ 2 * p = pow-succ' 2 l in
-      let rest : List ℕ = drop (1024 * i) m in
-      let folded = λ (xs : List (List ℕ)). root_over key flags xs (chunk key flags (i + k) (drop (1024 * (i + k)) m)) in
-      elim (cases_lt k p) [
-        | inl lt ↦
-            within_low key flags l i rest (omega arith)
-            ∙ tree_fold l i k n lt
-            ∙ ap folded (sym (subtrees_low (subtree_cv key flags m) l i k lt))
-        | inr ge ↦
-            let len : length (take (1024 * p) rest) ≡ 1024 * p = length-take-le (1024 * p) rest (omega arith) in
-            let left : tree_within l key flags i (take (1024 * p) rest) ≡ tree key flags i (take (1024 * p) rest)
-            = within_enough key flags l i (take (1024 * p) rest) (omega (arith, pow_pos l)) in
-            let at : 1024 * i + 1024 * p ≡ 1024 * (i + p) = omega arith in
-            let moved : drop (1024 * p) rest ≡ drop (1024 * (i + p)) m
-            = drop-drop (1024 * p) (1024 * i) m ∙ ap (λ (n : ℕ). drop n m) at in
-            let count : k - p + 1 ≡ chunk_count (drop (1024 * (i + p)) m)
-            = omega (arith, ap length moved, length-drop (1024 * p) rest) in
-            let ih = tree_fold l (i + p) (k - p) count (omega arith) in
-            let place : i + p + (k - p) ≡ i + k = omega arith in
-            let right : tree_within l key flags (i + p) (drop (1024 * p) rest)
-            ≡ folded (subtrees (subtree_cv key flags m) l (i + p) (k - p))
-            = rw moved (rw place at ih) in
-            within_high key flags l i rest (omega arith)
-            ∙ rw (left, right) refl
-            ∙ ap folded (sym (subtrees_high (subtree_cv key flags m) l i k ge))
-      ]
-
 -- in a run of chunks
 module _ (key : List ℕ) (flags c : ℕ) (m : List ℕ) where
   -- two subtrees of one size side by side are a subtree
@@ -170,27 +128,3 @@ module _ (key : List ℕ) (flags c : ℕ) (m : List ℕ) where
       let part : take n (drop (1024 * i) m ++ x) ≡ take n (drop (1024 * i) m)
       = take-append-le n (drop (1024 * i) m) x (omega arith) in
       ap (λ (ys : List ℕ). cv (tree key flags (c + i) ys)) (ap (λ (ys : List ℕ). take n ys) start ∙ part)
-
--- a whole message is the run from chunk 0 on
-module _ (key : List ℕ) (flags : ℕ) (m : List ℕ) where
-  subtree_run : (l i : ℕ) → run_cv key flags 0 m l i ≡ subtree_cv key flags m l i
-  unfolding run_cv subtree_cv
-  subtree_run l i = ap (λ (n : ℕ). cv (tree key flags n (take (1024 * 2 ^ l) (drop (1024 * i) m)))) (zero-add i)
-
-  pub subtree_join : (l i : ℕ) → 1024 * (i + 2 ^ suc l) ≤ length m
-      → subtree_cv key flags m (suc l) i
-      ≡ cv (parent key flags (subtree_cv key flags m l i) (subtree_cv key flags m l (i + 2 ^ l)))
-  subtree_join l i h =
-      sym (subtree_run (suc l) i) ∙ run_join key flags 0 m l i h
-      ∙ ap₂ (λ (x y : List ℕ). cv (parent key flags x y)) (subtree_run l i) (subtree_run l (i + 2 ^ l))
-
-  pub subtree_chunk : (i : ℕ) → 1024 * (i + 1) ≤ length m
-      → subtree_cv key flags m 0 i ≡ cv (chunk key flags i (take 1024 (drop (1024 * i) m)))
-  subtree_chunk i h =
-      sym (subtree_run 0 i) ∙ run_chunk key flags 0 m i h
-      ∙ ap (λ (n : ℕ). cv (chunk key flags n (take 1024 (drop (1024 * i) m)))) (zero-add i)
-
-pub subtree_append : (key : List ℕ) (flags : ℕ) (m x : List ℕ) (l i : ℕ) → 1024 * (i + 2 ^ l) ≤ length m
-    → subtree_cv key flags (m ++ x) l i ≡ subtree_cv key flags m l i
-subtree_append key flags m x l i h =
-    sym (subtree_run key flags (m ++ x) l i) ∙ run_append key flags 0 m x l i h ∙ subtree_run key flags m l i

@@ -5,16 +5,17 @@ use Rattle.std.proofs.Common.{drop, refl, sym, ap, ◌∙◌, inl, inr, arith, a
 use Rattle.std.proofs.Common.{mul-le-mul_left, length-append, length-drop}
 use Rattle.std.proofs.Math.Nat.{pow-succ', mul-sub, mul-mod_right, mul_assoc, mul_comm, div-add-mod}
 use Rattle.std.proofs.lemmas.Bool.{cases_lt}
-use Rattle.std.proofs.lemmas.List.{drop-drop, drop_at, take_all, take_at}
+use Rattle.std.proofs.lemmas.List.{drop-drop, drop_at, take_at}
 use Rattle.b3.specs.inside.Subtrees.{subtrees}
 use Rattle.b3.specs.Node.{cv}
 use Rattle.b3.specs.Tree.{parent, tree, chunk_count, IsGreatestPowerBelow}
 use Rattle.b3.specs.Parts.{IsPlacedAt}
-use Rattle.b3.specs.inside.Stack.{IsPushed}
+use Rattle.b3.specs.inside.Hasher.{Holds}
 use Rattle.b3.specs.inside.Runs.{run_cv}
-use Rattle.b3.proofs.Subtrees.{subtrees_none, subtrees_low, subtrees_high, subtrees_same, step_below}
-use Rattle.b3.proofs.Folding.{root_over, run_append, run_join, tree_split}
-use Rattle.b3.proofs.Holding.{run_count, run_start}
+use Rattle.b3.specs.declared.hasher.Blake3.{Blake3}
+use Rattle.b3.proofs.Subtrees.{subtrees_none, subtrees_low, subtrees_high, step_below}
+use Rattle.b3.proofs.Folding.{root_over, tree_split}
+use Rattle.b3.proofs.Holding.{run_start}
 use Rattle.b3.proofs.Powers.{least_power}
 
 -- two neighbours: the left one has 2 ^ e full chunks, and the right one at most so many
@@ -144,34 +145,19 @@ placed_within e c n aligned none few limit = (
       rw is (mul-mod_right p (2 ^ (e - f) * (c / 2 ^ e))),
 )
 
--- the last part was closed, and bytes come behind it
-pub row_push : (key : List ℕ) (flags f : ℕ) (m x value : List ℕ) (old new : List (List ℕ)) (j c : ℕ)
-    → c % 2 ^ j ≡ 0 → length m ≡ 1024 * (c + 2 ^ j) → c + 2 ^ j < 2 ^ 54
-    → old ≡ subtrees (run_cv key flags f m) 54 0 c
-    → value ≡ cv (tree key flags (f + c) (drop (1024 * c) m))
-    → IsPushed key flags old value ((c + 2 ^ j) / 2 ^ j) new
-    → new ≡ subtrees (run_cv key flags f (m ++ x)) 54 0 (c + 2 ^ j)
-unfolding run_cv
-row_push key flags f m x value old new j c aligned len fits stack held pushed =
-    let v : ℕ = 2 ^ j in
-    let count : ℕ = (c + v) / v in
-    let a : ℕ = c / v in
-    let values : ℕ → ℕ → List ℕ = run_cv key flags f m in
-    let counted : count ≡ a + 1 = run_count v c (pow_pos j) aligned in
-    let start : a * v ≡ c = run_start v c aligned in
-    let back : a + 1 - 1 ≡ a = omega arith in
-    let before : v * (count - 1) ≡ c = rw (counted, back) (omega (arith, start)) in
-    let after : v * count ≡ c + v = rw counted (omega (arith, start)) in
-    let rest : length (drop (1024 * c) m) ≡ length m - 1024 * c = length-drop (1024 * c) m in
-    let last : value ≡ values j c
-    = held ∙ ap (λ (ys : List ℕ). cv (tree key flags (f + c) ys))
-    (sym (take_all (1024 * v) (drop (1024 * c) m) (omega arith))) in
-    let items : new ≡ subtrees values 54 0 (v * count)
-    = pushed values j (λ l i h. run_join key flags f m l i (omega (arith, after, h))) (omega (arith, after))
-    (stack ∙ ap (λ (n : ℕ). subtrees values 54 0 n) (sym before)) (last ∙ ap (λ (n : ℕ). values j n) (sym before)) in
-    items ∙ ap (λ (n : ℕ). subtrees values 54 0 n) after
-    ∙ sym (subtrees_same (run_cv key flags f (m ++ x)) values (c + v) 54 0 (c + v)
-    (λ a i h. run_append key flags f m x a i (omega arith)) (omega arith))
+-- the open chunk of a hasher stands where a part can, and is a tree of its own
+pub Holds_last : (s : Blake3) (m : List ℕ) → Holds s m → 1024 * s.stack.closed + s.chunk.len ≤ 2 ^ 64 - 1
+    → IsPlacedAt s.stack.closed (length m - 1024 * s.stack.closed)
+    × (chunk_count (drop (1024 * s.stack.closed) m) ≡ 1)
+Holds_last s m held fits =
+    let k : ℕ = s.stack.closed in
+    let rest : length (drop (1024 * k) m) ≡ length m - 1024 * k = length-drop (1024 * k) m in
+    let len : s.chunk.len ≡ length (drop (1024 * k) m) = held.split.open_chunk.len in
+    let within : 1024 * k ≤ length m = held.split.within in
+    let last : k + 1 ≡ chunk_count m = held.last in (
+      placed_within 0 k (length m - 1024 * k) (omega arith) (λ none. omega (arith, none)) (omega arith) (omega arith),
+      omega arith,
+    )
 
 -- the chaining values and the last part are the tree
 pub row_root : (key : List ℕ) (flags f : ℕ) (m : List ℕ) (items : List (List ℕ)) (c n : ℕ)

@@ -6,6 +6,7 @@ use Rattle.words.specs.Blake3.{compress3}
 use Rattle.words.specs.Words.{words}
 use Rattle.b3.specs.Node.{cv}
 use Rattle.b3.specs.Chunk.{chunk, value_before, block, block_words, last_block, start_flag}
+use Rattle.b3.specs.inside.Runs.{chunk_cv, value_before_last}
 
 -- a chunk that is whole
 pub chunk_full : (x : List ℕ) (k : ℕ) → 1024 * k + 1024 ≤ length x → length (take 1024 (drop (1024 * k) x)) ≡ 1024
@@ -38,34 +39,6 @@ lane_block x b i j w hj e =
     = length-take-le 64 (drop (1024 * i + 64 * j) x) (omega (arith, length-drop (1024 * i + 64 * j) x)) in
     sym (ap block_words (sym here) ∙ block_words_full b (ap length e ∙ size))
 
--- what holds of each number below four
-pub below_four : (P : ℕ → Type 0) → P 0 → P 1 → P 2 → P 3 → (i : ℕ) → i < 4 → P i
-below_four P p0 p1 p2 p3 zero h = p0
-below_four P p0 p1 p2 p3 (suc zero) h = p1
-below_four P p0 p1 p2 p3 (suc (suc zero)) h = p2
-below_four P p0 p1 p2 p3 (suc (suc (suc zero))) h = p3
-below_four P p0 p1 p2 p3 (suc (suc (suc (suc n)))) h = absurd (omega arith)
-
--- what holds of each of the eight lanes
-pub below_eight : (P : ℕ → Type 0) → P 0 → P 1 → P 2 → P 3 → P 4 → P 5 → P 6 → P 7 → (i : ℕ) → i < 8 → P i
-below_eight P p0 p1 p2 p3 p4 p5 p6 p7 zero h = p0
-below_eight P p0 p1 p2 p3 p4 p5 p6 p7 (suc zero) h = p1
-below_eight P p0 p1 p2 p3 p4 p5 p6 p7 (suc (suc zero)) h = p2
-below_eight P p0 p1 p2 p3 p4 p5 p6 p7 (suc (suc (suc zero))) h = p3
-below_eight P p0 p1 p2 p3 p4 p5 p6 p7 (suc (suc (suc (suc zero)))) h = p4
-below_eight P p0 p1 p2 p3 p4 p5 p6 p7 (suc (suc (suc (suc (suc zero))))) h = p5
-below_eight P p0 p1 p2 p3 p4 p5 p6 p7 (suc (suc (suc (suc (suc (suc zero)))))) h = p6
-below_eight P p0 p1 p2 p3 p4 p5 p6 p7 (suc (suc (suc (suc (suc (suc (suc zero))))))) h = p7
-below_eight P p0 p1 p2 p3 p4 p5 p6 p7 (suc (suc (suc (suc (suc (suc (suc (suc n)))))))) h = absurd (omega arith)
-
--- the same, of a lane that begins at its own chunk
-pub lane_read : (x r : List ℕ) (start i j : ℕ) → r ≡ words 4 16 (take 64 (drop (start + 64 * j) x))
-    → (1024 * i ≤ length x - 1024 → start ≡ 1024 * i)
-    → j < 16 → 1024 * i + 1024 ≤ length x → r ≡ block_words (block (take 1024 (drop (1024 * i) x)) j)
-lane_read x r start i j e own h w =
-    let here : start ≡ 1024 * i = own (omega arith) in
-    e ∙ lane_block x (take 64 (drop (start + 64 * j) x)) i j w h (ap (λ (a : ℕ). take 64 (drop (a + 64 * j) x)) here)
-
 -- the flags of a block that is not the last of sixteen
 pub flag_more : (flags j d : ℕ) → (j ≡ 0 → d ≡ flags + 1) → (0 < j → j < 15 → d ≡ flags) → j < 15
     → d ≡ flags + start_flag j
@@ -93,3 +66,27 @@ value_last key flags c d x len e =
     let size : length (block x 15) ≡ 64 = length-take-le 64 (drop 960 x) (omega (arith, length-drop 960 x)) in
     let none : flags + 0 ≡ flags = omega arith in
     rw (last, size, e, none) refl
+
+-- one block more of chunk k, which is read at `at`
+pub block_more : (key : List ℕ) (flags c d : ℕ) (x : List ℕ) (k j t at : ℕ) (value read next : List ℕ)
+    → 1024 * k + 1024 ≤ length x → j < 16
+    → value ≡ value_before key flags (c + k) (take 1024 (drop (1024 * k) x)) j
+    → read ≡ words 4 16 (take 64 (drop at x)) → at ≡ 1024 * k + 64 * j → t ≡ c + k
+    → next ≡ take 8 (compress3 value read t 64 d)
+    → (j ≡ 0 → d ≡ flags + 1) → (0 < j → j < 15 → d ≡ flags) → (j ≡ 15 → d ≡ flags + 2)
+    → (j + 1 < 16 → next ≡ value_before key flags (c + k) (take 1024 (drop (1024 * k) x)) (j + 1))
+    × (j + 1 ≡ 16 → value ≡ value_before_last key flags c x k)
+    × (j + 1 ≡ 16 → next ≡ chunk_cv key flags c x k)
+block_more key flags c d x k j t at value read next w h here words_at place number made first later last =
+    let whole = words_at ∙ lane_block x (take 64 (drop at x)) k j w h (ap (λ (a : ℕ). take 64 (drop a x)) place) in (
+      λ more. made ∙ rw (here, whole, number)
+          (value_more key flags (c + k) d (take 1024 (drop (1024 * k) x)) j (chunk_full x k w) (omega arith)
+          (flag_more flags j d first later (omega arith))),
+      λ done.
+          let end : j ≡ 15 = omega arith in
+          here ∙ ap (λ (n : ℕ). value_before key flags (c + k) (take 1024 (drop (1024 * k) x)) n) end,
+      λ done.
+          let end : j ≡ 15 = omega arith in
+          made ∙ rw (here, whole, number, end)
+          (value_last key flags (c + k) d (take 1024 (drop (1024 * k) x)) (chunk_full x k w) (last end)),
+    )

@@ -12,7 +12,7 @@ use Rattle.b3.specs.Tree.{tree}
 use Rattle.b3.specs.inside.Stack.{joined_cv}
 use Rattle.b3.specs.inside.Runs.{run_cv, value_before_last}
 use Rattle.b3.proofs.Folding.{run_join, run_append}
-use Rattle.b3.proofs.Lanes8.{below_eight}
+use Rattle.words.proofs.LaneLemmas.{below_eight}
 
 pub run_shift : (key : List ℕ) (flags c k : ℕ) (m : List ℕ) (l i : ℕ)
     → run_cv key flags (c + k) (drop (1024 * k) m) l i ≡ run_cv key flags c m l (k + i)

@@ -2,16 +2,14 @@
 
 ghost use Rattle.std.specs.Prelude.{◌≡◌, ℕ, ◌+◌, ◌-◌, ◌*◌, ◌%◌, ◌^◌, ◌<◌, ◌≤◌, List, [], ◌∷◌, ◌++◌, length};
 ghost use Rattle.std.specs.Prelude.{slice_index_or, take, count_ones};
-ghost use Rattle.arrayvec.specs.ArrayVec.{array_vec_len};
 
 use crate::chunk::{CHUNK_LEN, Chunk};
 use crate::lanes::{chunk_values, open_lefts, subtree_of};
-use crate::mode::{DERIVE_KEY_MATERIAL, KEYED_HASH, key_of_context, words_of_key};
-use crate::node::{BLOCK_LEN, Node};
+use crate::mode::{Mode, Parameters};
+use crate::node::BLOCK_LEN;
 use crate::output::Output;
-use crate::stack::push_subtree;
-use arrayvec::ArrayVec;
-use words::{Absorb, IV32};
+use crate::stack::Stack;
+use words::Absorb;
 
 // The bytes of eight chunks.
 pub(crate) const GROUP_LEN: usize = 8192;
@@ -25,28 +23,9 @@ fn run_level(closed: u64, left: usize) -> u32
     ensures run { 8192 * 2 ^ result ≤ left }
     ensures bound { result ≤ 7 }
 {
-    if closed % 1024 == 0 && left >= 1048576 {
-        return 7;
-    }
-    if closed % 512 == 0 && left >= 524288 {
-        return 6;
-    }
-    if closed % 256 == 0 && left >= 262144 {
-        return 5;
-    }
-    if closed % 128 == 0 && left >= 131072 {
-        return 4;
-    }
-    if closed % 64 == 0 && left >= 65536 {
-        return 3;
-    }
-    if closed % 32 == 0 && left >= 32768 {
-        return 2;
-    }
-    if closed % 16 == 0 && left >= 16384 {
-        return 1;
-    }
-    0
+    let aligned = (closed / 8).trailing_zeros();
+    let longest = (left / GROUP_LEN).ilog2();
+    aligned.min(longest).min(7)
 }
 
 // The bytes of a run of 8 * 2 ^ level chunks.
@@ -81,19 +60,14 @@ fn whole_chunks(closed: u64, left: usize) -> usize
 /// bytes in all, takes no memory, and holds at most 54 chaining values.
 #[derive(Drop)]
 pub struct Blake3 {
-    pub(crate) key: [u32; 8],
-    pub(crate) flags: u8,
-    // the chaining values of the subtrees of closed chunks
-    pub(crate) stack: ArrayVec<[u32; 8], 54>,
-    // how many chunks are closed, which is the number of the open one
-    pub(crate) closed: u64,
+    // the closed chunks; their number is that of the open one
+    pub(crate) stack: Stack,
     pub(crate) chunk: Chunk,
-    ghost one_bits: { array_vec_len stack ≡ count_ones closed },
-    ghost length_fits: { 1024 * closed + chunk.len ≤ 2 ^ 64 - 1 },
+    ghost length_fits: { 1024 * stack.closed + chunk.len ≤ 2 ^ 64 - 1 },
 }
 
 impl Blake3 {
-    ghost use Rattle.b3.specs.inside.Hasher.{Holds, IsSplit, hasher_count, hasher_room, hasher_parameters};
+    ghost use Rattle.b3.specs.inside.Hasher.{Adds, Holds, IsSplit, hasher_count, hasher_room, hasher_parameters};
     ghost use Rattle.b3.specs.inside.Output.{output_root, output_position};
     ghost use Rattle.b3.specs.Modes.{hash_parameters, keyed_parameters, derive_parameters, root_of};
     ghost use Rattle.b3.specs.Tree.{chunk_count, tree};
@@ -107,7 +81,7 @@ impl Blake3 {
         ensures room { ⟦<Blake3 as Absorb>⟧.room_left result ≡ 2 ^ 64 - 1 }
         ensures holds { ⟦<Blake3 as Absorb>⟧.holds result [] }
     {
-        Blake3::under(IV32, 0)
+        Blake3::under(Mode::Hash.parameters())
     }
 
     /// A hasher of the empty input in the mode `keyed_hash`, under a key of 32 bytes (section 2.3).
@@ -116,7 +90,7 @@ impl Blake3 {
         ensures room { ⟦<Blake3 as Absorb>⟧.room_left result ≡ 2 ^ 64 - 1 }
         ensures holds { ⟦<Blake3 as Absorb>⟧.holds result [] }
     {
-        Blake3::under(words_of_key(key), KEYED_HASH)
+        Blake3::under(Mode::Keyed(*key).parameters())
     }
 
     /// A hasher of no key material yet in the mode `derive_key`, under a context (section 2.3). The
@@ -127,21 +101,18 @@ impl Blake3 {
         ensures room { ⟦<Blake3 as Absorb>⟧.room_left result ≡ 2 ^ 64 - 1 }
         ensures holds { ⟦<Blake3 as Absorb>⟧.holds result [] }
     {
-        Blake3::under(words_of_key(&key_of_context(context)), DERIVE_KEY_MATERIAL)
+        Blake3::under(Mode::derive(context).parameters())
     }
 
-    /// A hasher of the empty input under key words and a mode's flag.
-    pub(crate) fn under(key: [u32; 8], flags: u8) -> Blake3
-        ensures parameters { hasher_parameters result ≡ flags ∷ key }
+    /// A hasher of the empty input under a mode's key words and flag.
+    pub(crate) fn under(parameters: Parameters) -> Blake3
+        ensures parameters { hasher_parameters result ≡ parameters.flags ∷ parameters.key }
         ensures room { hasher_room result ≡ 2 ^ 64 - 1 }
         ensures holds { Holds result [] }
     {
         Blake3 {
-            key,
-            flags,
-            stack: ArrayVec::new(),
-            closed: 0,
-            chunk: Chunk::new(&key),
+            stack: Stack::new(parameters),
+            chunk: Chunk::new(&parameters.key),
         }
     }
 
@@ -150,7 +121,7 @@ impl Blake3 {
         ensures value { result + ⟦<Blake3 as Absorb>⟧.room_left self.now ≡ 2 ^ 64 - 1 }
         ensures message { (m : List ℕ) → ⟦<Blake3 as Absorb>⟧.holds self.now m → result ≡ length m }
     {
-        CHUNK_LEN as u64 * self.closed + self.chunk.len() as u64
+        CHUNK_LEN as u64 * self.stack.closed + self.chunk.len() as u64
     }
 
     /// How many chaining values the hasher holds: for n chunks of input, as many as n - 1 has
@@ -160,7 +131,7 @@ impl Blake3 {
             → result ≡ count_ones (chunk_count m - 1) }
         ensures bound { result ≤ 54 }
     {
-        self.stack.len()
+        self.stack.values.len()
     }
 
     /// The output of what the hasher has taken, at position 0. The hasher can go on.
@@ -169,14 +140,12 @@ impl Blake3 {
             → output_root result ≡ root_of (⟦<Blake3 as Absorb>⟧.parameters self.now) m }
         ensures position { output_position result ≡ 0 }
     {
-        let mut node = self.chunk.node(self.closed, self.flags);
-        let mut left = self.stack.len();
-        let stack = self.stack.as_slice();
-        while left > 0 {
-            left -= 1;
-            node = Node::parent(&self.key, self.flags, &stack[left], &node.chaining_value());
+        let flags = self.stack.parameters.flags;
+        let node = self.chunk.node(self.stack.closed, flags);
+        if self.stack.closed == 0 {
+            return Output::of(node);
         }
-        Output::of(node)
+        Output::of(self.stack.fold(&node.chaining_value()))
     }
 
     /// Closes the open chunk where it is full, since more bytes follow.
@@ -190,50 +159,37 @@ impl Blake3 {
         if self.chunk.len() < CHUNK_LEN {
             return;
         }
-        let value = self.chunk.node(self.closed, self.flags).chaining_value();
-        self.closed += 1;
-        push_subtree(&mut self.stack, &self.key, self.flags, value, self.closed);
-        self.chunk = Chunk::new(&self.key);
+        let flags = self.stack.parameters.flags;
+        let node = self.chunk.node(self.stack.closed, flags);
+        self.stack.push(1, node.chaining_value());
+        self.chunk = Chunk::new(&self.stack.parameters.key);
     }
 
     // Adds a subtree of 2 ^ level chunks by its chaining value; more bytes follow it.
     fn push_value(&mut self, level: u32, value: [u32; 8])
         requires empty { self.old.chunk.len ≡ 0 }
         requires bound { level ≤ 10 }
-        requires aligned { self.old.closed % 2 ^ level ≡ 0 }
-        requires more { 1024 * self.old.closed + 1024 * 2 ^ level + 1 < 2 ^ 64 }
-        ensures key { self.new.key ≡ self.old.key }
-        ensures flags { self.new.flags ≡ self.old.flags }
-        ensures closed { self.new.closed ≡ self.old.closed + 2 ^ level }
+        requires aligned { self.old.stack.closed % 2 ^ level ≡ 0 }
+        requires more { 1024 * self.old.stack.closed + 1024 * 2 ^ level + 1 < 2 ^ 64 }
+        ensures parameters { self.new.stack.parameters ≡ self.old.stack.parameters }
+        ensures closed { self.new.stack.closed ≡ self.old.stack.closed + 2 ^ level }
         ensures chunk { self.new.chunk.len ≡ 0 }
         ensures split { (m y : List ℕ) → IsSplit self.old m → length y ≡ 1024 * 2 ^ level
-            → value ≡ cv (tree self.old.key self.old.flags self.old.closed y) → IsSplit self.new (m ++ y) }
+            → value ≡ cv (tree self.old.stack.parameters.key self.old.stack.parameters.flags self.old.stack.closed y) → IsSplit self.new (m ++ y) }
     {
-        let chunks = subtree_chunks(level);
-        self.closed += chunks;
-        push_subtree(
-            &mut self.stack,
-            &self.key,
-            self.flags,
-            value,
-            self.closed / chunks,
-        );
+        self.stack.push(subtree_chunks(level), value);
     }
 
     // Adds a run of 8 * 2 ^ level chunks; more bytes follow it.
     fn push_run(&mut self, level: u32, bytes: &[u8])
         requires empty { self.old.chunk.len ≡ 0 }
         requires bound { level ≤ 7 }
-        requires aligned { self.old.closed % (8 * 2 ^ level) ≡ 0 }
+        requires aligned { self.old.stack.closed % (8 * 2 ^ level) ≡ 0 }
         requires length { length bytes.now ≡ 8192 * 2 ^ level }
-        requires more { 1024 * self.old.closed + length bytes.now + 1 < 2 ^ 64 }
-        ensures key { self.new.key ≡ self.old.key }
-        ensures flags { self.new.flags ≡ self.old.flags }
-        ensures closed { 1024 * self.new.closed ≡ 1024 * self.old.closed + length bytes.now }
-        ensures chunk { self.new.chunk.len ≡ 0 }
-        ensures split { (m : List ℕ) → IsSplit self.old m → IsSplit self.new (m ++ bytes.now) }
+        requires more { 1024 * self.old.stack.closed + length bytes.now + 1 < 2 ^ 64 }
+        ensures { Adds self.old self.new bytes.now 0 }
     {
-        let value = subtree_of(&self.key, self.flags, self.closed, level, bytes);
+        let value = subtree_of(&self.stack.parameters, self.stack.closed, level, bytes);
         self.push_value(level + 3, value);
     }
 
@@ -241,16 +197,12 @@ impl Blake3 {
     fn open_run(&mut self, level: u32, bytes: &[u8])
         requires empty { self.old.chunk.len ≡ 0 }
         requires bound { level ≤ 7 }
-        requires aligned { self.old.closed % (8 * 2 ^ level) ≡ 0 }
+        requires aligned { self.old.stack.closed % (8 * 2 ^ level) ≡ 0 }
         requires length { length bytes.now ≡ 8192 * 2 ^ level }
-        requires more { 1024 * self.old.closed + length bytes.now < 2 ^ 64 }
-        ensures key { self.new.key ≡ self.old.key }
-        ensures flags { self.new.flags ≡ self.old.flags }
-        ensures closed { 1024 * self.new.closed + 1024 ≡ 1024 * self.old.closed + length bytes.now }
-        ensures chunk { self.new.chunk.len ≡ 1024 }
-        ensures split { (m : List ℕ) → IsSplit self.old m → IsSplit self.new (m ++ bytes.now) }
+        requires more { 1024 * self.old.stack.closed + length bytes.now < 2 ^ 64 }
+        ensures { Adds self.old self.new bytes.now 1024 }
     {
-        let (lefts, before) = open_lefts(&self.key, self.flags, self.closed, level, bytes);
+        let (lefts, before) = open_lefts(&self.stack.parameters, self.stack.closed, level, bytes);
         let mut left = level + 3;
         'lefts: while left > 0 {
             left -= 1;
@@ -263,14 +215,13 @@ impl Blake3 {
     fn push_values(&mut self, values: &[[u32; 8]; 8], n: usize)
         requires empty { self.old.chunk.len ≡ 0 }
         requires bound { n ≤ 8 }
-        requires more { 1024 * self.old.closed + 1024 * n + 1 < 2 ^ 64 }
-        ensures key { self.new.key ≡ self.old.key }
-        ensures flags { self.new.flags ≡ self.old.flags }
-        ensures closed { self.new.closed ≡ self.old.closed + n }
+        requires more { 1024 * self.old.stack.closed + 1024 * n + 1 < 2 ^ 64 }
+        ensures parameters { self.new.stack.parameters ≡ self.old.stack.parameters }
+        ensures closed { self.new.stack.closed ≡ self.old.stack.closed + n }
         ensures chunk { self.new.chunk.len ≡ 0 }
         ensures split { (m y : List ℕ) → IsSplit self.old m → length y ≡ 1024 * n
             → ((i : ℕ) → i < n
-            → slice_index_or values.now i [] ≡ run_cv self.old.key self.old.flags self.old.closed y 0 i)
+            → slice_index_or values.now i [] ≡ run_cv self.old.stack.parameters.key self.old.stack.parameters.flags self.old.stack.closed y 0 i)
             → IsSplit self.new (m ++ y) }
     {
         'chunks: for i in 0..n {
@@ -282,13 +233,12 @@ impl Blake3 {
     fn open_chunk(&mut self, before: [u32; 8], bytes: &[u8])
         requires empty { self.old.chunk.len ≡ 0 }
         requires whole { length bytes.now ≡ 1024 }
-        requires bound { 1024 * self.old.closed + 1024 < 2 ^ 64 }
-        ensures key { self.new.key ≡ self.old.key }
-        ensures flags { self.new.flags ≡ self.old.flags }
-        ensures closed { self.new.closed ≡ self.old.closed }
+        requires bound { 1024 * self.old.stack.closed + 1024 < 2 ^ 64 }
+        ensures parameters { self.new.stack.parameters ≡ self.old.stack.parameters }
+        ensures closed { self.new.stack.closed ≡ self.old.stack.closed }
         ensures chunk { self.new.chunk.len ≡ 1024 }
         ensures split { (m : List ℕ) → IsSplit self.old m
-            → before ≡ value_before self.old.key self.old.flags self.old.closed bytes.now 15
+            → before ≡ value_before self.old.stack.parameters.key self.old.stack.parameters.flags self.old.stack.closed bytes.now 15
             → IsSplit self.new (m ++ bytes.now) }
     {
         self.chunk = Chunk::full(before, &bytes[CHUNK_LEN - BLOCK_LEN..]);
@@ -300,14 +250,10 @@ impl Blake3 {
         requires some { 0 < length bytes.now }
         requires whole { length bytes.now % 1024 ≡ 0 }
         requires bound { length bytes.now ≤ 8192 }
-        requires more { 1024 * self.old.closed + length bytes.now + 1 < 2 ^ 64 }
-        ensures key { self.new.key ≡ self.old.key }
-        ensures flags { self.new.flags ≡ self.old.flags }
-        ensures closed { 1024 * self.new.closed ≡ 1024 * self.old.closed + length bytes.now }
-        ensures chunk { self.new.chunk.len ≡ 0 }
-        ensures split { (m : List ℕ) → IsSplit self.old m → IsSplit self.new (m ++ bytes.now) }
+        requires more { 1024 * self.old.stack.closed + length bytes.now + 1 < 2 ^ 64 }
+        ensures { Adds self.old self.new bytes.now 0 }
     {
-        let (values, _before) = chunk_values(&self.key, self.flags, self.closed, bytes);
+        let (values, _before) = chunk_values(&self.stack.parameters, self.stack.closed, bytes);
         self.push_values(&values, bytes.len() / CHUNK_LEN);
     }
 
@@ -317,14 +263,10 @@ impl Blake3 {
         requires some { 0 < length bytes.now }
         requires whole { length bytes.now % 1024 ≡ 0 }
         requires bound { length bytes.now ≤ 8192 }
-        requires more { 1024 * self.old.closed + length bytes.now < 2 ^ 64 }
-        ensures key { self.new.key ≡ self.old.key }
-        ensures flags { self.new.flags ≡ self.old.flags }
-        ensures closed { 1024 * self.new.closed + 1024 ≡ 1024 * self.old.closed + length bytes.now }
-        ensures chunk { self.new.chunk.len ≡ 1024 }
-        ensures split { (m : List ℕ) → IsSplit self.old m → IsSplit self.new (m ++ bytes.now) }
+        requires more { 1024 * self.old.stack.closed + length bytes.now < 2 ^ 64 }
+        ensures { Adds self.old self.new bytes.now 1024 }
     {
-        let (values, before) = chunk_values(&self.key, self.flags, self.closed, bytes);
+        let (values, before) = chunk_values(&self.stack.parameters, self.stack.closed, bytes);
         let last = bytes.len() / CHUNK_LEN - 1;
         self.push_values(&values, last);
         self.open_chunk(before[last], &bytes[CHUNK_LEN * last..]);
@@ -345,8 +287,8 @@ impl Blake3 {
         ensures last { result ≡ length rest.now → 0 < self.new.chunk.len }
     {
         if self.chunk.len() == 0 && rest.len() >= 2 * CHUNK_LEN {
-            if self.closed % 8 == 0 && rest.len() >= GROUP_LEN {
-                let level = run_level(self.closed, rest.len());
+            if self.stack.closed % 8 == 0 && rest.len() >= GROUP_LEN {
+                let level = run_level(self.stack.closed, rest.len());
                 let n = run_len(level);
                 if n == rest.len() {
                     self.open_run(level, rest);
@@ -359,14 +301,15 @@ impl Blake3 {
                 self.open_chunks(rest);
                 return rest.len();
             }
-            let n = whole_chunks(self.closed, rest.len());
+            let n = whole_chunks(self.stack.closed, rest.len());
             if n >= 2 * CHUNK_LEN {
                 self.push_chunks(&rest[..n]);
                 return n;
             }
         }
         let n = (CHUNK_LEN - self.chunk.len()).min(rest.len());
-        self.chunk.update(self.closed, self.flags, &rest[..n]);
+        let flags = self.stack.parameters.flags;
+        self.chunk.update(self.stack.closed, flags, &rest[..n]);
         n
     }
 }

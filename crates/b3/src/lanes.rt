@@ -6,6 +6,7 @@ ghost use Rattle.b3.specs.inside.Runs.{run_cv, value_before_last};
 ghost use Rattle.words.specs.inside.Lanes.{lane8};
 
 use crate::chunk::CHUNK_LEN;
+use crate::mode::Parameters;
 use crate::node::{BLOCK_LEN, CHUNK_END, CHUNK_START, Node, PARENT, pair};
 use std::simd::prelude::*;
 use words::compress_3x8;
@@ -104,26 +105,26 @@ fn padded(rows: [[u32; 8]; 4]) -> [[u32; 8]; 8]
 
 // The chaining values of at most four whole chunks, and those before the last block of each.
 fn few_chunk_values(
-    key: &[u32; 8],
-    flags: u8,
+    parameters: &Parameters,
     first: u64,
     bytes: &[u8],
 ) -> ([[u32; 8]; 8], [[u32; 8]; 8])
     requires some { 1024 ≤ length bytes.now }
     requires numbers { first + 4 < 2 ^ 64 }
     ensures values { (i : ℕ) → i < 4 → 1024 * i + 1024 ≤ length bytes.now
-        → slice_index_or result.0 i [] ≡ run_cv key.now flags first bytes.now 0 i }
+        → slice_index_or result.0 i [] ≡ run_cv parameters.now.key parameters.now.flags first bytes.now 0 i }
     ensures before { (i : ℕ) → i < 4 → 1024 * i + 1024 ≤ length bytes.now
-        → slice_index_or result.1 i [] ≡ value_before_last key.now flags first bytes.now i }
+        → slice_index_or result.1 i [] ≡ value_before_last parameters.now.key parameters.now.flags first bytes.now i }
 {
     let counters = four_numbers(first);
     let starts = four_starts(bytes.len() - CHUNK_LEN);
     let turns = four::Turns::new();
-    let mut values = four::same_lanes(key);
+    let mut values = four::same_lanes(&parameters.key);
     let mut before = values;
     'each_block: for j in 0..16 {
         let message = four::message_lanes(bytes, &starts, BLOCK_LEN * j);
-        let next = four::next_lanes(turns, values, message, &counters, 64, block_flags(flags, j));
+        let d = block_flags(parameters.flags, j);
+        let next = four::next_lanes(turns, values, message, &counters, 64, d);
         before = values;
         values = next;
     }
@@ -135,30 +136,24 @@ fn few_chunk_values(
 
 // The chaining values of two whole chunks, and those before the last block of each.
 fn two_chunk_values(
-    key: &[u32; 8],
-    flags: u8,
+    parameters: &Parameters,
     first: u64,
     bytes: &[u8],
 ) -> ([[u32; 8]; 8], [[u32; 8]; 8])
     requires length { length bytes.now ≡ 2048 }
     requires numbers { first + 2 < 2 ^ 64 }
-    ensures values { (i : ℕ) → i < 2 → slice_index_or result.0 i [] ≡ run_cv key.now flags first bytes.now 0 i }
+    ensures values { (i : ℕ) → i < 2 → slice_index_or result.0 i [] ≡ run_cv parameters.now.key parameters.now.flags first bytes.now 0 i }
     ensures before { (i : ℕ) → i < 2
-        → slice_index_or result.1 i [] ≡ value_before_last key.now flags first bytes.now i }
+        → slice_index_or result.1 i [] ≡ value_before_last parameters.now.key parameters.now.flags first bytes.now i }
 {
     let counters = [first, first + 1];
-    let mut values = [*key; 2];
+    let mut values = [parameters.key; 2];
     let mut before = values;
     'each_block: for j in 0..16 {
         let left = two::block_words(bytes, BLOCK_LEN * j);
         let right = two::block_words(bytes, CHUNK_LEN + BLOCK_LEN * j);
-        let next = two::next_two(
-            &values,
-            &[left, right],
-            &counters,
-            64,
-            block_flags(flags, j),
-        );
+        let d = block_flags(parameters.flags, j);
+        let next = two::next_two(&values, &[left, right], &counters, 64, d);
         before = values;
         values = next;
     }
@@ -171,8 +166,7 @@ fn two_chunk_values(
 // The chaining values of at most eight whole chunks, by lanes; `before` takes those before the last block of
 // each. Lanes beyond the last chunk read it again.
 fn chunk_lanes(
-    key: &[u32; 8],
-    flags: u8,
+    parameters: &Parameters,
     first: u64,
     bytes: &[u8],
     before: &mut [u32x8; 8],
@@ -180,17 +174,18 @@ fn chunk_lanes(
     requires some { 1024 ≤ length bytes.now }
     requires numbers { first + 8 < 2 ^ 64 }
     ensures values { (i : ℕ) → i < 8 → 1024 * i + 1024 ≤ length bytes.now
-        → lane8 i result ≡ run_cv key.now flags first bytes.now 0 i }
+        → lane8 i result ≡ run_cv parameters.now.key parameters.now.flags first bytes.now 0 i }
     ensures before { (i : ℕ) → i < 8 → 1024 * i + 1024 ≤ length bytes.now
-        → lane8 i before.new ≡ value_before_last key.now flags first bytes.now i }
+        → lane8 i before.new ≡ value_before_last parameters.now.key parameters.now.flags first bytes.now i }
 {
     let counters = numbers(first);
     let starts = lane_starts(bytes.len() - CHUNK_LEN);
     let turns = Turns::new();
-    let mut values = same_lanes(key);
+    let mut values = same_lanes(&parameters.key);
     'each_block: for j in 0..16 {
         let message = message_lanes(bytes, &starts, BLOCK_LEN * j);
-        let next = next_lanes::<0>(turns, values, message, &counters, 64, block_flags(flags, j));
+        let d = block_flags(parameters.flags, j);
+        let next = next_lanes::<0>(turns, values, message, &counters, 64, d);
         *before = values;
         values = next;
     }
@@ -199,40 +194,39 @@ fn chunk_lanes(
 
 /// The chaining values of at most eight whole chunks, and those before the last block of each.
 pub(crate) fn chunk_values(
-    key: &[u32; 8],
-    flags: u8,
+    parameters: &Parameters,
     first: u64,
     bytes: &[u8],
 ) -> ([[u32; 8]; 8], [[u32; 8]; 8])
     requires some { 1024 ≤ length bytes.now }
     requires numbers { first + 8 < 2 ^ 64 }
     ensures values { (i : ℕ) → i < 8 → 1024 * i + 1024 ≤ length bytes.now
-        → slice_index_or result.0 i [] ≡ run_cv key.now flags first bytes.now 0 i }
+        → slice_index_or result.0 i [] ≡ run_cv parameters.now.key parameters.now.flags first bytes.now 0 i }
     ensures before { (i : ℕ) → i < 8 → 1024 * i + 1024 ≤ length bytes.now
-        → slice_index_or result.1 i [] ≡ value_before_last key.now flags first bytes.now i }
+        → slice_index_or result.1 i [] ≡ value_before_last parameters.now.key parameters.now.flags first bytes.now i }
 {
     if bytes.len() == 2 * CHUNK_LEN {
-        return two_chunk_values(key, flags, first, bytes);
+        return two_chunk_values(parameters, first, bytes);
     }
     if bytes.len() <= 4 * CHUNK_LEN {
-        return few_chunk_values(key, flags, first, bytes);
+        return few_chunk_values(parameters, first, bytes);
     }
-    let mut before = same_lanes(key);
-    let values = chunk_lanes(key, flags, first, bytes, &mut before);
+    let mut before = same_lanes(&parameters.key);
+    let values = chunk_lanes(parameters, first, bytes, &mut before);
     (lane_rows(values), lane_rows(before))
 }
 
 // The chaining value over two.
-fn join(key: &[u32; 8], flags: u8, left: &[u32; 8], right: &[u32; 8]) -> [u32; 8]
-    ensures { result ≡ joined_cv key.now flags left.now right.now }
+fn join(parameters: &Parameters, left: &[u32; 8], right: &[u32; 8]) -> [u32; 8]
+    ensures { result ≡ joined_cv parameters.now.key parameters.now.flags left.now right.now }
 {
-    Node::parent(key, flags, left, right).chaining_value()
+    Node::parent(parameters, left, right).chaining_value()
 }
 
 // The chaining values over the neighbours among eight.
-fn parents(key: &[u32; 8], flags: u8, values: &[[u32; 8]; 8]) -> [[u32; 8]; 4]
+fn parents(parameters: &Parameters, values: &[[u32; 8]; 8]) -> [[u32; 8]; 4]
     ensures { (i : ℕ) → i < 4 → slice_index_or result i []
-        ≡ joined_cv key.now flags (slice_index_or values.now (2 * i) []) (slice_index_or values.now (2 * i + 1) []) }
+        ≡ joined_cv parameters.now.key parameters.now.flags (slice_index_or values.now (2 * i) []) (slice_index_or values.now (2 * i + 1) []) }
 {
     let blocks = [
         pair(&values[0], &values[1]),
@@ -244,24 +238,28 @@ fn parents(key: &[u32; 8], flags: u8, values: &[[u32; 8]; 8]) -> [[u32; 8]; 4]
         [0; 16],
         [0; 16],
     ];
-    let d = u32::from(flags) + u32::from(PARENT);
+    let d = u32::from(parameters.flags) + u32::from(PARENT);
     let [first, second, third, fourth, _, _, _, _] = compress_3x8(
-        &[*key; 8], &blocks, &[0; 8], 64, d,
+        &[parameters.key; 8],
+        &blocks,
+        &[0; 8],
+        64,
+        d,
     );
     [first, second, third, fourth]
 }
 
 // The chaining values over the neighbours in two times eight lanes.
-fn parent_lanes(key: &[u32; 8], flags: u8, left: [u32x8; 8], right: [u32x8; 8]) -> [u32x8; 8]
+fn parent_lanes(parameters: &Parameters, left: [u32x8; 8], right: [u32x8; 8]) -> [u32x8; 8]
     ensures left { (i : ℕ) → i < 4
-        → lane8 i result ≡ joined_cv key.now flags (lane8 (2 * i) left) (lane8 (2 * i + 1) left) }
+        → lane8 i result ≡ joined_cv parameters.now.key parameters.now.flags (lane8 (2 * i) left) (lane8 (2 * i + 1) left) }
     ensures right { (i : ℕ) → i < 4
-        → lane8 (4 + i) result ≡ joined_cv key.now flags (lane8 (2 * i) right) (lane8 (2 * i + 1) right) }
+        → lane8 (4 + i) result ≡ joined_cv parameters.now.key parameters.now.flags (lane8 (2 * i) right) (lane8 (2 * i + 1) right) }
 {
-    let d = u32::from(flags) + u32::from(PARENT);
+    let d = u32::from(parameters.flags) + u32::from(PARENT);
     next_lanes::<1>(
         Turns::new(),
-        same_lanes(key),
+        same_lanes(&parameters.key),
         pair_lanes(left, right),
         &[0; 8],
         64,
@@ -270,47 +268,40 @@ fn parent_lanes(key: &[u32; 8], flags: u8, left: [u32x8; 8], right: [u32x8; 8]) 
 }
 
 // The chaining values of eight subtrees of 2 ^ level chunks, one after the other, by lanes.
-fn subtree_lanes(key: &[u32; 8], flags: u8, first: u64, level: u32, bytes: &[u8]) -> [u32x8; 8]
+fn subtree_lanes(parameters: &Parameters, first: u64, level: u32, bytes: &[u8]) -> [u32x8; 8]
     requires length { length bytes.now ≡ 8192 * 2 ^ level }
     requires numbers { first + 8 * 2 ^ level < 2 ^ 64 }
-    ensures { (i : ℕ) → i < 8 → lane8 i result ≡ run_cv key.now flags first bytes.now level (2 ^ level * i) }
+    ensures { (i : ℕ) → i < 8 → lane8 i result ≡ run_cv parameters.now.key parameters.now.flags first bytes.now level (2 ^ level * i) }
 {
     if level == 0 {
-        let mut before = same_lanes(key);
-        return chunk_lanes(key, flags, first, bytes, &mut before);
+        let mut before = same_lanes(&parameters.key);
+        return chunk_lanes(parameters, first, bytes, &mut before);
     }
     let half = bytes.len() / 2;
     let middle = first + (half / 1024) as u64;
-    let left = subtree_lanes(key, flags, first, level - 1, &bytes[..half]);
-    let right = subtree_lanes(key, flags, middle, level - 1, &bytes[half..]);
-    parent_lanes(key, flags, left, right)
+    let left = subtree_lanes(parameters, first, level - 1, &bytes[..half]);
+    let right = subtree_lanes(parameters, middle, level - 1, &bytes[half..]);
+    parent_lanes(parameters, left, right)
 }
 
 /// The chaining value of a subtree of 8 * 2 ^ level chunks.
-pub(crate) fn subtree_of(
-    key: &[u32; 8],
-    flags: u8,
-    first: u64,
-    level: u32,
-    bytes: &[u8],
-) -> [u32; 8]
+pub(crate) fn subtree_of(parameters: &Parameters, first: u64, level: u32, bytes: &[u8]) -> [u32; 8]
     requires length { length bytes.now ≡ 8192 * 2 ^ level }
     requires numbers { first + 8 * 2 ^ level < 2 ^ 64 }
-    ensures { result ≡ run_cv key.now flags first bytes.now (level + 3) 0 }
+    ensures { result ≡ run_cv parameters.now.key parameters.now.flags first bytes.now (level + 3) 0 }
 {
-    let values = lane_rows(subtree_lanes(key, flags, first, level, bytes));
-    let over = parents(key, flags, &values);
-    let left = join(key, flags, &over[0], &over[1]);
-    let right = join(key, flags, &over[2], &over[3]);
-    join(key, flags, &left, &right)
+    let values = lane_rows(subtree_lanes(parameters, first, level, bytes));
+    let over = parents(parameters, &values);
+    let left = join(parameters, &over[0], &over[1]);
+    let right = join(parameters, &over[2], &over[3]);
+    join(parameters, &left, &right)
 }
 
 // The chaining values of eight subtrees of 2 ^ level chunks, by lanes, where the last chunk may be the last
 // of the message. `lefts` takes those of the left subtrees between the last of the eight and the last chunk,
 // the smallest first, and the last lane of `before` the value before the last block of that chunk.
 fn open_lanes(
-    key: &[u32; 8],
-    flags: u8,
+    parameters: &Parameters,
     first: u64,
     level: u32,
     bytes: &[u8],
@@ -321,27 +312,26 @@ fn open_lanes(
     requires numbers { first + 8 * 2 ^ level < 2 ^ 64 }
     requires bound { level ≤ 7 }
     ensures values { (i : ℕ) → i < 8
-        → lane8 i result ≡ run_cv key.now flags first bytes.now level (2 ^ level * i) }
+        → lane8 i result ≡ run_cv parameters.now.key parameters.now.flags first bytes.now level (2 ^ level * i) }
     ensures lefts { (j : ℕ) → j < level
-        → slice_index_or lefts.new j [] ≡ run_cv key.now flags first bytes.now j (8 * 2 ^ level - 2 * 2 ^ j) }
-    ensures before { lane8 7 before.new ≡ value_before_last key.now flags first bytes.now (8 * 2 ^ level - 1) }
+        → slice_index_or lefts.new j [] ≡ run_cv parameters.now.key parameters.now.flags first bytes.now j (8 * 2 ^ level - 2 * 2 ^ j) }
+    ensures before { lane8 7 before.new ≡ value_before_last parameters.now.key parameters.now.flags first bytes.now (8 * 2 ^ level - 1) }
 {
     if level == 0 {
-        return chunk_lanes(key, flags, first, bytes, before);
+        return chunk_lanes(parameters, first, bytes, before);
     }
     let half = bytes.len() / 2;
     let middle = first + (half / 1024) as u64;
-    let left = subtree_lanes(key, flags, first, level - 1, &bytes[..half]);
-    let right = open_lanes(key, flags, middle, level - 1, &bytes[half..], lefts, before);
+    let left = subtree_lanes(parameters, first, level - 1, &bytes[..half]);
+    let right = open_lanes(parameters, middle, level - 1, &bytes[half..], lefts, before);
     lefts[(level - 1) as usize] = lane_rows(right)[6];
-    parent_lanes(key, flags, left, right)
+    parent_lanes(parameters, left, right)
 }
 
 /// Of a run of 8 * 2 ^ level chunks, the last of which may be the last of the message: the chaining values
 /// of the left subtrees above the last chunk, the smallest first, and the value before its last block.
 pub(crate) fn open_lefts(
-    key: &[u32; 8],
-    flags: u8,
+    parameters: &Parameters,
     first: u64,
     level: u32,
     bytes: &[u8],
@@ -350,16 +340,16 @@ pub(crate) fn open_lefts(
     requires numbers { first + 8 * 2 ^ level < 2 ^ 64 }
     requires bound { level ≤ 7 }
     ensures lefts { (j : ℕ) → j < level + 3
-        → slice_index_or result.0 j [] ≡ run_cv key.now flags first bytes.now j (8 * 2 ^ level - 2 * 2 ^ j) }
-    ensures before { result.1 ≡ value_before_last key.now flags first bytes.now (8 * 2 ^ level - 1) }
+        → slice_index_or result.0 j [] ≡ run_cv parameters.now.key parameters.now.flags first bytes.now j (8 * 2 ^ level - 2 * 2 ^ j) }
+    ensures before { result.1 ≡ value_before_last parameters.now.key parameters.now.flags first bytes.now (8 * 2 ^ level - 1) }
 {
     let mut lefts = [[0; 8]; 10];
-    let mut before = same_lanes(key);
-    let values = lane_rows(open_lanes(key, flags, first, level, bytes, &mut lefts, &mut before));
-    let over = parents(key, flags, &values);
+    let mut before = same_lanes(&parameters.key);
+    let values = lane_rows(open_lanes(parameters, first, level, bytes, &mut lefts, &mut before));
+    let over = parents(parameters, &values);
     let at = level as usize;
     lefts[at] = values[6];
     lefts[at + 1] = over[2];
-    lefts[at + 2] = join(key, flags, &over[0], &over[1]);
+    lefts[at + 2] = join(parameters, &over[0], &over[1]);
     (lefts, lane_rows(before)[7])
 }

@@ -14,6 +14,7 @@
 //! ```
 #![tactic(auto)]
 
+pub use chunk::{CHUNK_LEN, MOST_CHUNKS};
 pub use hasher::Blake3;
 pub use laws::{debug_laws, output_laws, tree_laws};
 pub use mode::Mode;

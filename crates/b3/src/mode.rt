@@ -10,11 +10,18 @@ use std::fmt;
 use std::fmt::{Debug, Write};
 use words::{Absorb, IV32};
 
-pub(crate) const KEYED_HASH: u8 = 16;
+const KEYED_HASH: u8 = 16;
 
 const DERIVE_KEY_CONTEXT: u8 = 32;
 
-pub(crate) const DERIVE_KEY_MATERIAL: u8 = 64;
+const DERIVE_KEY_MATERIAL: u8 = 64;
+
+/// What the compressions of a message hash under: the eight key words, and the mode's flag.
+#[derive(Clone, Copy)]
+pub(crate) struct Parameters {
+    pub(crate) key: [u32; 8],
+    pub(crate) flags: u8,
+}
 
 /// The eight words of a key of 32 bytes, the lowest byte first.
 pub(crate) fn words_of_key(key: &[u8; 32]) -> [u32; 8]
@@ -29,7 +36,10 @@ pub(crate) fn words_of_key(key: &[u8; 32]) -> [u32; 8]
 pub(crate) fn key_of_context(context: &[u8]) -> [u8; 32]
     ensures { result ≡ context_key context.now }
 {
-    let mut hasher = Blake3::under(IV32, DERIVE_KEY_CONTEXT);
+    let mut hasher = Blake3::under(Parameters {
+        key: IV32,
+        flags: DERIVE_KEY_CONTEXT,
+    });
     hasher.update(context).unwrap();
     let mut key = [0; 32];
     hasher.output().fill(&mut key).unwrap();
@@ -59,25 +69,24 @@ impl Mode {
         Mode::Material(key_of_context(context))
     }
 
-    /// The key words.
-    pub(crate) fn key(&self) -> [u32; 8]
-        ensures { result ≡ drop 1 (mode_parameters self.now) }
+    /// What it hashes under.
+    pub(crate) fn parameters(&self) -> Parameters
+        ensures key { result.key ≡ drop 1 (mode_parameters self.now) }
+        ensures flags { result.flags ≡ slice_index (mode_parameters self.now) 0 }
     {
         match self {
-            Mode::Hash => IV32,
-            Mode::Keyed(key) => words_of_key(key),
-            Mode::Material(key) => words_of_key(key),
-        }
-    }
-
-    /// The flag.
-    pub(crate) fn flags(&self) -> u8
-        ensures { result ≡ slice_index (mode_parameters self.now) 0 }
-    {
-        match self {
-            Mode::Hash => 0,
-            Mode::Keyed(_) => KEYED_HASH,
-            Mode::Material(_) => DERIVE_KEY_MATERIAL,
+            Mode::Hash => Parameters {
+                key: IV32,
+                flags: 0,
+            },
+            Mode::Keyed(key) => Parameters {
+                key: words_of_key(key),
+                flags: KEYED_HASH,
+            },
+            Mode::Material(key) => Parameters {
+                key: words_of_key(key),
+                flags: DERIVE_KEY_MATERIAL,
+            },
         }
     }
 }

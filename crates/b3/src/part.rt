@@ -56,7 +56,7 @@ impl Part {
         if !is_placed(first_chunk, len) {
             return Err(Misplaced);
         }
-        let node = tree_over(&mode.key(), mode.flags(), first_chunk, bytes);
+        let node = tree_over(&mode.parameters(), first_chunk, bytes);
         Ok(Part {
             mode,
             first_chunk,
@@ -81,8 +81,7 @@ impl Part {
             return Err(NotNeighbours { left, right });
         }
         let node = Node::parent(
-            &left.mode.key(),
-            left.mode.flags(),
+            &left.mode.parameters(),
             &left.node.chaining_value(),
             &right.node.chaining_value(),
         );

@@ -2,7 +2,6 @@
 
 ghost use Rattle.std.specs.Prelude.{◌≡◌, ℕ, ◌+◌, ◌*◌, ◌^◌, ◌<◌, ◌≤◌, ◌↔◌, List, ◌∷◌, ◌++◌, length, count_ones, IsOk};
 ghost use Rattle.std.specs.Prelude.{OnOk, OnErr, IfOk, IsTrue};
-ghost use Rattle.arrayvec.specs.ArrayVec.{array_vec_len};
 ghost use Rattle.words.specs.Words.{words, word_bytes};
 ghost use Rattle.b3.specs.Node.{cv};
 ghost use Rattle.b3.specs.Parts.{IsPlacedAt};
@@ -13,8 +12,7 @@ use crate::node::Node;
 use crate::output::Output;
 use crate::part::NotWhole;
 use crate::place::{Misplaced, is_placed, is_whole};
-use crate::stack::push_subtree;
-use arrayvec::ArrayVec;
+use crate::stack::Stack;
 use byteorder::{ByteOrder, LittleEndian};
 
 // The bytes of eight words, of each the lowest first.
@@ -106,19 +104,14 @@ pub struct NotNext;
 /// Parts that follow each other, and are one part together.
 #[derive(Drop)]
 pub struct Row {
-    key: [u32; 8],
-    flags: u8,
     first_chunk: u64,
-    // the chaining values of the subtrees of all parts but the last
-    stack: ArrayVec<[u32; 8], 54>,
-    // how many chunks those have
-    closed: u64,
+    // the chunks of all parts but the last
+    stack: Stack,
     // the last part: its chaining value, and how many bytes it has
     value: [u32; 8],
     len: u64,
-    ghost one_bits: { array_vec_len stack ≡ count_ones closed },
-    ghost placed: { IsPlacedAt first_chunk (1024 * closed + len) },
-    ghost last: { IsPlacedAt closed len },
+    ghost placed: { IsPlacedAt first_chunk (1024 * stack.closed + len) },
+    ghost last: { IsPlacedAt stack.closed len },
 }
 
 impl Row {
@@ -137,14 +130,10 @@ impl Row {
         ensures open { row_open result ≡ value_len part }
         ensures holds { (m : List ℕ) → IsValueOf (mode_parameters mode) part m → HoldsRow result m }
     {
-        let key = mode.key();
         let value = part.value;
         Row {
-            key,
-            flags: mode.flags(),
             first_chunk: part.first_chunk,
-            stack: ArrayVec::new(),
-            closed: 0,
+            stack: Stack::new(mode.parameters()),
             value,
             len: part.len,
         }
@@ -155,7 +144,7 @@ impl Row {
         ensures value { result ≡ row_count self.now }
         ensures message { (m : List ℕ) → HoldsRow self.now m → result ≡ length m }
     {
-        CHUNK_LEN as u64 * self.closed + self.len
+        CHUNK_LEN as u64 * self.stack.closed + self.len
     }
 
     /// Adds the part that comes next. It is refused exactly where it does not begin where the row
@@ -205,15 +194,7 @@ impl Row {
         ensures first { row_first self.new ≡ row_first self.old }
         ensures kept { row_parameters self.new ≡ row_parameters self.old }
     {
-        let chunks = self.len / CHUNK_LEN as u64;
-        self.closed += chunks;
-        push_subtree(
-            &mut self.stack,
-            &self.key,
-            self.flags,
-            self.value,
-            self.closed / chunks,
-        );
+        self.stack.push(self.len / CHUNK_LEN as u64, self.value);
         self.value = part.value;
         self.len = part.len;
     }
@@ -224,14 +205,7 @@ impl Row {
         ensures { (m : List ℕ) → HoldsRow self.now m
             → result ≡ tree_of (row_parameters self.now) (row_first self.now) m }
     {
-        let stack = self.stack.as_slice();
-        let mut left = stack.len() - 1;
-        let mut node = Node::parent(&self.key, self.flags, &stack[left], &self.value);
-        while left > 0 {
-            left -= 1;
-            node = Node::parent(&self.key, self.flags, &stack[left], &node.chaining_value());
-        }
-        node
+        self.stack.fold(&self.value)
     }
 
     /// The row as one part.
@@ -254,7 +228,7 @@ impl Row {
         ensures { (m : List ℕ) → HoldsRow self.now m
             → result ≡ cv (tree_of (row_parameters self.now) (row_first self.now) m) }
     {
-        if self.closed == 0 {
+        if self.stack.closed == 0 {
             self.value
         } else {
             self.node().chaining_value()
@@ -270,7 +244,7 @@ impl Row {
             → output_root output ≡ root_of (row_parameters self.now) m) }
         ensures position { IfOk result (λ output. output_position output ≡ 0) }
     {
-        if self.first_chunk != 0 || self.closed == 0 {
+        if self.first_chunk != 0 || self.stack.closed == 0 {
             return Err(NotWhole);
         }
         Ok(Output::of(self.node()))

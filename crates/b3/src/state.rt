@@ -3,8 +3,10 @@
 ghost use Rattle.std.specs.Prelude.{◌≡◌, ◌↔◌, ℕ, List, IsTrue, IsSome, IfSome};
 ghost use Rattle.b3.specs.inside.States.{IsBegun, IsKept, StateHolds};
 
-use crate::chunk::Chunk;
+use crate::chunk::{Chunk, MOST_CHUNKS};
 use crate::hasher::Blake3;
+use crate::mode::Parameters;
+use crate::stack::Stack;
 use arrayvec::ArrayVec;
 use words::Absorb;
 
@@ -57,7 +59,7 @@ impl Blake3State {
         0 < self.mode
             && self.mode <= 256
             && self.len <= 1024
-            && self.closed < 0x40_0000_0000_0000
+            && self.closed < MOST_CHUNKS
             && 1024 * self.closed <= u64::MAX - self.len
             && self.closed.count_ones() <= 54
     }
@@ -67,13 +69,17 @@ impl Blake3State {
         ensures { IsKept self.now result }
     {
         let held = self.closed.count_ones() as usize;
-        let mut stack = ArrayVec::new();
-        stack.try_extend_from_slice(&self.stack[..held]).unwrap();
+        let mut values = ArrayVec::new();
+        values.try_extend_from_slice(&self.stack[..held]).unwrap();
         Blake3 {
-            key: self.key,
-            flags: (self.mode - 1) as u8,
-            stack,
-            closed: self.closed,
+            stack: Stack {
+                parameters: Parameters {
+                    key: self.key,
+                    flags: (self.mode - 1) as u8,
+                },
+                values,
+                closed: self.closed,
+            },
             chunk: Chunk {
                 value: self.value,
                 block: self.block,
@@ -86,11 +92,11 @@ impl Blake3State {
         ensures begun { IsBegun self.new }
         ensures kept { IsKept self.new hasher.now }
     {
-        let stack = hasher.stack.as_slice();
-        self.stack[..stack.len()].copy_from_slice(stack);
-        self.key = hasher.key;
-        self.mode = u64::from(hasher.flags) + 1;
-        self.closed = hasher.closed;
+        let values = hasher.stack.values.as_slice();
+        self.stack[..values.len()].copy_from_slice(values);
+        self.key = hasher.stack.parameters.key;
+        self.mode = u64::from(hasher.stack.parameters.flags) + 1;
+        self.closed = hasher.stack.closed;
         self.value = hasher.chunk.value;
         self.block = hasher.chunk.block;
         self.len = hasher.chunk.len as u64;

@@ -10,6 +10,7 @@ ghost use Rattle.b3.specs.inside.Runs.{run_cv};
 use crate::chunk::{CHUNK_LEN, Chunk};
 use crate::hasher::GROUP_LEN;
 use crate::lanes::{chunk_values, subtree_of};
+use crate::mode::Parameters;
 use crate::node::Node;
 
 // The greatest power of two below `n`.
@@ -25,102 +26,101 @@ fn greatest_power_below(n: usize) -> usize
 fn level_of(len: usize) -> Option<u32>
     ensures { IfSome result (λ level. len ≡ 8192 * 2 ^ level) }
 {
-    let mut run = GROUP_LEN;
-    let mut level = 0;
-    while level < 50 && run <= len / 2 {
-        run *= 2;
-        level += 1;
+    let groups = len / GROUP_LEN;
+    if len % GROUP_LEN == 0 && groups.is_power_of_two() {
+        Some(groups.ilog2())
+    } else {
+        None
     }
-    if run == len { Some(level) } else { None }
 }
 
 // The node of the chunk of these bytes.
-fn chunk_over(key: &[u32; 8], flags: u8, number: u64, bytes: &[u8]) -> Node
+fn chunk_over(parameters: &Parameters, number: u64, bytes: &[u8]) -> Node
     requires { length bytes.now ≤ 1024 }
-    ensures { result ≡ tree key.now flags number bytes.now }
+    ensures { result ≡ tree parameters.now.key parameters.now.flags number bytes.now }
 {
-    let mut chunk = Chunk::new(key);
-    chunk.update(number, flags, bytes);
-    chunk.node(number, flags)
+    let mut chunk = Chunk::new(&parameters.key);
+    chunk.update(number, parameters.flags, bytes);
+    chunk.node(number, parameters.flags)
 }
 
 // The chaining value of the tree over chunks that have these chaining values.
-fn joined_value(key: &[u32; 8], flags: u8, values: &[[u32; 8]]) -> [u32; 8]
+fn joined_value(parameters: &Parameters, values: &[[u32; 8]]) -> [u32; 8]
     requires { 0 < length values.now }
     ensures { (c : ℕ) (m : List ℕ) → chunk_count m ≡ length values.now
-        → ((i : ℕ) → i < length values.now → slice_index_or values.now i [] ≡ run_cv key.now flags c m 0 i)
-        → result ≡ cv (tree key.now flags c m) }
+        → ((i : ℕ) → i < length values.now → slice_index_or values.now i [] ≡ run_cv parameters.now.key parameters.now.flags c m 0 i)
+        → result ≡ cv (tree parameters.now.key parameters.now.flags c m) }
 {
     if values.len() == 1 {
         return values[0];
     }
     let middle = greatest_power_below(values.len());
-    let left = joined_value(key, flags, &values[..middle]);
-    let right = joined_value(key, flags, &values[middle..]);
-    Node::parent(key, flags, &left, &right).chaining_value()
+    let left = joined_value(parameters, &values[..middle]);
+    let right = joined_value(parameters, &values[middle..]);
+    Node::parent(parameters, &left, &right).chaining_value()
 }
 
 // The chaining values of two to eight chunks, the first of which has the number `first`.
-fn group_values(key: &[u32; 8], flags: u8, first: u64, bytes: &[u8]) -> [[u32; 8]; 8]
+fn group_values(parameters: &Parameters, first: u64, bytes: &[u8]) -> [[u32; 8]; 8]
     requires some { 1024 < length bytes.now }
     requires bound { length bytes.now ≤ 8192 }
     requires numbers { 1024 * first + length bytes.now ≤ 2 ^ 64 - 1 }
     ensures { (i : ℕ) → i < chunk_count bytes.now
-        → slice_index_or result i [] ≡ run_cv key.now flags first bytes.now 0 i }
+        → slice_index_or result i [] ≡ run_cv parameters.now.key parameters.now.flags first bytes.now 0 i }
 {
-    let (values, _before) = chunk_values(key, flags, first, bytes);
+    let (values, _before) = chunk_values(parameters, first, bytes);
     if bytes.len() % CHUNK_LEN == 0 {
         return values;
     }
     let mut values = values;
     let last = (bytes.len() - 1) / CHUNK_LEN;
-    let rest = chunk_over(key, flags, first + last as u64, &bytes[CHUNK_LEN * last..]);
+    let rest = chunk_over(parameters, first + last as u64, &bytes[CHUNK_LEN * last..]);
     values[last] = rest.chaining_value();
     values
 }
 
 // The tree over two to eight chunks, the first of which has the number `first`.
-fn group_over(key: &[u32; 8], flags: u8, first: u64, bytes: &[u8]) -> Node
+fn group_over(parameters: &Parameters, first: u64, bytes: &[u8]) -> Node
     requires some { 1024 < length bytes.now }
     requires bound { length bytes.now ≤ 8192 }
     requires numbers { 1024 * first + length bytes.now ≤ 2 ^ 64 - 1 }
-    ensures { result ≡ tree key.now flags first bytes.now }
+    ensures { result ≡ tree parameters.now.key parameters.now.flags first bytes.now }
 {
-    let values = group_values(key, flags, first, bytes);
+    let values = group_values(parameters, first, bytes);
     let chunks = (bytes.len() - 1) / CHUNK_LEN + 1;
     let middle = greatest_power_below(chunks);
-    let left = joined_value(key, flags, &values[..middle]);
-    let right = joined_value(key, flags, &values[middle..chunks]);
-    Node::parent(key, flags, &left, &right)
+    let left = joined_value(parameters, &values[..middle]);
+    let right = joined_value(parameters, &values[middle..chunks]);
+    Node::parent(parameters, &left, &right)
 }
 
 // The chaining value of the tree over `bytes`.
 #[cycle(tree)]
-fn value_over(key: &[u32; 8], flags: u8, first: u64, bytes: &[u8]) -> [u32; 8]
+fn value_over(parameters: &Parameters, first: u64, bytes: &[u8]) -> [u32; 8]
     requires { 1024 * first + length bytes.now ≤ 2 ^ 64 - 1 }
-    ensures { result ≡ cv (tree key.now flags first bytes.now) }
+    ensures { result ≡ cv (tree parameters.now.key parameters.now.flags first bytes.now) }
 {
     match level_of(bytes.len()) {
-        Some(level) => subtree_of(key, flags, first, level, bytes),
-        None => tree_over(key, flags, first, bytes).chaining_value(),
+        Some(level) => subtree_of(parameters, first, level, bytes),
+        None => tree_over(parameters, first, bytes).chaining_value(),
     }
 }
 
 /// The tree over `bytes`, the first chunk of which has the number `first`.
 #[cycle(tree)]
-pub(crate) fn tree_over(key: &[u32; 8], flags: u8, first: u64, bytes: &[u8]) -> Node
+pub(crate) fn tree_over(parameters: &Parameters, first: u64, bytes: &[u8]) -> Node
     requires { 1024 * first + length bytes.now ≤ 2 ^ 64 - 1 }
-    ensures { result ≡ tree key.now flags first bytes.now }
+    ensures { result ≡ tree parameters.now.key parameters.now.flags first bytes.now }
 {
     if bytes.len() <= CHUNK_LEN {
-        return chunk_over(key, flags, first, bytes);
+        return chunk_over(parameters, first, bytes);
     }
     if bytes.len() <= GROUP_LEN {
-        return group_over(key, flags, first, bytes);
+        return group_over(parameters, first, bytes);
     }
     let chunks = greatest_power_below((bytes.len() - 1) / CHUNK_LEN + 1);
     let middle = CHUNK_LEN * chunks;
-    let left = value_over(key, flags, first, &bytes[..middle]);
-    let right = value_over(key, flags, first + chunks as u64, &bytes[middle..]);
-    Node::parent(key, flags, &left, &right)
+    let left = value_over(parameters, first, &bytes[..middle]);
+    let right = value_over(parameters, first + chunks as u64, &bytes[middle..]);
+    Node::parent(parameters, &left, &right)
 }

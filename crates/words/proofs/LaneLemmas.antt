@@ -6,6 +6,7 @@ use Rattle.std.proofs.lemmas.Simd.{Each1-get_or, get_or-zip2}
 use Rattle.std.proofs.lemmas.Nat.{xor_lt}
 use Rattle.std.specs.Int.{w32, rotate_right}
 use Rattle.words.specs.inside.Lanes.{word_at, lane8, transposed8}
+use Rattle.words.specs.Words.{words}
 
 -- what holds of each of the eight lanes
 pub below_eight : (P : ℕ → Type 0) → P 0 → P 1 → P 2 → P 3 → P 4 → P 5 → P 6 → P 7 → (i : ℕ) → i < 8 → P i
@@ -119,3 +120,44 @@ le_word x at p q r s hp hq hr hs =
       get_or-drop at x 3 0,
       none,
     ) refl
+
+-- four words of sixteen bytes, which stand in x from `at` on
+pub words_loaded : (x l : List ℕ) (at : ℕ) → ((n : ℕ) → n < 16 → slice_index l n ≡ slice_index x (at + n))
+    → (n : ℕ) → n < 4
+    → slice_index l (4 * n) + 256 * (slice_index l (4 * n + 1) + 256 *
+    (slice_index l (4 * n + 2) + 256 * (slice_index l (4 * n + 3) + 256 * 0))) ≡ word_at x (at + 4 * n)
+words_loaded x l at loaded n h =
+    rw (
+      loaded (4 * n) (omega arith),
+      loaded (4 * n + 1) (omega arith),
+      loaded (4 * n + 2) (omega arith),
+      loaded (4 * n + 3) (omega arith),
+    )
+    (le_word x (at + 4 * n) _ _ _ _ (omega arith) (omega arith) (omega arith) (omega arith))
+
+-- the words of a block, four at a time
+pub block_read : (b y : List ℕ) (f g h k : ℕ → ℕ) → ((n : ℕ) → n < 4 → f n ≡ word_at b (0 + 4 * n))
+    → ((n : ℕ) → n < 4 → g n ≡ word_at b (16 + 4 * n)) → ((n : ℕ) → n < 4 → h n ≡ word_at b (32 + 4 * n))
+    → ((n : ℕ) → n < 4 → k n ≡ word_at b (48 + 4 * n)) → b ≡ y
+    → f 0 ∷ f 1 ∷ f 2 ∷ f 3 ∷ g 0 ∷ g 1 ∷ g 2 ∷ g 3 ∷ h 0 ∷ h 1 ∷ h 2 ∷ h 3 ∷ k 0 ∷ k 1 ∷ k 2 ∷ k 3 ∷ [] ≡ words 4 16 y
+unfolding words
+block_read b y f g h k first second third fourth same =
+    rw (
+      first 0 (omega arith),
+      first 1 (omega arith),
+      first 2 (omega arith),
+      first 3 (omega arith),
+      second 0 (omega arith),
+      second 1 (omega arith),
+      second 2 (omega arith),
+      second 3 (omega arith),
+      third 0 (omega arith),
+      third 1 (omega arith),
+      third 2 (omega arith),
+      third 3 (omega arith),
+      fourth 0 (omega arith),
+      fourth 1 (omega arith),
+      fourth 2 (omega arith),
+      fourth 3 (omega arith),
+    )
+    (ap (λ (x : List ℕ). words 4 16 x) same)

@@ -14,10 +14,10 @@ IsBegun s = (0 < s.mode)
 
 -- the fields of the hasher h are those of s
 abbrev pub IsKept : Blake3State → Blake3 → Type 0
-IsKept s h = (h.flags + 1 ≡ s.mode)
-    × (h.key ≡ s.key)
-    × (h.closed ≡ s.closed)
-    × (h.stack.items ≡ take (count_ones s.closed) s.stack)
+IsKept s h = (h.stack.parameters.flags + 1 ≡ s.mode)
+    × (h.stack.parameters.key ≡ s.key)
+    × (h.stack.closed ≡ s.closed)
+    × (h.stack.values.items ≡ take (count_ones s.closed) s.stack)
     × (h.chunk.value ≡ s.value)
     × (h.chunk.block ≡ s.block)
     × (h.chunk.len ≡ s.len)

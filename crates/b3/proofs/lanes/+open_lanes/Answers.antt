@@ -9,7 +9,7 @@ returns-then-level-eq0-clause-values t c = λ i h.
     let none : c.args.level ≡ 0 = omega arith in
     let len : length c.args.bytes.now ≡ 8192 = rw none at c.requires.length in
     c.chunk_lanes.ensures.values i h (omega arith)
-    ∙ sym (level_zero c.args.key.now c.args.flags c.args.first c.args.bytes.now c.args.level i none)
+    ∙ sym (level_zero c.args.parameters.now.key c.args.parameters.now.flags c.args.first c.args.bytes.now c.args.level i none)
 
 pub returns-then-level-eq0-clause-before : goal.returns-then-level-eq0-clause-before
 returns-then-level-eq0-clause-before t c =
@@ -43,7 +43,7 @@ open_lanes-right-requires t c =
 pub returns-clause-values : goal.returns-clause-values
 returns-clause-values t c =
     let up : c.args.level ≡ suc (c.args.level - 1) = omega arith in
-    parent_values c.args.key.now c.args.flags c.args.first c.args.bytes.now
+    parent_values c.args.parameters.now.key c.args.parameters.now.flags c.args.first c.args.bytes.now
     (c.args.level - 1) c.args.level _ _ _ _ _ up c.requires.length refl refl
     c.subtree_lanes-left.ensures c.open_lanes-right.ensures.values
     c.parent_lanes.ensures.left c.parent_lanes.ensures.right
@@ -51,7 +51,7 @@ returns-clause-values t c =
 pub returns-clause-lefts : goal.returns-clause-lefts
 returns-clause-lefts t c =
     let up : c.args.level ≡ suc (c.args.level - 1) = omega arith in
-    lefts_more c.args.key.now c.args.flags c.args.first c.args.bytes.now
+    lefts_more c.args.parameters.now.key c.args.parameters.now.flags c.args.first c.args.bytes.now
     (c.args.level - 1) c.args.level _ _ _ _ up c.requires.length refl refl (omega arith)
     _ (c.lane_rows.ensures 6 (omega arith)) c.open_lanes-right.ensures.values c.open_lanes-right.ensures.lefts
 
@@ -60,6 +60,6 @@ returns-clause-before t c =
     let p : ℕ = 2 ^ (c.args.level - 1) in
     let double = doubled c.args.level (omega arith) in
     c.open_lanes-right.ensures.before
-    ∙ last_second c.args.key.now c.args.flags c.args.first c.args.bytes.now p (length c.args.bytes.now / 2) _
+    ∙ last_second c.args.parameters.now.key c.args.parameters.now.flags c.args.first c.args.bytes.now p (length c.args.bytes.now / 2) _
     (2 ^ c.args.level)
     (omega (arith, double)) refl (pow_pos (c.args.level - 1)) double

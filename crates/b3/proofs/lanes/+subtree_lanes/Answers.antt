@@ -9,7 +9,7 @@ returns-then-level-eq0 t c = λ i h.
     let none : c.args.level ≡ 0 = omega arith in
     let len : length c.args.bytes.now ≡ 8192 = rw none at c.requires.length in
     c.chunk_lanes.ensures.values i h (omega arith)
-    ∙ sym (level_zero c.args.key.now c.args.flags c.args.first c.args.bytes.now c.args.level i none)
+    ∙ sym (level_zero c.args.parameters.now.key c.args.parameters.now.flags c.args.first c.args.bytes.now c.args.level i none)
 
 pub subtree_lanes-left-requires : goal.subtree_lanes-left-requires
 subtree_lanes-left-requires t c =
@@ -38,6 +38,6 @@ subtree_lanes-right-requires t c =
 pub returns : goal.returns
 returns t c =
     let up : c.args.level ≡ suc (c.args.level - 1) = omega arith in
-    parent_values c.args.key.now c.args.flags c.args.first c.args.bytes.now
+    parent_values c.args.parameters.now.key c.args.parameters.now.flags c.args.first c.args.bytes.now
     (c.args.level - 1) c.args.level _ _ _ _ _ up c.requires.length refl refl
     c.subtree_lanes-left.ensures c.subtree_lanes-right.ensures c.parent_lanes.ensures.left c.parent_lanes.ensures.right

@@ -8,12 +8,12 @@ use Rattle.b3.proofs.tree.+joined_value.Goals as goal
 
 pub returns-then-values-eq1 : goal.returns-then-values-eq1
 returns-then-values-eq1 t c = λ first m counted held.
-    held 0 (omega arith) ∙ one_value c.args.key.now c.args.flags first m (omega (arith, counted))
+    held 0 (omega arith) ∙ one_value c.args.parameters.now.key c.args.parameters.now.flags first m (omega (arith, counted))
 
 pub returns : goal.returns
 returns t c = λ first m counted held.
-    let key = c.args.key.now in
-    let flags = c.args.flags in
+    let key = c.args.parameters.now.key in
+    let flags = c.args.parameters.now.flags in
     let values : List (List ℕ) = c.args.values.now in
     let p : ℕ = c.greatest_power_below-middle.result in
     let cut : IsGreatestPowerBelow p (chunk_count m)

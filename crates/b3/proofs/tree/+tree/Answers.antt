@@ -9,8 +9,8 @@ use Rattle.b3.proofs.tree.+tree.Goals as goal
 
 pub tree_over-returns : goal.tree_over-returns
 tree_over-returns t c =
-    let key : List ℕ = c.args.key.now in
-    let flags : ℕ = c.args.flags in
+    let key : List ℕ = c.args.parameters.now.key in
+    let flags : ℕ = c.args.parameters.now.flags in
     let p : ℕ = c.greatest_power_below-chunks.result in
     c.parent.ensures
     ∙ ap₂ (λ (x y : List ℕ). parent key flags x y) c.value_over-left.ensures
@@ -23,5 +23,5 @@ value_over-returns-in-Some t c =
     let level : ℕ = c.in-Some.level in
     let size : length c.args.bytes.now ≡ 8192 * 2 ^ level = c.in-Some.ensures in
     c.subtree_of.ensures
-    ∙ run_whole c.args.key.now c.args.flags c.args.first c.args.bytes.now (level + 3)
+    ∙ run_whole c.args.parameters.now.key c.args.parameters.now.flags c.args.first c.args.bytes.now (level + 3)
     (omega (arith, size, eight_pow level))

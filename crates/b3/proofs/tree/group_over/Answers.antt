@@ -7,8 +7,8 @@ use Rattle.b3.proofs.tree.group_over.Goals as goal
 
 pub returns : goal.returns
 returns c =
-    let key = c.args.key.now in
-    let flags = c.args.flags in
+    let key = c.args.parameters.now.key in
+    let flags = c.args.parameters.now.flags in
     let first : ℕ = c.args.first in
     let m : List ℕ = c.args.bytes.now in
     let n : ℕ = chunk_count m in

@@ -13,7 +13,7 @@ returns-then-bytes-eq0 c = λ i h. c.chunk_values.ensures.values i (omega (arith
 pub returns : goal.returns
 unfolding run_cv
 returns c = λ i h.
-    let key = c.args.key.now in
+    let key = c.args.parameters.now.key in
     let bytes : List ℕ = c.args.bytes.now in
     let last : ℕ = (length bytes - 1) / 1024 in
     let left : List ℕ = drop (1024 * last) bytes in
@@ -26,7 +26,7 @@ returns c = λ i h.
           let here : i ≡ last = omega (arith, above, h) in
           rw here (get_or-set_same c.chunk_values.result.0 last c.chaining_value.result [] (omega arith)
           ∙ c.chaining_value.ensures ∙ ap cv c.chunk_over-rest.ensures
-          ∙ ap (λ (x : List ℕ). cv (tree key c.args.flags (c.args.first + last) x))
+          ∙ ap (λ (x : List ℕ). cv (tree key c.args.parameters.now.flags (c.args.first + last) x))
           (take_all (length bytes - 1024 * last) left (omega (arith, size))
           ∙ sym (take_all 1024 left (omega (arith, size)))))
     ]

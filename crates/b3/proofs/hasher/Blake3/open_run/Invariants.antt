@@ -5,9 +5,8 @@ use Rattle.b3.proofs.hasher.Blake3.open_run.Given as goal
 abbrev pub invariant-lefts : goal.invariant-lefts
 invariant-lefts l = record {
   below : l.left ≤ l.level + 3;
-  key : l.self.key ≡ l.fn.self.key;
-  flags : l.self.flags ≡ l.fn.self.flags;
-  closed : l.self.closed + 2 ^ l.left ≡ l.fn.self.closed + 8 * 2 ^ l.level;
+  parameters : l.self.stack.parameters ≡ l.fn.self.stack.parameters;
+  closed : l.self.stack.closed + 2 ^ l.left ≡ l.fn.self.stack.closed + 8 * 2 ^ l.level;
   empty : l.self.chunk.len ≡ 0;
   split : (m : List ℕ) → IsSplit l.fn.self m
       → IsSplit l.self (m ++ take (1024 * (8 * 2 ^ l.level - 2 ^ l.left)) l.bytes);

@@ -5,18 +5,22 @@ use Rattle.b3.proofs.hasher.Blake3.push_run.Goals as goal
 
 pub push_value-requires-clause-aligned : goal.push_value-requires-clause-aligned
 push_value-requires-clause-aligned c
-    = ap (λ (n : ℕ). c.args.self.now.closed % n) (eight_pow c.args.level) ∙ c.requires.aligned
+    = ap (λ (n : ℕ). c.args.self.now.stack.closed % n) (eight_pow c.args.level) ∙ c.requires.aligned
 
 pub push_value-requires-clause-more : goal.push_value-requires-clause-more
 push_value-requires-clause-more c = omega (arith, eight_pow c.args.level)
 
-pub returns-clause-closed : goal.returns-clause-closed
-returns-clause-closed c = omega (arith, eight_pow c.args.level)
-
-pub returns-clause-split : goal.returns-clause-split
-returns-clause-split c = λ m held.
-    let size : length c.args.bytes.now ≡ 1024 * 2 ^ (c.args.level + 3) = omega (arith, eight_pow c.args.level) in
-    c.push_value.ensures.split m c.args.bytes.now (IsSplit_alike c.args.self.now _ m refl refl refl refl refl held) size
-    (c.subtree_of-value.ensures
-    ∙ run_whole c.args.self.now.key c.args.self.now.flags c.args.self.now.closed c.args.bytes.now
-    (c.args.level + 3) size)
+pub returns : goal.returns
+returns c =
+    let stack = c.args.self.now.stack in
+    let power = eight_pow c.args.level in
+    let size : length c.args.bytes.now ≡ 1024 * 2 ^ (c.args.level + 3) = omega (arith, power) in
+    record {
+      parameters = c.push_value.ensures.parameters;
+      closed = omega (arith, power);
+      chunk = c.push_value.ensures.chunk;
+      split = λ m held.
+          c.push_value.ensures.split m c.args.bytes.now (IsSplit_alike c.args.self.now _ m refl refl held) size
+          (c.subtree_of-value.ensures
+          ∙ run_whole stack.parameters.key stack.parameters.flags stack.closed c.args.bytes.now (c.args.level + 3) size);
+    }

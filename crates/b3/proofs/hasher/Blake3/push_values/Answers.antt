@@ -9,8 +9,7 @@ chunks-preserved c =
     let i : ℕ = c.chunks.i in
     let step : 1024 * (i + 1) ≡ 1024 * i + 1024 = omega arith in
     record {
-      key = c.push_value.ensures.key ∙ c.chunks.invariant.key;
-      flags = c.push_value.ensures.flags ∙ c.chunks.invariant.flags;
+      parameters = c.push_value.ensures.parameters ∙ c.chunks.invariant.parameters;
       closed = omega arith;
       empty = c.push_value.ensures.chunk;
       split = λ m y held size values.
@@ -18,12 +17,12 @@ chunks-preserved c =
           let whole : length chunk ≡ 1024
           = length-take-le 1024 (drop (1024 * i) y) (omega (arith, length-drop (1024 * i) y)) in
           let value = values i (omega arith)
-          ∙ run_at c.args.self.now.key c.args.self.now.flags c.args.self.now.closed y 0 i c.chunks.self.closed
+          ∙ run_at c.args.self.now.stack.parameters.key c.args.self.now.stack.parameters.flags c.args.self.now.stack.closed y 0 i c.chunks.self.stack.closed
           c.chunks.invariant.closed in
           rw (step, take_further m y (1024 * i) 1024)
           (c.push_value.ensures.split (m ++ take (1024 * i) y) chunk
           (c.chunks.invariant.split m y held size values) whole
-          (rw (c.chunks.invariant.key, c.chunks.invariant.flags) value));
+          (rw c.chunks.invariant.parameters value));
     }
 
 pub returns-clause-split : goal.returns-clause-split

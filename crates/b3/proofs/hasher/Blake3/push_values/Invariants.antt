@@ -5,12 +5,11 @@ use Rattle.b3.proofs.hasher.Blake3.push_values.Given as goal
 
 abbrev pub invariant-chunks : goal.invariant-chunks
 invariant-chunks l = record {
-  key : l.self.key ≡ l.fn.self.key;
-  flags : l.self.flags ≡ l.fn.self.flags;
-  closed : l.self.closed ≡ l.fn.self.closed + l.i;
+  parameters : l.self.stack.parameters ≡ l.fn.self.stack.parameters;
+  closed : l.self.stack.closed ≡ l.fn.self.stack.closed + l.i;
   empty : l.self.chunk.len ≡ 0;
   split : (m y : List ℕ) → IsSplit l.fn.self m → length y ≡ 1024 * l.n
       → ((i : ℕ) → i < l.n
-      → slice_index_or l.values i [] ≡ run_cv l.fn.self.key l.fn.self.flags l.fn.self.closed y 0 i)
+      → slice_index_or l.values i [] ≡ run_cv l.fn.self.stack.parameters.key l.fn.self.stack.parameters.flags l.fn.self.stack.closed y 0 i)
       → IsSplit l.self (m ++ take (1024 * l.i) y);
 }

@@ -26,8 +26,8 @@ returns-clause-joined c = λ m1 m2 one two.
       len = omega (arith, length-append m1 m2);
       node = c.parent-node.ensures
           ∙ rw (
-            c.key.ensures,
-            c.flags.ensures,
+            c.parameters.ensures.key,
+            c.parameters.ensures.flags,
             c.chaining_value.ensures,
             c.chaining_value-2.ensures,
             one.node,

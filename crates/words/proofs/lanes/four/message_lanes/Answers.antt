@@ -1,98 +1,13 @@
-use Rattle.std.proofs.Common.{ℕ, List, ap, arith}
-use Rattle.words.specs.Words.{words}
 use Rattle.words.specs.inside.Lanes.{lane}
-use Rattle.words.proofs.LaneLemmas.{below_four}
+use Rattle.words.proofs.LaneLemmas.{below_four, block_read}
 use Rattle.words.proofs.lanes.four.message_lanes.Goals as goal
 
 pub returns : goal.returns
-unfolding lane words
+unfolding lane
 returns c =
-    below_four _
-    (rw (
-      c.transpose.ensures,
-      c.transpose-2.ensures,
-      c.transpose-3.ensures,
-      c.transpose-4.ensures,
-      c.row.ensures 0 (omega arith),
-      c.row.ensures 1 (omega arith),
-      c.row.ensures 2 (omega arith),
-      c.row.ensures 3 (omega arith),
-      c.row-5.ensures 0 (omega arith),
-      c.row-5.ensures 1 (omega arith),
-      c.row-5.ensures 2 (omega arith),
-      c.row-5.ensures 3 (omega arith),
-      c.row-9.ensures 0 (omega arith),
-      c.row-9.ensures 1 (omega arith),
-      c.row-9.ensures 2 (omega arith),
-      c.row-9.ensures 3 (omega arith),
-      c.row-13.ensures 0 (omega arith),
-      c.row-13.ensures 1 (omega arith),
-      c.row-13.ensures 2 (omega arith),
-      c.row-13.ensures 3 (omega arith),
-    ) (ap (λ (x : List ℕ). words 4 16 x) c.block_at-b0.ensures.block))
-    (rw (
-      c.transpose.ensures,
-      c.transpose-2.ensures,
-      c.transpose-3.ensures,
-      c.transpose-4.ensures,
-      c.row-2.ensures 0 (omega arith),
-      c.row-2.ensures 1 (omega arith),
-      c.row-2.ensures 2 (omega arith),
-      c.row-2.ensures 3 (omega arith),
-      c.row-6.ensures 0 (omega arith),
-      c.row-6.ensures 1 (omega arith),
-      c.row-6.ensures 2 (omega arith),
-      c.row-6.ensures 3 (omega arith),
-      c.row-10.ensures 0 (omega arith),
-      c.row-10.ensures 1 (omega arith),
-      c.row-10.ensures 2 (omega arith),
-      c.row-10.ensures 3 (omega arith),
-      c.row-14.ensures 0 (omega arith),
-      c.row-14.ensures 1 (omega arith),
-      c.row-14.ensures 2 (omega arith),
-      c.row-14.ensures 3 (omega arith),
-    ) (ap (λ (x : List ℕ). words 4 16 x) c.block_at-b1.ensures.block))
-    (rw (
-      c.transpose.ensures,
-      c.transpose-2.ensures,
-      c.transpose-3.ensures,
-      c.transpose-4.ensures,
-      c.row-3.ensures 0 (omega arith),
-      c.row-3.ensures 1 (omega arith),
-      c.row-3.ensures 2 (omega arith),
-      c.row-3.ensures 3 (omega arith),
-      c.row-7.ensures 0 (omega arith),
-      c.row-7.ensures 1 (omega arith),
-      c.row-7.ensures 2 (omega arith),
-      c.row-7.ensures 3 (omega arith),
-      c.row-11.ensures 0 (omega arith),
-      c.row-11.ensures 1 (omega arith),
-      c.row-11.ensures 2 (omega arith),
-      c.row-11.ensures 3 (omega arith),
-      c.row-15.ensures 0 (omega arith),
-      c.row-15.ensures 1 (omega arith),
-      c.row-15.ensures 2 (omega arith),
-      c.row-15.ensures 3 (omega arith),
-    ) (ap (λ (x : List ℕ). words 4 16 x) c.block_at-b2.ensures.block))
-    (rw (
-      c.transpose.ensures,
-      c.transpose-2.ensures,
-      c.transpose-3.ensures,
-      c.transpose-4.ensures,
-      c.row-4.ensures 0 (omega arith),
-      c.row-4.ensures 1 (omega arith),
-      c.row-4.ensures 2 (omega arith),
-      c.row-4.ensures 3 (omega arith),
-      c.row-8.ensures 0 (omega arith),
-      c.row-8.ensures 1 (omega arith),
-      c.row-8.ensures 2 (omega arith),
-      c.row-8.ensures 3 (omega arith),
-      c.row-12.ensures 0 (omega arith),
-      c.row-12.ensures 1 (omega arith),
-      c.row-12.ensures 2 (omega arith),
-      c.row-12.ensures 3 (omega arith),
-      c.row-16.ensures 0 (omega arith),
-      c.row-16.ensures 1 (omega arith),
-      c.row-16.ensures 2 (omega arith),
-      c.row-16.ensures 3 (omega arith),
-    ) (ap (λ (x : List ℕ). words 4 16 x) c.block_at-b3.ensures.block))
+    rw (c.transpose.ensures, c.transpose-2.ensures, c.transpose-3.ensures, c.transpose-4.ensures)
+    (below_four _
+    (block_read _ _ _ _ _ _ c.row.ensures c.row-5.ensures c.row-9.ensures c.row-13.ensures c.block_at-b0.ensures.block)
+    (block_read _ _ _ _ _ _ c.row-2.ensures c.row-6.ensures c.row-10.ensures c.row-14.ensures c.block_at-b1.ensures.block)
+    (block_read _ _ _ _ _ _ c.row-3.ensures c.row-7.ensures c.row-11.ensures c.row-15.ensures c.block_at-b2.ensures.block)
+    (block_read _ _ _ _ _ _ c.row-4.ensures c.row-8.ensures c.row-12.ensures c.row-16.ensures c.block_at-b3.ensures.block))
