@@ -2,8 +2,8 @@
 
 ghost use Rattle.std.specs.IoError.{error_kind};
 ghost use Rattle.std.specs.Prelude.{◌≡◌, ◌<◌, Err, None, Ok, IfErr, IfOk};
-ghost use Rattle.sumlist.specs.Opening.{OpenCounts, fault_of, seek_fault as seek_fault_of};
-ghost use Rattle.sumlist.specs.inside.Moved.{IsMoved};
+ghost use Rattle.sumlist.specs.Opening.{OpenCounts, fault_of};
+ghost use Rattle.sumlist.specs.inside.Moved.{IsMoved, seek_fault as seek_fault_of};
 ghost use Rattle.either.specs.declared.Either.TheVariants.{Left};
 
 use crate::tree::{OpenFault, Tree};
