@@ -1,5 +1,5 @@
 #!/usr/bin/env python3
-"""Compares the rows of docs/DEFINITIONS.md with the definitions in crates/*/specs, those of inside/ apart, both ways:
+"""Compares the rows of docs/PROOFS.md with the definitions in crates/*/specs, those of inside/ apart, both ways:
 each definition has one row that links its file, and each row names definitions of the files that it links. The names
 of a row stand in backticks in its first cell, before a colon; a semicolon begins anew.
 usage: .ci/definitions_listed.py
@@ -12,7 +12,7 @@ import re
 import harness
 
 ROOT = os.path.dirname(harness.HERE)
-PAGE = "docs/DEFINITIONS.md"
+PAGE = "docs/PROOFS.md"
 DEFINITION = re.compile(r"^ *(?:(?:abbrev|unfoldable|opaque)(?: pub)?|(?:pub )?(?:record|data)) ([^\s{]+)", re.M)
 
 

@@ -13,16 +13,16 @@ from test import test_hashlib as suite
 import harness
 
 NAMES = ("sha256", "SHA256", "sha512", "SHA512", "blake2b", "blake2s")
-# What speaks of other hashes alone, of CPython's own modules and types, or wants the network.
+# Tests of other hashes, of CPython's own modules and types, or of the network.
 OTHERS = ("md5", "sha1", "sha224", "sha384", "sha3", "shake", "builtin", "readonly_types", "disallow_instantiation",
           "fips", "openssl", "vectors")
-# Those that ask for trees of BLAKE2 at some point: what stands before it is tried.
+# Tests that come to trees of BLAKE2 at some point: each is tried up to that point.
 WITH_TREES = ("test_blake2b", "test_blake2s", "test_case_blake2b_all_parameters", "test_case_blake2s_all_parameters")
 
 
 def stand_in():
-    """What the tests ask of hashlib, by sums_hash. Where they take md5 or sha1 for any hash, as in those of threads
-    and of faulty names, it is SHA-256."""
+    """A module that gives the tests sums_hash in place of hashlib. Tests of threads and of faulty names use md5 or sha1
+    as any hash; they get SHA-256."""
     module = types.ModuleType("hashlib")
     for name in ("sha256", "sha512", "blake2b", "blake2s", "file_digest"):
         setattr(module, name, getattr(sums_hash, name))

@@ -13,7 +13,7 @@ import tables
 from harness import same
 
 
-# How many bytes a read gives at most, beside reads as they come.
+# The most bytes that a read gives; runs without such a limit come besides.
 SIZES = (1, 7, 4096)
 
 settings = {}
@@ -49,7 +49,7 @@ SHA256_EMPTY = b"e3b0c44298fc1c149afbf4c8996fb92427ae41e4649b934ca495991b7852b85
 BLAKE2B_8_EMPTY = b"2e"
 BLAKE3_1025 = b"d00278ae47eb27b34faecf67b4fe263f82d5412916c1ffd97c8cb7fb814b8444"
 
-# A name, what stands before the digits of its line, and what stands after them. These are the forms that
+# A name, and the text before and after the digits of its line. These are the forms that
 # coreutils' `sha256sum` and `b2sum` write; the name with a CR is b3sum's from 1.8 on.
 NAMES = [
     (b"abc.txt", b"", b"  abc.txt\n"),
@@ -70,7 +70,7 @@ NAMES = [
 
 MALFORMED, SKIPPED = "malformed", "skipped"
 
-# What stands before the digits of SHA-256 of "abc", what after them, and the name that the line means.
+# The text before and after the digits of SHA-256 of "abc", and the name that the line means.
 LINES = [
     ("two spaces", b"", b"  abc.txt", b"abc.txt"),
     ("a space and a star", b"", b" *abc.txt", b"abc.txt"),
@@ -125,7 +125,7 @@ LINES_WITHOUT_DIGITS = [
     (b"  a", MALFORMED),
 ]
 
-# What stands before the digits, the digits, and the name, whatever the list's own algorithm.
+# The text before the digits, the digits, and the name; the list's own algorithm may be any.
 TAGGED = [
     (b"SHA256 (abc.txt) = ", SHA256_ABC, b"abc.txt"),
     (b"BLAKE2s (abc.txt) = ", BLAKE2S_ABC, b"abc.txt"),

@@ -38,7 +38,7 @@ library_builds() {
     ln -s "$soname" "$2/$3/libsums_hash.so"
 }
 
-# above LEVEL: the level that is named behind it
+# above LEVEL: the next one of $levels
 above() {
     echo "$levels" | tr ' ' '\n' | sed -n "/^$1\$/{ n; p; }"
 }

@@ -65,7 +65,7 @@ functions() {
 # Each of the next three calls DO MODE FILE PLACE for each file that belongs to it, and DO link TARGET PLACE for each
 # link. PLACE is below the prefix.
 
-# program_texts DO [ZSH]: the manual pages of the program and its completions; ZSH is the folder of those of zsh
+# program_texts DO [ZSH]: the program's manual pages and completions; ZSH is the folder for those of zsh
 program_texts() {
     for page in sums sums-hash sums-mac sums-kdf sums-check sums-part sums-join; do
         "$1" 644 "man/$page.1" "share/man/man1/$page.1"
@@ -123,7 +123,7 @@ library_folder() {
     echo "${folder%/}"
 }
 
-# refresh_loader: has the loader find a shared library that came or went, where it can
+# refresh_loader: as root, lets the loader find a shared library that was added or removed
 refresh_loader() {
     if [ -z "${DESTDIR-}" ] && [ "$(id -u)" = 0 ] && command -v ldconfig > /dev/null; then ldconfig; fi
 }

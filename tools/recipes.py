@@ -1,7 +1,8 @@
 #!/usr/bin/env python3
 """Runs each recipe of the documents as it stands there: in README.md and docs/SCALE.md the blocks that are fenced with
-a language and a name, in man/*.1 those behind a comment `recipe NAME`. Where a recipe has a name of a file to choose, it
-is run with each of NAMES too. A recipe has to print what is wanted, end with the status that is wanted, tell nothing on
+a language and a name, in man/*.1 those behind a comment `recipe NAME`. A block of the language `console` is a session:
+what stands below a command has to be what it prints. Where a recipe has a name of a file to choose, it is run with each
+of NAMES too. A recipe has to print what is wanted, end with the status that is wanted, tell nothing on
 standard error, and run nothing that a name spells. What is not installed is told, and not run. No part of tools/test.
 usage: tools/recipes.py PROGRAM [NAME..]    the recipes of these names; all of them where none is named
 """
@@ -221,12 +222,6 @@ def linked(bench, title, text):
         ends(bench.run(named(text, "link", 1), folder), 0, bench.sums(folder, "hash", "-a", "blake3", "link"))
 
     bench.judge(title + ", a symbolic link", case)
-
-
-def readme_parts(bench):
-    text = bench.text("README.md", "parts")
-    in_parts(bench, "README.md parts", text)
-    linked(bench, "README.md parts", text)
 
 
 def join_page(bench):
@@ -617,35 +612,65 @@ def lines_of(bench, page):
     return folder, outputs
 
 
-def readme_lines(bench):
-    folder, outputs = lines_of(bench, "README.md")
-    joined = [text for line, text in outputs.items() if line.startswith("sums join")]
-    bench.judge("README.md lines: parts that are joined",
-                lambda: same(joined, [bench.sums(folder, "hash", "-a", "blake3", "disk.img")], "line"))
+def session(bench, page, name):
+    """A session of a shell: what is printed between two prompts is what stands there."""
+    folder = bench.folder()
+    for piece in ("\n" + bench.text(page, name)).split("\n$ ")[1:]:
+        command, _, printed = piece.partition("\n")
+        wanted = (printed.rstrip("\n") + "\n" if printed.strip() else "").encode()
+        bench.judge(f"{page} {name}: {command}", lambda: ends(bench.run(command, folder), 0, wanted))
+
+
+def readme_use(bench):
+    session(bench, "README.md", "use")
+
+
+def readme_download(bench):
+    """The list of a download: files that are right, and then one that is not."""
+    folder = pictures(bench.folder())
+    listed = lists_of(bench, folder)
+    text = bench.text("README.md", "download")
+    count = listed.count(b"\n")
+    bench.judge("README.md download", lambda: same(
+        (bench.run(text, folder)[0], bench.run(text, folder)[1].count(b": OK\n")), (0, count), "status and files"))
+    fill(os.path.join(folder, "two.iso"), 7)
+    got = bench.run(text, folder)
+    bench.judge("README.md download, a wrong file",
+                lambda: same((got[0], b"two.iso: FAILED\n" in got[1]), (1, True), "status and report"))
+    some = bench.text("README.md", "some")
+    bench.judge("README.md some, wrong", lambda: ends(bench.run(some, folder), 1, b"two.iso: FAILED\n"))
+    fill(os.path.join(folder, "two.iso"), 100 + len(NAMES) + 1)
+    bench.judge("README.md some", lambda: ends(bench.run(some, folder), 0, b"two.iso: OK\n"))
+    write(folder, "SHA256SUMS", "")
+    bench.judge("README.md some, none", lambda: ends(bench.run(some, folder), 1, b""))
+
+
+def hash_page(bench):
+    page = "man/sums-hash.1"
+    folder, outputs = lines_of(bench, page)
     if bench.there("sha256sum", "it was not asked whether it takes the list"):
-        bench.judge("README.md lines: sha256sum -c",
+        bench.judge(f"{page} lines: sha256sum -c",
                     lambda: ends(bench.run("sha256sum --quiet -c SHA256SUMS", folder), 0, b""))
     if bench.there("b2sum", "its digest was not compared"):
-        bench.judge("README.md lines: b2sum -l 256",
+        bench.judge(f"{page} lines: b2sum -l 256",
                     lambda: same(outputs.get("sums hash -a blake2b -l 32 backup.tar"),
                                  bench.run("b2sum -l 256 backup.tar", folder)[1], "line"))
 
 
 def tags(bench):
     """A tag that is written and checked, of each name; and one that is wrong."""
-    for page in ["README.md", "man/sums-mac.1"]:
-        text = bench.text(page, "tag")
+    text = bench.text("man/sums-mac.1", "tag")
 
-        def case(name):
-            folder = bench.folder()
-            fill(os.path.join(folder, name), 99)
-            fill(os.path.join(folder, "key"), 32)
-            ends(bench.run(text, folder, f=name), 0, shown_name(name) + b": OK\n")
-            wrong = re.sub("message.tag\n", "message.tag; printf x >> \"./$f\"\n", text, count=1)
-            ends(bench.run(wrong, folder, f=name), 1, shown_name(name) + b": FAILED\n")
+    def case(name):
+        folder = bench.folder()
+        fill(os.path.join(folder, name), 99)
+        fill(os.path.join(folder, "key"), 32)
+        ends(bench.run(text, folder, f=name), 0, shown_name(name) + b": OK\n")
+        wrong = re.sub("message.tag\n", "message.tag; printf x >> \"./$f\"\n", text, count=1)
+        ends(bench.run(wrong, folder, f=name), 1, shown_name(name) + b": FAILED\n")
 
-        for name in NAMES:
-            bench.judge(f"{page} tag, {name!r}", lambda: case(name))
+    for name in NAMES:
+        bench.judge(f"sums-mac(1) tag, {name!r}", lambda: case(name))
 
 
 def shown_name(name):
@@ -654,27 +679,27 @@ def shown_name(name):
 
 def one_of(bench):
     """One file of a long list: its line, or status 1."""
-    for page in ["README.md", "man/sums-check.1"]:
-        text = bench.text(page, "one")
+    page = "man/sums-check.1"
+    text = bench.text(page, "one")
 
-        def case(name):
-            folder = bench.folder()
-            for number, other in enumerate(NAMES):
-                fill(os.path.join(folder, other), 50 + number)
-            listed = bench.sums(folder, "hash", "-a", "sha256", "--", *NAMES)
-            with open(os.path.join(folder, "SHA256SUMS"), "wb") as file:
-                file.write(listed)
-            ends(bench.run(text, folder, f=name), 0, bench.sums(folder, "hash", "-a", "sha256", "--", name))
-            with open(os.path.join(folder, "SHA256SUMS"), "wb") as file:
-                file.write(bench.sums(folder, "hash", "-a", "sha256", "--", name).replace(b"\n", b"x\n"))
-            ends(bench.run(text, folder, f=name), 1, b"")
-            with open(os.path.join(folder, "SHA256SUMS"), "wb") as file:
-                file.write(listed)
-            fill(os.path.join(folder, name), 7)
-            ends(bench.run(text, folder, f=name), 1, b"")
+    def case(name):
+        folder = bench.folder()
+        for number, other in enumerate(NAMES):
+            fill(os.path.join(folder, other), 50 + number)
+        listed = bench.sums(folder, "hash", "-a", "sha256", "--", *NAMES)
+        with open(os.path.join(folder, "SHA256SUMS"), "wb") as file:
+            file.write(listed)
+        ends(bench.run(text, folder, f=name), 0, bench.sums(folder, "hash", "-a", "sha256", "--", name))
+        with open(os.path.join(folder, "SHA256SUMS"), "wb") as file:
+            file.write(bench.sums(folder, "hash", "-a", "sha256", "--", name).replace(b"\n", b"x\n"))
+        ends(bench.run(text, folder, f=name), 1, b"")
+        with open(os.path.join(folder, "SHA256SUMS"), "wb") as file:
+            file.write(listed)
+        fill(os.path.join(folder, name), 7)
+        ends(bench.run(text, folder, f=name), 1, b"")
 
-        for name in NAMES:
-            bench.judge(f"{page} one, {name!r}", lambda: case(name))
+    for name in NAMES:
+        bench.judge(f"{page} one, {name!r}", lambda: case(name))
 
 
 def check_page(bench):
@@ -706,8 +731,7 @@ def signed_lists(bench):
     if bench.run(make, bench.work)[0]:
         bench.missing("gpg made no key: the recipes for signed lists were not run")
         return
-    for page in ["README.md", "man/sums-check.1"]:
-        bench.judge(f"{page} signed", lambda: signed(bench, bench.text(page, "signed")))
+    bench.judge("sums-check(1) signed", lambda: signed(bench, bench.text("man/sums-check.1", "signed")))
     bench.run("gpgconf --kill all", bench.work)
 
 
@@ -746,21 +770,20 @@ def tree(folder):
 
 def folders(bench):
     """The lists of a folder's files, of each name; an empty folder has none."""
-    for page in ["README.md", "man/sums.1"]:
-        text = bench.text(page, "folder")
+    text = bench.text("man/sums.1", "folder")
 
-        def case(fills):
-            above = bench.folder()
-            here = os.path.join(above, "here")
-            os.mkdir(here)
-            names = ["./" + name for name in tree(here)] if fills else []
-            wanted = bench.sums(here, "hash", "-a", "blake3", "--", *names) if fills else b""
-            ends(bench.run(text, here))
-            with open(os.path.join(above, "LIST"), "rb") as file:
-                same(sorted(file.read().splitlines()), sorted(wanted.splitlines()), "the list")
+    def case(fills):
+        above = bench.folder()
+        here = os.path.join(above, "here")
+        os.mkdir(here)
+        names = ["./" + name for name in tree(here)] if fills else []
+        wanted = bench.sums(here, "hash", "-a", "blake3", "--", *names) if fills else b""
+        ends(bench.run(text, here))
+        with open(os.path.join(above, "LIST"), "rb") as file:
+            same(sorted(file.read().splitlines()), sorted(wanted.splitlines()), "the list")
 
-        bench.judge(f"{page} folder", lambda: case(True))
-        bench.judge(f"{page} folder, an empty one", lambda: case(False))
+    bench.judge("sums(1) folder", lambda: case(True))
+    bench.judge("sums(1) folder, an empty one", lambda: case(False))
 
 
 def scale_folder(bench):
@@ -792,14 +815,13 @@ def scale_folder(bench):
 
 # each recipe of each page, and what runs it
 RUNS = {
-    "README.md": {"lines": readme_lines, "tag": tags, "one": one_of, "signed": signed_lists, "folder": folders,
-                  "parts": readme_parts},
+    "README.md": {"download": readme_download, "some": readme_download, "use": readme_use},
     "docs/SCALE.md": {"folder": scale_folder, "pieces": scale_folder, "file": scale_parts, "device": scale_parts,
                       "parts": scale_parts, "parallel": scale_parallel, "pipepart": scale_parallel,
                       "hosts": scale_parallel, "own": scale_own, "lines": scale_own, "job.sh": scale_slurm,
                       "join.sh": scale_slurm, "slurm": scale_slurm, "spark": scale_spark},
     "man/sums.1": {"lines": lambda bench: lines_of(bench, "man/sums.1"), "folder": folders},
-    "man/sums-hash.1": {"lines": lambda bench: lines_of(bench, "man/sums-hash.1")},
+    "man/sums-hash.1": {"lines": hash_page},
     "man/sums-mac.1": {"lines": lambda bench: lines_of(bench, "man/sums-mac.1"), "tag": tags},
     "man/sums-kdf.1": {"lines": lambda bench: lines_of(bench, "man/sums-kdf.1")},
     "man/sums-check.1": {"lines": check_page, "faults": check_page, "one": one_of, "some": check_page,

@@ -1,0 +1,145 @@
+#!/usr/bin/env python3
+"""Checks the documents: each link leads somewhere, sentences are short, nothing is dated, README is short, quotes code
+that is there, and has the options and statuses of help and manual pages.
+usage: .ci/documents.py
+"""
+
+import glob
+import os
+import re
+
+import harness
+
+ROOT = os.path.dirname(harness.HERE)
+README_LINES = 190
+SENTENCE_WORDS = 40
+DIARY = re.compile(r"20[0-9]{2}-|November|was seen|beside other")
+# the one line that tells when and on what was measured
+DATED = re.compile(r"Machine: ")
+COMMANDS = ["hash", "mac", "kdf", "check", "part", "join"]
+
+
+def read(path):
+    with open(os.path.join(ROOT, path), encoding="utf-8") as file:
+        return file.read()
+
+
+def found(*patterns):
+    """The files of these patterns."""
+    return sorted(path for pattern in patterns for path in glob.glob(pattern, root_dir=ROOT))
+
+
+PAGES = found("README.md", "docs/*.md")
+LEADING = PAGES + found("CHANGELOG.md", "bindings/*/README.md", "crates/*/CALLING.md")
+
+
+# ---- the text of a page
+
+
+def without_code(text):
+    """A page without its fenced and indented blocks."""
+    return re.sub(r"^    .*$", "", re.sub(r"^```.*?^```$", "", text, flags=re.M | re.S), flags=re.M)
+
+
+def sentences(text):
+    """The sentences of a page, but for headings and tables. A piece of code counts as a word."""
+    text = re.sub(r"^[|#].*$", "", without_code(text), flags=re.M)
+    text = re.sub(r"`+[^`]+`+", "code", text)
+    text = re.sub(r"\[([^\]]*)\]\([^)]*\)", r"\1", text)
+    for block in re.split(r"\n\s*\n|^\s*(?:-|[0-9]+\.) ", text, flags=re.M):
+        yield from re.split(r"(?<=[.?!])[)*\"]*\s+", block.strip())
+
+
+def anchors(text):
+    """What links can name of a page: its headings, as they are shown on the web."""
+    for heading in re.findall(r"^#+ (.*)$", without_code(text), re.M):
+        yield re.sub(r"[^\w -]", "", heading.lower()).replace(" ", "-")
+
+
+def leads(page, link):
+    """Whether a link of a page leads to a file, and to a heading where it names one; those of the web are not asked."""
+    path, _, anchor = link.partition("#")
+    target = os.path.normpath(os.path.join(os.path.dirname(page), path)) if path else page
+    is_there = os.path.exists(os.path.join(ROOT, target))
+    return ":" in path or is_there and (not anchor or anchor in anchors(read(target)))
+
+
+def none(name, wrong):
+    """Counts a case, in which nothing is wrong."""
+    harness.judge(name, not wrong, *wrong)
+
+
+def check_page(page):
+    text = read(page)
+    none(f"{page}: long sentences", [part for part in sentences(text) if len(part.split()) > SENTENCE_WORDS])
+    links = re.findall(r"\]\(([^)\s]+)\)", without_code(text))
+    none(f"{page}: links to nothing", [link for link in links if not leads(page, link)])
+
+
+def check_diary(page):
+    lines = [line for line in read(page).splitlines() if DIARY.search(line)]
+    may_date = page == "docs/BENCHMARKS.md"
+    none(f"{page}: lines that tell when", [line for line in lines if not (may_date and DATED.match(line))])
+
+
+# ---- what README says beside help, manual pages and code
+
+
+def options(command):
+    """The options of a command's help."""
+    return re.findall(r"(?:^ +|, )(--?[a-z0-9-]+)", read(f".ci/help/{command}").split("\nOptions:\n")[1], re.M)
+
+
+def help_statuses(command):
+    """The statuses of a help, each with its words."""
+    told = read(f".ci/help/{command}").split("\nStatus:\n")[1]
+    return {number: " ".join(text.split()) for number, text in re.findall(r"^  (\d+)  (.*(?:\n     .*)*)", told, re.M)}
+
+
+def page_statuses(page):
+    """The same of a manual page."""
+    section = read(page).split(".SH EXIT STATUS\n")[1].split("\n.SH")[0]
+    section = section.split("\n.PP")[0].replace("\\-", "-")
+    told = re.findall(r"^\.TP\n\.B (\d+)\n((?:(?!\.TP).*\n?)*)", section, re.M)
+    return {number: " ".join(re.sub(r"^\.[BI]\S* |\"| (?=,$)", "", text, flags=re.M).split()) for number, text in told}
+
+
+def check_commands():
+    readme = read("README.md")
+    for command in COMMANDS:
+        uses = re.findall(rf"\b{command} (-[^|;`\n]*)", readme)
+        harness.judge(f"README.md has sums {command}", uses)
+        named = {option for use in uses for option in re.findall(r"(?:^|\s)(--?[a-z][a-z0-9-]*)", use)}
+        none(f"README.md: options that sums {command} has not", sorted(named - set(options(command))))
+        harness.same(f"statuses of sums-{command}(1)", page_statuses(f"man/sums-{command}.1"), help_statuses(command))
+
+
+def check_statuses():
+    told = dict(re.findall(r"^\| (\d+) \| (.*) \|$", read("README.md"), re.M))
+    of_page = page_statuses("man/sums.1")
+    harness.same("statuses of README.md and sums(1)", sorted(told), sorted(of_page))
+    for number, text in help_statuses("sums").items():
+        harness.same(f"status {number} in README.md", told.get(number), text)
+        harness.same(f"status {number} in sums(1)", of_page.get(number), text)
+
+
+def check_quotes():
+    sources = " ".join(" ".join(read(path).split()) for path in found("crates/*/src/*.rt"))
+    for quote in re.findall(r"^```rust\n(.*?)^```$", read("README.md"), re.M | re.S):
+        harness.judge("README.md quotes code that is there", " ".join(quote.split()) in sources, quote)
+
+
+def main():
+    for page in LEADING:
+        check_page(page)
+    for page in PAGES:
+        check_diary(page)
+    count = len(read("README.md").splitlines())
+    harness.judge(f"README.md has {count} lines", count <= README_LINES)
+    check_commands()
+    check_statuses()
+    check_quotes()
+    harness.finish()
+
+
+main()
