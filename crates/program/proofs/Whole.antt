@@ -1,23 +1,35 @@
 -- The course of a run is that of its request, with the last trouble told.
-use Rattle.std.proofs.Common.{◌≡◌, ℕ, List, [], ◌∷◌, ◌++◌, Option, Some, None, Result, Ok, Err, IfSome, refl}
+use Rattle.std.proofs.Common.{◌≡◌, ℕ, List, [], ◌∷◌, ◌++◌, Option, Some, None, Result, Ok, Err, IfOk, IfSome, refl}
 use Rattle.std.proofs.Common.{sym, ap, ◌∙◌, inl, inr, subst, append-nil, arith}
-use Rattle.std.specs.Prelude.{IsErrAnd}
+use Rattle.std.specs.Prelude.{IsErrAnd, OnOk}
 use Rattle.std.proofs.KnownBytes.{Appends-nil}
 use Rattle.std.proofs.lemmas.Result.{err_from_is_err_and}
 use Rattle.source.specs.Written.{Shown}
 use Rattle.sumlist.specs.Report.{Files}
-use Rattle.request.specs.CommandLine.{ErrorKind, IsAmong, OfSums, Reads, Text, fault_of}
+use Rattle.request.specs.CommandLine.{ErrorKind, Given, IsAmong, OfSums, Reads, Text, fault_of, given_of, kind_of}
+use Rattle.request.specs.inside.Reading.{IsRead}
+use Rattle.request.specs.declared.request.Request.{Request}
+use Rattle.request.specs.declared.request.WordsFault.{WordsFault}
+use Rattle.request.specs.declared.request.WordsFault.TheVariants as words_fault
 use Rattle.task.specs.Parameters.{Judges}
 use Rattle.task.specs.Tasks.{Asked, asked, task_shown}
 use Rattle.task.specs.declared.fault.TaskFault.{TaskFault}
 use Rattle.task.specs.declared.fault.TaskFault.TheVariants as task
-use Rattle.request.specs.declared.request.Request.{Request}
 use Rattle.command.specs.Course.{Counted, Course, Printed, Runs, Takes, Tells, TellsAll, ending_told, no_failures}
 use Rattle.command.specs.Course.{refused_by, status_at}
 use Rattle.command.specs.Troubles.{of_task, out_of_memory, status_of, told, trouble_of}
 use Rattle.command.specs.declared.fault.Fault.{Fault}
 use Rattle.command.proofs.Telling.{TellsAll-append, TellsAll-one}
 use Rattle.program.specs.Program.{IsAnswered, ProgramRuns, RequestRuns, TaskRuns}
+
+-- what `line` promises of its answer, as one fact
+pub read_as : (words : List Text) (read : Result Request WordsFault)
+    → IfOk read (λ r. OfSums (λ app. Reads app words (given_of r))) → OnOk read (OfSums (λ app. fault_of app words ≡ []))
+    → ((e : _) → read ≡ Err (words_fault.Words e) → OfSums (λ app. IsAmong (kind_of e) (fault_of app words)))
+    → IsRead words read
+read_as words (Ok r) reads passes fault = (reads, passes)
+read_as words (Err words_fault.OutOfMemory) reads passes fault = tt
+read_as words (Err (words_fault.Words e)) reads passes fault = fault e refl
 
 Counted-none : (i u : ℕ) → Counted no_failures i i u u
 Counted-none i u = (omega arith, omega arith)
@@ -46,7 +58,7 @@ Runs-stopped course f status out_old out_new err_old err_mid err_new takes tells
 
 module _ (first : Option (List ℕ)) (tree : Option Files) where
   -- what was done of a request
-  abbrev pub Requested : Request → Result ℕ Fault → (out_old out_new err_old err_new : Shown) → (i j u v : ℕ) → Type 0
+  abbrev pub Requested : Given → Result ℕ Fault → (out_old out_new err_old err_new : Shown) → (i j u v : ℕ) → Type 0
   Requested r answer out_old out_new err_old err_new i j u v =
       IfSome first (λ bytes. IfSome tree (λ files. (course : Course) × RequestRuns r files bytes course × Takes course
       answer out_old out_new × TellsAll err_old err_new course.notes × Counted course.failures i j u v))
@@ -70,11 +82,11 @@ module _ (first : Option (List ℕ)) (tree : Option Files) where
       IfSome first (λ bytes. IfSome tree (λ files. ProgramRuns words bytes files status out_old out_new err_old
       err_new i j u v))
 
-requested : (r : Request) (task : Asked) (files : Files) (bytes : List ℕ) (course : Course) → asked r ≡ Ok task
+requested : (r : Given) (task : Asked) (files : Files) (bytes : List ℕ) (course : Course) → asked r ≡ Ok task
     → TaskRuns task files bytes course → RequestRuns r files bytes course
 requested r task files bytes course is runs = inl (rw is runs)
 
-pub told_task : (first : Option (List ℕ)) (tree : Option Files) (r : Request) (task : Asked) (answer : Result ℕ Fault)
+pub told_task : (first : Option (List ℕ)) (tree : Option Files) (r : Given) (task : Asked) (answer : Result ℕ Fault)
     (out_old out_new err_old err_new : Shown) (i j u v : ℕ)
     → asked r ≡ Ok task → Tellingly first tree task answer out_old out_new err_old err_new i j u v
     → Requested first tree r answer out_old out_new err_old err_new i j u v
@@ -83,7 +95,7 @@ told_task (Some bytes) None r task answer out_old out_new err_old err_new i j u 
 told_task (Some bytes) (Some files) r task answer out_old out_new err_old err_new i j u v is h =
     (h.0, requested r task files bytes h.0 is h.1, h.2, h.3, h.4)
 
-pub quiet_task : (first : Option (List ℕ)) (tree : Option Files) (r : Request) (task : Asked)
+pub quiet_task : (first : Option (List ℕ)) (tree : Option Files) (r : Given) (task : Asked)
     (answer : Result ℕ Fault) (out_old out_new err : Shown) (i j u v : ℕ)
     → asked r ≡ Ok task → Quietly first tree task answer out_old out_new i j u v
     → Requested first tree r answer out_old out_new err err i j u v
@@ -92,7 +104,7 @@ quiet_task (Some bytes) None r task answer out_old out_new err i j u v is h = tt
 quiet_task (Some bytes) (Some files) r task answer out_old out_new err i j u v is h =
     (h.0, requested r task files bytes h.0 is h.1, h.2, rw h.3 refl, h.4)
 
-refused : (r : Request) (e : TaskFault) (files : Files) (bytes : List ℕ) → Judges task_shown (asked r) (Err e)
+refused : (r : Given) (e : TaskFault) (files : Files) (bytes : List ℕ) → Judges task_shown (asked r) (Err e)
     → RequestRuns r files bytes (refused_by (trouble_of (of_task e)) no_failures)
 refused r (task.Usage fault) files bytes judged = inl (rw judged refl)
 refused r task.OutOfMemory files bytes judged = inr refl
@@ -101,7 +113,7 @@ nothing_printed : (e : TaskFault) (s : Shown) → Printed (Err (trouble_of (of_t
 nothing_printed (task.Usage fault) s = (refl, Appends-nil s.contents)
 nothing_printed task.OutOfMemory s = (refl, Appends-nil s.contents)
 
-pub no_task : (first : Option (List ℕ)) (tree : Option Files) (r : Request) (e : TaskFault) (answer : Result ℕ Fault)
+pub no_task : (first : Option (List ℕ)) (tree : Option Files) (r : Given) (e : TaskFault) (answer : Result ℕ Fault)
     (out err : Shown) (i u : ℕ)
     → IsErrAnd answer (λ g. g ≡ of_task e) → Judges task_shown (asked r) (Err e)
     → Requested first tree r answer out out err err i i u u
@@ -117,7 +129,7 @@ no_task (Some bytes) (Some files) r e answer out err i u stop judged =
     )
 
 module _ (words : List Text) where
-  pub run_done : (first : Option (List ℕ)) (tree : Option Files) (r : Request) (status : ℕ)
+  pub run_done : (first : Option (List ℕ)) (tree : Option Files) (r : Given) (status : ℕ)
       (out_old out_new err_old err_new : Shown) (i j u v : ℕ)
       → OfSums (λ app. fault_of app words ≡ []) → OfSums (λ app. Reads app words r)
       → Requested first tree r (Ok status) out_old out_new err_old err_new i j u v
@@ -127,7 +139,7 @@ module _ (words : List Text) where
   run_done (Some bytes) (Some files) r status out_old out_new err_old err_new i j u v passes read h =
       inl (h.0, Runs-done h.0 status out_old out_new err_old err_new h.2 h.3, h.4, inl (r, passes, read, h.1))
 
-  pub run_stopped : (first : Option (List ℕ)) (tree : Option Files) (r : Request) (f : Fault) (status : ℕ)
+  pub run_stopped : (first : Option (List ℕ)) (tree : Option Files) (r : Given) (f : Fault) (status : ℕ)
       (out_old out_new err_old err_mid err_new : Shown) (i j u v : ℕ)
       → OfSums (λ app. fault_of app words ≡ []) → OfSums (λ app. Reads app words r)
       → Requested first tree r (Err f) out_old out_new err_old err_mid i j u v

@@ -2,9 +2,8 @@
 use Rattle.std.specs.Prelude.{◌⊎◌, ◌≡◌, ℕ, List, [], MatchResult}
 use Rattle.source.specs.Written.{Done, Failed, Shown}
 use Rattle.sumlist.specs.Report.{Files}
-use Rattle.request.specs.CommandLine.{ErrorKind, IsAmong, IsWrong, OfSums, Reads, Text, fault_of}
+use Rattle.request.specs.CommandLine.{ErrorKind, Given, IsAmong, IsWrong, OfSums, Reads, Text, fault_of}
 use Rattle.task.specs.Tasks.{Asked, asked, checks, cuts, derives, hashes, in_file, joins, tags, these}
-use Rattle.request.specs.declared.request.Request.{Request}
 use Rattle.command.specs.Checking.{CheckRuns}
 use Rattle.command.specs.Course.{Counted, Course, Runs, Tells, no_failures, refused_by}
 use Rattle.command.specs.Cutting.{PartRuns}
@@ -27,9 +26,9 @@ TaskRuns (derives derived is_raw name) files input course = KdfRuns derived is_r
 TaskRuns (checks kind is_summed name) files input course = CheckRuns kind is_summed name files input course
 
 -- the course of a request: its task's, or the first fault of its settings, or want of memory before either
-abbrev pub RequestRuns : Request → Files → List ℕ → Course → Type 0
-RequestRuns r files input course =
-    MatchResult (asked r) (λ task. TaskRuns task files input course)
+abbrev pub RequestRuns : Given → Files → List ℕ → Course → Type 0
+RequestRuns given files input course =
+    MatchResult (asked given) (λ task. TaskRuns task files input course)
     (λ fault. course ≡ refused_by (usage fault) no_failures)
     ⊎ (course ≡ refused_by out_of_memory no_failures)
 
@@ -47,8 +46,8 @@ abbrev pub ProgramRuns : List Text → List ℕ → Files → ℕ → (out_old o
     → (input_old input_new files_old files_new : ℕ) → Type 0
 ProgramRuns words input files status out_old out_new err_old err_new i j f g =
     ((course : Course) × Runs course status out_old out_new err_old err_new × Counted course.failures i j f g
-    × (((r : Request) × OfSums (λ app. fault_of app words ≡ []) × OfSums (λ app. Reads app words r)
-    × RequestRuns r files input course)
+    × (((given : Given) × OfSums (λ app. fault_of app words ≡ []) × OfSums (λ app. Reads app words given)
+    × RequestRuns given files input course)
     ⊎ (course ≡ refused_by out_of_memory no_failures)))
     ⊎ ((kind : ErrorKind) × (text : Text) × OfSums (λ app. IsAmong kind (fault_of app words))
     × IsAnswered kind text status out_old out_new err_old err_new × Counted no_failures i j f g)

@@ -1,8 +1,9 @@
 //! A whole run of `sums`: from the words to the status.
 #![tactic(auto)]
 
-ghost use Rattle.std.specs.Prelude.{IfSome, map};
-ghost use Rattle.request.specs.CommandLine.{kind_of};
+ghost use Rattle.std.specs.Prelude.{IfSome, List, map};
+ghost use Rattle.request.specs.CommandLine.{Text, given_of, kind_of};
+ghost use Rattle.request.specs.inside.Reading.{IsRead};
 ghost use Rattle.command.specs.Course.{TellsAll};
 ghost use Rattle.command.specs.Streams.{TakesCourse};
 ghost use Rattle.command.specs.inside.Streams.{SameStreams};
@@ -35,7 +36,26 @@ pub fn run<L: Feed, T: Tree, W: Sink, E: Sink>(
         (L.failure_count input.old) (L.failure_count input.new)
         (T.failure_count tree.old) (T.failure_count tree.new))) }
 {
-    let request = match line(alloc, words) {
+    run_read(alloc, line(alloc, words), input, tree, out, err)
+}
+
+/// The same of words that `line` has read: what it answers of them is handed in.
+pub fn run_read<L: Feed, T: Tree, W: Sink, E: Sink>(
+    alloc: Global,
+    read: Result<Request<'_>, WordsFault>,
+    input: &mut L,
+    tree: &mut T,
+    out: &mut W,
+    err: &mut E,
+) -> u8
+    ensures { (words : List Text) → IsRead words read.entry
+        → IfSome (L.remaining input.old) (λ bytes. IfSome (T.files tree.old) (λ files.
+        ProgramRuns words bytes files result
+        (W.shown out.old) (W.shown out.new) (E.shown err.old) (E.shown err.new)
+        (L.failure_count input.old) (L.failure_count input.new)
+        (T.failure_count tree.old) (T.failure_count tree.new))) }
+{
+    let request = match read {
         Ok(request) => request,
         Err(WordsFault::OutOfMemory) => return tell(err, Fault::OutOfMemory),
         Err(WordsFault::Words(error)) => {
@@ -63,7 +83,7 @@ fn run_request<'n, 'i, 't, 'o, L: Feed, T: Tree, W: Sink, E: Sink>(
     request: Request<'n>,
     err: &mut E,
 ) -> Result<u8, Fault<'n>>
-    ensures course { TakesCourse (λ bytes files. RequestRuns request.entry files bytes)
+    ensures course { TakesCourse (λ bytes files. RequestRuns (given_of request.entry) files bytes)
         (λ notes. TellsAll (E.shown err.old) (E.shown err.new) notes) result
         (⟦<Session<'i, 't, 'o, L, T, W> as Streams>⟧.seen session.old)
         (⟦<Session<'i, 't, 'o, L, T, W> as Streams>⟧.seen session.new) }

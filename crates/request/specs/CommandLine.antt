@@ -1,11 +1,12 @@
 -- The command line of the program, as what a parse by `clap` reads of it.
-use Rattle.std.specs.Prelude.{◌≡◌, ◌≢◌, ◌↔◌, true, List, [], ◌∷◌, Some, codes, map, option_map, IsSomeAnd, IsTrue}
-use Rattle.std.specs.Prelude.{unwrap_or, fold}
+use Rattle.std.specs.Prelude.{◌≡◌, ◌≢◌, ℕ, Bool, true, false, List, [], ◌∷◌, Option, Some, codes, map, fold}
 use Rattle.std.specs.Borrow.{Bor}
+use Rattle.std.specs.Option.{option_map_or}
+use Rattle.std.specs.Str.{bytes_eq}
 pub use Rattle.clap.specs.Words.{IsAmong, Text, fault_of, kind_of}
 pub use Rattle.clap.specs.declared.error.ErrorKind.{ErrorKind}
-use Rattle.clap.specs.Words.{App, Row, Rule, first_of, all_of, new_app, new_rule, subcommand_of, with_rule}
-use Rattle.clap.specs.Words.{with_subcommand}
+use Rattle.clap.specs.Words.{App, Row, Rule, first_of, all_of, found_of, new_app, new_rule, rows_of, subcommand_of}
+use Rattle.clap.specs.Words.{with_rule, with_subcommand}
 use Rattle.request.specs.declared.request.Request.{Request}
 use Rattle.clap.specs.declared.builder.value_parser.ValueParser.TheVariants as vp
 use Rattle.clap.specs.declared.error.ErrorKind.TheVariants as clap
@@ -28,36 +29,31 @@ abbrev pub mac_names : List Text
 mac_names = codes "hmac-sha256" ∷ codes "hmac-sha512" ∷ codes "hmac-blake2b" ∷ codes "hmac-blake2s" ∷ codes
     "blake2b" ∷ codes "blake2s" ∷ codes "blake3" ∷ []
 
+-- an option `-x` that takes a value
+abbrev pub short_rule : ℕ → Text → Rule
+short_rule x id = record (new_rule id) { short = Some x; value_names = 1 }
+
+-- a number below 2^64
+abbrev pub is_number : Rule → Rule
+is_number a = record a { parser = Some (vp.Unsigned 0 18446744073709551615) }
+
 -- `-a ALG`, which has to be there
 abbrev pub algorithm_rule : NameList → Rule
-algorithm_rule names = record (new_rule (codes "algorithm")) {
-  short = Some 97;
-  value_names = 1;
-  required = true;
-  parser = Some (vp.Names names);
-}
+algorithm_rule names = record (short_rule 97 (codes "algorithm")) { required = true; parser = Some (vp.Names names) }
 
 -- `-l N`
 abbrev pub length_rule : Rule
-length_rule = record (new_rule (codes "length")) {
-  short = Some 108;
-  value_names = 1;
-  parser = Some (vp.Unsigned 0 18446744073709551615);
-}
-
--- an option `--name` that takes a number
-abbrev pub number_rule : Text → Rule
-number_rule name = record (new_rule name) {
-  long = Some name;
-  value_names = 1;
-  parser = Some (vp.Unsigned 0 18446744073709551615);
-}
+length_rule = is_number (short_rule 108 (codes "length"))
 
 -- an option `--name` that takes a text
 abbrev pub text_rule : Text → Rule
 text_rule name = record (new_rule name) { long = Some name; value_names = 1 }
 
--- the same, which has to be there
+-- an option `--name` that takes a number
+abbrev pub number_rule : Text → Rule
+number_rule name = is_number (text_rule name)
+
+-- what has to be there
 abbrev pub required_rule : Rule → Rule
 required_rule a = record a { required = true }
 
@@ -127,40 +123,27 @@ unfoldable pub sums_app : NameList → NameList → App
 sums_app names macs = with_commands program_app
     (hash_app names ∷ mac_app macs ∷ kdf_app names ∷ check_app names ∷ part_app names ∷ join_app names ∷ [])
 
+-- what the words give: the name of a command, and the values of its options and arguments, each under its id
+abbrev pub Given : Type 0
+Given = Text × List Row
+
+abbrev pub given_of : Request → Given
+given_of r = (r.command.now, rows_of (found_of r.matches))
+
+-- the first value of an option or argument, and all of them
+abbrev pub text_of : Text → Given → Option Text
+text_of id given = first_of id given.1
+
+abbrev pub texts_of : Text → Given → Option (List Text)
+texts_of id given = all_of id given.1
+
 -- a flag was given: its value is then the word `true`
-abbrev pub IsGiven : Text → List Row → Type 0
-IsGiven id rows = first_of id rows ≡ Some (codes "true")
+abbrev pub has_flag : Text → Given → Bool
+has_flag id given = option_map_or (λ text. bytes_eq text (codes "true")) (text_of id given) false
 
--- the words name the subcommand s.0 with the matches s.1, and r has its name, the first value of
--- each option, and whether a flag was given
-pub record IsRequestOf (s : Text × List Row) (r : Request) : Type 0 where
-  pub command : r.command.now ≡ s.0
-  pub algorithm : option_map (λ t. t.now) r.algorithm ≡ first_of (codes "algorithm") s.1
-  pub length : option_map (λ t. t.now) r.length ≡ first_of (codes "length") s.1
-  pub seek : option_map (λ t. t.now) r.seek ≡ first_of (codes "seek") s.1
-  pub parts : option_map (λ t. t.now) r.parts ≡ first_of (codes "parts") s.1
-  pub tag : IsTrue r.tag ↔ IsGiven (codes "tag") s.1
-  pub raw : IsTrue r.raw ↔ IsGiven (codes "raw") s.1
-  pub summary : IsTrue r.summary ↔ IsGiven (codes "summary") s.1
-  pub progress : IsTrue r.progress ↔ IsGiven (codes "progress") s.1
-  pub key : option_map (λ t. t.now) r.key ≡ first_of (codes "key") s.1
-  pub key_file : option_map (λ t. t.now) r.key_file ≡ first_of (codes "key-file") s.1
-  pub verify : option_map (λ t. t.now) r.verify ≡ first_of (codes "verify") s.1
-  pub ikm_file : option_map (λ t. t.now) r.ikm_file ≡ first_of (codes "ikm-file") s.1
-  pub salt : option_map (λ t. t.now) r.salt ≡ first_of (codes "salt") s.1
-  pub personal : option_map (λ t. t.now) r.personal ≡ first_of (codes "personal") s.1
-  pub info : option_map (λ t. t.now) r.info ≡ first_of (codes "info") s.1
-  pub context : option_map (λ t. t.now) r.context ≡ first_of (codes "context") s.1
-  pub first : option_map (λ t. t.now) r.first ≡ first_of (codes "first") s.1
-  pub chunks : option_map (λ t. t.now) r.chunks ≡ first_of (codes "chunks") s.1
-  pub name : option_map (λ t. t.now) r.name ≡ first_of (codes "name") s.1
-  pub bytes : option_map (λ t. t.now) r.bytes ≡ first_of (codes "bytes") s.1
-  pub files0_from : option_map (λ t. t.now) r.files0_from ≡ first_of (codes "files0-from") s.1
-  pub files : map (λ t. t.now) r.files.items ≡ unwrap_or (all_of (codes "file") s.1) []
-
--- the words make the request r
-abbrev pub Reads : App → List Text → Request → Type 0
-Reads app words r = IsSomeAnd (subcommand_of app words) (λ s. IsRequestOf s r)
+-- the words give this
+abbrev pub Reads : App → List Text → Given → Type 0
+Reads app words given = subcommand_of app words ≡ Some given
 
 -- a fact of the program's command, whose lists of names hold the names above
 abbrev pub OfSums : (App → Type 0) → Type 0

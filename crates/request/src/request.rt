@@ -1,10 +1,9 @@
 // What the words of the command line ask for.
 
-ghost use Rattle.std.specs.Prelude.{◌≡◌, ◌≢◌, ◌↔◌, [], Err, IfOk, IsSomeAnd, IsTrue, OnOk, codes, map};
-ghost use Rattle.std.specs.Prelude.{option_map, true, unwrap_or};
-ghost use Rattle.clap.specs.Words.{IsAmong, all_of, fault_of, first_of, found_of, has_subcommand, kind_of};
-ghost use Rattle.clap.specs.Words.{rows_of, subcommand_of, subcommand_rows_of};
-ghost use Rattle.request.specs.CommandLine.{IsGiven, IsRequestOf, OfSums, Reads, sums_app};
+ghost use Rattle.std.specs.Prelude.{◌≡◌, ◌≢◌, [], Err, IfOk, OnOk, Some, map, option_map, true};
+ghost use Rattle.clap.specs.Words.{IsAmong, fault_of, has_subcommand, kind_of};
+ghost use Rattle.clap.specs.Words.{subcommand_of, subcommand_rows_of};
+ghost use Rattle.request.specs.CommandLine.{OfSums, Reads, given_of, has_flag, sums_app, text_of, texts_of};
 ghost use Rattle.request.specs.declared.request.WordsFault.TheVariants.{OutOfMemory, Words};
 
 use crate::commands::sums_command;
@@ -29,55 +28,44 @@ impl From<AllocError> for WordsFault {
     }
 }
 
-/// What the words ask for: a command, the text of each option that was given, a flag, and the files.
+/// What the words ask for: a command, and the values of its options and arguments, each under its id.
 #[derive(Debug, Drop)]
 pub struct Request<'a> {
+    command: &'a str,
+    matches: ArgMatches<'a>,
+}
+
+impl<'a> Request<'a> {
     /// The command's name.
-    pub command: &'a str,
-    /// The text of `-a`.
-    pub algorithm: Option<&'a str>,
-    /// The text of `-l`.
-    pub length: Option<&'a str>,
-    /// The text of `--seek`.
-    pub seek: Option<&'a str>,
-    /// The text of `--parts`.
-    pub parts: Option<&'a str>,
-    /// Whether `--tag` was given.
-    pub tag: bool,
-    /// Whether `--raw` was given.
-    pub raw: bool,
-    /// Whether `--summary` was given.
-    pub summary: bool,
-    /// Whether `--progress` was given.
-    pub progress: bool,
-    /// The text of `--key`.
-    pub key: Option<&'a str>,
-    /// The text of `--key-file`.
-    pub key_file: Option<&'a str>,
-    /// The text of `--verify`.
-    pub verify: Option<&'a str>,
-    /// The text of `--ikm-file`.
-    pub ikm_file: Option<&'a str>,
-    /// The text of `--salt`.
-    pub salt: Option<&'a str>,
-    /// The text of `--personal`.
-    pub personal: Option<&'a str>,
-    /// The text of `--info`.
-    pub info: Option<&'a str>,
-    /// The text of `--context`.
-    pub context: Option<&'a str>,
-    /// The text of `--first`.
-    pub first: Option<&'a str>,
-    /// The text of `--chunks`.
-    pub chunks: Option<&'a str>,
-    /// The text of `--name`.
-    pub name: Option<&'a str>,
-    /// The text of `--bytes`.
-    pub bytes: Option<&'a str>,
-    /// The text of `--files0-from`.
-    pub files0_from: Option<&'a str>,
-    /// The files, or the list.
-    pub files: Vec<&'a str>,
+    pub fn command(&self) -> &'a str
+        ensures { result.now ≡ (given_of self.now).0 }
+    {
+        self.command
+    }
+
+    /// The text of an option or argument, the first one, where it was given.
+    pub fn text(&self, id: &str) -> Option<&'a str>
+        ensures { option_map (λ t. t.now) result ≡ text_of id.now (given_of self.now) }
+    {
+        self.matches.get_str(id)
+    }
+
+    /// Whether a flag was given.
+    pub fn has(&self, id: &str) -> bool
+        ensures { result ≡ has_flag id.now (given_of self.now) }
+    {
+        match self.text(id) {
+            Some(text) => text == "true",
+            None => false,
+        }
+    }
+
+    /// All texts of an option or argument, in their order, where it was given.
+    pub fn texts<'m>(&'m self, id: &str) -> Option<&'m [&'a str]>
+        ensures { option_map (λ s. map (λ t. t.now) s.now) result ≡ texts_of id.now (given_of self.now) }
+    {
+        self.matches.get_raw(id)
+    }
 }
 
 static ALGORITHMS: [&str; 5] = ["sha256", "sha512", "blake2b", "blake2s", "blake3"];
@@ -97,14 +85,14 @@ static MACS: [&str; 7] = [
 #[inline(never)]
 pub fn line<'a>(alloc: Global, words: &'a [&'a str]) -> Result<Request<'a>, WordsFault>
     ensures request { IfOk result (λ r. OfSums (λ app.
-        Reads app (map (λ w. w.now) words.entry.now) r)) }
+        Reads app (map (λ w. w.now) words.entry.now) (given_of r))) }
     ensures passes { OnOk result (OfSums (λ app.
         fault_of app (map (λ w. w.now) words.entry.now) ≡ [])) }
     ensures fault { (e : _) → result ≡ Err (Words e) → OfSums (λ app.
         IsAmong (kind_of e) (fault_of app (map (λ w. w.now) words.entry.now))) }
 {
     let matches = parsed(alloc, words, ALGORITHMS.as_slice(), MACS.as_slice())?;
-    Ok(request_from(alloc, &matches)?)
+    Ok(request_from(matches))
 }
 
 fn parsed<'a>(
@@ -138,84 +126,12 @@ fn fault_from(error: Error) -> WordsFault
     }
 }
 
-fn request_from<'a>(alloc: Global, matches: &ArgMatches<'a>) -> Result<Request<'a>, AllocError>
-    requires { has_subcommand matches.now ≡ true }
-    ensures { IfOk result (λ r. IsSomeAnd (subcommand_rows_of matches.now) (λ s. IsRequestOf s r)) }
+fn request_from<'a>(mut matches: ArgMatches<'a>) -> Request<'a>
+    requires { has_subcommand matches ≡ true }
+    ensures { subcommand_rows_of matches.entry ≡ Some (given_of result) }
 {
-    match matches.subcommand() {
-        Some((name, inner)) => request_of(alloc, name, inner),
+    match matches.remove_subcommand() {
+        Some((command, matches)) => Request { command, matches },
         None => unreachable!(),
-    }
-}
-
-fn request_of<'a>(
-    alloc: Global,
-    command: &'a str,
-    matches: &ArgMatches<'a>,
-) -> Result<Request<'a>, AllocError>
-    ensures { IfOk result (IsRequestOf (command.entry.now, rows_of (found_of matches.now))) }
-{
-    let files = files_of(alloc, matches)?;
-    Ok(Request {
-        command,
-        algorithm: text_of(matches, "algorithm"),
-        length: text_of(matches, "length"),
-        seek: text_of(matches, "seek"),
-        parts: text_of(matches, "parts"),
-        tag: is_given(matches, "tag"),
-        raw: is_given(matches, "raw"),
-        summary: is_given(matches, "summary"),
-        progress: is_given(matches, "progress"),
-        key: text_of(matches, "key"),
-        key_file: text_of(matches, "key-file"),
-        verify: text_of(matches, "verify"),
-        ikm_file: text_of(matches, "ikm-file"),
-        salt: text_of(matches, "salt"),
-        personal: text_of(matches, "personal"),
-        info: text_of(matches, "info"),
-        context: text_of(matches, "context"),
-        first: text_of(matches, "first"),
-        chunks: text_of(matches, "chunks"),
-        name: text_of(matches, "name"),
-        bytes: text_of(matches, "bytes"),
-        files0_from: text_of(matches, "files0-from"),
-        files,
-    })
-}
-
-fn text_of<'a>(matches: &ArgMatches<'a>, id: &str) -> Option<&'a str>
-    ensures { option_map (λ t. t.now) result ≡ first_of id.now (rows_of (found_of matches.now)) }
-{
-    matches.get_str(id)
-}
-
-// Whether a flag was given.
-fn is_given(matches: &ArgMatches<'_>, id: &str) -> bool
-    ensures { IsTrue result ↔ IsGiven id.now (rows_of (found_of matches.now)) }
-{
-    match text_of(matches, id) {
-        Some(text) => text == "true",
-        None => false,
-    }
-}
-
-fn texts_of<'m, 'a>(matches: &'m ArgMatches<'a>, id: &str) -> Option<&'m [&'a str]>
-    ensures { option_map (λ s. map (λ t. t.now) s.now) result
-        ≡ all_of id.now (rows_of (found_of matches.now)) }
-{
-    matches.get_raw(id)
-}
-
-fn files_of<'a>(alloc: Global, matches: &ArgMatches<'a>) -> Result<Vec<&'a str>, AllocError>
-    ensures { IfOk result (λ v. map (λ t. t.now) v.items
-        ≡ unwrap_or (all_of (codes "file") (rows_of (found_of matches.now))) []) }
-{
-    match texts_of(matches, "file") {
-        Some(texts) => {
-            let mut files = Vec::new(alloc);
-            files.extend_from_slice(texts)?;
-            Ok(files)
-        }
-        None => Ok(Vec::new(alloc)),
     }
 }

@@ -1,8 +1,11 @@
 //! Hashes files, makes tags and keys, and checks lists of digests.
 #![tactic(auto)]
 
-ghost use Rattle.std.specs.Prelude.{◌≡◌, IfOk, map};
+ghost use Rattle.std.specs.Prelude.{◌≡◌, ◌≢◌, Err, IfOk, List, map};
 ghost use Rattle.std.specs.String.{string_bytes};
+ghost use Rattle.request.specs.CommandLine.{Text};
+ghost use Rattle.request.specs.inside.Reading.{IsRead};
+ghost use Rattle.request.specs.declared.request.WordsFault.TheVariants.{OutOfMemory};
 ghost use Rattle.sums.specs.Asking.{IsAsked};
 
 mod progress;
@@ -11,9 +14,9 @@ mod tests;
 mod watched;
 
 use command::{Fault, tell};
-use program::run;
+use program::run_read;
 use progress::{Erasing, Progress};
-use request::{WordsFault, line};
+use request::{Request, WordsFault, line};
 use source::{Device, FixedSink, Sink, write_all};
 use std::alloc::{AllocError, Global};
 use std::io;
@@ -84,27 +87,25 @@ fn run_words<W: Sink, E: Sink>(
     };
     match texts_of(alloc, words.as_slice()) {
         Ok(texts) => {
-            if texts.contains(&"--progress")
-                && asks_for_progress(alloc, texts.as_slice()).unwrap_or(false)
-            {
+            let read = line(alloc, texts.as_slice());
+            if asks_for_progress(&read) {
                 progress.begin();
             }
             let mut input = Watched::new(Device::new(rt.stdin()), progress.watch_input());
             let mut tree = WatchedTree::new(FileTree::new(rt), progress);
-            run(alloc, texts.as_slice(), &mut input, &mut tree, out, err)
+            run_read(alloc, read, &mut input, &mut tree, out, err)
         }
         Err(AllocError) => tell(err, Fault::OutOfMemory),
     }
 }
 
-// Whether the words make a request with the flag: a file of its name, behind `--`, is none.
-fn asks_for_progress(alloc: Global, words: &[&str]) -> Result<bool, AllocError>
-    ensures { IfOk result (λ asks. IsAsked asks (map (λ w. w.now) words.entry.now)) }
+// Whether the words that were read make a request with the flag: a file of its name, behind `--`, is none.
+fn asks_for_progress(read: &Result<Request<'_>, WordsFault>) -> bool
+    ensures { (words : List Text) → IsRead words read.now → (read.now ≢ Err OutOfMemory) → IsAsked result words }
 {
-    match line(alloc, words) {
-        Ok(request) => Ok(request.progress),
-        Err(WordsFault::Words(_)) => Ok(false),
-        Err(WordsFault::OutOfMemory) => Err(AllocError),
+    match read {
+        Ok(request) => request.has("progress"),
+        Err(_) => false,
     }
 }
 

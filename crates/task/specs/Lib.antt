@@ -6,3 +6,4 @@ pub mod Deriving
 pub mod Parting
 pub mod Tasks
 pub mod Texts
+pub mod inside

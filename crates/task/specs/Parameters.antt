@@ -1,15 +1,14 @@
 -- What the text of a setting says, or its fault.
-use Rattle.std.specs.Prelude.{◌≡◌, ℕ, ◌==◌, ◌&&◌, ⊤, Bool, List, if◌then◌else◌, nat_le, nat_lt, length, replicate}
-use Rattle.std.specs.Prelude.{option_map}
-use Rattle.std.specs.Prelude.{Option, Some, None, Result, Ok, Err, codes}
-use Rattle.std.specs.Borrow.{Bor}
+use Rattle.std.specs.Prelude.{◌≡◌, ⊤, ℕ, ◌==◌, ◌&&◌, Bool, List, [], ◌∷◌, if◌then◌else◌, nat_le, nat_lt, length}
+use Rattle.std.specs.Prelude.{Option, Some, None, Result, Ok, Err, codes, is_some, ok_or, replicate, unwrap_or}
+use Rattle.std.specs.Result.{result_map_both}
 use Rattle.std.specs.Str.{all_ascii_digits, bytes_eq}
 use Rattle.std.specs.Str.Parse.{digits_value, without_leading_plus}
-use Rattle.request.specs.CommandLine.{Text}
+use Rattle.request.specs.CommandLine.{Given, Text, text_of, texts_of}
 use Rattle.hex.specs.Hex.{decode_of}
-use Rattle.hex.specs.declared.error.FromHexError.{FromHexError}
 use Rattle.sumlist.specs.declared.kind.Kind.{Kind}
 use Rattle.sumlist.specs.declared.kind.Kind.TheVariants as kind
+use Rattle.task.specs.Texts.{setting_id}
 use Rattle.task.specs.declared.fault.Setting.{Setting}
 use Rattle.task.specs.declared.fault.Setting.TheVariants.{Algorithm}
 use Rattle.task.specs.declared.fault.TaskFault.{TaskFault}
@@ -30,11 +29,6 @@ infixl 10 ◌>>◌
 abbrev pub ◌>>◌ : {A B : Type 0} → Result A UsageFault → Result B UsageFault → Result B UsageFault
 first >> second = first >>= (λ _. second)
 
--- an answer of the code, with its value as the definitions have it
-abbrev pub seen : {A B : Type 0} → (A → B) → Result A UsageFault → Result B UsageFault
-seen view (Ok x) = Ok (view x)
-seen view (Err fault) = Err fault
-
 -- the code's answer is the defined one, or memory ran out
 abbrev pub Judges : {A B : Type 0} → (A → B) → Result B UsageFault → Result A TaskFault → Type 0
 Judges view wanted (Ok x) = wanted ≡ Ok (view x)
@@ -42,71 +36,70 @@ Judges view wanted (Err (Usage fault)) = wanted ≡ Err fault
 Judges view wanted (Err OutOfMemory) = ⊤
 
 -- the text of a setting, where it was given
-abbrev pub given : Option (Bor Text) → Option Text
-given text = option_map (λ t. t.now) text
+abbrev pub text : Setting → Given → Option Text
+text setting g = text_of (setting_id setting) g
 
--- a setting that the algorithm does not have
-abbrev pub absent : Setting → Option Text → Result (Unit {0}) UsageFault
-absent setting None = Ok tt
-absent setting (Some text) = Err (NotForAlgorithm setting)
+-- the files or lists that were named
+abbrev pub files : Given → List Text
+files g = unwrap_or (texts_of (codes "file") g) []
+
+-- settings that the algorithm does not have
+abbrev pub absent : List Setting → Given → Result (Unit {0}) UsageFault
+absent [] g = Ok tt
+absent (s ∷ settings) g = if is_some (text s g) then Err (NotForAlgorithm s) else absent settings g
 
 -- a flag that is refused by this fault
 abbrev pub unset : UsageFault → Bool → Result (Unit {0}) UsageFault
 unset fault is_given = if is_given then Err fault else Ok tt
 
 -- a setting that has to be there
-abbrev pub needed : Setting → Option Text → Result Text UsageFault
-needed setting None = Err (Needed setting)
-needed setting (Some text) = Ok text
+abbrev pub needed : Setting → Given → Result Text UsageFault
+needed setting g = ok_or (text setting g) (Needed setting)
 
--- the number that decimal digits spell, where a plus may stand before them
-abbrev pub numeral : Text → Option ℕ
-numeral text = let digits = without_leading_plus text in
-    if nat_lt 0 (length digits) && all_ascii_digits digits then Some (digits_value 10 digits) else None
+-- what is read of a text, where it was given
+abbrev pub where_given : {A : Type 0} → (Text → Result A UsageFault) → Option Text → Result (Option A) UsageFault
+where_given read None = Ok None
+where_given read (Some t) = read t >>= (λ x. Ok (Some x))
 
--- a number within a range
-abbrev pub within : Setting → ℕ → ℕ → Option ℕ → Result ℕ UsageFault
-within setting least most None = Err (OutOfRange setting)
-within setting least most (Some n) =
-    if nat_le least n && nat_le n most then Ok n else Err (OutOfRange setting)
-
--- the number of a setting, or its default
-abbrev pub number : Setting → Option Text → ℕ → ℕ → ℕ → Result ℕ UsageFault
-number setting None default least most = Ok default
-number setting (Some text) default least most = within setting least most (numeral text)
+-- the number that decimal digits spell, where a plus may stand before them, within a range
+abbrev pub number_in : Setting → ℕ → ℕ → Text → Result ℕ UsageFault
+number_in setting least most t = let digits = without_leading_plus t in let n = digits_value 10 digits in
+    if nat_lt 0 (length digits) && all_ascii_digits digits && (nat_le least n && nat_le n most)
+    then Ok n else Err (OutOfRange setting)
 
 -- the number of a setting, where it was given
-abbrev pub given_number : Setting → Option Text → ℕ → ℕ → Result (Option ℕ) UsageFault
-given_number setting None least most = Ok None
-given_number setting (Some text) least most = within setting least most (numeral text) >>= (λ n. Ok (Some n))
+abbrev pub given_number : Setting → ℕ → ℕ → Given → Result (Option ℕ) UsageFault
+given_number setting least most g = where_given (number_in setting least most) (text setting g)
+
+-- the same, or its default
+abbrev pub number : Setting → ℕ → ℕ → ℕ → Given → Result ℕ UsageFault
+number setting default least most g = given_number setting least most g >>= (λ n. Ok (unwrap_or n default))
 
 -- the bytes that hexadecimal digits spell
-abbrev pub decoded : Setting → Result (List ℕ) FromHexError → Result (List ℕ) UsageFault
-decoded setting (Ok bytes) = Ok bytes
-decoded setting (Err e) = Err (NotHexadecimal setting)
-
 abbrev pub hexadecimal : Setting → Text → Result (List ℕ) UsageFault
-hexadecimal setting text = decoded setting (decode_of text)
+hexadecimal setting t = result_map_both (λ bytes. bytes) (λ _. NotHexadecimal setting) (decode_of t)
 
 -- the bytes of a setting, where it was given
-abbrev pub given_bytes : Setting → Option Text → Result (Option (List ℕ)) UsageFault
-given_bytes setting None = Ok None
-given_bytes setting (Some text) = hexadecimal setting text >>= (λ bytes. Ok (Some bytes))
+abbrev pub given_bytes : Setting → Given → Result (Option (List ℕ)) UsageFault
+given_bytes setting g = where_given (hexadecimal setting) (text setting g)
 
 -- the bytes of a setting that has so many of them, zeros where it was not given
 abbrev pub sized : Setting → ℕ → Option (List ℕ) → Result (List ℕ) UsageFault
 sized setting n None = Ok (replicate n 0)
 sized setting n (Some bytes) = if length bytes == n then Ok bytes else Err (WrongLength setting)
 
--- the hash of a name
-abbrev pub kind_of : Text → Result Kind UsageFault
-kind_of name =
-    if bytes_eq name (codes "sha256") then Ok kind.Sha256
-    else if bytes_eq name (codes "sha512") then Ok kind.Sha512
-    else if bytes_eq name (codes "blake2b") then Ok kind.Blake2b
-    else if bytes_eq name (codes "blake2s") then Ok kind.Blake2s
-    else if bytes_eq name (codes "blake3") then Ok kind.Blake3
-    else Err (OutOfRange Algorithm)
+-- what stands beside a name
+abbrev pub named : {A : Type 0} → Setting → List (Text × A) → Text → Result A UsageFault
+named setting [] name = Err (OutOfRange setting)
+named setting (x ∷ xs) name = if bytes_eq name x.0 then Ok x.1 else named setting xs name
+
+-- the hashes by name
+abbrev pub kinds : List (Text × Kind)
+kinds = (codes "sha256", kind.Sha256) ∷ (codes "sha512", kind.Sha512) ∷ (codes "blake2b", kind.Blake2b)
+    ∷ (codes "blake2s", kind.Blake2s) ∷ (codes "blake3", kind.Blake3) ∷ []
+
+abbrev pub kind_of : Given → Result Kind UsageFault
+kind_of g = needed Algorithm g >>= named Algorithm kinds
 
 -- the length of the digest of a hash under HMAC
 abbrev pub hmac_len : HmacHash → ℕ

@@ -5,28 +5,22 @@ use Rattle.std.specs.Int.{leading_zeros, w64}
 use Rattle.b3.specs.Parts.{IsLeastPowerFrom}
 use Rattle.sumlist.specs.declared.kind.Kind.{Kind}
 use Rattle.sumlist.specs.declared.kind.Kind.TheVariants as kind
+use Rattle.request.specs.CommandLine.{Given}
 use Rattle.task.specs.Hashing.{stretch_of}
-use Rattle.task.specs.Parameters.{◌>>=◌, ◌>>◌, given, given_number, kind_of, needed, number}
+use Rattle.task.specs.Parameters.{◌>>=◌, ◌>>◌, given_number, kind_of, number}
 use Rattle.task.specs.Requested.{IsWithin}
 use Rattle.task.specs.declared.fault.Setting.TheVariants.{Algorithm, Bytes, Chunks, First}
 use Rattle.task.specs.declared.fault.UsageFault.{UsageFault}
 use Rattle.task.specs.declared.fault.UsageFault.TheVariants.{NotForCommand, OutOfRange}
 use Rattle.task.specs.declared.hashing.Stretch.{Stretch}
-use Rattle.request.specs.declared.request.Request.{Request}
 
 -- only BLAKE3 has parts
 abbrev pub has_parts : Kind → Result (Unit {0}) UsageFault
-has_parts kind.Sha256 = Err (NotForCommand Algorithm)
-has_parts kind.Sha512 = Err (NotForCommand Algorithm)
-has_parts kind.Blake2b = Err (NotForCommand Algorithm)
-has_parts kind.Blake2s = Err (NotForCommand Algorithm)
 has_parts kind.Blake3 = Ok tt
+has_parts k = Err (NotForCommand Algorithm)
 
-abbrev pub names_blake3 : Request → Result (Unit {0}) UsageFault
-names_blake3 r = do
-  name ← needed Algorithm (given r.algorithm)
-  hash ← kind_of name
-  has_parts hash
+abbrev pub names_blake3 : Given → Result (Unit {0}) UsageFault
+names_blake3 g = kind_of g >>= has_parts
 
 -- the least power of two that is at least n: 2 to the number of binary digits of n - 1
 unfoldable pub least_power : ℕ → ℕ
@@ -37,11 +31,11 @@ abbrev pub place_at : ℕ → Option ℕ → Result (ℕ × Option ℕ) UsageFau
 place_at first None = Ok (first, None)
 place_at first (Some n) = if first % least_power n == 0 then Ok (first, Some n) else Err (OutOfRange First)
 
-abbrev pub place : Request → Result (ℕ × Option ℕ) UsageFault
-place r = do
-  names_blake3 r
-  first ← number First (given r.first) 0 0 (2 ^ 54 - 1)
-  chunks ← given_number Chunks (given r.chunks) 1 (2 ^ 54)
+abbrev pub place : Given → Result (ℕ × Option ℕ) UsageFault
+place g = do
+  names_blake3 g
+  first ← number First 0 0 (2 ^ 54 - 1) g
+  chunks ← given_number Chunks 1 (2 ^ 54) g
   place_at first chunks
 
 -- so many chunks can begin there as one subtree
@@ -52,11 +46,11 @@ abbrev pub IsPlace : ℕ → Option ℕ → Type 0
 IsPlace first chunks = (first < 2 ^ 54) × IfSome chunks (HasRoom first)
 
 -- which bytes of the joined output are printed, and how many bytes the parts have to have
-abbrev pub joined : Request → Result (Stretch × Option ℕ) UsageFault
-joined r = do
-  names_blake3 r
-  stretch ← stretch_of r false
-  bytes ← given_number Bytes (given r.bytes) 0 (2 ^ 64 - 1)
+abbrev pub joined : Given → Result (Stretch × Option ℕ) UsageFault
+joined g = do
+  names_blake3 g
+  stretch ← stretch_of g false
+  bytes ← given_number Bytes 0 (2 ^ 64 - 1) g
   Ok (stretch, bytes)
 
 -- they are printed as a line

@@ -1,51 +1,35 @@
 -- What a request of `mac` has printed, or the first fault of its settings.
-use Rattle.std.specs.Prelude.{ℕ, ◌-◌, ◌/◌, ◌^◌, ◌≤◌, ◌==◌, List, length, Option, Some, None, Result, Ok, Err, codes}
-use Rattle.std.specs.Prelude.{if◌then◌else◌}
-use Rattle.std.specs.Str.{bytes_eq}
-use Rattle.request.specs.CommandLine.{Text}
-use Rattle.task.specs.Parameters.{◌>>=◌, given, given_bytes, hmac_len, needed, number}
+use Rattle.std.specs.Prelude.{ℕ, ◌-◌, ◌/◌, ◌^◌, ◌≤◌, ◌==◌, List, [], ◌∷◌, length, Option, Some, None, Result, Ok, Err}
+use Rattle.std.specs.Prelude.{codes, if◌then◌else◌}
+use Rattle.request.specs.CommandLine.{Given, Text, text_of}
+use Rattle.task.specs.Parameters.{◌>>=◌, given_bytes, hexadecimal, hmac_len, named, needed, number, text, where_given}
 use Rattle.task.specs.declared.fault.Setting.TheVariants as setting
 use Rattle.task.specs.declared.fault.UsageFault.{UsageFault}
-use Rattle.task.specs.declared.fault.UsageFault.TheVariants.{OneKey, OutOfRange, WrongLength}
+use Rattle.task.specs.declared.fault.UsageFault.TheVariants.{OneKey, WrongLength}
 use Rattle.task.specs.declared.parameters.HmacHash.{HmacHash}
 use Rattle.task.specs.declared.parameters.HmacHash.TheVariants as hash
-use Rattle.request.specs.declared.request.Request.{Request}
 use Rattle.task.specs.declared.tagging.Key.{Key}
-use Rattle.task.specs.declared.tagging.Key.TheVariants.{Given, File}
+use Rattle.task.specs.declared.tagging.Key.TheVariants.{Given as GivenKey, File}
 use Rattle.task.specs.declared.tagging.Mac.{Mac}
 use Rattle.task.specs.declared.tagging.Mac.TheVariants.{Hmac, Blake2b, Blake2s, Blake3}
 
--- the length of a tag, the most that there are where none is given
-abbrev pub tag_len : Request → ℕ → ℕ → Result ℕ UsageFault
-tag_len r least most = number setting.Length (given r.length) most least most
+-- a function, with the length of its tags
+abbrev pub with_length : (ℕ → Mac) → ℕ → ℕ → ℕ → Given → Result Mac UsageFault
+with_length f default least most g = number setting.Length default least most g >>= (λ n. Ok (f n))
 
 -- HMAC's tags are cut to the half of the digest at most
-abbrev pub hmac : Request → HmacHash → Result Mac UsageFault
-hmac r h = tag_len r (hmac_len h / 2) (hmac_len h) >>= (λ n. Ok (Hmac h n))
+abbrev pub hmac : HmacHash → Given → Result Mac UsageFault
+hmac h = with_length (Hmac h) (hmac_len h) (hmac_len h / 2) (hmac_len h)
 
-abbrev pub blake2b : Request → Result Mac UsageFault
-blake2b r = tag_len r 1 64 >>= (λ n. Ok (Blake2b n))
+-- the functions by name
+abbrev pub macs : List (Text × (Given → Result Mac UsageFault))
+macs = (codes "hmac-sha256", hmac hash.Sha256) ∷ (codes "hmac-sha512", hmac hash.Sha512)
+    ∷ (codes "hmac-blake2b", hmac hash.Blake2b) ∷ (codes "hmac-blake2s", hmac hash.Blake2s)
+    ∷ (codes "blake2b", with_length Blake2b 64 1 64) ∷ (codes "blake2s", with_length Blake2s 32 1 32)
+    ∷ (codes "blake3", with_length Blake3 32 1 (2 ^ 64 - 1)) ∷ []
 
-abbrev pub blake2s : Request → Result Mac UsageFault
-blake2s r = tag_len r 1 32 >>= (λ n. Ok (Blake2s n))
-
-abbrev pub blake3 : Request → Result Mac UsageFault
-blake3 r = number setting.Length (given r.length) 32 1 (2 ^ 64 - 1) >>= (λ n. Ok (Blake3 n))
-
--- by the function's name
-abbrev pub mac_of : Text → Request → Result Mac UsageFault
-mac_of name r =
-    if bytes_eq name (codes "hmac-sha256") then hmac r hash.Sha256
-    else if bytes_eq name (codes "hmac-sha512") then hmac r hash.Sha512
-    else if bytes_eq name (codes "hmac-blake2b") then hmac r hash.Blake2b
-    else if bytes_eq name (codes "hmac-blake2s") then hmac r hash.Blake2s
-    else if bytes_eq name (codes "blake2b") then blake2b r
-    else if bytes_eq name (codes "blake2s") then blake2s r
-    else if bytes_eq name (codes "blake3") then blake3 r
-    else Err (OutOfRange setting.Algorithm)
-
-abbrev pub mac : Request → Result Mac UsageFault
-mac r = needed setting.Algorithm (given r.algorithm) >>= (λ name. mac_of name r)
+abbrev pub mac : Given → Result Mac UsageFault
+mac g = needed setting.Algorithm g >>= named setting.Algorithm macs >>= (λ f. f g)
 
 -- the function has tags of this length
 abbrev pub HasTag : Mac → Type 0
@@ -62,12 +46,11 @@ mac_len (Blake2s n) = n
 mac_len (Blake3 n) = n
 
 -- a tag to compare with has as many
-abbrev pub of_length : ℕ → Option (List ℕ) → Result (Option (List ℕ)) UsageFault
-of_length n None = Ok None
-of_length n (Some tag) = if length tag == n then Ok (Some tag) else Err (WrongLength setting.Verify)
+abbrev pub of_length : ℕ → List ℕ → Result (List ℕ) UsageFault
+of_length n tag = if length tag == n then Ok tag else Err (WrongLength setting.Verify)
 
-abbrev pub wanted : Mac → Request → Result (Option (List ℕ)) UsageFault
-wanted mac r = given_bytes setting.Verify (given r.verify) >>= of_length (mac_len mac)
+abbrev pub wanted : Mac → Given → Result (Option (List ℕ)) UsageFault
+wanted mac g = where_given (λ t. hexadecimal setting.Verify t >>= of_length (mac_len mac)) (text setting.Verify g)
 
 -- a key: its bytes, or the name of the file that has them
 pub data KeyText : Type 0 where
@@ -75,16 +58,15 @@ pub data KeyText : Type 0 where
   file : Text → KeyText
 
 abbrev pub key_shown : Key → KeyText
-key_shown (Given key) = bytes key.items
+key_shown (GivenKey key) = bytes key.items
 key_shown (File name) = file name.now
 
 -- one of the two ways to give a key
 abbrev pub one_key : Option (List ℕ) → Option Text → Result KeyText UsageFault
 one_key (Some key) None = Ok (bytes key)
 one_key None (Some name) = Ok (file name)
-one_key (Some key) (Some name) = Err OneKey
-one_key None None = Err OneKey
+one_key _ _ = Err OneKey
 
 -- the digits of `--key` are judged first
-abbrev pub key : Request → Result KeyText UsageFault
-key r = given_bytes setting.Key (given r.key) >>= (λ bytes. one_key bytes (given r.key_file))
+abbrev pub key : Given → Result KeyText UsageFault
+key g = given_bytes setting.Key g >>= (λ bytes. one_key bytes (text_of (codes "key-file") g))

@@ -1,27 +1,24 @@
 -- What a request asks for, or the first fault of its settings.
-use Rattle.std.specs.Prelude.{⊤, ℕ, Bool, List, Vec, [], ◌∷◌, Option, Some, None, Result, Ok, Err, IfSome, codes, map}
-use Rattle.std.specs.Prelude.{option_map}
-use Rattle.std.specs.Prelude.{if◌then◌else◌}
+use Rattle.std.specs.Prelude.{⊤, ℕ, ◌==◌, Bool, List, Vec, [], ◌∷◌, Option, Some, None, Result, Ok, Err, IfSome, codes}
+use Rattle.std.specs.Prelude.{length, map, option_map, unwrap_or, if◌then◌else◌}
 use Rattle.std.specs.Borrow.{Bor}
-use Rattle.std.specs.Str.{bytes_eq}
-use Rattle.request.specs.CommandLine.{Text}
+use Rattle.request.specs.CommandLine.{Given, Text, has_flag, text_of}
 use Rattle.sumlist.specs.declared.kind.Kind.{Kind}
 use Rattle.task.specs.Deriving.{Derived, HasKey, derivation, derivation_shown}
 use Rattle.task.specs.Hashing.{parts, requested}
-use Rattle.task.specs.Parameters.{◌>>=◌, given, kind_of, needed}
+use Rattle.task.specs.Parameters.{◌>>=◌, files, kind_of, named, needed}
 use Rattle.task.specs.Parting.{IsOfJoin, IsPlace, joined, place}
 use Rattle.task.specs.Requested.{HasDigest, IsPartSize}
 use Rattle.task.specs.Tagging.{HasTag, KeyText, key, key_shown}
 use Rattle.task.specs.Tagging as tagging
-use Rattle.task.specs.declared.fault.Setting.TheVariants.{Algorithm, Command, IkmFile, List as ListSetting}
+use Rattle.task.specs.declared.fault.Setting.TheVariants.{Command, IkmFile, List as ListSetting}
 use Rattle.task.specs.declared.fault.UsageFault.{UsageFault}
-use Rattle.task.specs.declared.fault.UsageFault.TheVariants.{OneSource, OutOfRange}
+use Rattle.task.specs.declared.fault.UsageFault.TheVariants.{OneSource}
 use Rattle.task.specs.declared.hashing.Requested.{Requested}
 use Rattle.task.specs.declared.hashing.Stretch.{Stretch}
-use Rattle.request.specs.declared.request.Request.{Request}
 use Rattle.task.specs.declared.tagging.Mac.{Mac}
 use Rattle.task.specs.declared.tasks.Names.{Names}
-use Rattle.task.specs.declared.tasks.Names.TheVariants.{Given, From}
+use Rattle.task.specs.declared.tasks.Names.TheVariants.{Given as GivenNames, From}
 use Rattle.task.specs.declared.tasks.Task.{Task}
 use Rattle.task.specs.declared.tasks.Task.TheVariants as code
 
@@ -44,7 +41,7 @@ abbrev pub texts_of : {X : Type 0} → Vec (Bor Text) X → List Text
 texts_of names = map (λ n. n.now) names.items
 
 abbrev pub names_shown : Names → NameTexts
-names_shown (Given names) = these (texts_of names)
+names_shown (GivenNames names) = these (texts_of names)
 names_shown (From file) = in_file file.now
 
 abbrev pub task_shown : Task → Asked
@@ -63,75 +60,59 @@ names_of (name ∷ names) = name ∷ names
 -- files are named by words, or in a file
 abbrev pub one_source : Option Text → List Text → Result NameTexts UsageFault
 one_source None names = Ok (these (names_of names))
-one_source (Some file) [] = Ok (in_file file)
-one_source (Some file) (name ∷ names) = Err OneSource
+one_source (Some file) names = if length names == 0 then Ok (in_file file) else Err OneSource
 
-abbrev pub hash : Request → Result Asked UsageFault
-hash r = do
-  wanted ← requested r
-  parts ← parts r
-  names ← one_source (given r.files0_from) (texts_of r.files)
+-- the one file that was named, or standard input
+abbrev pub file_or_input : Given → Text
+file_or_input g = unwrap_or (text_of (codes "file") g) (codes "-")
+
+abbrev pub hash : Given → Result Asked UsageFault
+hash g = do
+  wanted ← requested g
+  parts ← parts g
+  names ← one_source (text_of (codes "files0-from") g) (files g)
   Ok (hashes wanted parts names)
 
--- the one file or list that was named
-abbrev pub first_name : List Text → Option Text
-first_name [] = None
-first_name (name ∷ names) = Some name
+abbrev pub mac : Given → Result Asked UsageFault
+mac g = do
+  function ← tagging.mac g
+  key ← key g
+  wanted ← tagging.wanted function g
+  Ok (tags function key wanted (file_or_input g))
 
-abbrev pub file_of : Request → Option Text
-file_of r = first_name (texts_of r.files)
+abbrev pub kdf : Given → Result Asked UsageFault
+kdf g = do
+  derived ← derivation g
+  material ← needed IkmFile g
+  Ok (derives derived (has_flag (codes "raw") g) material)
 
--- or standard input
-abbrev pub or_input : Option Text → Text
-or_input None = codes "-"
-or_input (Some name) = name
+abbrev pub check : Given → Result Asked UsageFault
+check g = do
+  kind ← kind_of g
+  list ← needed ListSetting g
+  Ok (checks kind (has_flag (codes "summary") g) list)
 
-abbrev pub mac : Request → Result Asked UsageFault
-mac r = do
-  function ← tagging.mac r
-  key ← key r
-  wanted ← tagging.wanted function r
-  Ok (tags function key wanted (or_input (file_of r)))
+abbrev pub part : Given → Result Asked UsageFault
+part g = place g >>= (λ place. Ok (cuts place.0 place.1 (file_or_input g)))
 
-abbrev pub kdf : Request → Result Asked UsageFault
-kdf r = do
-  derived ← derivation r
-  material ← needed IkmFile (given r.ikm_file)
-  Ok (derives derived r.raw material)
+abbrev pub join : Given → Result Asked UsageFault
+join g = joined g >>= (λ wanted.
+    Ok (joins wanted.0 wanted.1 (unwrap_or (text_of (codes "name") g) (codes "-")) (names_of (files g))))
 
-abbrev pub check : Request → Result Asked UsageFault
-check r = do
-  name ← needed Algorithm (given r.algorithm)
-  kind ← kind_of name
-  list ← needed ListSetting (file_of r)
-  Ok (checks kind r.summary list)
+-- the commands by name
+abbrev pub commands : List (Text × (Given → Result Asked UsageFault))
+commands = (codes "hash", hash) ∷ (codes "mac", mac) ∷ (codes "kdf", kdf) ∷ (codes "check", check)
+    ∷ (codes "part", part) ∷ (codes "join", join) ∷ []
 
-abbrev pub part : Request → Result Asked UsageFault
-part r = do
-  place ← place r
-  Ok (cuts place.0 place.1 (or_input (file_of r)))
-
-abbrev pub join : Request → Result Asked UsageFault
-join r = do
-  wanted ← joined r
-  Ok (joins wanted.0 wanted.1 (or_input (given r.name)) (names_of (texts_of r.files)))
-
--- by the command; nothing depends on `progress`, which is for the feeds that a run is given
-abbrev pub asked : Request → Result Asked UsageFault
-asked r =
-    if bytes_eq r.command.now (codes "hash") then hash r
-    else if bytes_eq r.command.now (codes "mac") then mac r
-    else if bytes_eq r.command.now (codes "kdf") then kdf r
-    else if bytes_eq r.command.now (codes "check") then check r
-    else if bytes_eq r.command.now (codes "part") then part r
-    else if bytes_eq r.command.now (codes "join") then join r
-    else Err (OutOfRange Command)
+-- nothing depends on `progress`, which is for the feeds that a run is given
+abbrev pub asked : Given → Result Asked UsageFault
+asked g = named Command commands g.0 >>= (λ command. command g)
 
 -- there are digests, tags and keys of the lengths that are asked for, and parts of such a place
-abbrev pub IsPossible : Task → Type 0
-IsPossible (code.Hash wanted parts names) = HasDigest wanted × IfSome parts IsPartSize
-IsPossible (code.Part first chunks file) = IsPlace first chunks
-IsPossible (code.Join stretch bytes name lists) = IsOfJoin stretch
-IsPossible (code.Mac mac key wanted file) = HasTag mac
-IsPossible (code.Kdf derivation is_raw material) = HasKey (derivation_shown derivation)
-IsPossible (code.Check kind is_summed list) = ⊤
+abbrev pub IsPossible : Asked → Type 0
+IsPossible (hashes wanted parts names) = HasDigest wanted × IfSome parts IsPartSize
+IsPossible (cuts first chunks file) = IsPlace first chunks
+IsPossible (joins stretch bytes name lists) = IsOfJoin stretch
+IsPossible (tags mac key wanted file) = HasTag mac
+IsPossible (derives derived is_raw material) = HasKey derived
+IsPossible (checks kind is_summed list) = ⊤

@@ -1,5 +1,5 @@
 -- The texts that tell what is wrong with a request.
-use Rattle.std.specs.Prelude.{[], codes}
+use Rattle.std.specs.Prelude.{[], codes, drop}
 use Rattle.request.specs.CommandLine.{Text}
 use Rattle.task.specs.declared.fault.Setting.{Setting}
 use Rattle.task.specs.declared.fault.Setting.TheVariants as setting
@@ -28,27 +28,23 @@ setting_text setting.Chunks = codes "--chunks"
 setting_text setting.Bytes = codes "--bytes"
 setting_text setting.List = codes "LIST"
 
--- what a fault is told of, and what is told
-abbrev pub usage_subject : UsageFault → Text
-usage_subject (Needed s) = setting_text s
-usage_subject (NotForAlgorithm s) = setting_text s
-usage_subject (NotForCommand s) = setting_text s
-usage_subject (NotWithTag s) = setting_text s
-usage_subject (OneFile s) = setting_text s
-usage_subject (OutOfRange s) = setting_text s
-usage_subject (NotHexadecimal s) = setting_text s
-usage_subject (WrongLength s) = setting_text s
-usage_subject OneKey = []
-usage_subject OneSource = []
+-- its id among the options and arguments of a request: mostly that text without its two dashes
+abbrev pub setting_id : Setting → Text
+setting_id setting.Command = codes "command"
+setting_id setting.Algorithm = codes "algorithm"
+setting_id setting.Length = codes "length"
+setting_id setting.List = codes "file"
+setting_id s = drop 2 (setting_text s)
 
-abbrev pub usage_complaint : UsageFault → Text
-usage_complaint (Needed s) = codes ": needed\n"
-usage_complaint (NotForAlgorithm s) = codes ": not for this algorithm\n"
-usage_complaint (NotForCommand s) = codes ": not for this command\n"
-usage_complaint (NotWithTag s) = codes ": not with --tag\n"
-usage_complaint (OneFile s) = codes ": one file only\n"
-usage_complaint (OutOfRange s) = codes ": out of range\n"
-usage_complaint (NotHexadecimal s) = codes ": not hexadecimal\n"
-usage_complaint (WrongLength s) = codes ": wrong length\n"
-usage_complaint OneKey = codes "give one of --key and --key-file\n"
-usage_complaint OneSource = codes "give only one of FILE and --files0-from\n"
+-- what a fault is told of, a setting or nothing alone, and what is said of it
+abbrev pub usage_texts : UsageFault → Text × Text
+usage_texts (Needed s) = (setting_text s, codes ": needed\n")
+usage_texts (NotForAlgorithm s) = (setting_text s, codes ": not for this algorithm\n")
+usage_texts (NotForCommand s) = (setting_text s, codes ": not for this command\n")
+usage_texts (NotWithTag s) = (setting_text s, codes ": not with --tag\n")
+usage_texts (OneFile s) = (setting_text s, codes ": one file only\n")
+usage_texts (OutOfRange s) = (setting_text s, codes ": out of range\n")
+usage_texts (NotHexadecimal s) = (setting_text s, codes ": not hexadecimal\n")
+usage_texts (WrongLength s) = (setting_text s, codes ": wrong length\n")
+usage_texts OneKey = ([], codes "give one of --key and --key-file\n")
+usage_texts OneSource = ([], codes "give only one of FILE and --files0-from\n")

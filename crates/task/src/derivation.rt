@@ -1,11 +1,13 @@
 // What `kdf` is to print.
 
-ghost use Rattle.std.specs.Prelude.{◌≡◌, IfOk};
+ghost use Rattle.std.specs.Prelude.{◌≡◌};
+ghost use Rattle.request.specs.CommandLine.{given_of};
 ghost use Rattle.task.specs.Deriving as spec;
-ghost use Rattle.task.specs.Parameters.{Judges, seen};
+ghost use Rattle.task.specs.Parameters.{Judges};
+ghost use Rattle.task.specs.inside.Seen.{seen};
 
 use crate::fault::{Setting, TaskFault, UsageFault};
-use crate::parameters::{HmacHash, given_bytes, kind_of, needed, number, refused};
+use crate::parameters::{HmacHash, given_bytes, kind_of, needed, number_in, refused};
 use request::Request;
 use std::alloc::Global;
 use sumlist::Kind;
@@ -31,10 +33,9 @@ pub struct Hkdf {
 impl<'a> Derivation<'a> {
     /// The derivation that a request of `kdf` names, or the first fault of its settings.
     pub(crate) fn of(alloc: Global, request: &Request<'a>) -> Result<Derivation<'a>, TaskFault>
-        ensures judged { Judges spec.derivation_shown (spec.derivation request.now) result }
-        ensures range { IfOk result (λ d. spec.HasKey (spec.derivation_shown d)) }
+        ensures { Judges spec.derivation_shown (spec.derivation (given_of request.now)) result }
     {
-        match kind_of(needed(Setting::Algorithm, request.algorithm)?)? {
+        match kind_of(request)? {
             Kind::Sha256 => with_hkdf(alloc, request, HmacHash::Sha256),
             Kind::Sha512 => with_hkdf(alloc, request, HmacHash::Sha512),
             Kind::Blake2b => with_hkdf(alloc, request, HmacHash::Blake2b),
@@ -49,15 +50,14 @@ fn with_hkdf<'a>(
     request: &Request<'a>,
     hash: HmacHash,
 ) -> Result<Derivation<'a>, TaskFault>
-    ensures judged { Judges spec.derivation_shown (spec.hkdf request.now hash) result }
-    ensures range { IfOk result (λ d. spec.HasKey (spec.derivation_shown d)) }
+    ensures { Judges spec.derivation_shown (spec.hkdf hash (given_of request.now)) result }
 {
-    refused(Setting::Context, request.context)?;
-    let text = needed(Setting::Length, request.length)?;
+    refused(request, &[Setting::Context])?;
+    let length = needed(request, Setting::Length)?;
     let most = 255 * hash.digest_len();
-    let length = number(Setting::Length, Some(text), most, 1, most)? as usize;
-    let salt = given_bytes(alloc, Setting::Salt, request.salt)?;
-    let info = given_bytes(alloc, Setting::Info, request.info)?;
+    let length = number_in(Setting::Length, 1, most, length)? as usize;
+    let salt = given_bytes(alloc, request, Setting::Salt)?;
+    let info = given_bytes(alloc, request, Setting::Info)?;
     Ok(Derivation::Hkdf(Hkdf {
         hash,
         length,
@@ -67,13 +67,11 @@ fn with_hkdf<'a>(
 }
 
 fn with_blake3<'a>(request: &Request<'a>) -> Result<Derivation<'a>, UsageFault>
-    ensures value { seen spec.derivation_shown result ≡ spec.blake3 request.now }
-    ensures range { IfOk result (λ d. spec.HasKey (spec.derivation_shown d)) }
+    ensures { seen spec.derivation_shown result ≡ spec.blake3 (given_of request.now) }
 {
-    refused(Setting::Salt, request.salt)?;
-    refused(Setting::Info, request.info)?;
-    let context = needed(Setting::Context, request.context)?;
-    let text = needed(Setting::Length, request.length)?;
-    let length = number(Setting::Length, Some(text), u64::MAX, 1, u64::MAX)?;
+    refused(request, &[Setting::Salt, Setting::Info])?;
+    let context = needed(request, Setting::Context)?;
+    let length = needed(request, Setting::Length)?;
+    let length = number_in(Setting::Length, 1, u64::MAX, length)?;
     Ok(Derivation::Blake3 { context, length })
 }

@@ -1,7 +1,7 @@
 // Why a request makes no task.
 
 ghost use Rattle.std.specs.Prelude.{◌≡◌};
-ghost use Rattle.task.specs.Texts.{setting_text, usage_complaint, usage_subject};
+ghost use Rattle.task.specs.Texts.{setting_id, setting_text, usage_texts};
 ghost use Rattle.task.specs.declared.fault.TaskFault.TheVariants.{OutOfMemory, Usage};
 
 use std::alloc::AllocError;
@@ -120,41 +120,53 @@ impl Setting {
             Setting::List => "LIST",
         }
     }
+
+    /// Its id among the options and arguments of a request.
+    pub(crate) fn id(self) -> &'static str
+        ensures { result.now ≡ setting_id self }
+    {
+        match self {
+            Setting::Command => "command",
+            Setting::Algorithm => "algorithm",
+            Setting::Length => "length",
+            Setting::Seek => "seek",
+            Setting::Parts => "parts",
+            Setting::Raw => "raw",
+            Setting::Salt => "salt",
+            Setting::Personal => "personal",
+            Setting::Key => "key",
+            Setting::Verify => "verify",
+            Setting::IkmFile => "ikm-file",
+            Setting::Info => "info",
+            Setting::Context => "context",
+            Setting::First => "first",
+            Setting::Chunks => "chunks",
+            Setting::Bytes => "bytes",
+            Setting::List => "file",
+        }
+    }
 }
 
 impl UsageFault {
-    /// What is at fault: a setting, or nothing alone.
-    pub fn subject(self) -> &'static str
-        ensures { result.now ≡ usage_subject self }
+    /// What is at fault, a setting or nothing alone, and what is said of it: the rest of a line, with
+    /// its LF.
+    pub fn texts(self) -> (&'static str, &'static str)
+        ensures subject { result.0.now ≡ (usage_texts self).0 }
+        ensures complaint { result.1.now ≡ (usage_texts self).1 }
     {
         match self {
-            UsageFault::Needed(setting)
-            | UsageFault::NotForAlgorithm(setting)
-            | UsageFault::NotForCommand(setting)
-            | UsageFault::NotWithTag(setting)
-            | UsageFault::OneFile(setting)
-            | UsageFault::OutOfRange(setting)
-            | UsageFault::NotHexadecimal(setting)
-            | UsageFault::WrongLength(setting) => setting.text(),
-            UsageFault::OneKey | UsageFault::OneSource => "",
-        }
-    }
-
-    /// What is said of it: the rest of a line, with its LF.
-    pub fn complaint(self) -> &'static str
-        ensures { result.now ≡ usage_complaint self }
-    {
-        match self {
-            UsageFault::Needed(_) => ": needed\n",
-            UsageFault::NotForAlgorithm(_) => ": not for this algorithm\n",
-            UsageFault::NotForCommand(_) => ": not for this command\n",
-            UsageFault::NotWithTag(_) => ": not with --tag\n",
-            UsageFault::OneFile(_) => ": one file only\n",
-            UsageFault::OutOfRange(_) => ": out of range\n",
-            UsageFault::NotHexadecimal(_) => ": not hexadecimal\n",
-            UsageFault::WrongLength(_) => ": wrong length\n",
-            UsageFault::OneKey => "give one of --key and --key-file\n",
-            UsageFault::OneSource => "give only one of FILE and --files0-from\n",
+            UsageFault::Needed(setting) => (setting.text(), ": needed\n"),
+            UsageFault::NotForAlgorithm(setting) => {
+                (setting.text(), ": not for this algorithm\n")
+            }
+            UsageFault::NotForCommand(setting) => (setting.text(), ": not for this command\n"),
+            UsageFault::NotWithTag(setting) => (setting.text(), ": not with --tag\n"),
+            UsageFault::OneFile(setting) => (setting.text(), ": one file only\n"),
+            UsageFault::OutOfRange(setting) => (setting.text(), ": out of range\n"),
+            UsageFault::NotHexadecimal(setting) => (setting.text(), ": not hexadecimal\n"),
+            UsageFault::WrongLength(setting) => (setting.text(), ": wrong length\n"),
+            UsageFault::OneKey => ("", "give one of --key and --key-file\n"),
+            UsageFault::OneSource => ("", "give only one of FILE and --files0-from\n"),
         }
     }
 }

@@ -1,12 +1,14 @@
 // What `hash` is to print of a file.
 
-ghost use Rattle.std.specs.Prelude.{◌≡◌, ◌≤◌, IfOk, IfSome, false, option_map};
+ghost use Rattle.std.specs.Prelude.{◌≡◌};
+ghost use Rattle.request.specs.CommandLine.{given_of};
 ghost use Rattle.task.specs.Hashing as spec;
 ghost use Rattle.task.specs.Parameters.{Judges};
-ghost use Rattle.task.specs.Requested.{HasDigest, IsPartSize, IsWithin, names_algorithm};
 
 use crate::fault::{Setting, TaskFault, UsageFault};
-use crate::parameters::{given_bytes, kind_of, needed, number, refused, refused_flag, sized};
+use crate::parameters::{
+    file_count, given_bytes, kind_of, number, number_in, refused, refused_flag, sized, text_of,
+};
 use request::Request;
 use source::Alg;
 use std::alloc::Global;
@@ -46,16 +48,14 @@ pub struct Stretch {
 impl Requested {
     /// What a request of `hash` has printed, or the first fault of its settings.
     pub(crate) fn of(alloc: Global, request: &Request<'_>) -> Result<Requested, TaskFault>
-        ensures judged { Judges (λ r. r) (spec.requested request.now) result }
-        ensures tag { IfOk result (λ asked. names_algorithm asked ≡ request.now.tag) }
-        ensures range { IfOk result HasDigest }
+        ensures { Judges (λ r. r) (spec.requested (given_of request.now)) result }
     {
-        match kind_of(needed(Setting::Algorithm, request.algorithm)?)? {
+        match kind_of(request)? {
             Kind::Sha256 => Ok(sha(request, Alg::Sha256)?),
             Kind::Sha512 => Ok(sha(request, Alg::Sha512)?),
             Kind::Blake2b => with_blake2b(alloc, request),
             Kind::Blake2s => with_blake2s(alloc, request),
-            Kind::Blake3 if request.tag => Ok(tagged_blake3(request)?),
+            Kind::Blake3 if request.has("tag") => Ok(tagged_blake3(request)?),
             Kind::Blake3 => Ok(blake3_output(request)?),
         }
     }
@@ -68,114 +68,93 @@ fn whole(hash: Hash, is_tagged: bool) -> Requested
 }
 
 fn sha(request: &Request<'_>, alg: Alg) -> Result<Requested, UsageFault>
-    ensures { result ≡ spec.sha request.now alg }
+    ensures { result ≡ spec.sha alg (given_of request.now) }
 {
-    refused(Setting::Length, request.length)?;
-    refused(Setting::Seek, request.seek)?;
-    unsalted(request)?;
-    refused(Setting::Parts, request.parts)?;
-    refused_flag(UsageFault::NotForAlgorithm(Setting::Raw), request.raw)?;
-    Ok(whole(Hash::Plain(alg), request.tag))
-}
-
-fn unsalted(request: &Request<'_>) -> Result<(), UsageFault>
-    ensures { result ≡ spec.no_salts request.now }
-{
-    refused(Setting::Salt, request.salt)?;
-    refused(Setting::Personal, request.personal)
+    let others = [
+        Setting::Length,
+        Setting::Seek,
+        Setting::Salt,
+        Setting::Personal,
+        Setting::Parts,
+    ];
+    refused(request, &others)?;
+    refused_flag(
+        UsageFault::NotForAlgorithm(Setting::Raw),
+        request.has("raw"),
+    )?;
+    Ok(whole(Hash::Plain(alg), request.has("tag")))
 }
 
 fn with_blake2b(alloc: Global, request: &Request<'_>) -> Result<Requested, TaskFault>
-    ensures judged { Judges (λ r. r) (spec.blake2b_digest request.now) result }
-    ensures range { IfOk result HasDigest }
+    ensures { Judges (λ r. r) (spec.blake2b_digest (given_of request.now)) result }
 {
     let (length, salt, personal) = blake2_parameters(alloc, request, 64)?;
-    Ok(whole(Hash::Blake2b(length, salt, personal), request.tag))
+    Ok(whole(Hash::Blake2b(length, salt, personal), request.has("tag")))
 }
 
 fn with_blake2s(alloc: Global, request: &Request<'_>) -> Result<Requested, TaskFault>
-    ensures judged { Judges (λ r. r) (spec.blake2s_digest request.now) result }
-    ensures range { IfOk result HasDigest }
+    ensures { Judges (λ r. r) (spec.blake2s_digest (given_of request.now)) result }
 {
     let (length, salt, personal) = blake2_parameters(alloc, request, 32)?;
-    Ok(whole(Hash::Blake2s(length, salt, personal), request.tag))
+    Ok(whole(Hash::Blake2s(length, salt, personal), request.has("tag")))
 }
 
-// The length of the digest, which has `most` bytes at most, the salt and the personalization.
+// The length of the digest, which has `most` bytes at most, the salt and the personalization. The
+// digits of both are judged before the length of either.
 fn blake2_parameters<const N: usize>(
     alloc: Global,
     request: &Request<'_>,
     most: usize,
 ) -> Result<(usize, [u8; N], [u8; N]), TaskFault>
-    requires { 1 ≤ most }
-    ensures judged { Judges (λ p. p) (spec.blake2_parameters request.now most N) result }
-    ensures low { IfOk result (λ p. 1 ≤ p.0) }
-    ensures high { IfOk result (λ p. p.0 ≤ most) }
+    ensures { Judges (λ p. p) (spec.blake2_parameters most N (given_of request.now)) result }
 {
-    refused(Setting::Seek, request.seek)?;
-    refused(Setting::Parts, request.parts)?;
-    refused_flag(UsageFault::NotForAlgorithm(Setting::Raw), request.raw)?;
-    let length = number(Setting::Length, request.length, most as u64, 1, most as u64)? as usize;
-    let (salt, personal) = salts(alloc, request)?;
+    refused(request, &[Setting::Seek, Setting::Parts])?;
+    refused_flag(
+        UsageFault::NotForAlgorithm(Setting::Raw),
+        request.has("raw"),
+    )?;
+    let length = number(request, Setting::Length, most as u64, 1, most as u64)? as usize;
+    let salt = given_bytes(alloc, request, Setting::Salt)?;
+    let personal = given_bytes(alloc, request, Setting::Personal)?;
     let salt = sized(Setting::Salt, salt)?;
     let personal = sized(Setting::Personal, personal)?;
     Ok((length, salt, personal))
 }
 
-// The bytes of the salt and of the personalization, where they were given. The digits of both are
-// judged before the length of either.
-fn salts(
-    alloc: Global,
-    request: &Request<'_>,
-) -> Result<(Option<Vec<u8>>, Option<Vec<u8>>), TaskFault>
-    ensures { Judges (λ s. (option_map (λ v. v.items) s.0, option_map (λ v. v.items) s.1))
-        (spec.salts request.now) result }
-{
-    let salt = given_bytes(alloc, Setting::Salt, request.salt)?;
-    let personal = given_bytes(alloc, Setting::Personal, request.personal)?;
-    Ok((salt, personal))
-}
-
 // The label of BLAKE3 stands for its first 32 bytes.
 fn tagged_blake3(request: &Request<'_>) -> Result<Requested, UsageFault>
-    ensures { result ≡ spec.tagged_blake3 request.now }
+    ensures { result ≡ spec.tagged_blake3 (given_of request.now) }
 {
-    unsalted(request)?;
-    refused_flag(UsageFault::NotWithTag(Setting::Raw), request.raw)?;
-    number(Setting::Length, request.length, 32, 32, 32)?;
-    number(Setting::Seek, request.seek, 0, 0, 0)?;
+    refused(request, &[Setting::Salt, Setting::Personal])?;
+    refused_flag(UsageFault::NotWithTag(Setting::Raw), request.has("raw"))?;
+    number(request, Setting::Length, 32, 32, 32)?;
+    number(request, Setting::Seek, 0, 0, 0)?;
     Ok(whole(Hash::Plain(Alg::Blake3), true))
 }
 
 fn blake3_output(request: &Request<'_>) -> Result<Requested, UsageFault>
-    ensures value { result ≡ spec.blake3_output request.now }
-    ensures tag { IfOk result (λ asked. names_algorithm asked ≡ false) }
-    ensures range { IfOk result HasDigest }
+    ensures { result ≡ spec.blake3_output (given_of request.now) }
 {
-    unsalted(request)?;
-    let several = request.raw && names_several(request);
+    refused(request, &[Setting::Salt, Setting::Personal])?;
+    let is_raw = request.has("raw");
+    let several = is_raw && names_several(request);
     refused_flag(UsageFault::OneFile(Setting::Raw), several)?;
-    Ok(Requested::Output(stretch_of(request, request.raw)?))
+    Ok(Requested::Output(stretch_of(request, is_raw)?))
 }
 
 // Whether more than one file may be named.
 fn names_several(request: &Request<'_>) -> bool
-    ensures { result ≡ spec.names_several request.now }
+    ensures { result ≡ spec.names_several (given_of request.now) }
 {
-    request.files.len() > 1 || request.files0_from.is_some()
+    file_count(request) > 1 || request.text("files0-from").is_some()
 }
 
-/// The bytes of BLAKE3's output that `-l` and `--seek` say.
+/// The bytes of BLAKE3's output that `-l` and `--seek` say, before its end.
 pub(crate) fn stretch_of(request: &Request<'_>, is_raw: bool) -> Result<Stretch, UsageFault>
-    ensures value { result ≡ spec.stretch_of request.now is_raw }
-    ensures form { IfOk result (λ stretch. stretch.is_raw ≡ is_raw) }
-    ensures ends { IfOk result IsWithin }
+    ensures { result ≡ spec.stretch_of (given_of request.now) is_raw }
 {
-    let length = number(Setting::Length, request.length, 32, 1, u64::MAX)?;
-    let position = number(Setting::Seek, request.seek, 0, 0, u64::MAX)?;
-    if position > u64::MAX - length {
-        return Err(UsageFault::OutOfRange(Setting::Seek));
-    }
+    let length = number(request, Setting::Length, 32, 1, u64::MAX)?;
+    let position = number(request, Setting::Seek, 0, 0, u64::MAX - length)?;
     Ok(Stretch {
         position,
         length,
@@ -185,15 +164,20 @@ pub(crate) fn stretch_of(request: &Request<'_>, is_raw: bool) -> Result<Stretch,
 
 /// Of how many chunks the parts are that files are hashed in, where that was asked for.
 pub(crate) fn parts_of(request: &Request<'_>) -> Result<Option<u64>, UsageFault>
-    ensures value { result ≡ spec.parts request.now }
-    ensures power { IfOk result (λ parts. IfSome parts IsPartSize) }
+    ensures { result ≡ spec.parts (given_of request.now) }
 {
-    if request.parts.is_none() {
-        return Ok(None);
+    match text_of(request, Setting::Parts) {
+        Some(text) => Ok(Some(part_size(number_in(Setting::Parts, 1, 1024, text)?)?)),
+        None => Ok(None),
     }
-    let chunks = number(Setting::Parts, request.parts, 1, 1, 1024)?;
-    if !chunks.is_power_of_two() {
-        return Err(UsageFault::OutOfRange(Setting::Parts));
+}
+
+fn part_size(chunks: u64) -> Result<u64, UsageFault>
+    ensures { result ≡ spec.part_size chunks }
+{
+    if chunks.is_power_of_two() {
+        Ok(chunks)
+    } else {
+        Err(UsageFault::OutOfRange(Setting::Parts))
     }
-    Ok(Some(chunks))
 }

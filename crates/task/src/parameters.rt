@@ -1,13 +1,17 @@
 // The texts of settings as names, numbers and bytes, and which fault each can be.
 
-ghost use Rattle.std.specs.Prelude.{◌≡◌, ◌≢◌, ◌-◌, ◌^◌, ◌≤◌, IfOk, IfSome, IsSomeAnd, MatchResult};
-ghost use Rattle.std.specs.Prelude.{length, option_map, replicate, unwrap_or};
+ghost use Rattle.std.specs.Prelude.{◌≡◌, ◌≢◌, ◌&&◌, Err, IsSomeAnd, MatchResult, Ok, if◌then◌else◌, length, nat_le};
+ghost use Rattle.std.specs.Prelude.{option_map, replicate, unwrap_or};
+ghost use Rattle.request.specs.CommandLine.{given_of};
 ghost use Rattle.task.specs.Parameters as spec;
-ghost use Rattle.task.specs.Parameters.{Judges, given, seen};
-ghost use Rattle.task.specs.declared.fault.UsageFault.TheVariants.{WrongLength};
+ghost use Rattle.task.specs.Parameters.{Judges};
+ghost use Rattle.task.specs.inside.Seen.{seen};
+ghost use Rattle.task.specs.declared.fault.Setting.TheVariants.{Algorithm};
+ghost use Rattle.task.specs.declared.fault.UsageFault.TheVariants.{OutOfRange, WrongLength};
 
 use crate::fault::{Setting, TaskFault, UsageFault};
 use hex::FromHexError;
+use request::Request;
 use std::alloc::Global;
 use sumlist::Kind;
 
@@ -32,9 +36,32 @@ impl HmacHash {
     }
 }
 
-/// The hash of this name.
-pub(crate) fn kind_of(name: &str) -> Result<Kind, UsageFault>
-    ensures { result ≡ spec.kind_of name.now }
+/// The text of a setting, where it was given.
+pub(crate) fn text_of<'a>(request: &Request<'a>, setting: Setting) -> Option<&'a str>
+    ensures { option_map (λ t. t.now) result ≡ spec.text setting (given_of request.now) }
+{
+    request.text(setting.id())
+}
+
+/// How many files or lists were named.
+pub(crate) fn file_count(request: &Request<'_>) -> usize
+    ensures { result ≡ length (spec.files (given_of request.now)) }
+{
+    match request.texts("file") {
+        Some(files) => files.len(),
+        None => 0,
+    }
+}
+
+/// The hash that a request names.
+pub(crate) fn kind_of(request: &Request<'_>) -> Result<Kind, UsageFault>
+    ensures { result ≡ spec.kind_of (given_of request.now) }
+{
+    kind_named(needed(request, Setting::Algorithm)?)
+}
+
+fn kind_named(name: &str) -> Result<Kind, UsageFault>
+    ensures { result ≡ spec.named Algorithm spec.kinds name.now }
 {
     match name {
         "sha256" => Ok(Kind::Sha256),
@@ -46,14 +73,16 @@ pub(crate) fn kind_of(name: &str) -> Result<Kind, UsageFault>
     }
 }
 
-/// Refuses a setting that the algorithm does not have.
-pub(crate) fn refused(setting: Setting, text: Option<&str>) -> Result<(), UsageFault>
-    ensures { result ≡ spec.absent setting (given text.entry) }
+/// Refuses the settings that the algorithm does not have.
+pub(crate) fn refused(request: &Request<'_>, settings: &[Setting]) -> Result<(), UsageFault>
+    ensures { result ≡ spec.absent settings.now (given_of request.now) }
 {
-    match text {
-        Some(_) => Err(UsageFault::NotForAlgorithm(setting)),
-        None => Ok(()),
+    for &setting in settings {
+        if text_of(request, setting).is_some() {
+            return Err(UsageFault::NotForAlgorithm(setting));
+        }
     }
+    Ok(())
 }
 
 /// Refuses a flag by this fault.
@@ -64,10 +93,10 @@ pub(crate) fn refused_flag(fault: UsageFault, is_given: bool) -> Result<(), Usag
 }
 
 /// The text of a setting that has to be there.
-pub(crate) fn needed<'a>(setting: Setting, text: Option<&'a str>) -> Result<&'a str, UsageFault>
-    ensures { seen (λ t. t.now) result ≡ spec.needed setting (given text.entry) }
+pub(crate) fn needed<'a>(request: &Request<'a>, setting: Setting) -> Result<&'a str, UsageFault>
+    ensures { seen (λ t. t.now) result ≡ spec.needed setting (given_of request.now) }
 {
-    match text {
+    match text_of(request, setting) {
         Some(text) => Ok(text),
         None => Err(UsageFault::Needed(setting)),
     }
@@ -75,51 +104,50 @@ pub(crate) fn needed<'a>(setting: Setting, text: Option<&'a str>) -> Result<&'a 
 
 /// The number of a setting, at least `least` and at most `most`, or the default.
 pub(crate) fn number(
+    request: &Request<'_>,
     setting: Setting,
-    text: Option<&str>,
     default: u64,
     least: u64,
     most: u64,
 ) -> Result<u64, UsageFault>
-    requires low { least ≤ default }
-    requires high { default ≤ most }
-    requires fits { most ≤ 2 ^ 64 - 1 }
-    ensures value { result ≡ spec.number setting (given text.entry) default least most }
-    ensures low { IfOk result (λ n. least ≤ n) }
-    ensures high { IfOk result (λ n. n ≤ most) }
+    ensures { result ≡ spec.number setting default least most (given_of request.now) }
 {
-    let Some(text) = text else {
-        return Ok(default);
-    };
+    Ok(given_number(request, setting, least, most)?.unwrap_or(default))
+}
+
+/// The number of a setting, at least `least` and at most `most`, where it was given.
+pub(crate) fn given_number(
+    request: &Request<'_>,
+    setting: Setting,
+    least: u64,
+    most: u64,
+) -> Result<Option<u64>, UsageFault>
+    ensures { result ≡ spec.given_number setting least most (given_of request.now) }
+{
+    match text_of(request, setting) {
+        Some(text) => Ok(Some(number_in(setting, least, most, text)?)),
+        None => Ok(None),
+    }
+}
+
+/// The number that the text of a setting spells, at least `least` and at most `most`.
+pub(crate) fn number_in(
+    setting: Setting,
+    least: u64,
+    most: u64,
+    text: &str,
+) -> Result<u64, UsageFault>
+    ensures { result ≡ spec.number_in setting least most text.now }
+{
     match text.parse::<u64>() {
         Ok(value) => within(setting, least, most, value),
         Err(_) => Err(UsageFault::OutOfRange(setting)),
     }
 }
 
-/// The number of a setting, at least `least` and at most `most`, where it was given.
-pub(crate) fn given_number(
-    setting: Setting,
-    text: Option<&str>,
-    least: u64,
-    most: u64,
-) -> Result<Option<u64>, UsageFault>
-    requires ordered { least ≤ most }
-    requires fits { most ≤ 2 ^ 64 - 1 }
-    ensures value { result ≡ spec.given_number setting (given text.entry) least most }
-    ensures low { IfOk result (λ found. IfSome found (λ n. least ≤ n)) }
-    ensures high { IfOk result (λ found. IfSome found (λ n. n ≤ most)) }
-{
-    if text.is_none() {
-        return Ok(None);
-    }
-    Ok(Some(number(setting, text, least, least, most)?))
-}
-
 fn within(setting: Setting, least: u64, most: u64, value: u64) -> Result<u64, UsageFault>
-    ensures value { result ≡ spec.within setting least most (Some value) }
-    ensures low { IfOk result (λ n. least ≤ n) }
-    ensures high { IfOk result (λ n. n ≤ most) }
+    ensures { result
+        ≡ (if nat_le least value && nat_le value most then Ok value else Err (OutOfRange setting)) }
 {
     if least <= value && value <= most {
         Ok(value)
@@ -142,12 +170,12 @@ pub(crate) fn hexadecimal(alloc: Global, setting: Setting, text: &str) -> Result
 /// The bytes that a setting's hexadecimal digits spell, where it was given.
 pub(crate) fn given_bytes(
     alloc: Global,
+    request: &Request<'_>,
     setting: Setting,
-    text: Option<&str>,
 ) -> Result<Option<Vec<u8>>, TaskFault>
-    ensures { Judges (option_map (λ v. v.items)) (spec.given_bytes setting (given text.entry)) result }
+    ensures { Judges (option_map (λ v. v.items)) (spec.given_bytes setting (given_of request.now)) result }
 {
-    match text {
+    match text_of(request, setting) {
         Some(text) => Ok(Some(hexadecimal(alloc, setting, text)?)),
         None => Ok(None),
     }

@@ -1,12 +1,13 @@
 // What `part` and `join` read and print.
 
-ghost use Rattle.std.specs.Prelude.{◌≡◌, ◌≤◌, ◌^◌, ◌%◌, ◌↔◌, IfOk, IsTrue};
+ghost use Rattle.std.specs.Prelude.{◌≡◌, ◌≤◌, ◌^◌, ◌%◌, ◌↔◌, IsTrue};
+ghost use Rattle.request.specs.CommandLine.{given_of};
 ghost use Rattle.task.specs.Parting as spec;
-ghost use Rattle.task.specs.Parting.{IsOfJoin, IsPlace, least_power};
+ghost use Rattle.task.specs.Parting.{least_power};
 
 use crate::fault::{Setting, UsageFault};
 use crate::hashing::{Stretch, stretch_of};
-use crate::parameters::{given_number, kind_of, needed, number};
+use crate::parameters::{given_number, kind_of, number};
 use request::Request;
 use sumlist::Kind;
 
@@ -15,9 +16,9 @@ const MOST_CHUNKS: u64 = 1 << 54;
 
 // BLAKE3 alone has parts.
 fn names_blake3(request: &Request<'_>) -> Result<(), UsageFault>
-    ensures { result ≡ spec.names_blake3 request.now }
+    ensures { result ≡ spec.names_blake3 (given_of request.now) }
 {
-    match kind_of(needed(Setting::Algorithm, request.algorithm)?)? {
+    match kind_of(request)? {
         Kind::Blake3 => Ok(()),
         _ => Err(UsageFault::NotForCommand(Setting::Algorithm)),
     }
@@ -26,12 +27,11 @@ fn names_blake3(request: &Request<'_>) -> Result<(), UsageFault>
 /// The first chunk of the part that a request of `part` asks for, and how many chunks it has at most,
 /// where that is said; or the first fault of its settings.
 pub(crate) fn place_of(request: &Request<'_>) -> Result<(u64, Option<u64>), UsageFault>
-    ensures value { result ≡ spec.place request.now }
-    ensures range { IfOk result (λ p. IsPlace p.0 p.1) }
+    ensures { result ≡ spec.place (given_of request.now) }
 {
     names_blake3(request)?;
-    let first = number(Setting::First, request.first, 0, 0, MOST_CHUNKS - 1)?;
-    let chunks = given_number(Setting::Chunks, request.chunks, 1, MOST_CHUNKS)?;
+    let first = number(request, Setting::First, 0, 0, MOST_CHUNKS - 1)?;
+    let chunks = given_number(request, Setting::Chunks, 1, MOST_CHUNKS)?;
     match chunks {
         Some(most) if !has_room(first, most) => Err(UsageFault::OutOfRange(Setting::First)),
         _ => Ok((first, chunks)),
@@ -42,8 +42,7 @@ pub(crate) fn place_of(request: &Request<'_>) -> Result<(u64, Option<u64>), Usag
 fn has_room(first: u64, chunks: u64) -> bool
     requires low { 1 ≤ chunks }
     requires high { chunks ≤ 2 ^ 54 }
-    ensures value { IsTrue result ↔ (first % least_power chunks ≡ 0) }
-    ensures room { IsTrue result → spec.HasRoom first chunks }
+    ensures { IsTrue result ↔ (first % least_power chunks ≡ 0) }
 {
     first % chunks.next_power_of_two() == 0
 }
@@ -51,11 +50,10 @@ fn has_room(first: u64, chunks: u64) -> bool
 /// Which bytes of the joined output a request of `join` has printed, and how many bytes the parts
 /// have to have, where that is said; or the first fault of its settings.
 pub(crate) fn joined_of(request: &Request<'_>) -> Result<(Stretch, Option<u64>), UsageFault>
-    ensures value { result ≡ spec.joined request.now }
-    ensures range { IfOk result (λ j. IsOfJoin j.0) }
+    ensures { result ≡ spec.joined (given_of request.now) }
 {
     names_blake3(request)?;
     let stretch = stretch_of(request, false)?;
-    let bytes = given_number(Setting::Bytes, request.bytes, 0, u64::MAX)?;
+    let bytes = given_number(request, Setting::Bytes, 0, u64::MAX)?;
     Ok((stretch, bytes))
 }

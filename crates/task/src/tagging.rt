@@ -1,11 +1,13 @@
 // What `mac` is to print.
 
-ghost use Rattle.std.specs.Prelude.{◌≡◌, ◌-◌, ◌^◌, ◌≤◌, IfOk, option_map};
-ghost use Rattle.task.specs.Parameters.{Judges};
+ghost use Rattle.std.specs.Prelude.{◌≡◌, option_map};
+ghost use Rattle.request.specs.CommandLine.{given_of};
+ghost use Rattle.task.specs.Parameters.{Judges, number};
 ghost use Rattle.task.specs.Tagging as spec;
+ghost use Rattle.task.specs.inside.Seen.{seen};
 
 use crate::fault::{Setting, TaskFault, UsageFault};
-use crate::parameters::{HmacHash, given_bytes, needed, number};
+use crate::parameters::{HmacHash, given_bytes, hexadecimal, needed, number, text_of};
 use request::Request;
 use std::alloc::Global;
 
@@ -34,23 +36,20 @@ pub enum Key<'a> {
 impl Mac {
     /// The keyed function that a request of `mac` names, or the first fault of its settings.
     pub(crate) fn of(request: &Request<'_>) -> Result<Mac, UsageFault>
-        ensures value { result ≡ spec.mac request.now }
-        ensures range { IfOk result spec.HasTag }
+        ensures { result ≡ spec.mac (given_of request.now) }
     {
-        match needed(Setting::Algorithm, request.algorithm)? {
+        match needed(request, Setting::Algorithm)? {
             "hmac-sha256" => hmac(request, HmacHash::Sha256),
             "hmac-sha512" => hmac(request, HmacHash::Sha512),
             "hmac-blake2b" => hmac(request, HmacHash::Blake2b),
             "hmac-blake2s" => hmac(request, HmacHash::Blake2s),
             "blake2b" => Ok(Mac::Blake2b(tag_len(request, 64)? as usize)),
             "blake2s" => Ok(Mac::Blake2s(tag_len(request, 32)? as usize)),
-            "blake3" => Ok(Mac::Blake3(number(Setting::Length, request.length, 32, 1, u64::MAX)?)),
+            "blake3" => Ok(Mac::Blake3(number(request, Setting::Length, 32, 1, u64::MAX)?)),
             _ => Err(UsageFault::OutOfRange(Setting::Algorithm)),
         }
     }
-}
 
-impl Mac {
     // The length of the tags in bytes.
     fn tag_len(self) -> u64
         ensures { result ≡ spec.mac_len self }
@@ -67,44 +66,47 @@ impl Mac {
         alloc: Global,
         request: &Request<'_>,
     ) -> Result<Option<Vec<u8>>, TaskFault>
-        ensures { Judges (option_map (λ v. v.items)) (spec.wanted self request.now) result }
+        ensures { Judges (option_map (λ v. v.items)) (spec.wanted self (given_of request.now)) result }
     {
-        match given_bytes(alloc, Setting::Verify, request.verify)? {
-            Some(tag) if tag.len() as u64 != self.tag_len() => Err(TaskFault::Usage(
-                UsageFault::WrongLength(Setting::Verify),
-            )),
-            wanted => Ok(wanted),
+        match text_of(request, Setting::Verify) {
+            Some(text) => Ok(Some(self.wanted_of(hexadecimal(alloc, Setting::Verify, text)?)?)),
+            None => Ok(None),
+        }
+    }
+
+    fn wanted_of(self, tag: Vec<u8>) -> Result<Vec<u8>, UsageFault>
+        ensures { seen (λ v. v.items) result ≡ spec.of_length (spec.mac_len self) tag.items }
+    {
+        if tag.len() as u64 == self.tag_len() {
+            Ok(tag)
+        } else {
+            Err(UsageFault::WrongLength(Setting::Verify))
         }
     }
 }
 
 fn hmac(request: &Request<'_>, hash: HmacHash) -> Result<Mac, UsageFault>
-    ensures value { result ≡ spec.hmac request.now hash }
-    ensures range { IfOk result spec.HasTag }
+    ensures { result ≡ spec.hmac hash (given_of request.now) }
 {
     let whole = hash.digest_len();
-    let length = number(Setting::Length, request.length, whole, whole / 2, whole)?;
+    let length = number(request, Setting::Length, whole, whole / 2, whole)?;
     Ok(Mac::Hmac(hash, length as usize))
 }
 
 fn tag_len(request: &Request<'_>, most: u64) -> Result<u64, UsageFault>
-    requires low { 1 ≤ most }
-    requires high { most ≤ 2 ^ 64 - 1 }
-    ensures value { result ≡ spec.tag_len request.now 1 most }
-    ensures low { IfOk result (λ n. 1 ≤ n) }
-    ensures high { IfOk result (λ n. n ≤ most) }
+    ensures { result ≡ number Setting.Length most 1 most (given_of request.now) }
 {
-    number(Setting::Length, request.length, most, 1, most)
+    number(request, Setting::Length, most, 1, most)
 }
 
 impl<'a> Key<'a> {
     /// The key of a request of `mac`, which gives it in one of the two ways. The digits of `--key`
     /// are judged first.
     pub(crate) fn of(alloc: Global, request: &Request<'a>) -> Result<Key<'a>, TaskFault>
-        ensures { Judges spec.key_shown (spec.key request.now) result }
+        ensures { Judges spec.key_shown (spec.key (given_of request.now)) result }
     {
-        let given = given_bytes(alloc, Setting::Key, request.key)?;
-        match (given, request.key_file) {
+        let given = given_bytes(alloc, request, Setting::Key)?;
+        match (given, request.text("key-file")) {
             (Some(key), None) => Ok(Key::Given(key)),
             (None, Some(name)) => Ok(Key::File(name)),
             _ => Err(TaskFault::Usage(UsageFault::OneKey)),

@@ -1,14 +1,16 @@
 // What a run is to do.
 
-ghost use Rattle.std.specs.Prelude.{◌≡◌, IfOk};
-ghost use Rattle.task.specs.Parameters.{Judges, given, seen};
+ghost use Rattle.std.specs.Prelude.{◌≡◌, IfOk, codes};
+ghost use Rattle.request.specs.CommandLine.{given_of, text_of};
+ghost use Rattle.task.specs.Parameters.{Judges, files};
 ghost use Rattle.task.specs.Tasks as spec;
 ghost use Rattle.task.specs.Tasks.{IsPossible, asked, names_shown, task_shown, texts_of};
+ghost use Rattle.task.specs.inside.Seen.{seen};
 
 use crate::derivation::Derivation;
 use crate::fault::{Setting, TaskFault, UsageFault};
 use crate::hashing::{Requested, Stretch, parts_of};
-use crate::parameters::{kind_of, needed};
+use crate::parameters::{file_count, kind_of, needed};
 use crate::parting::{joined_of, place_of};
 use crate::tagging::{Key, Mac};
 use request::Request;
@@ -71,28 +73,33 @@ impl<'a> Task<'a> {
     /// The task that a request asks for, or what is wrong with the first of its settings: each
     /// command has an order in which it judges them.
     pub fn of(alloc: Global, request: Request<'a>) -> Result<Task<'a>, TaskFault>
-        ensures judged { Judges task_shown (asked request.entry) result }
-        ensures possible { IfOk result IsPossible }
+        ensures judged { Judges task_shown (asked (given_of request.entry)) result }
+        ensures possible { IfOk result (λ task. IsPossible (task_shown task)) }
     {
-        match request.command {
-            "hash" => hash(alloc, request),
-            "mac" => mac(alloc, &request),
-            "kdf" => kdf(alloc, &request),
-            "check" => Ok(check(&request)?),
-            "part" => Ok(part(&request)?),
-            "join" => join(request),
-            _ => Err(TaskFault::Usage(UsageFault::OutOfRange(Setting::Command))),
-        }
+        task_of(alloc, &request)
     }
 }
 
-fn hash<'a>(alloc: Global, request: Request<'a>) -> Result<Task<'a>, TaskFault>
-    ensures judged { Judges task_shown (spec.hash request.entry) result }
-    ensures possible { IfOk result IsPossible }
+fn task_of<'a>(alloc: Global, request: &Request<'a>) -> Result<Task<'a>, TaskFault>
+    ensures { Judges task_shown (asked (given_of request.now)) result }
 {
-    let requested = Requested::of(alloc, &request)?;
-    let parts = parts_of(&request)?;
-    let names = one_source(request.files0_from, request.files)?;
+    match request.command() {
+        "hash" => hash(alloc, request),
+        "mac" => mac(alloc, request),
+        "kdf" => kdf(alloc, request),
+        "check" => Ok(check(request)?),
+        "part" => Ok(part(request)?),
+        "join" => join(alloc, request),
+        _ => Err(TaskFault::Usage(UsageFault::OutOfRange(Setting::Command))),
+    }
+}
+
+fn hash<'a>(alloc: Global, request: &Request<'a>) -> Result<Task<'a>, TaskFault>
+    ensures { Judges task_shown (spec.hash (given_of request.now)) result }
+{
+    let requested = Requested::of(alloc, request)?;
+    let parts = parts_of(request)?;
+    let names = one_source(alloc, request)?;
     Ok(Task::Hash {
         requested,
         parts,
@@ -101,20 +108,25 @@ fn hash<'a>(alloc: Global, request: Request<'a>) -> Result<Task<'a>, TaskFault>
 }
 
 // Files are named by words, or in a file.
-fn one_source<'a>(from: Option<&'a str>, files: Vec<&'a str>) -> Result<Names<'a>, TaskFault>
-    ensures { Judges names_shown (spec.one_source (given from.entry) (texts_of files.entry)) result }
+fn one_source<'a>(alloc: Global, request: &Request<'a>) -> Result<Names<'a>, TaskFault>
+    ensures { Judges names_shown
+        (spec.one_source (text_of (codes "files0-from") (given_of request.now)) (files (given_of request.now))) result }
 {
-    match from {
-        None => Ok(Names::Given(names_of(files)?)),
-        Some(file) if files.is_empty() => Ok(Names::From(file)),
+    match request.text("files0-from") {
+        None => Ok(Names::Given(names_of(alloc, request)?)),
+        Some(file) if file_count(request) == 0 => Ok(Names::From(file)),
         Some(_) => Err(TaskFault::Usage(UsageFault::OneSource)),
     }
 }
 
-// Without a file standard input is read.
-fn names_of<'a>(mut files: Vec<&'a str>) -> Result<Vec<&'a str>, AllocError>
-    ensures { IfOk result (λ names. texts_of names ≡ spec.names_of (texts_of files.entry)) }
+// The files or lists that were named: without one standard input is read.
+fn names_of<'a>(alloc: Global, request: &Request<'a>) -> Result<Vec<&'a str>, AllocError>
+    ensures { IfOk result (λ names. texts_of names ≡ spec.names_of (files (given_of request.now))) }
 {
+    let mut files = Vec::new(alloc);
+    if let Some(named) = request.texts("file") {
+        files.extend_from_slice(named)?;
+    }
     if files.is_empty() {
         files.push("-")?;
     }
@@ -122,8 +134,7 @@ fn names_of<'a>(mut files: Vec<&'a str>) -> Result<Vec<&'a str>, AllocError>
 }
 
 fn mac<'a>(alloc: Global, request: &Request<'a>) -> Result<Task<'a>, TaskFault>
-    ensures judged { Judges task_shown (spec.mac request.now) result }
-    ensures possible { IfOk result IsPossible }
+    ensures { Judges task_shown (spec.mac (given_of request.now)) result }
 {
     let mac = Mac::of(request)?;
     let key = Key::of(alloc, request)?;
@@ -137,34 +148,31 @@ fn mac<'a>(alloc: Global, request: &Request<'a>) -> Result<Task<'a>, TaskFault>
 }
 
 fn kdf<'a>(alloc: Global, request: &Request<'a>) -> Result<Task<'a>, TaskFault>
-    ensures judged { Judges task_shown (spec.kdf request.now) result }
-    ensures possible { IfOk result IsPossible }
+    ensures { Judges task_shown (spec.kdf (given_of request.now)) result }
 {
     let derivation = Derivation::of(alloc, request)?;
-    let material = needed(Setting::IkmFile, request.ikm_file)?;
+    let material = needed(request, Setting::IkmFile)?;
     Ok(Task::Kdf {
         derivation,
-        is_raw: request.raw,
+        is_raw: request.has("raw"),
         material,
     })
 }
 
 fn check<'a>(request: &Request<'a>) -> Result<Task<'a>, UsageFault>
-    ensures judged { seen task_shown result ≡ spec.check request.now }
-    ensures possible { IfOk result IsPossible }
+    ensures { seen task_shown result ≡ spec.check (given_of request.now) }
 {
-    let kind = kind_of(needed(Setting::Algorithm, request.algorithm)?)?;
-    let list = needed(Setting::List, file_of(request))?;
+    let kind = kind_of(request)?;
+    let list = needed(request, Setting::List)?;
     Ok(Task::Check {
         kind,
-        is_summed: request.summary,
+        is_summed: request.has("summary"),
         list,
     })
 }
 
 fn part<'a>(request: &Request<'a>) -> Result<Task<'a>, UsageFault>
-    ensures judged { seen task_shown result ≡ spec.part request.now }
-    ensures possible { IfOk result IsPossible }
+    ensures { seen task_shown result ≡ spec.part (given_of request.now) }
 {
     let (first, chunks) = place_of(request)?;
     Ok(Task::Part {
@@ -174,13 +182,12 @@ fn part<'a>(request: &Request<'a>) -> Result<Task<'a>, UsageFault>
     })
 }
 
-fn join<'a>(request: Request<'a>) -> Result<Task<'a>, TaskFault>
-    ensures judged { Judges task_shown (spec.join request.entry) result }
-    ensures possible { IfOk result IsPossible }
+fn join<'a>(alloc: Global, request: &Request<'a>) -> Result<Task<'a>, TaskFault>
+    ensures { Judges task_shown (spec.join (given_of request.now)) result }
 {
-    let (stretch, bytes) = joined_of(&request)?;
-    let name = request.name.unwrap_or("-");
-    let lists = names_of(request.files)?;
+    let (stretch, bytes) = joined_of(request)?;
+    let name = request.text("name").unwrap_or("-");
+    let lists = names_of(alloc, request)?;
     Ok(Task::Join {
         stretch,
         bytes,
@@ -191,14 +198,7 @@ fn join<'a>(request: Request<'a>) -> Result<Task<'a>, TaskFault>
 
 // The one file that was named, or standard input.
 fn file_or_input<'a>(request: &Request<'a>) -> &'a str
-    ensures { result.now ≡ spec.or_input (spec.file_of request.now) }
+    ensures { result.now ≡ spec.file_or_input (given_of request.now) }
 {
-    file_of(request).unwrap_or("-")
-}
-
-// The one file or list that was named.
-fn file_of<'a>(request: &Request<'a>) -> Option<&'a str>
-    ensures { given result ≡ spec.file_of request.now }
-{
-    request.files.first().copied()
+    request.text("file").unwrap_or("-")
 }

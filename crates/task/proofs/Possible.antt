@@ -1,0 +1,255 @@
+-- What a request asks for, there is.
+use Rattle.std.proofs.Common.{◌≡◌, ℕ, ◌-◌, ◌/◌, ◌%◌, ◌^◌, ◌≤◌, ◌*◌, Bool, true, false, List, Option, Some, None}
+use Rattle.std.proofs.Common.{Result, Ok, Err, IfSome, IfOk, refl, subst, arith}
+use Rattle.std.specs.Prelude.{◌==◌, ◌&&◌, [], ◌∷◌, codes, count_ones, if◌then◌else◌}
+use Rattle.std.proofs.lemmas.Bool.Decides.{nat_tests}
+use Rattle.request.specs.CommandLine.{Given, has_flag, text_of}
+use Rattle.source.specs.Digest.{IsInRange}
+use Rattle.source.specs.declared.alg.Alg.{Alg}
+use Rattle.source.specs.declared.alg.Alg.TheVariants as alg
+use Rattle.sumlist.specs.declared.kind.Kind.{Kind}
+use Rattle.sumlist.specs.declared.kind.Kind.TheVariants as kind
+use Rattle.task.specs.Deriving.{Derived, HasKey, derivation, derivation_of, hkdf}
+use Rattle.task.specs.Deriving as deriving_of
+use Rattle.task.specs.Hashing.{blake2_parameters, blake3_output, part_size, parts}
+use Rattle.task.specs.Hashing.{names_several, requested, requested_of, sha, stretch_of, tagged_blake3}
+use Rattle.task.specs.Parameters.{◌>>=◌, Judges, absent, files, given_bytes, given_number, hmac_len, kind_of, named}
+use Rattle.task.specs.Parameters.{needed, number, number_in, sized, text, unset}
+use Rattle.task.specs.Parting.{IsOfJoin, IsPlace, joined, least_power, names_blake3, place, place_at}
+use Rattle.task.specs.Requested.{HasDigest, IsPartSize, IsWithin}
+use Rattle.task.specs.Tagging.{HasTag, macs, with_length}
+use Rattle.task.specs.Tagging as tagging
+use Rattle.task.specs.Tasks.{Asked, IsPossible, asked, check, commands, hash, join, kdf, mac, one_source, part, task_shown}
+use Rattle.task.specs.declared.fault.Setting.TheVariants.{Algorithm, Bytes, Chunks, Command, Context, First, IkmFile}
+use Rattle.task.specs.declared.fault.Setting.TheVariants.{Info, Length, Parts, Personal, Raw, Salt, Seek}
+use Rattle.task.specs.declared.fault.Setting.TheVariants.{List as ListSetting}
+use Rattle.task.specs.declared.fault.TaskFault.{TaskFault}
+use Rattle.task.specs.declared.fault.UsageFault.{UsageFault}
+use Rattle.task.specs.declared.fault.UsageFault.TheVariants.{NotForAlgorithm, NotWithTag, OneFile, OutOfRange}
+use Rattle.task.specs.declared.hashing.Stretch.{Stretch}
+use Rattle.task.specs.declared.parameters.HmacHash.{HmacHash}
+use Rattle.task.specs.declared.parameters.HmacHash.TheVariants as hmac
+use Rattle.task.specs.declared.tagging.Mac.{Mac}
+use Rattle.task.specs.declared.tagging.Mac.TheVariants as mac_of
+use Rattle.task.specs.declared.tasks.Task.{Task}
+use Rattle.task.proofs.Powers.{room_at}
+use Rattle.task.proofs.Ranges.{IsBetween, given_in_range, in_range, number_in_range}
+use Rattle.task.proofs.Steps.{by_first, by_second, in_both, of_named, where_read}
+
+-- ---- hash
+
+sha_possible : (a : Alg) (g : Given) → IsInRange a → IfOk (sha a g) HasDigest
+sha_possible a g range =
+    by_second HasDigest (absent (Length ∷ Seek ∷ Salt ∷ Personal ∷ Parts ∷ []) g) _ (λ _.
+    by_second HasDigest (unset (NotForAlgorithm Raw) (has_flag (codes "raw") g)) _ (λ _. range))
+
+length_between : (most n : ℕ) (g : Given) → 1 ≤ most
+    → IfOk (blake2_parameters most n g) (λ p. IsBetween 1 most p.0)
+length_between most n g low =
+    let Q : ℕ × List ℕ × List ℕ → Type 0 = λ p. IsBetween 1 most p.0 in
+    by_second Q (absent (Seek ∷ Parts ∷ []) g) _ (λ _.
+    by_second Q (unset (NotForAlgorithm Raw) (has_flag (codes "raw") g)) _ (λ _.
+    by_first (IsBetween 1 most) Q (number Length most 1 most g) _
+    (number_in_range Length most 1 most g low (omega arith)) (λ length range.
+    by_second Q (given_bytes Salt g) _ (λ salt. by_second Q (given_bytes Personal g) _ (λ personal.
+    by_second Q (sized Salt n salt) _ (λ s. by_second Q (sized Personal n personal) _ (λ p. range)))))))
+
+stretch_within : (g : Given) (is_raw : Bool) → IfOk (stretch_of g is_raw) (λ s. IsWithin s × (s.is_raw ≡ is_raw))
+stretch_within g is_raw =
+    let Q : Stretch → Type 0 = λ s. IsWithin s × (s.is_raw ≡ is_raw) in
+    by_first (IsBetween 1 (2 ^ 64 - 1)) Q (number Length 32 1 (2 ^ 64 - 1) g) _
+    (number_in_range Length 32 1 (2 ^ 64 - 1) g (omega arith) (omega arith)) (λ n range.
+    by_first (IsBetween 0 (2 ^ 64 - 1 - n)) Q (number Seek 0 0 (2 ^ 64 - 1 - n) g) _
+    (number_in_range Seek 0 0 (2 ^ 64 - 1 - n) g (omega arith) (omega arith)) (λ position place.
+    let high : n ≤ 2 ^ 64 - 1 = range.1 in
+    let far : position ≤ 2 ^ 64 - 1 - n = place.1 in
+    (omega arith, refl)))
+
+tagged_possible : (g : Given) → IfOk (tagged_blake3 g) HasDigest
+tagged_possible g =
+    by_second HasDigest (absent (Salt ∷ Personal ∷ []) g) _ (λ _.
+    by_second HasDigest (unset (NotWithTag Raw) (has_flag (codes "raw") g)) _ (λ _.
+    by_second HasDigest (number Length 32 32 32 g) _ (λ _. by_second HasDigest (number Seek 0 0 0 g) _ (λ _. tt))))
+
+output_possible : (g : Given) → IfOk (blake3_output g) HasDigest
+output_possible g =
+    let is_raw = has_flag (codes "raw") g in
+    by_second HasDigest (absent (Salt ∷ Personal ∷ []) g) _ (λ _.
+    by_second HasDigest (unset (OneFile Raw) (is_raw && names_several g)) _ (λ _.
+    by_first (λ (s : Stretch). IsWithin s × (s.is_raw ≡ is_raw)) HasDigest (stretch_of g is_raw) _
+    (stretch_within g is_raw) (λ s h. h.0)))
+
+of_kind : (g : Given) (k : Kind) → IfOk (requested_of g k) HasDigest
+of_kind g kind.Sha256 = sha_possible alg.Sha256 g tt
+of_kind g kind.Sha512 = sha_possible alg.Sha512 g tt
+of_kind g kind.Blake2b =
+    by_first (λ p. IsBetween 1 64 p.0) HasDigest (blake2_parameters 64 16 g) _ (length_between 64 16 g (omega arith))
+    (λ p range. range)
+of_kind g kind.Blake2s =
+    by_first (λ p. IsBetween 1 32 p.0) HasDigest (blake2_parameters 32 8 g) _ (length_between 32 8 g (omega arith))
+    (λ p range. range)
+of_kind g kind.Blake3 =
+    in_both HasDigest (has_flag (codes "tag") g) (tagged_blake3 g) (blake3_output g) (tagged_possible g)
+    (output_possible g)
+
+one_bit : (n : ℕ) (fault : UsageFault) (b : Bool) → (b ≡ true → IsPartSize n)
+    → IfOk (if b then Ok n else Err fault) IsPartSize
+one_bit n fault true h = h refl
+one_bit n fault false h = tt
+
+parts_possible : (g : Given) → IfOk (parts g) (λ m. IfSome m IsPartSize)
+parts_possible g =
+    where_read IsPartSize (λ t. number_in Parts 1 1024 t >>= part_size) (text Parts g) (λ t.
+    by_first (IsBetween 1 1024) IsPartSize (number_in Parts 1 1024 t) part_size (in_range Parts 1 1024 t) (λ n range.
+    one_bit n (OutOfRange Parts) (count_ones n == 1) (λ e.
+    let one : count_ones n ≡ 1 = grind (arith, nat_tests) in
+    (one, range.1))))
+
+hash_possible : (g : Given) → IfOk (hash g) IsPossible
+hash_possible g =
+    by_first HasDigest IsPossible (requested g) _ (by_second HasDigest (kind_of g) (requested_of g) (of_kind g)) (λ r digest.
+    by_first (λ m. IfSome m IsPartSize) IsPossible (parts g) _ (parts_possible g) (λ m size.
+    by_second IsPossible (one_source (text_of (codes "files0-from") g) (files g)) _ (λ names. (digest, size))))
+
+-- ---- mac
+
+tags_possible : (f : ℕ → Mac) (default least most : ℕ) (g : Given) → least ≤ default → default ≤ most
+    → ((n : ℕ) → IsBetween least most n → HasTag (f n)) → IfOk (with_length f default least most g) HasTag
+tags_possible f default least most g low high has =
+    by_first (IsBetween least most) HasTag (number Length default least most g) (λ n. Ok (f n))
+    (number_in_range Length default least most g low high) has
+
+half : (n : ℕ) → n / 2 ≤ n
+half n = omega arith
+
+hmac_possible : (h : HmacHash) (g : Given) → IfOk (tagging.hmac h g) HasTag
+hmac_possible h g =
+    tags_possible (mac_of.Hmac h) (hmac_len h) (hmac_len h / 2) (hmac_len h) g (half (hmac_len h)) (omega arith)
+    (λ n range. range)
+
+macs_possible : (g : Given) → IfOk (tagging.mac g) HasTag
+macs_possible g =
+    let P : (Given → Result Mac UsageFault) → Type 0 = λ f. IfOk (f g) HasTag in
+    by_first P HasTag (needed Algorithm g >>= named Algorithm macs) (λ f. f g)
+    (by_second P (needed Algorithm g) (named Algorithm macs) (λ name. of_named P Algorithm macs name (
+      hmac_possible hmac.Sha256 g,
+      (
+        hmac_possible hmac.Sha512 g,
+        (
+          hmac_possible hmac.Blake2b g,
+          (
+            hmac_possible hmac.Blake2s g,
+            (
+              tags_possible mac_of.Blake2b 64 1 64 g (omega arith) (omega arith) (λ n range. range),
+              (
+                tags_possible mac_of.Blake2s 32 1 32 g (omega arith) (omega arith) (λ n range. range),
+                (tags_possible mac_of.Blake3 32 1 (2 ^ 64 - 1) g (omega arith) (omega arith) (λ n range. range.1), tt),
+              ),
+            ),
+          ),
+        ),
+      ),
+    )))
+    (λ f p. p)
+
+mac_possible : (g : Given) → IfOk (mac g) IsPossible
+mac_possible g =
+    by_first HasTag IsPossible (tagging.mac g) _ (macs_possible g) (λ function tag.
+    by_second IsPossible (tagging.key g) _ (λ key.
+    by_second IsPossible (tagging.wanted function g) _ (λ wanted. tag)))
+
+-- ---- kdf
+
+hkdf_possible : (h : HmacHash) (g : Given) → IfOk (hkdf h g) HasKey
+hkdf_possible h g =
+    by_second HasKey (absent (Context ∷ []) g) _ (λ _. by_second HasKey (needed Length g) _ (λ t.
+    by_first (IsBetween 1 (255 * hmac_len h)) HasKey (number_in Length 1 (255 * hmac_len h) t) _
+    (in_range Length 1 (255 * hmac_len h) t) (λ n range.
+    by_second HasKey (given_bytes Salt g) _ (λ salt. by_second HasKey (given_bytes Info g) _ (λ info. range.1)))))
+
+blake3_possible : (g : Given) → IfOk (deriving_of.blake3 g) HasKey
+blake3_possible g =
+    by_second HasKey (absent (Salt ∷ Info ∷ []) g) _ (λ _. by_second HasKey (needed Context g) _ (λ context.
+    by_second HasKey (needed Length g) _ (λ t.
+    by_first (IsBetween 1 (2 ^ 64 - 1)) HasKey (number_in Length 1 (2 ^ 64 - 1) t) _
+    (in_range Length 1 (2 ^ 64 - 1) t) (λ n range. range.1))))
+
+derived_possible : (g : Given) (k : Kind) → IfOk (derivation_of g k) HasKey
+derived_possible g kind.Sha256 = hkdf_possible hmac.Sha256 g
+derived_possible g kind.Sha512 = hkdf_possible hmac.Sha512 g
+derived_possible g kind.Blake2b = hkdf_possible hmac.Blake2b g
+derived_possible g kind.Blake2s = hkdf_possible hmac.Blake2s g
+derived_possible g kind.Blake3 = blake3_possible g
+
+kdf_possible : (g : Given) → IfOk (kdf g) IsPossible
+kdf_possible g =
+    by_first HasKey IsPossible (derivation g) _ (by_second HasKey (kind_of g) (derivation_of g) (derived_possible g))
+    (λ derived key. by_second IsPossible (needed IkmFile g) _ (λ material. key))
+
+-- ---- check, part, join
+
+check_possible : (g : Given) → IfOk (check g) IsPossible
+check_possible g = by_second IsPossible (kind_of g) _ (λ k. by_second IsPossible (needed ListSetting g) _ (λ list. tt))
+
+room : (place : ℕ × Option ℕ) (fault : UsageFault) (b : Bool) → (b ≡ true → IsPlace place.0 place.1)
+    → IfOk (if b then Ok place else Err fault) (λ p. IsPlace p.0 p.1)
+room place fault true h = h refl
+room place fault false h = tt
+
+at_place : (first : ℕ) (chunks : Option ℕ) → first ≤ 2 ^ 54 - 1 → IfSome chunks (IsBetween 1 (2 ^ 54))
+    → IfOk (place_at first chunks) (λ p. IsPlace p.0 p.1)
+at_place first None low range = (omega arith, tt)
+at_place first (Some n) low range =
+    room (first, Some n) (OutOfRange First) (first % least_power n == 0) (λ e.
+    let multiple : first % least_power n ≡ 0 = grind (arith, nat_tests) in
+    (omega arith, room_at first n range.0 range.1 multiple))
+
+place_possible : (g : Given) → IfOk (place g) (λ p. IsPlace p.0 p.1)
+place_possible g =
+    let Q : ℕ × Option ℕ → Type 0 = λ p. IsPlace p.0 p.1 in
+    by_second Q (names_blake3 g) _ (λ _.
+    by_first (IsBetween 0 (2 ^ 54 - 1)) Q (number First 0 0 (2 ^ 54 - 1) g) _
+    (number_in_range First 0 0 (2 ^ 54 - 1) g (omega arith) (omega arith)) (λ first low.
+    by_first (λ m. IfSome m (IsBetween 1 (2 ^ 54))) Q (given_number Chunks 1 (2 ^ 54) g) (place_at first)
+    (given_in_range Chunks 1 (2 ^ 54) g) (λ chunks range. at_place first chunks low.1 range)))
+
+part_possible : (g : Given) → IfOk (part g) IsPossible
+part_possible g = by_first (λ p. IsPlace p.0 p.1) IsPossible (place g) _ (place_possible g) (λ p h. h)
+
+joined_possible : (g : Given) → IfOk (joined g) (λ j. IsOfJoin j.0)
+joined_possible g =
+    let Q : Stretch × Option ℕ → Type 0 = λ j. IsOfJoin j.0 in
+    by_second Q (names_blake3 g) _ (λ _.
+    by_first (λ s. IsWithin s × (s.is_raw ≡ false)) Q (stretch_of g false) _ (stretch_within g false) (λ s h.
+    by_second Q (given_number Bytes 0 (2 ^ 64 - 1) g) _ (λ bytes. (h.1, h.0))))
+
+join_possible : (g : Given) → IfOk (join g) IsPossible
+join_possible g = by_first (λ j. IsOfJoin j.0) IsPossible (joined g) _ (joined_possible g) (λ j h. h)
+
+-- ---- by the command
+
+pub possible : (g : Given) → IfOk (asked g) IsPossible
+possible g =
+    let P : (Given → Result Asked UsageFault) → Type 0 = λ f. IfOk (f g) IsPossible in
+    by_first P IsPossible (named Command commands g.0) (λ f. f g)
+    (of_named P Command commands g.0 (
+      hash_possible g,
+      (
+        mac_possible g,
+        (
+          kdf_possible g,
+          (
+            check_possible g,
+            (part_possible g, (join_possible g, tt)),
+          ),
+        ),
+      ),
+    ))
+    (λ f p. p)
+
+-- so it is of what the code answers
+pub possible_judged : (g : Given) (r : Result Task TaskFault) → Judges task_shown (asked g) r
+    → IfOk r (λ task. IsPossible (task_shown task))
+possible_judged g (Ok task) is =
+    subst (λ (x : Result Asked UsageFault). IfOk x IsPossible) is (possible g)
+possible_judged g (Err fault) is = tt
