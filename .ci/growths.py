@@ -48,7 +48,13 @@ CALLS = [
     ("check, VecSink", REPORT, {IN_CALL: 4, IN_OUTPUT: 4}),
 ]
 # A run of the program over memory, what it prints, and its status.
-WHOLE_RUNS = [("run hash", BLAKE2S, 0), ("run check", REPORT, 1), ("run mac", TAG, 0), ("run kdf", KEY, 0)]
+WHOLE_RUNS = [
+    ("run hash", BLAKE2S, 0),
+    ("run check", REPORT, 1),
+    ("run check, one line", b"abc.txt: OK\n", 0),
+    ("run mac", TAG, 0),
+    ("run kdf", KEY, 0),
+]
 WITHOUT_MEMORY = [
     ("parse_line, skipped", b"skipped\n"),
     ("parse_line, malformed", b"malformed\n"),

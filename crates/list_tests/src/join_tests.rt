@@ -1,9 +1,29 @@
 // Lines of parts that feeds give, and feeds that fail; rows of lines stand in `.ci/parts.py`. The values of parts are those
 // of a second implementation in Python, of the bytes 0, 1, .. 250, 0, ..; the digest of 5,120 of them is an official
 // vector of BLAKE3.
+
+ghost use Rattle.std.specs.Prelude.{◌≡◌, ℕ, List, IfSome};
+ghost use Rattle.b3.specs.inside.Output.{output_root};
+ghost use Rattle.b3.specs.Modes.{hash_root};
+ghost use Rattle.b3.specs.declared.row.PartValue.{PartValue};
+ghost use Rattle.partlist.specs.Joined.{AllTell, AreValuesOf, bytes_of};
+ghost use Rattle.sumlist.specs.Lines.{lines};
+
+use b3::Output;
 use partlist::{JoinFault, Joiner, LineFault};
-use source::Bytes;
+use source::{Bytes, Feed};
 use std::test::Fail;
+
+/// The output of a message, where the lines that a feed gives tell parts that are all of its bytes.
+fn output_of<F: Feed>(feed: &mut F, bytes: u64) -> Option<Output>
+    ensures { IfSome (F.remaining feed.old) (λ text. IfSome result (λ output. (parts : List PartValue)
+        × AllTell (lines text) parts × (bytes_of parts ≡ bytes)
+        × ((m : List ℕ) → AreValuesOf parts m → output_root output ≡ hash_root m))) }
+{
+    let mut joiner = Joiner::new();
+    joiner.add_lines(feed).ok()?;
+    joiner.output(Some(bytes)).ok()
+}
 
 const TWO: &str =
     "sums-part-1 blake3 0 2048 811f7d4f1735258e27c68b9214ff7c4aac866d47f73deef1fd8908b5e38f804f\n";

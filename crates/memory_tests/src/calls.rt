@@ -43,6 +43,7 @@ pub(crate) fn call<W: Sink, E: Sink>(
         "pieces" => write_tags(Way::Pieces, out),
         "run hash" => run_words(alloc, &HASH, b"abc", out, err),
         "run check" => run_words(alloc, &CHECK, LIST, out, err),
+        "run check, one line" => run_words(alloc, &CHECK, LINE, out, err),
         "run mac" => run_words(alloc, &MAC, b"Hi There", out, err),
         "run kdf" => run_words(alloc, &KDF, b"", out, err),
         _ => Err(Lack::Other),
@@ -55,6 +56,9 @@ const ESCAPED: &[u8] =
 
 const UNKNOWN_ESCAPE: &[u8] =
     b"\\ba7816bf8f01cfea414140de5dae2223b00361a396177a9cb410ff61f20015ad  a\\x";
+
+const LINE: &[u8] =
+    b"ba7816bf8f01cfea414140de5dae2223b00361a396177a9cb410ff61f20015ad  abc.txt\n";
 
 // A match, another digest, a missing file, a digit too few, and a comment.
 const LIST: &[u8] = b"\
