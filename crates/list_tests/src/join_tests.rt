@@ -14,6 +14,7 @@ use partlist::{JoinFault, Joiner, LineFault};
 use source::{Bytes, Feed};
 use std::test::Fail;
 
+// The caller of CALLING.md.
 /// The output of a message, where the lines that a feed gives tell parts that are all of its bytes.
 fn output_of<F: Feed>(feed: &mut F, bytes: u64) -> Option<Output>
     ensures { IfSome (F.remaining feed.old) (λ text. IfSome result (λ output. (parts : List PartValue)
@@ -35,6 +36,14 @@ const FIFTH: &str =
     "sums-part-1 blake3 4 1024 624e997225e3343b77bab44ad9279bf92488c8e1b6b4a862fa9e5b28f9cbb75e\n";
 
 const ROOT_5120: &str = "9cadc15fed8b5d854562b26a9536d9707cadeda9b143978f319ab34230535833";
+
+// One part alone has no output.
+#[test]
+fn a_part_alone_is_refused(rt: HostRuntime) -> Result<(), Fail> {
+    let output = output_of(&mut Bytes::new(TWO.as_bytes(), 7), 2048);
+    assert_eq!(rt; output.is_some(), false);
+    Ok(())
+}
 
 // The number is that of the line in its feed. What no line can be is refused before its end, and what came before a
 // fault stays.
