@@ -3,6 +3,7 @@ use Rattle.std.specs.Prelude.{ℕ, ◌+◌, ◌-◌, ◌^◌, ◌==◌, ◌&&◌
 use Rattle.std.specs.Prelude.{Result, Ok, Err, count_ones, is_some, nat_le, nat_lt, if◌then◌else◌}
 use Rattle.source.specs.declared.alg.Alg.{Alg}
 use Rattle.source.specs.declared.alg.Alg.TheVariants as alg
+use Rattle.source.specs.declared.alg.TheConstants.{BLAKE2B_LEN, BLAKE2S_LEN, BLAKE3_LEN}
 use Rattle.sumlist.specs.declared.kind.Kind.{Kind}
 use Rattle.sumlist.specs.declared.kind.Kind.TheVariants as kind
 use Rattle.task.specs.Parameters.{◌>>=◌, ◌>>◌, absent, given, given_bytes, kind_of, needed, number, sized, unset}
@@ -56,17 +57,17 @@ blake2_parameters r most n = do
   Ok (length, salt, personal)
 
 abbrev pub blake2b_digest : Request → Result Requested UsageFault
-blake2b_digest r = blake2_parameters r 64 16 >>= (λ p. Ok (whole (Blake2b p.0 p.1 p.2) r.tag))
+blake2b_digest r = blake2_parameters r BLAKE2B_LEN 16 >>= (λ p. Ok (whole (Blake2b p.0 p.1 p.2) r.tag))
 
 abbrev pub blake2s_digest : Request → Result Requested UsageFault
-blake2s_digest r = blake2_parameters r 32 8 >>= (λ p. Ok (whole (Blake2s p.0 p.1 p.2) r.tag))
+blake2s_digest r = blake2_parameters r BLAKE2S_LEN 8 >>= (λ p. Ok (whole (Blake2s p.0 p.1 p.2) r.tag))
 
--- the label of BLAKE3 stands for the first 32 bytes of its output
+-- the label of BLAKE3 stands for the first bytes of its output, its digest
 abbrev pub tagged_blake3 : Request → Result Requested UsageFault
 tagged_blake3 r = do
   no_salts r
   unset (NotWithTag Raw) r.raw
-  number Length (given r.length) 32 32 32
+  number Length (given r.length) BLAKE3_LEN BLAKE3_LEN BLAKE3_LEN
   number Seek (given r.seek) 0 0 0
   Ok (whole (Plain alg.Blake3) true)
 
@@ -79,7 +80,7 @@ stretch_at is_raw position n =
 -- the bytes that `-l` and `--seek` say
 abbrev pub stretch_of : Request → Bool → Result Stretch UsageFault
 stretch_of r is_raw = do
-  n ← number Length (given r.length) 32 1 (2 ^ 64 - 1)
+  n ← number Length (given r.length) BLAKE3_LEN 1 (2 ^ 64 - 1)
   position ← number Seek (given r.seek) 0 0 (2 ^ 64 - 1)
   stretch_at is_raw position n
 

@@ -3,6 +3,9 @@ use Rattle.std.specs.Prelude.{ℕ, ◌-◌, ◌/◌, ◌^◌, ◌≤◌, ◌==�
 use Rattle.std.specs.Prelude.{if◌then◌else◌}
 use Rattle.std.specs.Str.{bytes_eq}
 use Rattle.request.specs.CommandLine.{Text}
+use Rattle.source.specs.Digest.{IsInRange}
+use Rattle.source.specs.declared.alg.Alg.TheVariants as alg
+use Rattle.source.specs.declared.alg.TheConstants.{BLAKE2B_LEN, BLAKE2S_LEN, BLAKE3_LEN}
 use Rattle.task.specs.Parameters.{◌>>=◌, given, given_bytes, hmac_len, needed, number}
 use Rattle.task.specs.declared.fault.Setting.TheVariants as setting
 use Rattle.task.specs.declared.fault.UsageFault.{UsageFault}
@@ -24,13 +27,13 @@ abbrev pub hmac : Request → HmacHash → Result Mac UsageFault
 hmac r h = tag_len r (hmac_len h / 2) (hmac_len h) >>= (λ n. Ok (Hmac h n))
 
 abbrev pub blake2b : Request → Result Mac UsageFault
-blake2b r = tag_len r 1 64 >>= (λ n. Ok (Blake2b n))
+blake2b r = tag_len r 1 BLAKE2B_LEN >>= (λ n. Ok (Blake2b n))
 
 abbrev pub blake2s : Request → Result Mac UsageFault
-blake2s r = tag_len r 1 32 >>= (λ n. Ok (Blake2s n))
+blake2s r = tag_len r 1 BLAKE2S_LEN >>= (λ n. Ok (Blake2s n))
 
 abbrev pub blake3 : Request → Result Mac UsageFault
-blake3 r = number setting.Length (given r.length) 32 1 (2 ^ 64 - 1) >>= (λ n. Ok (Blake3 n))
+blake3 r = number setting.Length (given r.length) BLAKE3_LEN 1 (2 ^ 64 - 1) >>= (λ n. Ok (Blake3 n))
 
 -- by the function's name
 abbrev pub mac_of : Text → Request → Result Mac UsageFault
@@ -50,8 +53,8 @@ mac r = needed setting.Algorithm (given r.algorithm) >>= (λ name. mac_of name r
 -- the function has tags of this length
 abbrev pub HasTag : Mac → Type 0
 HasTag (Hmac h n) = (hmac_len h / 2 ≤ n) × (n ≤ hmac_len h)
-HasTag (Blake2b n) = (1 ≤ n) × (n ≤ 64)
-HasTag (Blake2s n) = (1 ≤ n) × (n ≤ 32)
+HasTag (Blake2b n) = IsInRange (alg.Blake2b n)
+HasTag (Blake2s n) = IsInRange (alg.Blake2s n)
 HasTag (Blake3 n) = n ≤ 2 ^ 64 - 1
 
 -- how many bytes the tags have

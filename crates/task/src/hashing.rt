@@ -8,7 +8,7 @@ ghost use Rattle.task.specs.Requested.{HasDigest, IsPartSize, IsWithin, names_al
 use crate::fault::{Setting, TaskFault, UsageFault};
 use crate::parameters::{given_bytes, kind_of, needed, number, refused, refused_flag, sized};
 use request::Request;
-use source::Alg;
+use source::{Alg, BLAKE2B_LEN, BLAKE2S_LEN, BLAKE3_LEN};
 use std::alloc::Global;
 use sumlist::Kind;
 
@@ -89,7 +89,7 @@ fn with_blake2b(alloc: Global, request: &Request<'_>) -> Result<Requested, TaskF
     ensures judged { Judges (λ r. r) (spec.blake2b_digest request.now) result }
     ensures range { IfOk result HasDigest }
 {
-    let (length, salt, personal) = blake2_parameters(alloc, request, 64)?;
+    let (length, salt, personal) = blake2_parameters(alloc, request, BLAKE2B_LEN)?;
     Ok(whole(Hash::Blake2b(length, salt, personal), request.tag))
 }
 
@@ -97,7 +97,7 @@ fn with_blake2s(alloc: Global, request: &Request<'_>) -> Result<Requested, TaskF
     ensures judged { Judges (λ r. r) (spec.blake2s_digest request.now) result }
     ensures range { IfOk result HasDigest }
 {
-    let (length, salt, personal) = blake2_parameters(alloc, request, 32)?;
+    let (length, salt, personal) = blake2_parameters(alloc, request, BLAKE2S_LEN)?;
     Ok(whole(Hash::Blake2s(length, salt, personal), request.tag))
 }
 
@@ -136,13 +136,20 @@ fn salts(
     Ok((salt, personal))
 }
 
-// The label of BLAKE3 stands for its first 32 bytes.
+// The label of BLAKE3 stands for the first bytes of its output, its digest.
 fn tagged_blake3(request: &Request<'_>) -> Result<Requested, UsageFault>
     ensures { result ≡ spec.tagged_blake3 request.now }
 {
     unsalted(request)?;
     refused_flag(UsageFault::NotWithTag(Setting::Raw), request.raw)?;
-    number(Setting::Length, request.length, 32, 32, 32)?;
+    let whole_len = BLAKE3_LEN as u64;
+    number(
+        Setting::Length,
+        request.length,
+        whole_len,
+        whole_len,
+        whole_len,
+    )?;
     number(Setting::Seek, request.seek, 0, 0, 0)?;
     Ok(whole(Hash::Plain(Alg::Blake3), true))
 }
@@ -171,7 +178,13 @@ pub(crate) fn stretch_of(request: &Request<'_>, is_raw: bool) -> Result<Stretch,
     ensures form { IfOk result (λ stretch. stretch.is_raw ≡ is_raw) }
     ensures ends { IfOk result IsWithin }
 {
-    let length = number(Setting::Length, request.length, 32, 1, u64::MAX)?;
+    let length = number(
+        Setting::Length,
+        request.length,
+        BLAKE3_LEN as u64,
+        1,
+        u64::MAX,
+    )?;
     let position = number(Setting::Seek, request.seek, 0, 0, u64::MAX)?;
     if position > u64::MAX - length {
         return Err(UsageFault::OutOfRange(Setting::Seek));

@@ -7,6 +7,7 @@ ghost use Rattle.task.specs.Tagging as spec;
 use crate::fault::{Setting, TaskFault, UsageFault};
 use crate::parameters::{HmacHash, given_bytes, needed, number};
 use request::Request;
+use source::{BLAKE2B_LEN, BLAKE2S_LEN, BLAKE3_LEN};
 use std::alloc::Global;
 
 /// A keyed function, and the length in bytes of the tags that are printed.
@@ -42,9 +43,12 @@ impl Mac {
             "hmac-sha512" => hmac(request, HmacHash::Sha512),
             "hmac-blake2b" => hmac(request, HmacHash::Blake2b),
             "hmac-blake2s" => hmac(request, HmacHash::Blake2s),
-            "blake2b" => Ok(Mac::Blake2b(tag_len(request, 64)? as usize)),
-            "blake2s" => Ok(Mac::Blake2s(tag_len(request, 32)? as usize)),
-            "blake3" => Ok(Mac::Blake3(number(Setting::Length, request.length, 32, 1, u64::MAX)?)),
+            "blake2b" => Ok(Mac::Blake2b(tag_len(request, BLAKE2B_LEN as u64)? as usize)),
+            "blake2s" => Ok(Mac::Blake2s(tag_len(request, BLAKE2S_LEN as u64)? as usize)),
+            "blake3" => {
+                let length = request.length;
+                Ok(Mac::Blake3(number(Setting::Length, length, BLAKE3_LEN as u64, 1, u64::MAX)?))
+            }
             _ => Err(UsageFault::OutOfRange(Setting::Algorithm)),
         }
     }
