@@ -57,8 +57,7 @@ const ESCAPED: &[u8] =
 const UNKNOWN_ESCAPE: &[u8] =
     b"\\ba7816bf8f01cfea414140de5dae2223b00361a396177a9cb410ff61f20015ad  a\\x";
 
-const LINE: &[u8] =
-    b"ba7816bf8f01cfea414140de5dae2223b00361a396177a9cb410ff61f20015ad  abc.txt\n";
+const LINE: &[u8] = b"ba7816bf8f01cfea414140de5dae2223b00361a396177a9cb410ff61f20015ad  abc.txt\n";
 
 // A match, another digest, a missing file, a digit too few, and a comment.
 const LIST: &[u8] = b"\
