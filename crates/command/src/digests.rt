@@ -1,6 +1,6 @@
 // The command `hash`: the digest of each file, as a line of a list.
 
-ghost use Rattle.std.specs.Prelude.{◌≡◌, ◌-◌, ◌*◌, ◌^◌, ◌≤◌, ℕ, [], length, vec_len, Some, true, IfOk, IfSome};
+ghost use Rattle.std.specs.Prelude.{◌≡◌, ◌-◌, ◌*◌, ◌^◌, ℕ, [], length, vec_len, Some, true, IfOk, IfSome};
 ghost use Rattle.std.specs.Prelude.{IsErrOf, MatchResult, None, map};
 ghost use Rattle.b3.specs.Modes.{hash_root};
 ghost use Rattle.b3.specs.inside.Output.{output_position, output_root};
@@ -22,7 +22,7 @@ use crate::output::{named, write_line, write_output_beside};
 use crate::session::{Session, Streams, absorb_feed, open_file};
 use b3::{Blake3, Mode, Output};
 use blake2::{Blake2b, Blake2s};
-use source::{Alg, AnyHash, Feed, Sink, digest_of, output_in_parts};
+use source::{Alg, AnyHash, BLAKE3_LEN, Feed, Sink, digest_of, output_in_parts};
 use std::alloc::{AllocError, Global};
 use sumlist::{Entry, TaggedFault, Tree, fits, tagged_fits, write_tagged};
 use task::{Form, Hash, Requested, Stretch};
@@ -120,8 +120,8 @@ impl<'i, 't, 'o, L: Feed, T: Tree, W: Sink> Session<'i, 't, 'o, L, T, W> {
         write_listed(self.alloc, form, tag, name, self.out)
     }
 
-    // The same of BLAKE3's output, whatever its length: a name that fits beside the digest's 64
-    // digits fits.
+    // The same of BLAKE3's output, whatever its length: a name that fits beside the digest's digits
+    // fits.
     fn hash_output<'n>(
         &mut self,
         stretch: Stretch,
@@ -137,7 +137,7 @@ impl<'i, 't, 'o, L: Feed, T: Tree, W: Sink> Session<'i, 't, 'o, L, T, W> {
             (⟦<Self as Streams>⟧.seen self.new) }
         ensures same { SameStreams self.old self.new }
     {
-        named(64, name)?;
+        named(2 * BLAKE3_LEN, name)?;
         let mut output = self.output_of(parts, name)?;
         output.seek(stretch.position);
         Ok(write_output_beside(output, stretch.length, stretch.is_raw, name, self.out)?)
@@ -246,7 +246,7 @@ fn listable<'n>(form: Form, name: &'n str) -> Result<(), Fault<'n>>
         (λ fault. (fault ≡ BadName name.entry) × (IsListable form.is_tagged (alg_of form.hash) name.now → ⊥)) }
 {
     let alg = algorithm(form.hash);
-    if !fits(2 * digest_len(alg), name) || form.is_tagged && !tagged_fits(alg, name) {
+    if !fits(2 * alg.digest_len(), name) || form.is_tagged && !tagged_fits(alg, name) {
         return Err(Fault::BadName(name));
     }
     Ok(())
@@ -285,14 +285,14 @@ fn digest_of_parts<'n, F: Feed>(
     requires { IsPartSize chunks }
     ensures digest { IfSome (F.remaining feed.old) (λ bytes. Reads (2 ^ 64 - 1)
         (λ m tag. tag ≡ digest Alg.Blake3 m) name.entry.now (Some bytes) result) }
-    ensures length { IfOk result (λ tag. length tag ≡ 32) }
+    ensures length { IfOk result (λ tag. length tag ≡ BLAKE3_LEN) }
     ensures counted { F.failure_count feed.new
         ≡ count_after (F.failure_count feed.old) (failed true (Some []) result).input }
     ensures gave { Leaves true result (F.remaining feed.old) (F.remaining feed.new) }
 {
     let mut part = part_buffer(alloc, chunks)?;
     let mut output = output_of_feed(part.as_mut_slice(), name, feed)?;
-    let mut digest = [0; 32];
+    let mut digest = [0; BLAKE3_LEN];
     output.fill(&mut digest).unwrap();
     Ok(Tag::of(&digest).unwrap())
 }
@@ -403,17 +403,5 @@ fn write_listed<'n, W: Sink>(
         Ok(()) => Ok(()),
         Err(TaggedFault::Write) => Err(Fault::CannotWrite),
         Err(TaggedFault::TooLong) => unreachable!(),
-    }
-}
-
-fn digest_len(alg: Alg) -> usize
-    requires { IsInRange alg }
-    ensures value { result ≡ tag_len alg }
-    ensures bound { result ≤ 64 }
-{
-    match alg {
-        Alg::Sha256 | Alg::Blake3 => 32,
-        Alg::Sha512 => 64,
-        Alg::Blake2b(length) | Alg::Blake2s(length) => length,
     }
 }

@@ -3,9 +3,13 @@ use Rattle.std.proofs.Common.{◌≡◌, ℕ, ◌+◌, ◌-◌, ◌≤◌, List,
 use Rattle.std.proofs.KnownBytes.{Consumes-trans}
 use Rattle.std.proofs.Math.Seq.{take-append-add, take-nil}
 use Rattle.std.specs.Io.KnownBytes.{Consumes, IsAtEnd}
-use Rattle.source.specs.Pumped.{front_of}
+use Rattle.std.specs.Option.{option_map}
 use Rattle.source.specs.declared.front.Front.{Front}
 use Rattle.source.specs.inside.Front.{Passes}
+
+-- the first n bytes, where they are told
+abbrev pub front_of : ℕ → Option (List ℕ) → Option (List ℕ)
+front_of n known = option_map (λ xs. take n xs) known
 
 pub front-consumes : (a b : Option (List ℕ)) (bytes : List ℕ) (n k : ℕ) → length bytes ≡ k → k ≤ n
     → Consumes a b bytes → Consumes (front_of n a) (front_of (n - k) b) bytes

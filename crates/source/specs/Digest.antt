@@ -1,21 +1,20 @@
 -- Which hash, and what it gives.
-use Rattle.std.specs.Prelude.{ℕ, ◌-◌, ◌^◌, ◌≤◌, ⊤, List, [], ◌∷◌}
+use Rattle.std.specs.Prelude.{ℕ, ◌-◌, ◌^◌, ◌≤◌, ⊤, List, []}
 use Rattle.b3.specs.Bytes.{slice}
-use Rattle.b3.specs.Modes.{hash_parameters, hash_root}
-use Rattle.blake2.specs.Blake2.{blake2, listed, unsalted}
+use Rattle.b3.specs.Modes.{hash_root}
+use Rattle.blake2.specs.Blake2.{blake2, unsalted}
 use Rattle.sha2.specs.Sha256.{sha256}
 use Rattle.sha2.specs.Sha512.{sha512}
 use Rattle.words.specs.Blake2.{blake2b, blake2s}
 use Rattle.source.specs.declared.alg.Alg.{Alg}
 use Rattle.source.specs.declared.alg.Alg.TheVariants.{Sha256, Sha512, Blake2b, Blake2s, Blake3}
+use Rattle.source.specs.declared.alg.TheConstants.{BLAKE2B_LEN, BLAKE2S_LEN, BLAKE3_LEN}
 
 -- whether there is a digest of so many bytes (RFC 7693, 2.1)
 abbrev pub IsInRange : Alg → Type 0
-IsInRange Sha256 = ⊤
-IsInRange Sha512 = ⊤
-IsInRange (Blake2b n) = (1 ≤ n) × (n ≤ 64)
-IsInRange (Blake2s n) = (1 ≤ n) × (n ≤ 32)
-IsInRange Blake3 = ⊤
+IsInRange (Blake2b n) = (1 ≤ n) × (n ≤ BLAKE2B_LEN)
+IsInRange (Blake2s n) = (1 ≤ n) × (n ≤ BLAKE2S_LEN)
+IsInRange _ = ⊤
 
 -- the length of the digest in bytes
 abbrev pub tag_len : Alg → ℕ
@@ -23,7 +22,15 @@ tag_len Sha256 = 32
 tag_len Sha512 = 64
 tag_len (Blake2b n) = n
 tag_len (Blake2s n) = n
-tag_len Blake3 = 32
+tag_len Blake3 = BLAKE3_LEN
+
+-- the length of a block in bytes (FIPS 180-4, 1; RFC 7693, 2.1; the BLAKE3 paper, 2.1)
+abbrev pub block_len : Alg → ℕ
+block_len Sha256 = 64
+block_len Sha512 = 128
+block_len (Blake2b n) = 128
+block_len (Blake2s n) = 64
+block_len Blake3 = 64
 
 -- the greatest length of the input in bytes (FIPS 180-4, 1; RFC 7693, 2.1; the BLAKE3 paper, 2.1)
 abbrev pub input_limit : Alg → ℕ
@@ -39,12 +46,4 @@ digest Sha256 m = sha256 m
 digest Sha512 m = sha512 m
 digest (Blake2b n) m = blake2 blake2b (unsalted blake2b n []) m
 digest (Blake2s n) m = blake2 blake2s (unsalted blake2s n []) m
-digest Blake3 m = slice (hash_root m) 0 32
-
--- a hash as the parameters of its hasher: a number for the function, and then what that takes
-abbrev pub parameters_of : Alg → List ℕ
-parameters_of Sha256 = 0 ∷ []
-parameters_of Sha512 = 1 ∷ []
-parameters_of (Blake2b n) = 2 ∷ listed (unsalted blake2b n [])
-parameters_of (Blake2s n) = 3 ∷ listed (unsalted blake2s n [])
-parameters_of Blake3 = 4 ∷ hash_parameters
+digest Blake3 m = slice (hash_root m) 0 BLAKE3_LEN

@@ -3,6 +3,5 @@ pub mod Read
 pub mod Written
 pub mod Pumped
 pub mod Faults
-pub mod Places
 pub mod Digest
 pub mod inside

@@ -18,10 +18,6 @@ IsLongerThan (Some xs) n = n < length xs
 abbrev pub joined : List (Bor (List ℕ)) → List ℕ
 joined pieces = flat_map (λ piece. piece.now) pieces
 
--- the first n bytes, where they are told
-abbrev pub front_of : ℕ → Option (List ℕ) → Option (List ℕ)
-front_of n known = option_map (λ xs. take n xs) known
-
 -- some of the bytes to come were given
 abbrev pub Gives : Option (List ℕ) → Option (List ℕ) → Type 0
 Gives old new = (given : List ℕ) × Consumes old new given
@@ -29,7 +25,7 @@ Gives old new = (given : List ℕ) × Consumes old new given
 -- the first n bytes, where there is such a number, or else all
 abbrev pub up_to : Option ℕ → Option (List ℕ) → Option (List ℕ)
 up_to None known = known
-up_to (Some n) known = front_of n known
+up_to (Some n) known = option_map (λ xs. take n xs) known
 
 -- all behind these bytes is still to come
 abbrev pub LeavesBehind : Option ℕ → Option (List ℕ) → Option (List ℕ) → Type 0

@@ -1,4 +1,18 @@
-// Which hash.
+// Which hash, and its numbers.
+
+ghost use Rattle.std.specs.Prelude.{◌≡◌, ◌≤◌, ◌↔◌, IsTrue};
+ghost use Rattle.source.specs.Digest.{IsInRange, tag_len};
+
+use mac::{BlockHash, Sha256Stream, Sha512Stream, hash_laws};
+
+/// The length in bytes of the longest digests of BLAKE2b (RFC 7693, section 2.1).
+pub const BLAKE2B_LEN: usize = 64;
+
+/// The length in bytes of the longest digests of BLAKE2s (RFC 7693, section 2.1).
+pub const BLAKE2S_LEN: usize = 32;
+
+/// The length in bytes of BLAKE3's digests, where no other is asked for (the BLAKE3 paper, section 2.6).
+pub const BLAKE3_LEN: usize = 32;
 
 /// A hash with its parameters, without a key.
 #[derive(Clone, Copy, Debug, PartialEq, Eq)]
@@ -13,4 +27,31 @@ pub enum Alg {
     Blake2s(usize),
     /// BLAKE3 with digests of 32 bytes.
     Blake3,
+}
+
+impl Alg {
+    /// The length of its digests in bytes. None is longer than a `Tag`.
+    pub fn digest_len(self) -> usize
+        ensures value { result ≡ tag_len self }
+        ensures bound { IsInRange self → result ≤ 64 }
+    {
+        hash_laws();
+        match self {
+            Alg::Sha256 => Sha256Stream::OUT,
+            Alg::Sha512 => Sha512Stream::OUT,
+            Alg::Blake2b(length) | Alg::Blake2s(length) => length,
+            Alg::Blake3 => BLAKE3_LEN,
+        }
+    }
+
+    /// Whether it has digests of its length: `Blake2b` has 1 to 64 bytes, and `Blake2s` 1 to 32.
+    pub fn is_in_range(self) -> bool
+        ensures { IsTrue result ↔ IsInRange self }
+    {
+        match self {
+            Alg::Sha256 | Alg::Sha512 | Alg::Blake3 => true,
+            Alg::Blake2b(length) => 1 <= length && length <= BLAKE2B_LEN,
+            Alg::Blake2s(length) => 1 <= length && length <= BLAKE2S_LEN,
+        }
+    }
 }

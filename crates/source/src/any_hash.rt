@@ -3,9 +3,10 @@
 ghost use Rattle.std.specs.Prelude.{◌≡◌, ◌+◌, ℕ, List, [], length, MatchResult, IfOk};
 ghost use Rattle.b3.specs.Bytes.{slice};
 ghost use Rattle.b3.specs.Modes.{root_of};
-ghost use Rattle.source.specs.Digest.{IsInRange, digest, input_limit, parameters_of, tag_len};
+ghost use Rattle.source.specs.Digest.{IsInRange, digest, input_limit, tag_len};
+ghost use Rattle.source.specs.inside.AnyHash.{parameters_of};
 
-use crate::Alg;
+use crate::{Alg, BLAKE3_LEN};
 use b3::Blake3;
 use blake2::{Blake2b, Blake2s, ParameterFault};
 use mac::{BlockHash, Sha256Stream, Sha512Stream};
@@ -64,13 +65,13 @@ impl AnyHash {
     }
 }
 
-// The first 32 bytes of the output, which are BLAKE3's digest where no other length is asked for.
+// The first bytes of the output, which are BLAKE3's digest where no other length is asked for.
 fn first_bytes(hasher: &Blake3) -> Tag
     ensures digest { (m : List ℕ) → ⟦<Blake3 as Absorb>⟧.holds hasher.now m
-        → result ≡ slice (root_of (⟦<Blake3 as Absorb>⟧.parameters hasher.now) m) 0 32 }
-    ensures length { length result ≡ 32 }
+        → result ≡ slice (root_of (⟦<Blake3 as Absorb>⟧.parameters hasher.now) m) 0 BLAKE3_LEN }
+    ensures length { length result ≡ BLAKE3_LEN }
 {
-    let mut bytes = [0; 32];
+    let mut bytes = [0; BLAKE3_LEN];
     hasher.output().fill(&mut bytes).unwrap();
     Tag::of(&bytes).unwrap()
 }

@@ -3,9 +3,10 @@
 ghost use Rattle.std.specs.Prelude.{◌≡◌, ◌<◌, ◌≤◌, ◌++◌, ◌↔◌, ℕ, List, length, IfOk, IfSome, IsErr, IsErrOf, IsOk};
 ghost use Rattle.std.specs.Prelude.{IsOkUnless, OnOk};
 ghost use Rattle.std.specs.Io.KnownBytes.{IsAtEnd};
-ghost use Rattle.source.specs.Digest.{digest, parameters_of, tag_len};
+ghost use Rattle.source.specs.Digest.{digest, tag_len};
 ghost use Rattle.source.specs.Faults.{PumpCounts};
 ghost use Rattle.source.specs.Pumped.{Appended, Gives, IsLongerThan, joined};
+ghost use Rattle.source.specs.inside.AnyHash.{parameters_of};
 
 use crate::{Alg, AnyHash, Feed, SourceFault, pump};
 use words::{Absorb, InputTooLong, Tag};

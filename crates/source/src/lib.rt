@@ -11,7 +11,7 @@
 //! ```
 #![tactic(auto)]
 
-pub use alg::Alg;
+pub use alg::{Alg, BLAKE2B_LEN, BLAKE2S_LEN, BLAKE3_LEN};
 pub use any_hash::AnyHash;
 pub use bytes::Bytes;
 pub use device::{Device, device_feed_laws, device_sink_laws};

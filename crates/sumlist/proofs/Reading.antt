@@ -1,8 +1,8 @@
 -- A text is read from its left: what the reading finds is the form that the text has, and it finds each.
-use Rattle.sumlist.proofs.Common.{◌*◌, ◌++◌, ◌+◌, ◌-◌, ◌<◌, ◌∙◌, ◌∷◌, ◌≡◌, ◌≤◌, Alg, Bool, Decides, Ended, HasForm}
-use Rattle.sumlist.proofs.Common.{IsCut, IsInRange, IsLabel, IsMark, Kind, List, None, Ok, Option, Some, [], alg_of, ap}
+use Rattle.sumlist.proofs.Common.{◌⊎◌, ◌*◌, ◌++◌, ◌+◌, ◌-◌, ◌<◌, ◌∙◌, ◌∷◌, ◌≡◌, ◌≤◌, Alg, Bool, Decides, Ended, HasForm}
+use Rattle.sumlist.proofs.Common.{IsCut, IsInRange, IsLabel, IsMark, Kind, List, None, Ok, Option, Some, [], ap}
 use Rattle.sumlist.proofs.Common.{arith, bytes_eq, bytes_eq-Decides, cases_eq, closing, codes, cond, decimal, decode_of}
-use Rattle.sumlist.proofs.Common.{drop, eqb, false, false≢true, inl, inr, length, length-append, nat_tests, refl, subst}
+use Rattle.sumlist.proofs.Common.{drop, eqb, eqb-true, false, false≢true, inl, inr, length, length-append, nat_tests, refl, subst}
 use Rattle.sumlist.proofs.Common.{sym, tag_len, take, take-append-drop, take-append_seam, text, true, ℕ}
 use Rattle.std.proofs.Common.{◌==◌, ap₂, suc, zero}
 use Rattle.std.proofs.Math.Seq.{drop-append-add}
@@ -11,12 +11,14 @@ use Rattle.std.proofs.lemmas.Bool.Decides.{Decides-eqb, Decides-or}
 use Rattle.std.proofs.lemmas.Fmt.{decimal_injective}
 use Rattle.std.proofs.lemmas.List.Elements.{All-head, All-tail}
 use Rattle.std.proofs.lemmas.Option.{none-some, option_and_then_some, same_Some}
-use Rattle.std.specs.Option.{option_and_then}
+use Rattle.std.specs.Option.{option_and_then, option_or}
 use Rattle.source.specs.declared.alg.Alg.TheVariants.{Blake2b, Blake2s, Blake3, Sha256, Sha512}
+use Rattle.source.specs.declared.alg.TheConstants.{BLAKE2B_LEN, BLAKE2S_LEN}
+use Rattle.sumlist.specs.Kinds.{kind_of}
 use Rattle.sumlist.specs.Lines.{HasNo}
-use Rattle.sumlist.specs.inside.Labels.{NotEnded, NotNamed}
-use Rattle.sumlist.specs.inside.Reading.{Form, alg_labelled, alg_told, bytes_told, cut, end_at, end_cut, form_at}
-use Rattle.sumlist.specs.inside.Reading.{form_of, is_mark, with_tag}
+use Rattle.sumlist.specs.inside.Labels.{NotEnded, NotNamed, NotNumbered, alg_of}
+use Rattle.sumlist.specs.inside.Reading.{Form, alg_labelled, alg_told, alg_whole, bytes_told, cut}
+use Rattle.sumlist.specs.inside.Reading.{end_at, end_cut, form_at, form_of, is_mark, with_tag}
 use Rattle.sumlist.proofs.Words.{IsWord, digits_word, label_word, no_space}
 
 -- what is told by a test
@@ -50,6 +52,15 @@ cut-some : (text : List ℕ) (p : List ℕ × List ℕ) → cut text ≡ Some p 
 cut-some [] p e = grind arith
 cut-some (c ∷ text) p e = grind (arith, nat_tests, cut-some text)
 
+-- ---- the number of digits
+
+alg_of-some : (kind : Kind) (n : ℕ) (a : Alg) → alg_of kind n ≡ Some a
+    → (kind_of a ≡ kind) × IsInRange a × (n ≡ 2 * tag_len a)
+alg_of-some kind n a e = grind (arith, nat_tests)
+
+alg_of-is : (kind : Kind) (n : ℕ) (a : Alg) → kind_of a ≡ kind → IsInRange a → n ≡ 2 * tag_len a → alg_of kind n ≡ Some a
+alg_of-is kind n a k r e = rw (sym k, e) (grind (arith, nat_tests))
+
 -- ---- the label
 
 bytes_told-some : (digits : List ℕ) (most n : ℕ) → bytes_told digits most ≡ Some n
@@ -77,22 +88,34 @@ bytes_told-is (suc k) n some fits small =
 abbrev Named : List ℕ → Alg → Type 0
 Named label alg = IsInRange alg × IsLabel label alg
 
-pub alg_labelled-some : (l : List ℕ) (a : Alg) → alg_labelled l ≡ Some a → Named l a
-alg_labelled-some l a e =
-    by_text l (codes "SHA256") _ _ _ (λ s. one Sha256 (tt, s))
-    (by_text l (codes "SHA512") _ _ _ (λ s. one Sha512 (tt, s))
-    (by_text l (codes "BLAKE2b") _ _ _ (λ s. one (Blake2b 64) ((omega arith, omega arith), inl (refl, s)))
-    (by_text l (codes "BLAKE2s") _ _ _ (λ s. one (Blake2s 32) ((omega arith, omega arith), inl (refl, s)))
-    (by_text l (codes "BLAKE3") _ _ _ (λ s. one Blake3 (tt, s))
-    (by_text (take 8 l) (codes "BLAKE2b-") _ _ _ (λ s. number Blake2b 64 (λ n h r.
-    ((h, r.0), inr (behind (codes "BLAKE2b-") s r.1))))
-    (by_text (take 8 l) (codes "BLAKE2s-") _ _ _ (λ s. number Blake2s 32 (λ n h r.
-    ((h, r.0), inr (behind (codes "BLAKE2s-") s r.1))))
-    (λ is. absurd (none-some a is)))))))) e
-  where
-    one : (b : Alg) → Named l b → Some b ≡ Some a → Named l a
-    one b n is = subst (Named l) (same_Some b a is) n
+one_named : (l : List ℕ) (a b : Alg) → Named l b → Some b ≡ Some a → Named l a
+one_named l a b n is = subst (Named l) (same_Some b a is) n
 
+-- by its label without a number
+pub alg_whole-some : (l : List ℕ) (a : Alg) → alg_whole l ≡ Some a → Named l a
+alg_whole-some l a e =
+    by_text l (codes "SHA256") _ _ _ (λ s. one_named l a Sha256 (tt, s))
+    (by_text l (codes "SHA512") _ _ _ (λ s. one_named l a Sha512 (tt, s))
+    (by_text l (codes "BLAKE2b") _ _ _ (λ s. one_named l a (Blake2b BLAKE2B_LEN) ((omega arith, omega arith), inl s))
+    (by_text l (codes "BLAKE2s") _ _ _ (λ s. one_named l a (Blake2s BLAKE2S_LEN) ((omega arith, omega arith), inl s))
+    (by_text l (codes "BLAKE3") _ _ _ (λ s. one_named l a Blake3 (tt, s))
+    (λ is. absurd (none-some a is)))))) e
+
+either_told : (o p : Option Alg) (a : Alg) → option_or o p ≡ Some a → (o ≡ Some a) ⊎ (p ≡ Some a)
+either_told None p a e = inr e
+either_told (Some b) p a e = inl e
+
+pub alg_labelled-some : (l : List ℕ) (a : Alg) → alg_labelled l ≡ Some a → Named l a
+alg_labelled-some l a e = elim (either_told (alg_whole l) _ a e) [
+  | inl whole ↦ alg_whole-some l a whole
+  | inr rest ↦
+      by_text (take 8 l) (codes "BLAKE2b-") _ _ _ (λ s. number Blake2b BLAKE2B_LEN (λ n h r.
+      ((h, r.0), inr (behind (codes "BLAKE2b-") s r.1))))
+      (by_text (take 8 l) (codes "BLAKE2s-") _ _ _ (λ s. number Blake2s BLAKE2S_LEN (λ n h r.
+      ((h, r.0), inr (behind (codes "BLAKE2s-") s r.1))))
+      (λ is. absurd (none-some a is))) rest
+]
+  where
     behind : {digits : List ℕ} (front : List ℕ) → take 8 l ≡ front → drop 8 l ≡ digits → l ≡ front ++ digits
     behind front s t = sym (take-append-drop 8 l) ∙ ap₂ (λ (x y : List ℕ). x ++ y) s t
 
@@ -100,18 +123,54 @@ alg_labelled-some l a e =
         → ((n : ℕ) → 0 < n → (n ≤ most) × (drop 8 l ≡ decimal (8 * n)) → Named l (of n))
         → alg_told of (drop 8 l) most ≡ Some a → Named l a
     number of most named is = option_and_then_some _ (bytes_told (drop 8 l) most) a is (λ n told same.
-        let t = bytes_told-some (drop 8 l) most n told in one (of n) (named n t.0 (t.1, t.2)) same)
+        let t = bytes_told-some (drop 8 l) most n told in one_named l a (of n) (named n t.0 (t.1, t.2)) same)
+
+-- BLAKE2's label with a number, and where that is left out at the length `most`
+numbered_2b : (n : ℕ) → IsInRange (Blake2b n) → alg_labelled (codes "BLAKE2b-" ++ decimal (8 * n)) ≡ Some (Blake2b n)
+numbered_2b n r =
+    ap (option_and_then (λ (k : ℕ). Some (Blake2b k))) (bytes_told-is BLAKE2B_LEN n r.0 r.1 (omega arith))
+
+numbered_2s : (n : ℕ) → IsInRange (Blake2s n) → alg_labelled (codes "BLAKE2s-" ++ decimal (8 * n)) ≡ Some (Blake2s n)
+numbered_2s n r =
+    ap (option_and_then (λ (k : ℕ). Some (Blake2s k))) (bytes_told-is BLAKE2S_LEN n r.0 r.1 (omega arith))
+
+written_is : (of : ℕ → Alg) (most n : ℕ) (l whole long : List ℕ) (b : Bool) → (n == most) ≡ b → l ≡ cond b whole long
+    → alg_labelled whole ≡ Some (of most) → alg_labelled long ≡ Some (of n) → alg_labelled l ≡ Some (of n)
+written_is of most n l whole long true same e w h =
+    ap alg_labelled e ∙ w ∙ ap (λ k. Some (of k)) (sym (eqb-true n most same))
+written_is of most n l whole long false other e w h = ap alg_labelled e ∙ h
 
 pub alg_labelled-is : (l : List ℕ) (a : Alg) → IsInRange a → IsLabel l a → alg_labelled l ≡ Some a
 alg_labelled-is l Sha256 r e = ap alg_labelled e
 alg_labelled-is l Sha512 r e = ap alg_labelled e
-alg_labelled-is l (Blake2b n) r (inl e) = ap alg_labelled e.1 ∙ ap (λ k. Some (Blake2b k)) (sym e.0)
-alg_labelled-is l (Blake2b n) r (inr e) = ap alg_labelled e
-    ∙ ap (option_and_then (λ (k : ℕ). Some (Blake2b k))) (bytes_told-is 64 n r.0 r.1 (omega arith))
-alg_labelled-is l (Blake2s n) r (inl e) = ap alg_labelled e.1 ∙ ap (λ k. Some (Blake2s k)) (sym e.0)
-alg_labelled-is l (Blake2s n) r (inr e) = ap alg_labelled e
-    ∙ ap (option_and_then (λ (k : ℕ). Some (Blake2s k))) (bytes_told-is 32 n r.0 r.1 (omega arith))
+alg_labelled-is l (Blake2b n) r (inl e) =
+    written_is Blake2b BLAKE2B_LEN n l (codes "BLAKE2b") _ (n == BLAKE2B_LEN) refl e refl (numbered_2b n r)
+alg_labelled-is l (Blake2b n) r (inr e) = ap alg_labelled e ∙ numbered_2b n r
+alg_labelled-is l (Blake2s n) r (inl e) =
+    written_is Blake2s BLAKE2S_LEN n l (codes "BLAKE2s") _ (n == BLAKE2S_LEN) refl e refl (numbered_2s n r)
+alg_labelled-is l (Blake2s n) r (inr e) = ap alg_labelled e ∙ numbered_2s n r
 alg_labelled-is l Blake3 r e = ap alg_labelled e
+
+-- a label that is none of those without a number, and has none of the numbers, names nothing
+unlisted : (l m : List ℕ) (a : Alg) → alg_whole l ≡ None → l ≡ m → alg_whole m ≡ Some a → ⊥
+unlisted l m a none e some = none-some a (sym none ∙ ap alg_whole e ∙ some)
+
+unwritten : (of : ℕ → Alg) (most n : ℕ) (l whole long : List ℕ) (b : Bool) → alg_whole l ≡ None
+    → (l ≡ long → ⊥) → alg_whole whole ≡ Some (of most) → l ≡ cond b whole long → ⊥
+unwritten of most n l whole long true none other is e = unlisted l whole (of most) none e is
+unwritten of most n l whole long false none other is e = other e
+
+pub not_named : (l : List ℕ) → alg_whole l ≡ None → NotNumbered l (codes "BLAKE2b-") BLAKE2B_LEN
+    → NotNumbered l (codes "BLAKE2s-") BLAKE2S_LEN → NotNamed l
+not_named l none b s Sha256 r e = unlisted l (codes "SHA256") Sha256 none e refl
+not_named l none b s Sha512 r e = unlisted l (codes "SHA512") Sha512 none e refl
+not_named l none b s (Blake2b n) r (inl e) = unwritten Blake2b BLAKE2B_LEN n l (codes "BLAKE2b") _ (n == BLAKE2B_LEN) none
+    (b n (omega (arith, r.0)) r.1) refl e
+not_named l none b s (Blake2b n) r (inr e) = b n (omega (arith, r.0)) r.1 e
+not_named l none b s (Blake2s n) r (inl e) = unwritten Blake2s BLAKE2S_LEN n l (codes "BLAKE2s") _ (n == BLAKE2S_LEN) none
+    (s n (omega (arith, r.0)) r.1) refl e
+not_named l none b s (Blake2s n) r (inr e) = s n (omega (arith, r.0)) r.1 e
+not_named l none b s Blake3 r e = unlisted l (codes "BLAKE3") Blake3 none e refl
 
 pub alg_labelled-none : (l : List ℕ) → NotNamed l → alg_labelled l ≡ None
 alg_labelled-none l none =
@@ -156,12 +215,15 @@ module _ (kind : Kind) where
       by_test (is_mark mark) (mark-Decides mark) _ _ _ (λ marked is.
       option_and_then_some _ (alg_of kind (length word)) f is (λ a named told.
       let t = with_tag-some a word rest f told in
+      let n = alg_of-some kind (length word) a named in
       inl record {
         digits = word;
         mark = mark;
         whole = ap (λ l. word ++ 32 ∷ mark ∷ l) t.2;
         marked = marked;
-        alg_is = named ∙ ap Some t.1;
+        kind_is = ap kind_of (sym t.1) ∙ n.0;
+        range = subst IsInRange t.1 n.1;
+        sized = n.2 ∙ ap (λ b. 2 * tag_len b) t.1;
         tag_is = t.0;
       }))
       (λ unmarked. by_test (mark == 40) (Decides-eqb mark 40) _ _ _ (λ bracket is.
@@ -197,7 +259,7 @@ module _ (kind : Kind) where
       → form_of kind text ≡ Some (a, t, x)
   form_of-is text a t x (inl p) =
       form_of-cut (word_cut p.digits (p.mark ∷ x) (digits_word p.digits t p.tag_is) p.whole)
-      ∙ rw ((mark-Decides p.mark).1 p.marked, p.alg_is, p.tag_is) refl
+      ∙ rw ((mark-Decides p.mark).1 p.marked, alg_of-is kind (length p.digits) a p.kind_is p.range p.sized, p.tag_is) refl
   form_of-is text a t x (inr q) =
       form_of-cut (word_cut q.label (40 ∷ (x ++ closing q.digits)) (label_word q.label a q.range q.names) q.whole)
       ∙ rw (alg_labelled-is q.label a q.range q.names, end_cut-is _ _ x q.digits (refl, q.sized), q.tag_is) refl

@@ -1,9 +1,9 @@
 -- A line that is written of an entry spells it: its core is the whole line, since no CR and no LF is in it.
 use Rattle.sumlist.proofs.Common.{◌≡◌, inl, inr, ◌*◌, ◌≤◌, Bool, true, false, ◌||◌, List, [], ◌∷◌, ◌++◌, length, refl}
-use Rattle.sumlist.proofs.Common.{ap, length-append, if◌then◌else◌, ◌∙◌, Some, eqb, arith, All-weaker, false≢true}
+use Rattle.sumlist.proofs.Common.{ap, length-append, if◌then◌else◌, ◌∙◌, eqb, arith, All-weaker, false≢true}
 use Rattle.sumlist.proofs.Common.{nat_tests, decode_of-encode_lower, length-encode_with, encode_lower, lower_digits}
-use Rattle.sumlist.proofs.Common.{tag_len, IsInRange, Alg, Kind, Listing, IsEntry, escaped, escape_of, needs_escape}
-use Rattle.sumlist.proofs.Common.{SpellsName, alg_of, HasForm, Stated, core, IsBlank, Spells, IsLabel, label_of}
+use Rattle.sumlist.proofs.Common.{Alg, Kind, Listing, IsEntry, escaped, escape_of, needs_escape}
+use Rattle.sumlist.proofs.Common.{SpellsName, HasForm, Stated, core, IsBlank, Spells, IsLabel, label_of}
 use Rattle.sumlist.proofs.Common.{closing, tagged_len, ℕ}
 use Rattle.std.specs.Prelude.{not}
 use Rattle.std.specs.List.{list_all}
@@ -77,9 +77,6 @@ module _ (e : Listing) (kind : Kind) (word : List ℕ) (more : List ℕ → List
 
 -- ---- the plain line
 
-alg_named : (a : Alg) → IsInRange a → alg_of (kind_of a) (2 * tag_len a) ≡ Some a
-alg_named a r = grind (arith, nat_tests)
-
 pub written_spells : (e : Listing) → IsEntry e → Spells (written_line e) (kind_of e.alg) e
 written_spells e i =
     let digits = encode_lower e.tag in
@@ -91,7 +88,9 @@ written_spells e i =
       mark = 32;
       whole = refl;
       marked = inl refl;
-      alg_is = rw (size, i.sized) (alg_named e.alg i.range);
+      kind_is = refl;
+      range = i.range;
+      sized = size ∙ ap (λ n. 2 * n) i.sized;
       tag_is = value;
     })) (needs_escape e.name) refl i word (simp (list_all-append, word_inner digits word, escaped_inner e.name))
     (omega (arith, length-append {A = ℕ}, size, i.fits.within))

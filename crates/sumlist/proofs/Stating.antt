@@ -1,6 +1,6 @@
 -- A core states the entry that its reading finds, and nothing else, and the entry's tag fits its algorithm.
-use Rattle.sumlist.proofs.Common.{◌*◌, ◌++◌, ◌∙◌, ◌∷◌, ◌≡◌, ◌≤◌, Alg, Bool, HasForm, IsBytes, IsInRange, Kind, List}
-use Rattle.sumlist.proofs.Common.{Listing, Some, Stated, [], alg_of, ap, arith, closing, cond, core, decode_of-ok}
+use Rattle.sumlist.proofs.Common.{◌++◌, ◌∙◌, ◌∷◌, ◌≡◌, ◌≤◌, Alg, Bool, HasForm, IsBytes, IsInRange, Kind, List}
+use Rattle.sumlist.proofs.Common.{Listing, Some, Stated, [], ap, arith, closing, cond, core, decode_of-ok}
 use Rattle.sumlist.proofs.Common.{eqb-true, false, inl, inr, length, length-append, name_of, nat_tests, refl, subst}
 use Rattle.sumlist.proofs.Common.{sym, tag_len, text, true, ℕ}
 use Rattle.std.proofs.Common.{◌==◌}
@@ -13,18 +13,10 @@ use Rattle.sumlist.proofs.Words.{InWord, IsWord, digits_word, label_word}
 
 -- ---- the tag
 
-abbrev HasDigits : Alg → ℕ → Type 0
-HasDigits a n = IsInRange a × (n ≡ 2 * tag_len a)
-
-alg_fits : (kind : Kind) (n : ℕ) (a : Alg) → alg_of kind n ≡ Some a → HasDigits a n
-alg_fits kind n a e = grind (arith, nat_tests)
-
 form_fit : (text : List ℕ) (kind : Kind) (a : Alg) (t x : List ℕ) → HasForm text kind a t x
     → IsInRange a × (length t ≡ tag_len a) × IsBytes t
 form_fit text kind a t x (inl p) =
-    let f = alg_fits kind (length p.digits) a p.alg_is in
-    let d = decode_of-ok p.digits t p.tag_is in
-    (f.0, omega (arith, f.1, d.2), d.3)
+    let d = decode_of-ok p.digits t p.tag_is in (p.range, omega (arith, p.sized, d.2), d.3)
 form_fit text kind a t x (inr p) =
     let d = decode_of-ok p.digits t p.tag_is in (p.range, omega (arith, p.sized, d.2), d.3)
 

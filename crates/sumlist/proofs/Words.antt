@@ -1,6 +1,7 @@
 -- What stands before the first space of a core is a word, digits or a label: a word has no byte that a line
 -- treats otherwise.
 use Rattle.sumlist.proofs.Common.{◌%◌, ◌&&◌, ◌*◌, ◌++◌, ◌+◌, ◌<◌, ◌^◌, ◌∷◌, ◌≡◌, ◌≢◌, ◌≤◌, Alg, All, All-append}
+use Rattle.sumlist.proofs.Common.{Bool, cond}
 use Rattle.sumlist.proofs.Common.{All-cons, All-nil, All-weaker, AllPass, IsInRange, IsLabel, List, Ok, [], arith}
 use Rattle.sumlist.proofs.Common.{codes, decimal, decode_of, decode_of-ok, eqb, false, inl, inr, leb, nat_tests, refl}
 use Rattle.sumlist.proofs.Common.{rules, slice_index, subst, sym, text, true, ℕ}
@@ -9,6 +10,7 @@ use Rattle.std.proofs.lemmas.List.Elements.{All-head}
 use Rattle.std.specs.Prelude.{not}
 use Rattle.hex.specs.Hex.{is_hex_digit}
 use Rattle.source.specs.declared.alg.Alg.TheVariants.{Blake2b, Blake2s, Blake3, Sha256, Sha512}
+use Rattle.source.specs.declared.alg.TheConstants.{BLAKE2B_LEN, BLAKE2S_LEN}
 use Rattle.sumlist.specs.Lines.{HasNo}
 
 -- above a space, `#` and `*`, and no backslash
@@ -37,12 +39,19 @@ numbered front l n fits h e =
     let number = decimal_word (8 * n) (omega (arith, fits)) in
     subst IsWord (sym e) (All-append InWord front (decimal (8 * n)) (literal front front h refl) number)
 
+-- one of two words
+either_word : (b : Bool) (l x y : List ℕ) → IsWord x → IsWord y → l ≡ cond b x y → IsWord l
+either_word true l x y p q e = subst IsWord (sym e) p
+either_word false l x y p q e = subst IsWord (sym e) q
+
 pub label_word : (l : List ℕ) (a : Alg) → IsInRange a → IsLabel l a → IsWord l
 label_word l Sha256 r e = literal (codes "SHA256") l (search rules) e
 label_word l Sha512 r e = literal (codes "SHA512") l (search rules) e
-label_word l (Blake2b n) r (inl e) = literal (codes "BLAKE2b") l (search rules) e.1
+label_word l (Blake2b n) r (inl e) = either_word (eqb n BLAKE2B_LEN) l _ _ (literal (codes "BLAKE2b") _ (search rules) refl)
+    (numbered (codes "BLAKE2b-") _ n r.1 (search rules) refl) e
 label_word l (Blake2b n) r (inr e) = numbered (codes "BLAKE2b-") l n r.1 (search rules) e
-label_word l (Blake2s n) r (inl e) = literal (codes "BLAKE2s") l (search rules) e.1
+label_word l (Blake2s n) r (inl e) = either_word (eqb n BLAKE2S_LEN) l _ _ (literal (codes "BLAKE2s") _ (search rules) refl)
+    (numbered (codes "BLAKE2s-") _ n (omega (arith, r.1)) (search rules) refl) e
 label_word l (Blake2s n) r (inr e) = numbered (codes "BLAKE2s-") l n (omega (arith, r.1)) (search rules) e
 label_word l Blake3 r e = literal (codes "BLAKE3") l (search rules) e
 

@@ -1,18 +1,20 @@
 -- What a line of a list means.
-use Rattle.std.specs.Prelude.{◌⊎◌, ◌≡◌, ℕ, ◌-◌, ◌≤◌, List, [], ◌∷◌, ◌++◌, length, take, slice_index, if◌then◌else◌}
-use Rattle.std.specs.Prelude.{◌==◌, Some, Ok, Contains}
+use Rattle.std.specs.Prelude.{◌⊎◌, ◌≡◌, ℕ, ◌*◌, ◌-◌, ◌≤◌, List, [], ◌∷◌, ◌++◌, length, take, slice_index}
+use Rattle.std.specs.Prelude.{if◌then◌else◌, ◌==◌, Ok, Contains}
 use Rattle.hex.specs.Hex.{decode_of}
 use Rattle.source.specs.declared.alg.Alg.{Alg}
+use Rattle.source.specs.Digest.{tag_len, IsInRange}
+use Rattle.sumlist.specs.declared.fitting.TheConstants.{LINE_LEN}
 use Rattle.sumlist.specs.declared.kind.Kind.{Kind}
 use Rattle.sumlist.specs.Entry.{Listing, IsEntry}
 use Rattle.sumlist.specs.Escape.{SpellsName}
-use Rattle.sumlist.specs.Kinds.{alg_of}
+use Rattle.sumlist.specs.Kinds.{kind_of}
 use Rattle.sumlist.specs.Tagged.{Labelled}
 
 -- bytes that can be a line: no LF among them, and not too many
 pub record IsLine (line : List ℕ) : Type 0 where
   pub one : Contains line 10 → ⊥
-  pub within : length line ≤ 65536
+  pub within : length line ≤ LINE_LEN
 
 -- a line without the one CR at its end, if it has one
 abbrev pub core : List ℕ → List ℕ
@@ -30,14 +32,16 @@ IsSkipped line = IsLine line × IsBlank (core line)
 abbrev pub IsMark : ℕ → Type 0
 IsMark mark = (mark ≡ 32) ⊎ (mark ≡ 42)
 
--- digits, a space, a space or `*`, and a body: the number of the digits names the algorithm, and they
--- are the tag's, in either case
+-- digits, a space, a space or `*`, and a body: the digits are the tag's, in either case, and their number tells
+-- which algorithm of the kind it is
 pub record Parts (text : List ℕ) (kind : Kind) (alg : Alg) (tag body : List ℕ) : Type 0 where
   pub digits : List ℕ
   pub mark : ℕ
   pub whole : text ≡ digits ++ 32 ∷ mark ∷ body
   pub marked : IsMark mark
-  pub alg_is : alg_of kind (length digits) ≡ Some alg
+  pub kind_is : kind_of alg ≡ kind
+  pub range : IsInRange alg
+  pub sized : length digits ≡ 2 * tag_len alg
   pub tag_is : decode_of digits ≡ Ok tag
 
 -- a text without a name's escapes, in one of the two forms

@@ -4,17 +4,24 @@ use Rattle.std.specs.Fmt.{decimal}
 use Rattle.hex.specs.Hex.{decode_of, encode_lower}
 use Rattle.source.specs.declared.alg.Alg.{Alg}
 use Rattle.source.specs.declared.alg.Alg.TheVariants.{Sha256, Sha512, Blake2b, Blake2s, Blake3}
+use Rattle.source.specs.declared.alg.TheConstants.{BLAKE2B_LEN, BLAKE2S_LEN}
 use Rattle.source.specs.Digest.{tag_len, IsInRange}
 use Rattle.sumlist.specs.Escape.{escaped, lead}
 use Rattle.sumlist.specs.Entry.{Listing}
 
--- a label that names an algorithm; the number is that of the tag's bits, and may be left out at a whole tag
+-- the label that is written for an algorithm: the number is that of the tag's bits, and left out at a whole tag
+abbrev pub label_of : Alg → List ℕ
+label_of Sha256 = codes "SHA256"
+label_of Sha512 = codes "SHA512"
+label_of (Blake2b n) = if n == BLAKE2B_LEN then codes "BLAKE2b" else codes "BLAKE2b-" ++ decimal (8 * n)
+label_of (Blake2s n) = if n == BLAKE2S_LEN then codes "BLAKE2s" else codes "BLAKE2s-" ++ decimal (8 * n)
+label_of Blake3 = codes "BLAKE3"
+
+-- a label that names an algorithm: the written one, or that of BLAKE2 with the number of a whole tag's bits too
 abbrev pub IsLabel : List ℕ → Alg → Type 0
-IsLabel label Sha256 = label ≡ codes "SHA256"
-IsLabel label Sha512 = label ≡ codes "SHA512"
-IsLabel label (Blake2b n) = ((n ≡ 64) × (label ≡ codes "BLAKE2b")) ⊎ (label ≡ codes "BLAKE2b-" ++ decimal (8 * n))
-IsLabel label (Blake2s n) = ((n ≡ 32) × (label ≡ codes "BLAKE2s")) ⊎ (label ≡ codes "BLAKE2s-" ++ decimal (8 * n))
-IsLabel label Blake3 = label ≡ codes "BLAKE3"
+IsLabel label (Blake2b n) = (label ≡ label_of (Blake2b n)) ⊎ (label ≡ codes "BLAKE2b-" ++ decimal (8 * n))
+IsLabel label (Blake2s n) = (label ≡ label_of (Blake2s n)) ⊎ (label ≡ codes "BLAKE2s-" ++ decimal (8 * n))
+IsLabel label alg = label ≡ label_of alg
 
 -- what stands before the name
 abbrev pub opening : List ℕ → List ℕ
@@ -33,14 +40,6 @@ pub record Labelled (text : List ℕ) (alg : Alg) (tag body : List ℕ) : Type 0
   pub names : IsLabel label alg
   pub sized : length digits ≡ 2 * tag_len alg
   pub tag_is : decode_of digits ≡ Ok tag
-
--- the label that is written for an algorithm
-abbrev pub label_of : Alg → List ℕ
-label_of Sha256 = codes "SHA256"
-label_of Sha512 = codes "SHA512"
-label_of (Blake2b n) = if n == 64 then codes "BLAKE2b" else codes "BLAKE2b-" ++ decimal (8 * n)
-label_of (Blake2s n) = if n == 32 then codes "BLAKE2s" else codes "BLAKE2s-" ++ decimal (8 * n)
-label_of Blake3 = codes "BLAKE3"
 
 -- the tagged line of an entry, without its LF
 abbrev pub tagged_line : Listing → List ℕ

@@ -1,13 +1,14 @@
 // What texts that name their algorithm are made of: a label, and the end behind a body.
 
-ghost use Rattle.std.specs.Prelude.{◌≡◌, ℕ, ◌*◌, ◌<◌, ◌≤◌, ◌↔◌, IsTrue, MatchOption};
+ghost use Rattle.std.specs.Prelude.{◌≡◌, ℕ, ◌*◌, ◌+◌, ◌<◌, ◌≤◌, ◌↔◌, ◌++◌, IsTrue, MatchOption, length};
 ghost use Rattle.std.specs.Fmt.{decimal};
 ghost use Rattle.source.specs.Digest.{IsInRange, tag_len};
-ghost use Rattle.sumlist.specs.Tagged.{IsLabel};
-ghost use Rattle.sumlist.specs.inside.Labels.{Ended, IsNumbered, NotEnded, NotNamed, NotNumbered};
+ghost use Rattle.sumlist.specs.Tagged.{IsLabel, label_of};
+ghost use Rattle.sumlist.specs.inside.Labels.{Ended, IsNumbered, NotEnded, NotNamed, NotNumbered, front_of};
+ghost use Rattle.sumlist.specs.inside.Reading.{alg_whole};
 
 use itoa::Buffer;
-use source::Alg;
+use source::{Alg, BLAKE2B_LEN, BLAKE2S_LEN};
 
 // How many digits the tag of an algorithm has.
 pub(crate) fn digits_of(alg: Alg) -> usize
@@ -15,11 +16,44 @@ pub(crate) fn digits_of(alg: Alg) -> usize
     ensures value { result ≡ 2 * tag_len alg }
     ensures bound { result ≤ 128 }
 {
+    2 * alg.digest_len()
+}
+
+// The algorithms whose labels end in no number.
+const WHOLE: [Alg; 5] = [
+    Alg::Sha256,
+    Alg::Sha512,
+    Alg::Blake2b(BLAKE2B_LEN),
+    Alg::Blake2s(BLAKE2S_LEN),
+    Alg::Blake3,
+];
+
+// The label of an algorithm, and the number of the tag's bits where it ends in one.
+pub(crate) fn label(alg: Alg, number: &mut Buffer) -> (&'static str, &str)
+    requires { IsInRange alg }
+    ensures value { result.0.now ++ result.1.now ≡ label_of alg }
+    ensures bound { length result.0.now + length result.1.now ≤ 28 }
+{
     match alg {
-        Alg::Sha512 => 128,
-        Alg::Blake2b(n) => 2 * n,
-        Alg::Blake2s(n) => 2 * n,
-        _ => 64,
+        Alg::Blake2b(len) if len < BLAKE2B_LEN => (front(alg), number.format(8 * len)),
+        Alg::Blake2s(len) if len < BLAKE2S_LEN => (front(alg), number.format(8 * len)),
+        alg => (front(alg), ""),
+    }
+}
+
+// The label of an algorithm without the number.
+fn front(alg: Alg) -> &'static str
+    ensures value { result.now ≡ front_of alg }
+    ensures bound { length result.now ≤ 8 }
+{
+    match alg {
+        Alg::Sha256 => "SHA256",
+        Alg::Sha512 => "SHA512",
+        Alg::Blake2b(BLAKE2B_LEN) => "BLAKE2b",
+        Alg::Blake2b(_) => "BLAKE2b-",
+        Alg::Blake2s(BLAKE2S_LEN) => "BLAKE2s",
+        Alg::Blake2s(_) => "BLAKE2s-",
+        Alg::Blake3 => "BLAKE3",
     }
 }
 
@@ -45,28 +79,26 @@ pub(crate) fn cut_end(rest: &[u8], digits: usize) -> Option<(&[u8], &[u8])>
 pub(crate) fn label_alg(label: &[u8]) -> Option<Alg>
     ensures { MatchOption result (NotNamed label.now) (λ a. IsInRange a × IsLabel label.now a) }
 {
-    if label == b"SHA256".as_slice() {
-        return Some(Alg::Sha256);
+    if let Some(alg) = whole_alg(label) {
+        return Some(alg);
     }
-    if label == b"SHA512".as_slice() {
-        return Some(Alg::Sha512);
-    }
-    if label == b"BLAKE2b".as_slice() {
-        return Some(Alg::Blake2b(64));
-    }
-    if label == b"BLAKE2s".as_slice() {
-        return Some(Alg::Blake2s(32));
-    }
-    if label == b"BLAKE3".as_slice() {
-        return Some(Alg::Blake3);
-    }
-    if let Some(n) = find_number(label, b"BLAKE2b-", 64) {
+    if let Some(n) = find_number(label, b"BLAKE2b-", BLAKE2B_LEN) {
         return Some(Alg::Blake2b(n));
     }
-    if let Some(n) = find_number(label, b"BLAKE2s-", 32) {
+    if let Some(n) = find_number(label, b"BLAKE2s-", BLAKE2S_LEN) {
         return Some(Alg::Blake2s(n));
     }
     None
+}
+
+// The algorithm whose label, without a number, this is.
+fn whole_alg(label: &[u8]) -> Option<Alg>
+    ensures { result ≡ alg_whole label.now }
+{
+    WHOLE
+        .iter()
+        .find(|alg| label == front(**alg).as_bytes())
+        .copied()
 }
 
 fn is_same(left: &[u8], right: &[u8]) -> bool

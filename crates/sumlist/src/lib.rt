@@ -15,7 +15,7 @@
 pub use checking::{CheckFault, check};
 pub use entry::{Entry, EntryFault};
 pub use files::FileTree;
-pub use fitting::{fits, tagged_fits};
+pub use fitting::{LINE_LEN, fits, tagged_fits};
 pub use kind::Kind;
 pub use laws::{line_laws, report_laws};
 pub use line::{Line, LineFault, parse_line};

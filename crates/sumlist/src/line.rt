@@ -94,7 +94,7 @@ fn is_blank(core: &[u8]) -> bool
 
 // The algorithm and tag of the entry that a core states, and the text that means its name.
 fn read_core(core: &[u8], kind: Kind) -> Option<(Alg, Tag, NameText<'_>)>
-    requires { length core.now ≤ 65536 }
+    requires { length core.now ≤ LINE_LEN }
     ensures { MatchOption result ((e : Listing) → IsStated kind core.now e → ⊥)
         (λ p. (name : List ℕ) × IsStated kind core.now record { name = name; alg = p.0; tag = p.1 }
         × (name_of p.2.is_escaped p.2.text.now ≡ Some name)) }

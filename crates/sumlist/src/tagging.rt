@@ -1,19 +1,19 @@
 // Tagged lines as they are written.
 
-ghost use Rattle.std.specs.Prelude.{◌≡◌, ◌++◌, OnOk};
-ghost use Rattle.source.specs.Digest.{IsInRange};
+ghost use Rattle.std.specs.Prelude.{OnOk};
 ghost use Rattle.source.specs.Written.{Writes};
 ghost use Rattle.sumlist.specs.Line.{Spells};
-ghost use Rattle.sumlist.specs.Tagged.{label_of, tagged, tagged_line};
+ghost use Rattle.sumlist.specs.Tagged.{tagged, tagged_line};
 ghost use Rattle.sumlist.specs.TaggedFaults.{WritesTagged};
 ghost use Rattle.sumlist.specs.declared.kind.Kind.{Kind};
 
 use crate::Entry;
 use crate::escaping::{lead, write_name};
 use crate::fitting::tagged_fits;
+use crate::labels::label;
 use crate::writing::tag_digits;
 use itoa::Buffer;
-use source::{Alg, Sink, WriteFailed};
+use source::{Sink, WriteFailed};
 use thiserror::Error;
 
 /// Why a tagged line was not written whole.
@@ -59,20 +59,4 @@ fn write_tagged_line<W: Sink>(entry: &Entry, out: &mut W) -> Result<(), WriteFai
         &[b") = ", digits, b"\n"],
         out,
     )
-}
-
-// The label of an algorithm, and the number of the tag's bits where it ends in one.
-fn label(alg: Alg, number: &mut Buffer) -> (&'static str, &str)
-    requires { IsInRange alg }
-    ensures { result.0.now ++ result.1.now ≡ label_of alg }
-{
-    match alg {
-        Alg::Sha256 => ("SHA256", ""),
-        Alg::Sha512 => ("SHA512", ""),
-        Alg::Blake2b(64) => ("BLAKE2b", ""),
-        Alg::Blake2s(32) => ("BLAKE2s", ""),
-        Alg::Blake3 => ("BLAKE3", ""),
-        Alg::Blake2b(len) => ("BLAKE2b-", number.format(8 * len)),
-        Alg::Blake2s(len) => ("BLAKE2s-", number.format(8 * len)),
-    }
 }

@@ -3,6 +3,7 @@ use Rattle.std.specs.Prelude.{ℕ, ◌-◌, ◌^◌, ◌==◌, ◌&&◌, ◌||�
 use Rattle.std.specs.Prelude.{codes, count_ones, is_some, nat_lt, if◌then◌else◌}
 use Rattle.source.specs.declared.alg.Alg.{Alg}
 use Rattle.source.specs.declared.alg.Alg.TheVariants as alg
+use Rattle.source.specs.declared.alg.TheConstants.{BLAKE2B_LEN, BLAKE2S_LEN, BLAKE3_LEN}
 use Rattle.sumlist.specs.declared.kind.Kind.{Kind}
 use Rattle.sumlist.specs.declared.kind.Kind.TheVariants as kind
 use Rattle.request.specs.CommandLine.{Given, has_flag, text_of}
@@ -42,24 +43,26 @@ blake2_parameters most n g = do
   Ok (length, salt, personal)
 
 abbrev pub blake2b_digest : Given → Result Requested UsageFault
-blake2b_digest g = blake2_parameters 64 16 g >>= (λ p. Ok (whole (Blake2b p.0 p.1 p.2) (has_flag (codes "tag") g)))
+blake2b_digest g =
+    blake2_parameters BLAKE2B_LEN 16 g >>= (λ p. Ok (whole (Blake2b p.0 p.1 p.2) (has_flag (codes "tag") g)))
 
 abbrev pub blake2s_digest : Given → Result Requested UsageFault
-blake2s_digest g = blake2_parameters 32 8 g >>= (λ p. Ok (whole (Blake2s p.0 p.1 p.2) (has_flag (codes "tag") g)))
+blake2s_digest g =
+    blake2_parameters BLAKE2S_LEN 8 g >>= (λ p. Ok (whole (Blake2s p.0 p.1 p.2) (has_flag (codes "tag") g)))
 
--- the label of BLAKE3 stands for the first 32 bytes of its output
+-- the label of BLAKE3 stands for the first bytes of its output, its digest
 abbrev pub tagged_blake3 : Given → Result Requested UsageFault
 tagged_blake3 g = do
   absent (Salt ∷ Personal ∷ []) g
   unset (NotWithTag Raw) (has_flag (codes "raw") g)
-  number Length 32 32 32 g
+  number Length BLAKE3_LEN BLAKE3_LEN BLAKE3_LEN g
   number Seek 0 0 0 g
   Ok (whole (Plain alg.Blake3) true)
 
 -- the bytes that `-l` and `--seek` say, before the end of the output
 abbrev pub stretch_of : Given → Bool → Result Stretch UsageFault
 stretch_of g is_raw = do
-  n ← number Length 32 1 (2 ^ 64 - 1) g
+  n ← number Length BLAKE3_LEN 1 (2 ^ 64 - 1) g
   position ← number Seek 0 0 (2 ^ 64 - 1 - n) g
   Ok (record { position = position; length = n; is_raw = is_raw })
 

@@ -6,6 +6,10 @@ use Rattle.std.specs.Str.{all_ascii_digits, bytes_eq}
 use Rattle.std.specs.Str.Parse.{digits_value, without_leading_plus}
 use Rattle.request.specs.CommandLine.{Given, Text, text_of, texts_of}
 use Rattle.hex.specs.Hex.{decode_of}
+use Rattle.source.specs.Digest.{tag_len}
+use Rattle.source.specs.declared.alg.Alg.{Alg}
+use Rattle.source.specs.declared.alg.Alg.TheVariants as alg
+use Rattle.source.specs.declared.alg.TheConstants.{BLAKE2B_LEN, BLAKE2S_LEN}
 use Rattle.sumlist.specs.declared.kind.Kind.{Kind}
 use Rattle.sumlist.specs.declared.kind.Kind.TheVariants as kind
 use Rattle.task.specs.Texts.{setting_id}
@@ -101,9 +105,13 @@ kinds = (codes "sha256", kind.Sha256) ∷ (codes "sha512", kind.Sha512) ∷ (cod
 abbrev pub kind_of : Given → Result Kind UsageFault
 kind_of g = needed Algorithm g >>= named Algorithm kinds
 
--- the length of the digest of a hash under HMAC
+-- the algorithm of a hash under HMAC, with its longest digests
+abbrev pub hmac_alg : HmacHash → Alg
+hmac_alg hmac.Sha256 = alg.Sha256
+hmac_alg hmac.Sha512 = alg.Sha512
+hmac_alg hmac.Blake2b = alg.Blake2b BLAKE2B_LEN
+hmac_alg hmac.Blake2s = alg.Blake2s BLAKE2S_LEN
+
+-- the length of its digest
 abbrev pub hmac_len : HmacHash → ℕ
-hmac_len hmac.Sha256 = 32
-hmac_len hmac.Sha512 = 64
-hmac_len hmac.Blake2b = 64
-hmac_len hmac.Blake2s = 32
+hmac_len h = tag_len (hmac_alg h)

@@ -2,6 +2,9 @@
 use Rattle.std.specs.Prelude.{ℕ, ◌-◌, ◌/◌, ◌^◌, ◌≤◌, ◌==◌, List, [], ◌∷◌, length, Option, Some, None, Result, Ok, Err}
 use Rattle.std.specs.Prelude.{codes, if◌then◌else◌}
 use Rattle.request.specs.CommandLine.{Given, Text, text_of}
+use Rattle.source.specs.Digest.{IsInRange}
+use Rattle.source.specs.declared.alg.Alg.TheVariants as alg
+use Rattle.source.specs.declared.alg.TheConstants.{BLAKE2B_LEN, BLAKE2S_LEN, BLAKE3_LEN}
 use Rattle.task.specs.Parameters.{◌>>=◌, given_bytes, hexadecimal, hmac_len, named, needed, number, text, where_given}
 use Rattle.task.specs.declared.fault.Setting.TheVariants as setting
 use Rattle.task.specs.declared.fault.UsageFault.{UsageFault}
@@ -25,8 +28,9 @@ hmac h = with_length (Hmac h) (hmac_len h) (hmac_len h / 2) (hmac_len h)
 abbrev pub macs : List (Text × (Given → Result Mac UsageFault))
 macs = (codes "hmac-sha256", hmac hash.Sha256) ∷ (codes "hmac-sha512", hmac hash.Sha512)
     ∷ (codes "hmac-blake2b", hmac hash.Blake2b) ∷ (codes "hmac-blake2s", hmac hash.Blake2s)
-    ∷ (codes "blake2b", with_length Blake2b 64 1 64) ∷ (codes "blake2s", with_length Blake2s 32 1 32)
-    ∷ (codes "blake3", with_length Blake3 32 1 (2 ^ 64 - 1)) ∷ []
+    ∷ (codes "blake2b", with_length Blake2b BLAKE2B_LEN 1 BLAKE2B_LEN)
+    ∷ (codes "blake2s", with_length Blake2s BLAKE2S_LEN 1 BLAKE2S_LEN)
+    ∷ (codes "blake3", with_length Blake3 BLAKE3_LEN 1 (2 ^ 64 - 1)) ∷ []
 
 abbrev pub mac : Given → Result Mac UsageFault
 mac g = needed setting.Algorithm g >>= named setting.Algorithm macs >>= (λ f. f g)
@@ -34,8 +38,8 @@ mac g = needed setting.Algorithm g >>= named setting.Algorithm macs >>= (λ f. f
 -- the function has tags of this length
 abbrev pub HasTag : Mac → Type 0
 HasTag (Hmac h n) = (hmac_len h / 2 ≤ n) × (n ≤ hmac_len h)
-HasTag (Blake2b n) = (1 ≤ n) × (n ≤ 64)
-HasTag (Blake2s n) = (1 ≤ n) × (n ≤ 32)
+HasTag (Blake2b n) = IsInRange (alg.Blake2b n)
+HasTag (Blake2s n) = IsInRange (alg.Blake2s n)
 HasTag (Blake3 n) = n ≤ 2 ^ 64 - 1
 
 -- how many bytes the tags have

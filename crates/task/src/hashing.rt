@@ -10,7 +10,7 @@ use crate::parameters::{
     file_count, given_bytes, kind_of, number, number_in, refused, refused_flag, sized, text_of,
 };
 use request::Request;
-use source::Alg;
+use source::{Alg, BLAKE2B_LEN, BLAKE2S_LEN, BLAKE3_LEN};
 use std::alloc::Global;
 use sumlist::Kind;
 
@@ -88,14 +88,14 @@ fn sha(request: &Request<'_>, alg: Alg) -> Result<Requested, UsageFault>
 fn with_blake2b(alloc: Global, request: &Request<'_>) -> Result<Requested, TaskFault>
     ensures { Judges (λ r. r) (spec.blake2b_digest (given_of request.now)) result }
 {
-    let (length, salt, personal) = blake2_parameters(alloc, request, 64)?;
+    let (length, salt, personal) = blake2_parameters(alloc, request, BLAKE2B_LEN)?;
     Ok(whole(Hash::Blake2b(length, salt, personal), request.has("tag")))
 }
 
 fn with_blake2s(alloc: Global, request: &Request<'_>) -> Result<Requested, TaskFault>
     ensures { Judges (λ r. r) (spec.blake2s_digest (given_of request.now)) result }
 {
-    let (length, salt, personal) = blake2_parameters(alloc, request, 32)?;
+    let (length, salt, personal) = blake2_parameters(alloc, request, BLAKE2S_LEN)?;
     Ok(whole(Hash::Blake2s(length, salt, personal), request.has("tag")))
 }
 
@@ -121,13 +121,14 @@ fn blake2_parameters<const N: usize>(
     Ok((length, salt, personal))
 }
 
-// The label of BLAKE3 stands for its first 32 bytes.
+// The label of BLAKE3 stands for the first bytes of its output, its digest.
 fn tagged_blake3(request: &Request<'_>) -> Result<Requested, UsageFault>
     ensures { result ≡ spec.tagged_blake3 (given_of request.now) }
 {
     refused(request, &[Setting::Salt, Setting::Personal])?;
     refused_flag(UsageFault::NotWithTag(Setting::Raw), request.has("raw"))?;
-    number(request, Setting::Length, 32, 32, 32)?;
+    let whole_len = BLAKE3_LEN as u64;
+    number(request, Setting::Length, whole_len, whole_len, whole_len)?;
     number(request, Setting::Seek, 0, 0, 0)?;
     Ok(whole(Hash::Plain(Alg::Blake3), true))
 }
@@ -153,7 +154,7 @@ fn names_several(request: &Request<'_>) -> bool
 pub(crate) fn stretch_of(request: &Request<'_>, is_raw: bool) -> Result<Stretch, UsageFault>
     ensures { result ≡ spec.stretch_of (given_of request.now) is_raw }
 {
-    let length = number(request, Setting::Length, 32, 1, u64::MAX)?;
+    let length = number(request, Setting::Length, BLAKE3_LEN as u64, 1, u64::MAX)?;
     let position = number(request, Setting::Seek, 0, 0, u64::MAX - length)?;
     Ok(Stretch {
         position,

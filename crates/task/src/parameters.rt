@@ -12,6 +12,7 @@ ghost use Rattle.task.specs.declared.fault.UsageFault.TheVariants.{OutOfRange, W
 use crate::fault::{Setting, TaskFault, UsageFault};
 use hex::FromHexError;
 use request::Request;
+use source::{Alg, BLAKE2B_LEN, BLAKE2S_LEN};
 use std::alloc::Global;
 use sumlist::Kind;
 
@@ -25,14 +26,23 @@ pub enum HmacHash {
 }
 
 impl HmacHash {
+    /// The algorithm, with its longest digests.
+    pub fn alg(self) -> Alg
+        ensures { result ≡ spec.hmac_alg self }
+    {
+        match self {
+            HmacHash::Sha256 => Alg::Sha256,
+            HmacHash::Sha512 => Alg::Sha512,
+            HmacHash::Blake2b => Alg::Blake2b(BLAKE2B_LEN),
+            HmacHash::Blake2s => Alg::Blake2s(BLAKE2S_LEN),
+        }
+    }
+
     /// The length of its digest in bytes.
     pub fn digest_len(self) -> u64
         ensures { result ≡ spec.hmac_len self }
     {
-        match self {
-            HmacHash::Sha256 | HmacHash::Blake2s => 32,
-            HmacHash::Sha512 | HmacHash::Blake2b => 64,
-        }
+        self.alg().digest_len() as u64
     }
 }
 

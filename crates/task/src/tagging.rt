@@ -9,6 +9,7 @@ ghost use Rattle.task.specs.inside.Seen.{seen};
 use crate::fault::{Setting, TaskFault, UsageFault};
 use crate::parameters::{HmacHash, given_bytes, hexadecimal, needed, number, text_of};
 use request::Request;
+use source::{BLAKE2B_LEN, BLAKE2S_LEN, BLAKE3_LEN};
 use std::alloc::Global;
 
 /// A keyed function, and the length in bytes of the tags that are printed.
@@ -43,9 +44,9 @@ impl Mac {
             "hmac-sha512" => hmac(request, HmacHash::Sha512),
             "hmac-blake2b" => hmac(request, HmacHash::Blake2b),
             "hmac-blake2s" => hmac(request, HmacHash::Blake2s),
-            "blake2b" => Ok(Mac::Blake2b(tag_len(request, 64)? as usize)),
-            "blake2s" => Ok(Mac::Blake2s(tag_len(request, 32)? as usize)),
-            "blake3" => Ok(Mac::Blake3(number(request, Setting::Length, 32, 1, u64::MAX)?)),
+            "blake2b" => Ok(Mac::Blake2b(tag_len(request, BLAKE2B_LEN as u64)? as usize)),
+            "blake2s" => Ok(Mac::Blake2s(tag_len(request, BLAKE2S_LEN as u64)? as usize)),
+            "blake3" => Ok(Mac::Blake3(number(request, Setting::Length, BLAKE3_LEN as u64, 1, u64::MAX)?)),
             _ => Err(UsageFault::OutOfRange(Setting::Algorithm)),
         }
     }

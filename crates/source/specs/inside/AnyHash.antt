@@ -2,11 +2,14 @@
 -- is told by a number before its parameters.
 use Rattle.std.specs.Prelude.{ℕ, ◌==◌, ◌-◌, ◌^◌, List, [], ◌∷◌, drop, slice_index, if◌then◌else◌}
 use Rattle.b3.specs.inside.Hasher as b3
-use Rattle.blake2.specs.Blake2.{from_list, message_limit}
+use Rattle.b3.specs.Modes.{hash_parameters}
+use Rattle.blake2.specs.Blake2.{from_list, listed, message_limit, unsalted}
 use Rattle.blake2.specs.inside.Hashers.{Holds2b, Holds2s, parameters_2b, parameters_2s, room_left_2b, room_left_2s}
 use Rattle.mac.specs.inside.Streams.{StreamHolds, stream_room}
 use Rattle.sha2.specs.Hashers.{Holds256, Holds512}
 use Rattle.words.specs.Blake2.{blake2b, blake2s}
+use Rattle.source.specs.declared.alg.Alg.{Alg}
+use Rattle.source.specs.declared.alg.Alg.TheVariants as alg
 use Rattle.source.specs.declared.any_hash.AnyHash.{AnyHash}
 use Rattle.source.specs.declared.any_hash.Inner.{Inner}
 use Rattle.source.specs.declared.any_hash.Inner.TheVariants as inner
@@ -18,12 +21,21 @@ inner_holds (inner.Blake2b h) m = Holds2b h m
 inner_holds (inner.Blake2s h) m = Holds2s h m
 inner_holds (inner.Blake3 h) m = b3.Holds h m
 
+-- what a hasher hashes under: a number for the function, and then what that takes
 abbrev pub inner_parameters : Inner → List ℕ
 inner_parameters (inner.Sha256 h) = 0 ∷ []
 inner_parameters (inner.Sha512 h) = 1 ∷ []
 inner_parameters (inner.Blake2b h) = 2 ∷ parameters_2b h
 inner_parameters (inner.Blake2s h) = 3 ∷ parameters_2s h
 inner_parameters (inner.Blake3 h) = 4 ∷ b3.hasher_parameters h
+
+-- the same of a hash without a key
+abbrev pub parameters_of : Alg → List ℕ
+parameters_of alg.Sha256 = 0 ∷ []
+parameters_of alg.Sha512 = 1 ∷ []
+parameters_of (alg.Blake2b n) = 2 ∷ listed (unsalted blake2b n [])
+parameters_of (alg.Blake2s n) = 3 ∷ listed (unsalted blake2s n [])
+parameters_of alg.Blake3 = 4 ∷ hash_parameters
 
 abbrev pub inner_room : Inner → ℕ
 inner_room (inner.Sha256 h) = stream_room h

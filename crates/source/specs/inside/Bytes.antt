@@ -1,6 +1,5 @@
 -- What contracts see of a lent slice as a feed.
-use Rattle.std.specs.Prelude.{ℕ, List, length, min, Option}
-use Rattle.source.specs.Places.{cut_at}
+use Rattle.std.specs.Prelude.{ℕ, List, length, min, Option, unwrap_or}
 use Rattle.source.specs.declared.bytes.Bytes.{Bytes}
 
 -- the bytes still to come
@@ -21,4 +20,5 @@ bytes_failures s = s.failures
 
 -- how many bytes the next read into so much room gives, where it does not fail
 abbrev pub bytes_next : Bytes → ℕ → ℕ
-bytes_next s room = cut_at (bytes_place s) (min (min (length (bytes_rest s)) (bytes_most s)) room)
+bytes_next s room =
+    let most = min (min (length (bytes_rest s)) (bytes_most s)) room in min most (unwrap_or (bytes_place s) most)

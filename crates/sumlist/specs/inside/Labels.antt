@@ -1,9 +1,44 @@
 -- What the steps of reading a label, a body and digits find.
-use Rattle.std.specs.Prelude.{◌≡◌, ℕ, ◌*◌, ◌<◌, ◌≤◌, List, ◌++◌, length}
+use Rattle.std.specs.Prelude.{◌≡◌, ◌==◌, ◌&&◌, ℕ, ◌*◌, ◌/◌, ◌<◌, ◌≤◌, nat_le, Bool, true, List, ◌++◌, length}
+use Rattle.std.specs.Prelude.{if◌then◌else◌, Option, None, Some, codes}
 use Rattle.std.specs.Fmt.{decimal}
 use Rattle.source.specs.declared.alg.Alg.{Alg}
-use Rattle.source.specs.Digest.{IsInRange}
+use Rattle.source.specs.declared.alg.Alg.TheVariants.{Sha256, Sha512, Blake2b, Blake2s, Blake3}
+use Rattle.source.specs.declared.alg.TheConstants.{BLAKE2B_LEN, BLAKE2S_LEN}
+use Rattle.source.specs.Digest.{IsInRange, tag_len}
 use Rattle.sumlist.specs.Tagged.{IsLabel, closing}
+use Rattle.sumlist.specs.declared.kind.Kind.{Kind}
+use Rattle.sumlist.specs.declared.kind.Kind.TheVariants as kinds
+
+-- the algorithm of a kind whose digests have n bytes
+abbrev pub alg_with : Kind → ℕ → Alg
+alg_with kinds.Sha256 n = Sha256
+alg_with kinds.Sha512 n = Sha512
+alg_with kinds.Blake2b n = Blake2b n
+alg_with kinds.Blake2s n = Blake2s n
+alg_with kinds.Blake3 n = Blake3
+
+-- whether there is a digest of its length
+abbrev pub is_in_range : Alg → Bool
+is_in_range (Blake2b n) = nat_le 1 n && nat_le n BLAKE2B_LEN
+is_in_range (Blake2s n) = nat_le 1 n && nat_le n BLAKE2S_LEN
+is_in_range _ = true
+
+-- the algorithm, where it has digests of so many digits
+abbrev pub sized : Alg → ℕ → Option Alg
+sized alg n = if is_in_range alg && (n == 2 * tag_len alg) then Some alg else None
+
+-- the algorithm that a number of digits names
+abbrev pub alg_of : Kind → ℕ → Option Alg
+alg_of kind n = sized (alg_with kind (n / 2)) n
+
+-- the label that is written for an algorithm, without the number
+abbrev pub front_of : Alg → List ℕ
+front_of Sha256 = codes "SHA256"
+front_of Sha512 = codes "SHA512"
+front_of (Blake2b n) = if n == BLAKE2B_LEN then codes "BLAKE2b" else codes "BLAKE2b-"
+front_of (Blake2s n) = if n == BLAKE2S_LEN then codes "BLAKE2s" else codes "BLAKE2s-"
+front_of Blake3 = codes "BLAKE3"
 
 -- no algorithm has this label
 abbrev pub NotNamed : List ℕ → Type 0

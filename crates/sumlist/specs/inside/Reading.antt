@@ -1,19 +1,22 @@
 -- A core read from its left: the entry that it states, if it states one.
-use Rattle.std.specs.Prelude.{◌≡◌, IsUtf8, ℕ, zero, suc, ◌+◌, ◌-◌, ◌*◌, Bool, false, List, [], ◌∷◌, ◌++◌, length, take}
-use Rattle.std.specs.Prelude.{drop, if◌then◌else◌, ◌==◌, ◌&&◌, ◌||◌, Option, Some, None, codes}
+use Rattle.std.specs.Prelude.{◌≡◌, IsUtf8, ℕ, zero, suc, ◌+◌, ◌-◌, ◌*◌, Bool, false, List, [], ◌∷◌, ◌++◌}
+use Rattle.std.specs.Prelude.{length, take, drop, if◌then◌else◌, ◌==◌, ◌&&◌, ◌||◌, Option, Some, None, codes}
 use Rattle.std.specs.Fmt.{decimal}
-use Rattle.std.specs.Option.{option_and_then}
+use Rattle.std.specs.List.{find}
+use Rattle.std.specs.Option.{option_and_then, option_or}
 use Rattle.std.specs.Result.{result_ok}
 use Rattle.std.specs.Str.{bytes_eq}
 use Rattle.hex.specs.Hex.{decode_of}
 use Rattle.source.specs.declared.alg.Alg.{Alg}
-use Rattle.source.specs.declared.alg.Alg.TheVariants.{Sha256, Sha512, Blake2b, Blake2s, Blake3}
+use Rattle.source.specs.declared.alg.Alg.TheVariants.{Blake2b, Blake2s}
 use Rattle.source.specs.Digest.{tag_len}
+use Rattle.source.specs.declared.alg.TheConstants.{BLAKE2B_LEN, BLAKE2S_LEN}
 use Rattle.sumlist.specs.declared.kind.Kind.{Kind}
+use Rattle.sumlist.specs.declared.labels.TheConstants.{WHOLE}
 use Rattle.sumlist.specs.Entry.{Listing, Fits}
-use Rattle.sumlist.specs.Kinds.{alg_of}
 use Rattle.sumlist.specs.Tagged.{closing}
 use Rattle.sumlist.specs.inside.Body.{name_of}
+use Rattle.sumlist.specs.inside.Labels.{alg_of, front_of}
 
 -- what stands before the first space, and what stands behind it
 abbrev pub cut : List ℕ → Option (List ℕ × List ℕ)
@@ -30,17 +33,16 @@ bytes_told digits (suc n) = if bytes_eq digits (decimal (8 * suc n)) then Some (
 abbrev pub alg_told : (ℕ → Alg) → List ℕ → ℕ → Option Alg
 alg_told of digits most = option_and_then (λ (n : ℕ). Some (of n)) (bytes_told digits most)
 
+-- the algorithm whose label, without a number, this is
+abbrev pub alg_whole : List ℕ → Option Alg
+alg_whole label = find (λ alg. bytes_eq label (front_of alg)) WHOLE
+
 -- the algorithm that a label names
 abbrev pub alg_labelled : List ℕ → Option Alg
-alg_labelled label =
-    if bytes_eq label (codes "SHA256") then Some Sha256
-    else if bytes_eq label (codes "SHA512") then Some Sha512
-    else if bytes_eq label (codes "BLAKE2b") then Some (Blake2b 64)
-    else if bytes_eq label (codes "BLAKE2s") then Some (Blake2s 32)
-    else if bytes_eq label (codes "BLAKE3") then Some Blake3
-    else if bytes_eq (take 8 label) (codes "BLAKE2b-") then alg_told Blake2b (drop 8 label) 64
-    else if bytes_eq (take 8 label) (codes "BLAKE2s-") then alg_told Blake2s (drop 8 label) 32
-    else None
+alg_labelled label = option_or (alg_whole label) (
+    if bytes_eq (take 8 label) (codes "BLAKE2b-") then alg_told Blake2b (drop 8 label) BLAKE2B_LEN
+    else if bytes_eq (take 8 label) (codes "BLAKE2s-") then alg_told Blake2s (drop 8 label) BLAKE2S_LEN
+    else None)
 
 -- a body of so many bytes with the digits behind it, if there are so many
 abbrev pub end_at : ℕ → List ℕ → ℕ → Option (List ℕ × List ℕ)

@@ -2,8 +2,8 @@ use Rattle.std.proofs.Common.{◌≡◌, ℕ, ◌-◌, ◌≤◌, ◌++◌, List
 use Rattle.std.proofs.Common.{take, drop, arith, sym, ◌∙◌, subst}
 use Rattle.std.proofs.lemmas.List.{take-append-le}
 use Rattle.std.specs.Io.KnownBytes.{Consumes}
-use Rattle.source.specs.Pumped.{front_of, up_to}
-use Rattle.source.proofs.Fronting.{front-consumes, front-end}
+use Rattle.source.specs.Pumped.{up_to}
+use Rattle.source.proofs.Fronting.{front-consumes, front-end, front_of}
 use Rattle.source.proofs.front.Front.read.Goals as goal
 
 pub returns-clause-read : goal.returns-clause-read
