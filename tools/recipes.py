@@ -1,10 +1,13 @@
 #!/usr/bin/env python3
-"""Runs each recipe of the documents as it stands there: in README.md and docs/SCALE.md the blocks that are fenced with
+"""Runs each recipe of the documents as it stands there: in README.md and docs/*.md the blocks that are fenced with
 a language and a name, in man/*.1 those behind a comment `recipe NAME`. A block of the language `console` is a session:
 what stands below a command has to be what it prints. Where a recipe has a name of a file to choose, it is run with each
 of NAMES too. A recipe has to print what is wanted, end with the status that is wanted, tell nothing on
 standard error, and run nothing that a name spells. What is not installed is told, and not run. No part of tools/test.
-usage: tools/recipes.py PROGRAM [NAME..]    the recipes of these names; all of them where none is named
+Builds, packages and measurements take long and are run where they are named alone: in a clone of what is committed,
+as root, with the packages of this commit in dist/ where a recipe takes packages.
+usage: tools/recipes.py PROGRAM [NAME..]    the recipes of these names; all but the long ones where none is named
+       tools/recipes.py PROGRAM long        the long ones
 """
 
 import glob
@@ -26,7 +29,7 @@ NAMES = ["big", "a b", " a  b ", 'it\'s "so"', "$(touch PWNED)", "`touch PWNED`"
          "\\n", "*", "~", "#x", "%s", "!x", "größe"]
 CHUNK = 1024
 PIECE = os.urandom(1 << 20)
-IS_COMMAND = re.compile(r"(?<![/\w])sums (hash|mac|kdf|check|part|join)\b")
+IS_COMMAND = re.compile(r"(?<![/\w])(sums (hash|mac|kdf|check|part|join)|rt (try|check)|sudo |tools/\w+|bench/\w+)")
 
 
 # ---- The documents
@@ -132,11 +135,11 @@ class Bench:
         self.absent.append(text)
         print(text, flush=True)
 
-    def run(self, text, folder, shell="sh", **variables):
+    def run(self, text, folder, shell="sh", seconds=900, **variables):
         """What a shell does with a text: status, output, and what it tells. The variables are of its environment."""
         environment = {**self.environment, **variables}
         done = subprocess.run([shell, "-c", text], cwd=folder, env=environment, stdin=subprocess.DEVNULL,
-                              capture_output=True, timeout=900)
+                              capture_output=True, timeout=seconds)
         return done.returncode, done.stdout, done.stderr
 
     def sums(self, folder, *words):
@@ -811,6 +814,93 @@ def scale_folder(bench):
     bench.judge(f"{page} folder and pieces, an empty folder", lambda: case(False))
 
 
+# ---- Builds, packages and measurements
+
+
+def clone(bench):
+    """The clone of what is committed that builds and measurements are run in."""
+    path = os.path.join(bench.work, "clone")
+    if not os.path.isdir(path):
+        subprocess.run(["git", "clone", "--quiet", HERE, path], check=True)
+    return path
+
+
+def works(bench, page, name, folder, text=None, **variables):
+    """A recipe that ends with status 0, whatever it prints."""
+
+    def case():
+        got = bench.run(text or bench.text(page, name), folder, "bash", seconds=7200, **variables)
+        if got[0]:
+            raise Wrong(f"status {got[0]}: {(got[1] + got[2]).decode(errors='replace')[-1500:]}")
+        print(got[1].decode(errors="replace"), end="")
+
+    bench.judge(f"{page} {name}", case)
+
+
+def in_clone(page, name):
+    return lambda bench: works(bench, page, name, clone(bench))
+
+
+def readme_try(bench):
+    """The session of the program that is not proved; what the toolchain tells is its own."""
+    command, _, printed = bench.text("README.md", "try").removeprefix("$ ").partition("\n")
+    bench.judge("README.md try", lambda: same(bench.run(command, clone(bench), "bash")[:2], (0, printed.encode()), "output"))
+
+
+def readme_build(bench):
+    """A build that is installed, here and in another folder, and taken back."""
+    if not bench.there("sudo", "nothing was built and installed"):
+        return
+    works(bench, "README.md", "build", clone(bench))
+    works(bench, "README.md", "build, installed", bench.folder(), "printf abc | /usr/local/bin/sums hash -a blake2s -")
+    works(bench, "docs/RELEASING.md", "staged", clone(bench))
+    works(bench, "README.md", "build, taken back", clone(bench), "sudo tools/uninstall && rm -r /tmp/staged")
+
+
+def packages():
+    return os.path.join(HERE, "dist")
+
+
+def readme_package(bench):
+    """The packages of this commit, installed and taken away again."""
+    if not bench.there("sudo", "no package was installed"):
+        return
+    if not os.path.isdir(packages()):
+        bench.missing("there is no folder dist: no package was installed")
+        return
+    python = os.path.join(bench.folder(), "python")
+    subprocess.run(["python3", "-m", "venv", python], check=True)
+    path = os.path.join(python, "bin") + ":" + bench.environment["PATH"]
+    works(bench, "README.md", "package", packages(), PATH=path)
+    works(bench, "README.md", "package, used", bench.folder(), f"printf abc | /usr/bin/sums hash -a blake2s - && "
+          f"{python}/bin/python -c 'import sums_hash; sums_hash.sha256(b\"abc\").hexdigest()'")
+    works(bench, "README.md", "package, taken away", packages(), "sudo apt-get remove -qq -y sums && rm -r sums-*-x86_64")
+
+
+def second_builder(bench):
+    """The packages of a second builder, who takes the tag, are those in dist."""
+    if not os.path.isdir(packages()):
+        bench.missing("there is no folder dist: it was not compared with a second builder's")
+        return
+    origin = os.path.join(bench.folder(), "origin")
+    subprocess.run(["git", "clone", "--quiet", "--bare", HERE, origin], check=True)
+    text = bench.text("docs/RELEASING.md", "second")
+    tag = re.search(r"--branch (\S+) URL ", text).group(1)
+    subprocess.run(["git", "-C", origin, "tag", "--force", tag], check=True)
+    text = text.replace(" URL ", f" {origin} ").replace("/path/to/the/first/", packages() + "/")
+    works(bench, "docs/RELEASING.md", "second", bench.folder(), text)
+
+
+LONG = {
+    "README.md": {"try": readme_try, "build": readme_build, "languages": in_clone("README.md", "languages"),
+                  "package": readme_package},
+    "docs/CONTRIBUTING.md": {"crate": in_clone("docs/CONTRIBUTING.md", "crate")},
+    "docs/RELEASING.md": {"staged": readme_build, "second": second_builder},
+    "docs/BENCHMARKS.md": {name: in_clone("docs/BENCHMARKS.md", name)
+                           for name in ["speed", "speed-parts", "speed-hashers", "speed-library", "speed-languages"]},
+}
+
+
 # ---- All of them
 
 # each recipe of each page, and what runs it
@@ -836,7 +926,7 @@ def read_pages(bench):
     for page in pages:
         def case():
             bench.pages[page] = fenced(page) if page.endswith(".md") else paged(page)
-            same(sorted(bench.pages[page]), sorted(RUNS.get(page, {})), "its recipes")
+            same(sorted(bench.pages[page]), sorted({**RUNS.get(page, {}), **LONG.get(page, {})}), "its recipes")
         bench.judge(page, case)
 
 
@@ -849,7 +939,12 @@ def main():
         read_pages(bench)
         if bench.failed == 0:
             wanted = sys.argv[2:]
-            runs = dict.fromkeys(run for page in RUNS.values() for name, run in page.items() if not wanted or name in wanted)
+            short = [(name, run) for page in RUNS.values() for name, run in page.items()]
+            long = [(name, run) for page in LONG.values() for name, run in page.items()]
+            if wanted == ["long"]:
+                short, wanted = [], [name for name, _ in long]
+            runs = dict.fromkeys([run for name, run in short if not wanted or name in wanted]
+                                 + [run for name, run in long if name in wanted])
             for run in runs:
                 run(bench)
     for text in bench.absent:
