@@ -1,12 +1,12 @@
 // The command `part`: the line that tells a part of a file.
 
 ghost use Rattle.std.specs.Prelude.{◌≡◌, ℕ, ◌*◌, ◌^◌, ◌<◌, ◌≤◌, [], length, true, option_map};
-ghost use Rattle.std.specs.Prelude.{IfSome, IsErrOf, MatchOption, None, Some};
+ghost use Rattle.std.specs.Prelude.{IfSome, IsErrOf, MatchOption, None, OnOk, Some};
 ghost use Rattle.std.specs.Option.{SomeIff};
 ghost use Rattle.source.specs.Counts.{count_after};
 ghost use Rattle.task.specs.Parting.{IsPlace};
 ghost use Rattle.command.specs.Course.{Counted};
-ghost use Rattle.command.specs.Cutting.{PartRuns, cut, first_chunks};
+ghost use Rattle.command.specs.Cutting.{PartRuns, behind_chunks, cut, first_chunks};
 ghost use Rattle.command.specs.Lines.{is_input};
 ghost use Rattle.command.specs.inside.Cutting as spec;
 ghost use Rattle.command.specs.inside.Cutting.{Cuts, IsRoom};
@@ -32,7 +32,8 @@ impl<'i, 't, 'o, L: Feed, T: Tree, W: Sink> Session<'i, 't, 'o, L, T, W> {
     /// Prints the line of a part of the file: its bytes from the chunk `first` on, in so many chunks
     /// of 1,024 bytes or to the end. Answers 0. The faults are `CannotRead`, `NoBytes` where none stand
     /// there, `MoreThanPart` where they are more than can be a part there, `TooLong` where they end past
-    /// byte 2^64 - 1, `CannotWrite` and `OutOfMemory`.
+    /// byte 2^64 - 1, `CannotWrite` and `OutOfMemory`. Where the part is one of standard input, no byte
+    /// behind it is read.
     pub fn print_part<'n>(
         &mut self,
         first: u64,
@@ -43,6 +44,8 @@ impl<'i, 't, 'o, L: Feed, T: Tree, W: Sink> Session<'i, 't, 'o, L, T, W> {
         ensures course { TakesCourse (λ bytes files. PartRuns first chunks name.entry.now files bytes)
             (λ notes. notes ≡ [])
             result (⟦<Self as Streams>⟧.seen self.old) (⟦<Self as Streams>⟧.seen self.new) }
+        ensures left { is_input name.entry.now ≡ true → OnOk result (IfSome (L.remaining self.old.input.now)
+            (λ bytes. L.remaining self.new.input.now ≡ Some (behind_chunks chunks bytes))) }
         ensures same { SameStreams self.old self.new }
     {
         let part = self.part_in(first, chunks, name)?;
@@ -64,6 +67,8 @@ impl<'i, 't, 'o, L: Feed, T: Tree, W: Sink> Session<'i, 't, 'o, L, T, W> {
             Counted (failed (is_input name.entry.now) content result)
             (⟦<Self as Streams>⟧.seen self.old).input_failures (⟦<Self as Streams>⟧.seen self.new).input_failures
             (⟦<Self as Streams>⟧.seen self.old).file_failures (⟦<Self as Streams>⟧.seen self.new).file_failures) }
+        ensures left { is_input name.entry.now ≡ true → OnOk result (IfSome (L.remaining self.old.input.now)
+            (λ bytes. L.remaining self.new.input.now ≡ Some (behind_chunks chunks bytes))) }
         ensures out { (⟦<Self as Streams>⟧.seen self.new).out ≡ (⟦<Self as Streams>⟧.seen self.old).out }
         ensures same { SameStreams self.old self.new }
     {
@@ -95,6 +100,8 @@ fn part_of_feed<'n, F: Feed>(
         Cuts first name.entry.now (Some (first_chunks chunks bytes)) result) }
     ensures counted { F.failure_count feed.new
         ≡ count_after (F.failure_count feed.old) (failed true (Some []) result).input }
+    ensures left { OnOk result (IfSome (F.remaining feed.old)
+        (λ bytes. F.remaining feed.new ≡ Some (behind_chunks chunks bytes))) }
     ensures memory { IsErrOf result Fault.OutOfMemory → ⊥ }
 {
     match part_of(Mode::Hash, first, room, bytes_of(chunks), feed, run) {
