@@ -1,12 +1,13 @@
 #!/usr/bin/env python3
-"""Compares the calls and states that the packages of Python and Rust declare with those of the header of C. That of Go
-compiles the header itself.
-usage: SUMS_HASH_LIBRARY=FILE .ci/declarations.py HEADER NATIVE    NATIVE is src/native.rs of the crate
+"""Compares the calls, states and refusals that the packages of Python and Rust declare with those of the header of C.
+That of Go compiles the header itself.
+usage: SUMS_HASH_LIBRARY=FILE .ci/declarations.py HEADER SOURCES    SOURCES is src/ of the crate
 """
 
 import ctypes
 import re
 
+import sums_hash
 from sums_hash import _library
 
 import harness
@@ -57,6 +58,26 @@ def compare_rust(header, path):
     same("states in Rust", {name: int(size) for name, size in re.findall(r"(\w+State): (\d+),", text)}, sizes)
 
 
+def refusals(path):
+    """The number of each refusal, with its name as an enum has it and what the header says of it."""
+    with open(path) as file:
+        found = re.findall(r"^ *SUMS_(\w+) = (\d+),? +/\* (.*) \*/$", file.read(), flags=re.M)
+    return {int(number): (name.title().replace("_", ""), text) for name, number, text in found if number != "0"}
+
+
+def compare_refusals(header, path):
+    same("refusals in the header", sorted(header), [1, 2, 3, 4, 5])
+    with open(path) as file:
+        found = re.findall(r"^ *(\d+) => Err\(Refusal::(\w+)\)", file.read(), flags=re.M)
+    # the states of the crate are always begun
+    wanted = {number: name for number, (name, _) in header.items() if name != "NotBegun"}
+    same("refusals in Rust", {int(number): name for number, name in found}, wanted)
+    texts = sums_hash._REFUSALS
+    # the header's text of a state says more
+    wanted = {number: text[: len(texts.get(number, text))] for number, (_, text) in header.items()}
+    same("refusals in Python", texts, wanted)
+
+
 def sizes_in_words():
     """The bytes of each state, named as a type of Rust is. .ci/library_python.py compares them with C and the crates."""
     return {
@@ -77,11 +98,12 @@ def compare_python(header):
 
 
 def main():
-    header_path, native = harness.arguments(2)
+    header_path, sources = harness.arguments(2)
     header = of_header(header_path)
     same("calls in the header", len(header) > 50, True)
-    compare_rust(header, native)
+    compare_rust(header, f"{sources}/native.rs")
     compare_python(header)
+    compare_refusals(refusals(header_path), f"{sources}/refusal.rs")
     harness.finish()
 
 

@@ -26,7 +26,13 @@ var (
 	ErrEndOfOutput  = errors.New("sums: the output has no such bytes")
 )
 
-var refusals = [...]error{nil, ErrDigestLength, ErrKeyLength, ErrInputTooLong, ErrNotBegun, ErrEndOfOutput}
+var refusals = [...]error{
+	C.SUMS_DIGEST_LENGTH:  ErrDigestLength,
+	C.SUMS_KEY_LENGTH:     ErrKeyLength,
+	C.SUMS_INPUT_TOO_LONG: ErrInputTooLong,
+	C.SUMS_NOT_BEGUN:      ErrNotBegun,
+	C.SUMS_END_OF_OUTPUT:  ErrEndOfOutput,
+}
 
 func checked(status C.uint32_t) error { return refusals[status] }
 

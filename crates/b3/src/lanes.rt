@@ -8,38 +8,21 @@ ghost use Rattle.words.specs.inside.Lanes.{lane8};
 use crate::chunk::CHUNK_LEN;
 use crate::mode::Parameters;
 use crate::node::{BLOCK_LEN, CHUNK_END, CHUNK_START, Node, PARENT, pair};
+use std::array::from_fn;
 use std::simd::prelude::*;
 use words::compress_3x8;
 use words::lanes::{
     Turns, four, lane_rows, message_lanes, next_lanes, pair_lanes, same_lanes, two,
 };
 
-// Where lane `i` begins to read: at its own chunk, or at the last one, which begins at `last`.
+// Where each lane begins to read: at its own chunk, or at the last one, which begins at `last`.
 #[inline(always)]
-fn lane_start(i: usize, last: usize) -> usize
-    requires { i < 8 }
-    ensures own { 1024 * i ≤ last → result ≡ 1024 * i }
-    ensures bound { result ≤ last }
+fn lane_starts<const N: usize>(last: usize) -> [usize; N]
+    requires { N ≤ 8 }
+    ensures own { (i : ℕ) → i < N → 1024 * i ≤ last → slice_index result i ≡ 1024 * i }
+    ensures bound { (i : ℕ) → i < N → slice_index result i ≤ last }
 {
-    if 1024 * i <= last { 1024 * i } else { last }
-}
-
-// Where each lane begins to read.
-#[inline(always)]
-fn lane_starts(last: usize) -> [usize; 8]
-    ensures own { (i : ℕ) → i < 8 → 1024 * i ≤ last → slice_index result i ≡ 1024 * i }
-    ensures bound { (i : ℕ) → i < 8 → slice_index result i ≤ last }
-{
-    [
-        lane_start(0, last),
-        lane_start(1, last),
-        lane_start(2, last),
-        lane_start(3, last),
-        lane_start(4, last),
-        lane_start(5, last),
-        lane_start(6, last),
-        lane_start(7, last),
-    ]
+    from_fn(|i| last.min(CHUNK_LEN * i))
 }
 
 // The flags of block `j` of a whole chunk.
@@ -55,46 +38,16 @@ fn block_flags(flags: u8, j: usize) -> u32
     u32::from(flags) + u32::from(start) + u32::from(end)
 }
 
-// The numbers of eight chunks.
-fn numbers(first: u64) -> [u64; 8]
-    requires { first + 8 < 2 ^ 64 }
-    ensures { (i : ℕ) → i < 8 → slice_index result i ≡ first + i }
-{
-    [
-        first,
-        first + 1,
-        first + 2,
-        first + 3,
-        first + 4,
-        first + 5,
-        first + 6,
-        first + 7,
-    ]
-}
-
-// Where each of four lanes begins to read.
+// The numbers of the chunks of the lanes.
 #[inline(always)]
-fn four_starts(last: usize) -> [usize; 4]
-    ensures own { (i : ℕ) → i < 4 → 1024 * i ≤ last → slice_index result i ≡ 1024 * i }
-    ensures bound { (i : ℕ) → i < 4 → slice_index result i ≤ last }
+fn numbers<const N: usize>(first: u64) -> [u64; N]
+    requires { first + N < 2 ^ 64 }
+    ensures { (i : ℕ) → i < N → slice_index result i ≡ first + i }
 {
-    [
-        lane_start(0, last),
-        lane_start(1, last),
-        lane_start(2, last),
-        lane_start(3, last),
-    ]
+    from_fn(|i| first + i as u64)
 }
 
-// The numbers of four chunks.
-fn four_numbers(first: u64) -> [u64; 4]
-    requires { first + 4 < 2 ^ 64 }
-    ensures { (i : ℕ) → i < 4 → slice_index result i ≡ first + i }
-{
-    [first, first + 1, first + 2, first + 3]
-}
-
-// Four rows, and four more of no meaning.
+// Four rows, and four more of no meaning. Written out, since a copy into zeros is slower.
 fn padded(rows: [[u32; 8]; 4]) -> [[u32; 8]; 8]
     ensures { (i : ℕ) → i < 4 → slice_index_or result i [] ≡ slice_index_or rows i [] }
 {
@@ -116,8 +69,8 @@ fn few_chunk_values(
     ensures before { (i : ℕ) → i < 4 → 1024 * i + 1024 ≤ length bytes.now
         → slice_index_or result.1 i [] ≡ value_before_last parameters.now.key parameters.now.flags first bytes.now i }
 {
-    let counters = four_numbers(first);
-    let starts = four_starts(bytes.len() - CHUNK_LEN);
+    let counters = numbers(first);
+    let starts = lane_starts(bytes.len() - CHUNK_LEN);
     let turns = four::Turns::new();
     let mut values = four::same_lanes(&parameters.key);
     let mut before = values;

@@ -1,67 +1,59 @@
--- The numbers that the calls answer: 0 where all was done, else which refusal.
-use Rattle.std.specs.Prelude.{ℕ, Option, Some, None, nat_eq, nat_lt, if◌then◌else◌, ◌+◌, ◌-◌, ◌*◌, ◌/◌, ◌^◌}
+-- The statuses that the calls answer: which refusal, or that all was done.
+use Rattle.std.specs.Prelude.{ℕ, Option, Some, None, nat_eq, nat_lt, if◌then◌else◌, ◌||◌, ◌+◌, ◌-◌, ◌*◌, ◌/◌, ◌^◌}
 use Rattle.blake2.specs.declared.fault.ParameterFault.{ParameterFault}
 use Rattle.blake2.specs.declared.fault.ParameterFault.TheVariants.{DigestLength, KeyLength}
-use Rattle.blake2.specs.declared.fault.StateFault.{StateFault}
-use Rattle.blake2.specs.declared.fault.StateFault.TheVariants.{NotBegun, TooLong}
+use Rattle.hash_c.specs.declared.statuses.TheConstants.{SUMS_DIGEST_LENGTH, SUMS_END_OF_OUTPUT, SUMS_INPUT_TOO_LONG}
+use Rattle.hash_c.specs.declared.statuses.TheConstants.{SUMS_KEY_LENGTH, SUMS_OK}
+
+-- the first of two statuses that is a refusal
+infixr 10 ◌otherwise◌
+abbrev pub ◌otherwise◌ : (first second : ℕ) → ℕ
+first otherwise second = if nat_lt SUMS_OK first then first else second
 
 -- of a digest length and a key length of BLAKE2
 unfoldable pub parameter_status : Option ParameterFault → ℕ
-parameter_status None = 0
-parameter_status (Some DigestLength) = 1
-parameter_status (Some KeyLength) = 2
+parameter_status None = SUMS_OK
+parameter_status (Some DigestLength) = SUMS_DIGEST_LENGTH
+parameter_status (Some KeyLength) = SUMS_KEY_LENGTH
+
+-- of a key, where the hash function has inputs of at most `limit` bytes
+abbrev pub key_status : (limit key_length : ℕ) → ℕ
+key_status limit key_length = if nat_lt limit key_length then SUMS_KEY_LENGTH else SUMS_OK
+
+-- of a message that would have n bytes, where it may have at most `limit`
+abbrev pub input_status : (limit n : ℕ) → ℕ
+input_status limit n = if nat_lt limit n then SUMS_INPUT_TOO_LONG else SUMS_OK
 
 -- of n bytes of BLAKE3's output from a position on
-abbrev pub output_status : ℕ → ℕ → ℕ
-output_status position n = if nat_lt (2 ^ 64 - 1) (position + n) then 5 else 0
+abbrev pub output_status : (position n : ℕ) → ℕ
+output_status position n = if nat_lt (2 ^ 64 - 1) (position + n) then SUMS_END_OF_OUTPUT else SUMS_OK
+
+-- of a digest of n bytes, where the message was begun for one of `wanted`
+abbrev pub length_status : (wanted n : ℕ) → ℕ
+length_status wanted n = if nat_eq wanted n then SUMS_OK else SUMS_DIGEST_LENGTH
+
+-- of the first n bytes of a digest of `out` bytes
+abbrev pub tag_status : (out n : ℕ) → ℕ
+tag_status out n = if nat_lt n (out / 2) || nat_lt out n then SUMS_DIGEST_LENGTH else SUMS_OK
 
 -- of a key and a text of HMAC, where the hash function has blocks of `block` bytes and inputs of at most `limit`
 abbrev pub keyed_status : (block limit key_length text_length : ℕ) → ℕ
 keyed_status block limit key_length text_length =
-    if nat_lt limit key_length then 2
-    else if nat_lt (limit - block) text_length then 3
-    else 0
+    key_status limit key_length otherwise input_status (limit - block) text_length
 
 -- of the first n bytes of an HMAC, where the hash function has digests of `out` bytes
 abbrev pub hmac_status : (block out limit n key_length text_length : ℕ) → ℕ
 hmac_status block out limit n key_length text_length =
-    if nat_lt n (out / 2) then 1
-    else if nat_lt out n then 1
-    else keyed_status block limit key_length text_length
+    tag_status out n otherwise keyed_status block limit key_length text_length
 
--- of a key, where the hash function has inputs of at most `limit` bytes
-abbrev pub key_status : (limit key_length : ℕ) → ℕ
-key_status limit key_length = if nat_lt limit key_length then 2 else 0
-
--- of the first n bytes of a digest of `out` bytes
-abbrev pub tag_status : (out n : ℕ) → ℕ
-tag_status out n = if nat_lt n (out / 2) then 1 else if nat_lt out n then 1 else 0
-
--- of n bytes of HKDF-Expand
+-- of n bytes of HKDF-Expand, whose key has at least the bytes of a digest
 abbrev pub expand_status : (block out limit n key_length info_length : ℕ) → ℕ
 expand_status block out limit n key_length info_length =
-    if nat_lt key_length out then 2
-    else if nat_lt limit key_length then 2
-    else if nat_lt (255 * out) n then 5
-    else if nat_lt limit (block + out + info_length + 1) then 3
-    else 0
+    if nat_lt key_length out || nat_lt limit key_length then SUMS_KEY_LENGTH
+    else if nat_lt (255 * out) n then SUMS_END_OF_OUTPUT
+    else input_status limit (block + out + info_length + 1)
 
 -- of n bytes of HKDF: those of its first step, and then those of its second, whose key is a digest
 abbrev pub hkdf_status : (block out limit n material_length salt_length info_length : ℕ) → ℕ
 hkdf_status block out limit n material_length salt_length info_length =
-    if nat_lt 0 (keyed_status block limit salt_length material_length)
-    then keyed_status block limit salt_length material_length
-    else expand_status block out limit n out info_length
-
--- of a piece that a state does not take
-unfoldable pub fault_status : StateFault → ℕ
-fault_status NotBegun = 4
-fault_status TooLong = 3
-
--- of a message that would have n bytes, where it may have at most `limit`
-abbrev pub input_status : (limit n : ℕ) → ℕ
-input_status limit n = if nat_lt limit n then 3 else 0
-
--- of a digest of n bytes, where the message was begun for one of `wanted`
-abbrev pub length_status : (wanted n : ℕ) → ℕ
-length_status wanted n = if nat_eq wanted n then 0 else 1
+    keyed_status block limit salt_length material_length otherwise expand_status block out limit n out info_length

@@ -1,2 +1,3 @@
--- What the structs that cross to C hold: of use inside alone.
+-- What only the code needs: the structs that cross to C, and the statuses of refused pieces.
 pub mod Macs
+pub mod Pieces

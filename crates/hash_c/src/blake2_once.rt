@@ -1,24 +1,25 @@
 // BLAKE2b and BLAKE2s of a message that lies in memory as a whole.
 
-ghost use Rattle.std.specs.Prelude.{◌≡◌, ◌<◌, length};
+ghost use Rattle.std.specs.Prelude.{◌≡◌, ◌≢◌, length};
 ghost use Rattle.words.specs.Blake2.{blake2b, blake2s};
 ghost use Rattle.blake2.specs.Blake2.{blake2, salted, unsalted};
 ghost use Rattle.blake2.specs.Faults.{parameter_fault};
 ghost use Rattle.hash_c.specs.Statuses.{parameter_status};
 
+use crate::statuses::SUMS_OK;
 use crate::tags::status_of;
 use blake2::{Blake2b, Blake2s};
 use words::Absorb;
 
-/// Fills `out` with the BLAKE2b digest of `input` of its length (RFC 7693, section 3.3), under a key
-/// of up to 64 bytes, which may be empty: 1 where `out` has none or more than 64 bytes, and else 2
-/// where the key is too long.
+/// Fills `out` with the BLAKE2b digest of `input` of its length (RFC 7693, section 3.3), under a key of
+/// up to 64 bytes, which may be empty: `SUMS_DIGEST_LENGTH` where `out` has none or more than 64 bytes,
+/// and else `SUMS_KEY_LENGTH` where the key is too long.
 #[unsafe(no_mangle)]
 pub extern "C" fn sums_blake2b(out: &mut [u8], input: &[u8], key: &[u8]) -> u32
     ensures status { result ≡ parameter_status (parameter_fault 64 (length out.old) (length key.now)) }
-    ensures digest { result ≡ 0
+    ensures digest { result ≡ SUMS_OK
         → out.new ≡ blake2 blake2b (unsalted blake2b (length out.old) key.now) input.now }
-    ensures kept { 0 < result → out.new ≡ out.old }
+    ensures kept { result ≢ SUMS_OK → out.new ≡ out.old }
 {
     sums_blake2b_salted(out, input, key, &[0; 16], &[0; 16])
 }
@@ -33,9 +34,9 @@ pub extern "C" fn sums_blake2b_salted(
     personal: &[u8; 16],
 ) -> u32
     ensures status { result ≡ parameter_status (parameter_fault 64 (length out.old) (length key.now)) }
-    ensures digest { result ≡ 0
+    ensures digest { result ≡ SUMS_OK
         → out.new ≡ blake2 blake2b (salted (length out.old) key.now salt.now personal.now) input.now }
-    ensures kept { 0 < result → out.new ≡ out.old }
+    ensures kept { result ≢ SUMS_OK → out.new ≡ out.old }
 {
     let mut hasher = match Blake2b::with_parameters(out.len(), key, salt, personal) {
         Ok(hasher) => hasher,
@@ -43,18 +44,18 @@ pub extern "C" fn sums_blake2b_salted(
     };
     hasher.update(input).unwrap();
     out.copy_from_slice(hasher.finish().bytes());
-    0
+    SUMS_OK
 }
 
-/// Fills `out` with the BLAKE2s digest of `input` of its length (RFC 7693, section 3.3), under a key
-/// of up to 32 bytes, which may be empty: 1 where `out` has none or more than 32 bytes, and else 2
-/// where the key is too long.
+/// Fills `out` with the BLAKE2s digest of `input` of its length (RFC 7693, section 3.3), under a key of
+/// up to 32 bytes, which may be empty: `SUMS_DIGEST_LENGTH` where `out` has none or more than 32 bytes,
+/// and else `SUMS_KEY_LENGTH` where the key is too long.
 #[unsafe(no_mangle)]
 pub extern "C" fn sums_blake2s(out: &mut [u8], input: &[u8], key: &[u8]) -> u32
     ensures status { result ≡ parameter_status (parameter_fault 32 (length out.old) (length key.now)) }
-    ensures digest { result ≡ 0
+    ensures digest { result ≡ SUMS_OK
         → out.new ≡ blake2 blake2s (unsalted blake2s (length out.old) key.now) input.now }
-    ensures kept { 0 < result → out.new ≡ out.old }
+    ensures kept { result ≢ SUMS_OK → out.new ≡ out.old }
 {
     sums_blake2s_salted(out, input, key, &[0; 8], &[0; 8])
 }
@@ -69,9 +70,9 @@ pub extern "C" fn sums_blake2s_salted(
     personal: &[u8; 8],
 ) -> u32
     ensures status { result ≡ parameter_status (parameter_fault 32 (length out.old) (length key.now)) }
-    ensures digest { result ≡ 0
+    ensures digest { result ≡ SUMS_OK
         → out.new ≡ blake2 blake2s (salted (length out.old) key.now salt.now personal.now) input.now }
-    ensures kept { 0 < result → out.new ≡ out.old }
+    ensures kept { result ≢ SUMS_OK → out.new ≡ out.old }
 {
     let mut hasher = match Blake2s::with_parameters(out.len(), key, salt, personal) {
         Ok(hasher) => hasher,
@@ -79,5 +80,5 @@ pub extern "C" fn sums_blake2s_salted(
     };
     hasher.update(input).unwrap();
     out.copy_from_slice(hasher.finish().bytes());
-    0
+    SUMS_OK
 }

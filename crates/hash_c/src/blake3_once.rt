@@ -1,36 +1,37 @@
 // BLAKE3 of a message that lies in memory as a whole.
 
-ghost use Rattle.std.specs.Prelude.{◌≡◌, ◌<◌, ℕ, List, length};
+ghost use Rattle.std.specs.Prelude.{◌≡◌, ◌≢◌, ℕ, List, length};
 ghost use Rattle.b3.specs.Bytes.{slice};
 ghost use Rattle.b3.specs.Modes.{derive_root, hash_root, keyed_root, root_of};
 ghost use Rattle.hash_c.specs.Statuses.{output_status};
 
+use crate::statuses::{SUMS_END_OF_OUTPUT, SUMS_OK};
 use b3::Blake3;
 use words::Absorb;
 
-/// Fills `out` with the bytes of the hasher's output from `position` on: 5 where they would end after
-/// position 2^64 - 1 (the BLAKE3 paper, section 2.6).
+/// Fills `out` with the bytes of the hasher's output from `position` on: `SUMS_END_OF_OUTPUT` where
+/// they would end after position 2^64 - 1 (the BLAKE3 paper, section 2.6).
 pub fn output_into(hasher: &Blake3, position: u64, out: &mut [u8]) -> u32
     ensures status { result ≡ output_status position (length out.old) }
-    ensures bytes { (m : List ℕ) → ⟦<Blake3 as Absorb>⟧.holds hasher.now m → result ≡ 0
+    ensures bytes { (m : List ℕ) → ⟦<Blake3 as Absorb>⟧.holds hasher.now m → result ≡ SUMS_OK
         → out.new ≡ slice (root_of (⟦<Blake3 as Absorb>⟧.parameters hasher.now) m) position (length out.old) }
-    ensures kept { 0 < result → out.new ≡ out.old }
+    ensures kept { result ≢ SUMS_OK → out.new ≡ out.old }
 {
     let mut output = hasher.output();
     output.seek(position);
     match output.fill(out) {
-        Ok(()) => 0,
-        Err(_) => 5,
+        Ok(()) => SUMS_OK,
+        Err(_) => SUMS_END_OF_OUTPUT,
     }
 }
 
 /// Fills `out` with the bytes of BLAKE3's hash of `input` from `position` on (the BLAKE3 paper,
-/// sections 2.3 and 2.6): 5 where they would end after position 2^64 - 1.
+/// sections 2.3 and 2.6): `SUMS_END_OF_OUTPUT` where they would end after position 2^64 - 1.
 #[unsafe(no_mangle)]
 pub extern "C" fn sums_blake3(out: &mut [u8], position: u64, input: &[u8]) -> u32
     ensures status { result ≡ output_status position (length out.old) }
-    ensures bytes { result ≡ 0 → out.new ≡ slice (hash_root input.now) position (length out.old) }
-    ensures kept { 0 < result → out.new ≡ out.old }
+    ensures bytes { result ≡ SUMS_OK → out.new ≡ slice (hash_root input.now) position (length out.old) }
+    ensures kept { result ≢ SUMS_OK → out.new ≡ out.old }
 {
     let mut hasher = Blake3::new();
     hasher.update(input).unwrap();
@@ -46,8 +47,8 @@ pub extern "C" fn sums_blake3_keyed(
     key: &[u8; 32],
 ) -> u32
     ensures status { result ≡ output_status position (length out.old) }
-    ensures bytes { result ≡ 0 → out.new ≡ slice (keyed_root key.now input.now) position (length out.old) }
-    ensures kept { 0 < result → out.new ≡ out.old }
+    ensures bytes { result ≡ SUMS_OK → out.new ≡ slice (keyed_root key.now input.now) position (length out.old) }
+    ensures kept { result ≢ SUMS_OK → out.new ≡ out.old }
 {
     let mut hasher = Blake3::keyed(key);
     hasher.update(input).unwrap();
@@ -64,9 +65,9 @@ pub extern "C" fn sums_blake3_derive(
     context: &[u8],
 ) -> u32
     ensures status { result ≡ output_status position (length out.old) }
-    ensures bytes { result ≡ 0
+    ensures bytes { result ≡ SUMS_OK
         → out.new ≡ slice (derive_root context.now material.now) position (length out.old) }
-    ensures kept { 0 < result → out.new ≡ out.old }
+    ensures kept { result ≢ SUMS_OK → out.new ≡ out.old }
 {
     let mut hasher = Blake3::derive(context);
     hasher.update(material).unwrap();

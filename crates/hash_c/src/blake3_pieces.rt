@@ -1,12 +1,13 @@
 // BLAKE3 of a message that comes in pieces. The state lies in the caller's memory.
 
-ghost use Rattle.std.specs.Prelude.{◌≡◌, ◌<◌, ◌+◌, ◌-◌, ◌^◌, ◌++◌, ◌↔◌, [], ℕ, List, length};
+ghost use Rattle.std.specs.Prelude.{◌≡◌, ◌≢◌, ◌+◌, ◌-◌, ◌^◌, ◌++◌, ◌↔◌, [], ℕ, List, length};
 ghost use Rattle.b3.specs.Bytes.{slice};
 ghost use Rattle.b3.specs.Modes.{derive_parameters, hash_parameters, keyed_parameters, root_of};
 ghost use Rattle.b3.specs.inside.States.{IsBegun, StateHolds};
 ghost use Rattle.hash_c.specs.Statuses.{input_status, output_status};
 
 use crate::blake3_once::output_into;
+use crate::statuses::{SUMS_INPUT_TOO_LONG, SUMS_NOT_BEGUN, SUMS_OK};
 use b3::{Blake3, Blake3State};
 use words::Absorb;
 
@@ -34,42 +35,43 @@ pub extern "C" fn sums_blake3_init_derive(state: &mut Blake3State, context: &[u8
     state.save(&Blake3::derive(context));
 }
 
-/// Adds a piece to the message: 4 where `state` was never begun, and else 3 where the message would be
-/// longer than 2^64 - 1 bytes.
+/// Adds a piece to the message: `SUMS_NOT_BEGUN` where `state` was never begun, and else
+/// `SUMS_INPUT_TOO_LONG` where the message would be longer than 2^64 - 1 bytes.
 #[unsafe(no_mangle)]
 pub extern "C" fn sums_blake3_update(state: &mut Blake3State, piece: &[u8]) -> u32
     ensures status { (p m : List ℕ) → StateHolds state.old p m
         → result ≡ input_status (2 ^ 64 - 1) (length m + length piece.now) }
-    ensures appended { (p m : List ℕ) → StateHolds state.old p m → result ≡ 0
+    ensures appended { (p m : List ℕ) → StateHolds state.old p m → result ≡ SUMS_OK
         → StateHolds state.new p (m ++ piece.now) }
-    ensures not_begun { (result ≡ 4) ↔ (IsBegun state.old → ⊥) }
-    ensures kept { 0 < result → state.new ≡ state.old }
+    ensures not_begun { (result ≡ SUMS_NOT_BEGUN) ↔ (IsBegun state.old → ⊥) }
+    ensures kept { result ≢ SUMS_OK → state.new ≡ state.old }
 {
     let Some(mut hasher) = state.resume() else {
-        return 4;
+        return SUMS_NOT_BEGUN;
     };
     match hasher.update(piece) {
         Ok(()) => {
             state.save(&hasher);
-            0
+            SUMS_OK
         }
-        Err(_) => 3,
+        Err(_) => SUMS_INPUT_TOO_LONG,
     }
 }
 
-/// Fills `out` with the bytes of the message's output from `position` on: 4 where `state` was never
-/// begun, and else 5 where they would end after position 2^64 - 1. The message can go on.
+/// Fills `out` with the bytes of the message's output from `position` on: `SUMS_NOT_BEGUN` where
+/// `state` was never begun, and else `SUMS_END_OF_OUTPUT` where they would end after position 2^64 - 1.
+/// The message can go on.
 #[unsafe(no_mangle)]
 pub extern "C" fn sums_blake3_output(state: &Blake3State, position: u64, out: &mut [u8]) -> u32
     ensures status { (p m : List ℕ) → StateHolds state.now p m
         → result ≡ output_status position (length out.old) }
-    ensures bytes { (p m : List ℕ) → StateHolds state.now p m → result ≡ 0
+    ensures bytes { (p m : List ℕ) → StateHolds state.now p m → result ≡ SUMS_OK
         → out.new ≡ slice (root_of p m) position (length out.old) }
-    ensures not_begun { (result ≡ 4) ↔ (IsBegun state.now → ⊥) }
-    ensures kept { 0 < result → out.new ≡ out.old }
+    ensures not_begun { (result ≡ SUMS_NOT_BEGUN) ↔ (IsBegun state.now → ⊥) }
+    ensures kept { result ≢ SUMS_OK → out.new ≡ out.old }
 {
     let Some(hasher) = state.resume() else {
-        return 4;
+        return SUMS_NOT_BEGUN;
     };
     output_into(&hasher, position, out)
 }

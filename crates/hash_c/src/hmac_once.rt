@@ -1,6 +1,6 @@
 // HMAC of a text that lies in memory as a whole.
 
-ghost use Rattle.std.specs.Prelude.{◌≡◌, ◌<◌, ◌-◌, ◌^◌, [], length, take};
+ghost use Rattle.std.specs.Prelude.{◌≡◌, ◌≢◌, ◌-◌, ◌^◌, [], length, take};
 ghost use Rattle.words.specs.Blake2.{blake2b, blake2s};
 ghost use Rattle.blake2.specs.Blake2.{blake2, unsalted};
 ghost use Rattle.mac.specs.Hmac.{hmac};
@@ -8,6 +8,7 @@ ghost use Rattle.sha2.specs.Sha256.{sha256};
 ghost use Rattle.sha2.specs.Sha512.{sha512};
 ghost use Rattle.hash_c.specs.Statuses.{hmac_status};
 
+use crate::statuses::{SUMS_DIGEST_LENGTH, SUMS_INPUT_TOO_LONG, SUMS_KEY_LENGTH, SUMS_OK};
 use mac::{Blake2b512, Blake2s256, BlockHash, Hmac, Sha256Stream, Sha512Stream};
 use words::Absorb;
 
@@ -15,33 +16,34 @@ use words::Absorb;
 fn hmac_into<H: BlockHash>(out: &mut [u8], input: &[u8], key: &[u8]) -> u32
     ensures status { result
         ≡ hmac_status H.BLOCK H.OUT H.LIMIT (length out.old) (length key.now) (length input.now) }
-    ensures tag { result ≡ 0
+    ensures tag { result ≡ SUMS_OK
         → out.new ≡ take (length out.old) (hmac H.hash_of H.BLOCK key.now input.now) }
-    ensures kept { 0 < result → out.new ≡ out.old }
+    ensures kept { result ≢ SUMS_OK → out.new ≡ out.old }
 {
     if out.len() < H::OUT / 2 || out.len() > H::OUT {
-        return 1;
+        return SUMS_DIGEST_LENGTH;
     }
     let Ok(mut mac) = Hmac::<H>::new(key) else {
-        return 2;
+        return SUMS_KEY_LENGTH;
     };
     if mac.update(input).is_err() {
-        return 3;
+        return SUMS_INPUT_TOO_LONG;
     }
     let tag = mac.finish();
     out.copy_from_slice(&tag.bytes()[..out.len()]);
-    0
+    SUMS_OK
 }
 
-/// Fills `out` with the first bytes of the HMAC of `input` under `key` over SHA-256 (RFC 2104,
-/// sections 2 and 5): 1 where `out` has fewer than 16 bytes or more than 32, else 2 where the key is
-/// longer than 2^61 - 1 bytes, and else 3 where `input` is longer than that less a block of 64.
+/// Fills `out` with the first bytes of the HMAC of `input` under `key` over SHA-256 (RFC 2104, sections
+/// 2 and 5): `SUMS_DIGEST_LENGTH` where `out` has fewer than 16 bytes or more than 32, else
+/// `SUMS_KEY_LENGTH` where the key is longer than 2^61 - 1 bytes, and else `SUMS_INPUT_TOO_LONG` where
+/// `input` is longer than that less a block of 64.
 #[unsafe(no_mangle)]
 pub extern "C" fn sums_hmac_sha256(out: &mut [u8], input: &[u8], key: &[u8]) -> u32
     ensures status { result
         ≡ hmac_status 64 32 (2 ^ 61 - 1) (length out.old) (length key.now) (length input.now) }
-    ensures tag { result ≡ 0 → out.new ≡ take (length out.old) (hmac sha256 64 key.now input.now) }
-    ensures kept { 0 < result → out.new ≡ out.old }
+    ensures tag { result ≡ SUMS_OK → out.new ≡ take (length out.old) (hmac sha256 64 key.now input.now) }
+    ensures kept { result ≢ SUMS_OK → out.new ≡ out.old }
 {
     hmac_into::<Sha256Stream>(out, input, key)
 }
@@ -51,8 +53,8 @@ pub extern "C" fn sums_hmac_sha256(out: &mut [u8], input: &[u8], key: &[u8]) -> 
 pub extern "C" fn sums_hmac_sha512(out: &mut [u8], input: &[u8], key: &[u8]) -> u32
     ensures status { result
         ≡ hmac_status 128 64 (2 ^ 125 - 1) (length out.old) (length key.now) (length input.now) }
-    ensures tag { result ≡ 0 → out.new ≡ take (length out.old) (hmac sha512 128 key.now input.now) }
-    ensures kept { 0 < result → out.new ≡ out.old }
+    ensures tag { result ≡ SUMS_OK → out.new ≡ take (length out.old) (hmac sha512 128 key.now input.now) }
+    ensures kept { result ≢ SUMS_OK → out.new ≡ out.old }
 {
     hmac_into::<Sha512Stream>(out, input, key)
 }
@@ -62,9 +64,9 @@ pub extern "C" fn sums_hmac_sha512(out: &mut [u8], input: &[u8], key: &[u8]) -> 
 pub extern "C" fn sums_hmac_blake2b(out: &mut [u8], input: &[u8], key: &[u8]) -> u32
     ensures status { result
         ≡ hmac_status 128 64 (2 ^ 128 - 1) (length out.old) (length key.now) (length input.now) }
-    ensures tag { result ≡ 0 → out.new
+    ensures tag { result ≡ SUMS_OK → out.new
         ≡ take (length out.old) (hmac (blake2 blake2b (unsalted blake2b 64 [])) 128 key.now input.now) }
-    ensures kept { 0 < result → out.new ≡ out.old }
+    ensures kept { result ≢ SUMS_OK → out.new ≡ out.old }
 {
     hmac_into::<Blake2b512>(out, input, key)
 }
@@ -74,9 +76,9 @@ pub extern "C" fn sums_hmac_blake2b(out: &mut [u8], input: &[u8], key: &[u8]) ->
 pub extern "C" fn sums_hmac_blake2s(out: &mut [u8], input: &[u8], key: &[u8]) -> u32
     ensures status { result
         ≡ hmac_status 64 32 (2 ^ 64 - 1) (length out.old) (length key.now) (length input.now) }
-    ensures tag { result ≡ 0 → out.new
+    ensures tag { result ≡ SUMS_OK → out.new
         ≡ take (length out.old) (hmac (blake2 blake2s (unsalted blake2s 32 [])) 64 key.now input.now) }
-    ensures kept { 0 < result → out.new ≡ out.old }
+    ensures kept { result ≢ SUMS_OK → out.new ≡ out.old }
 {
     hmac_into::<Blake2s256>(out, input, key)
 }

@@ -1,8 +1,8 @@
 //! The hashers for callers that are not Rattle: each call is one function of a static library.
 //!
-//! A slice is a pointer and then a length in bytes. A status of 0 says that all was done; any other
-//! says why nothing was, and then what the caller lent is as it was.
-#![tactic(auto, unfolding(crate::specs::Statuses::parameter_status, crate::specs::Statuses::fault_status))]
+//! A slice is a pointer and then a length in bytes. A status of `SUMS_OK` says that all was done; any
+//! other says why nothing was, and then what the caller lent is as it was.
+#![tactic(auto, unfolding(crate::specs::Statuses::parameter_status, crate::specs::inside::Pieces::fault_status))]
 
 mod blake2_once;
 mod blake2b_pieces;
@@ -15,4 +15,5 @@ mod hmac_pieces;
 mod pieces;
 mod sha2_once;
 mod sha2_pieces;
+mod statuses;
 mod tags;

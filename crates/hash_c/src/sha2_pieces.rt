@@ -1,10 +1,11 @@
 // SHA-256 and SHA-512 of a message that comes in pieces. The state lies in the caller's memory.
 
-ghost use Rattle.std.specs.Prelude.{◌≡◌, ◌<◌, ◌+◌, ◌-◌, ◌^◌, ◌++◌, ◌↔◌, [], ℕ, List, length};
+ghost use Rattle.std.specs.Prelude.{◌≡◌, ◌≢◌, ◌+◌, ◌-◌, ◌^◌, ◌++◌, ◌↔◌, [], ℕ, List, length};
 ghost use Rattle.sha2.specs.Sha256.{sha256};
 ghost use Rattle.sha2.specs.Sha512.{sha512};
 ghost use Rattle.sha2_state.specs.inside.States.{IsBegun256, IsBegun512, StateHolds256, StateHolds512};
 ghost use Rattle.hash_c.specs.Statuses.{input_status};
+ghost use Rattle.hash_c.specs.declared.statuses.TheConstants.{SUMS_NOT_BEGUN, SUMS_OK};
 
 use crate::pieces::{finish_state, update_state};
 use mac::{Sha256Stream, Sha512Stream};
@@ -18,28 +19,28 @@ pub extern "C" fn sums_sha256_init(state: &mut Sha256State)
     Sha256State::begin(state);
 }
 
-/// Adds a piece to the message: 4 where `state` was never begun, and else 3 where the message would be
-/// longer than 2^61 - 1 bytes.
+/// Adds a piece to the message: `SUMS_NOT_BEGUN` where `state` was never begun, and else
+/// `SUMS_INPUT_TOO_LONG` where the message would be longer than 2^61 - 1 bytes.
 #[unsafe(no_mangle)]
 pub extern "C" fn sums_sha256_update(state: &mut Sha256State, piece: &[u8]) -> u32
     ensures status { (m : List ℕ) → StateHolds256 state.old m
         → result ≡ input_status (2 ^ 61 - 1) (length m + length piece.now) }
-    ensures appended { (m : List ℕ) → StateHolds256 state.old m → result ≡ 0
+    ensures appended { (m : List ℕ) → StateHolds256 state.old m → result ≡ SUMS_OK
         → StateHolds256 state.new (m ++ piece.now) }
-    ensures not_begun { (result ≡ 4) ↔ (IsBegun256 state.old → ⊥) }
-    ensures kept { 0 < result → state.new ≡ state.old }
+    ensures not_begun { (result ≡ SUMS_NOT_BEGUN) ↔ (IsBegun256 state.old → ⊥) }
+    ensures kept { result ≢ SUMS_OK → state.new ≡ state.old }
 {
     update_state::<Sha256Stream, Sha256State>(state, piece)
 }
 
-/// Fills `out` with the SHA-256 digest of the message (FIPS 180-4, section 6.2): 4 where `state` was
-/// never begun. The message can go on.
+/// Fills `out` with the SHA-256 digest of the message (FIPS 180-4, section 6.2): `SUMS_NOT_BEGUN` where
+/// `state` was never begun. The message can go on.
 #[unsafe(no_mangle)]
 pub extern "C" fn sums_sha256_finish(state: &Sha256State, out: &mut [u8; 32]) -> u32
-    ensures status { (m : List ℕ) → StateHolds256 state.now m → result ≡ 0 }
+    ensures status { (m : List ℕ) → StateHolds256 state.now m → result ≡ SUMS_OK }
     ensures digest { (m : List ℕ) → StateHolds256 state.now m → out.new ≡ sha256 m }
-    ensures not_begun { (result ≡ 4) ↔ (IsBegun256 state.now → ⊥) }
-    ensures kept { 0 < result → out.new ≡ out.old }
+    ensures not_begun { (result ≡ SUMS_NOT_BEGUN) ↔ (IsBegun256 state.now → ⊥) }
+    ensures kept { result ≢ SUMS_OK → out.new ≡ out.old }
 {
     finish_state::<Sha256Stream, Sha256State>(state, out)
 }
@@ -52,28 +53,28 @@ pub extern "C" fn sums_sha512_init(state: &mut Sha512State)
     Sha512State::begin(state);
 }
 
-/// Adds a piece to the message: 4 where `state` was never begun, and else 3 where the message would be
-/// longer than 2^125 - 1 bytes.
+/// Adds a piece to the message: `SUMS_NOT_BEGUN` where `state` was never begun, and else
+/// `SUMS_INPUT_TOO_LONG` where the message would be longer than 2^125 - 1 bytes.
 #[unsafe(no_mangle)]
 pub extern "C" fn sums_sha512_update(state: &mut Sha512State, piece: &[u8]) -> u32
     ensures status { (m : List ℕ) → StateHolds512 state.old m
         → result ≡ input_status (2 ^ 125 - 1) (length m + length piece.now) }
-    ensures appended { (m : List ℕ) → StateHolds512 state.old m → result ≡ 0
+    ensures appended { (m : List ℕ) → StateHolds512 state.old m → result ≡ SUMS_OK
         → StateHolds512 state.new (m ++ piece.now) }
-    ensures not_begun { (result ≡ 4) ↔ (IsBegun512 state.old → ⊥) }
-    ensures kept { 0 < result → state.new ≡ state.old }
+    ensures not_begun { (result ≡ SUMS_NOT_BEGUN) ↔ (IsBegun512 state.old → ⊥) }
+    ensures kept { result ≢ SUMS_OK → state.new ≡ state.old }
 {
     update_state::<Sha512Stream, Sha512State>(state, piece)
 }
 
-/// Fills `out` with the SHA-512 digest of the message (FIPS 180-4, section 6.4): 4 where `state` was
-/// never begun. The message can go on.
+/// Fills `out` with the SHA-512 digest of the message (FIPS 180-4, section 6.4): `SUMS_NOT_BEGUN` where
+/// `state` was never begun. The message can go on.
 #[unsafe(no_mangle)]
 pub extern "C" fn sums_sha512_finish(state: &Sha512State, out: &mut [u8; 64]) -> u32
-    ensures status { (m : List ℕ) → StateHolds512 state.now m → result ≡ 0 }
+    ensures status { (m : List ℕ) → StateHolds512 state.now m → result ≡ SUMS_OK }
     ensures digest { (m : List ℕ) → StateHolds512 state.now m → out.new ≡ sha512 m }
-    ensures not_begun { (result ≡ 4) ↔ (IsBegun512 state.now → ⊥) }
-    ensures kept { 0 < result → out.new ≡ out.old }
+    ensures not_begun { (result ≡ SUMS_NOT_BEGUN) ↔ (IsBegun512 state.now → ⊥) }
+    ensures kept { result ≢ SUMS_OK → out.new ≡ out.old }
 {
     finish_state::<Sha512Stream, Sha512State>(state, out)
 }

@@ -1,8 +1,12 @@
 // The numbers of refusals, and tags in the caller's memory.
 
-ghost use Rattle.std.specs.Prelude.{◌≡◌, ◌<◌, Some, length};
-ghost use Rattle.hash_c.specs.Statuses.{fault_status, length_status, parameter_status};
+ghost use Rattle.std.specs.Prelude.{◌≡◌, ◌≢◌, Some, length};
+ghost use Rattle.hash_c.specs.Statuses.{length_status, parameter_status};
+ghost use Rattle.hash_c.specs.inside.Pieces.{fault_status};
 
+use crate::statuses::{
+    SUMS_DIGEST_LENGTH, SUMS_INPUT_TOO_LONG, SUMS_KEY_LENGTH, SUMS_NOT_BEGUN, SUMS_OK,
+};
 use blake2::{ParameterFault, StateFault};
 use words::Tag;
 
@@ -11,8 +15,8 @@ pub fn status_of(fault: ParameterFault) -> u32
     ensures { result ≡ parameter_status (Some fault) }
 {
     match fault {
-        ParameterFault::DigestLength => 1,
-        ParameterFault::KeyLength => 2,
+        ParameterFault::DigestLength => SUMS_DIGEST_LENGTH,
+        ParameterFault::KeyLength => SUMS_KEY_LENGTH,
     }
 }
 
@@ -21,21 +25,21 @@ pub fn state_status(fault: StateFault) -> u32
     ensures { result ≡ fault_status fault }
 {
     match fault {
-        StateFault::NotBegun => 4,
-        StateFault::TooLong => 3,
+        StateFault::NotBegun => SUMS_NOT_BEGUN,
+        StateFault::TooLong => SUMS_INPUT_TOO_LONG,
     }
 }
 
-/// Fills `out` with a tag: 1 where it has another length.
+/// Fills `out` with a tag: `SUMS_DIGEST_LENGTH` where it has another length.
 pub fn tag_into(tag: &Tag, out: &mut [u8]) -> u32
     ensures status { result ≡ length_status (length tag.now) (length out.old) }
-    ensures tag { result ≡ 0 → out.new ≡ tag.now }
-    ensures kept { 0 < result → out.new ≡ out.old }
+    ensures tag { result ≡ SUMS_OK → out.new ≡ tag.now }
+    ensures kept { result ≢ SUMS_OK → out.new ≡ out.old }
 {
     let bytes = tag.bytes();
     if bytes.len() != out.len() {
-        return 1;
+        return SUMS_DIGEST_LENGTH;
     }
     out.copy_from_slice(bytes);
-    0
+    SUMS_OK
 }

@@ -13,9 +13,9 @@ pub each_block-preserved : goal.each_block-preserved
 each_block-preserved c = λ k h w.
     let j : ℕ = c.each_block.j in
     block_more c.args.parameters.now.key c.args.parameters.now.flags c.args.first _ c.args.bytes.now k j
-    (slice_index c.four_numbers-counters.result k) (slice_index c.four_starts-starts.result k + 64 * j) _ _ _ w (omega arith)
+    (slice_index c.numbers-counters.result k) (slice_index c.lane_starts-starts.result k + 64 * j) _ _ _ w (omega arith)
     ((c.each_block.invariant k h w).0 (omega arith)) (c.message_lanes-message.ensures k h)
-    (ap (λ (a : ℕ). a + 64 * j) (c.four_starts-starts.ensures.own k h (omega arith))) (c.four_numbers-counters.ensures k h)
+    (ap (λ (a : ℕ). a + 64 * j) (c.lane_starts-starts.ensures.own k h (omega arith))) (c.numbers-counters.ensures k h)
     (c.next_lanes-next.ensures k h) c.block_flags-d.ensures.first c.block_flags-d.ensures.later c.block_flags-d.ensures.last
 
 pub returns-clause-values : goal.returns-clause-values
