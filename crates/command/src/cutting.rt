@@ -4,7 +4,6 @@ ghost use Rattle.std.specs.Prelude.{◌≡◌, ℕ, ◌*◌, ◌^◌, ◌<◌, �
 ghost use Rattle.std.specs.Prelude.{IfSome, IsErrOf, MatchOption, None, OnOk, Some};
 ghost use Rattle.std.specs.Option.{SomeIff};
 ghost use Rattle.source.specs.Counts.{count_after};
-ghost use Rattle.task.specs.Parting.{IsPlace};
 ghost use Rattle.command.specs.Course.{Counted};
 ghost use Rattle.command.specs.Cutting.{PartRuns, behind_chunks, cut, first_chunks};
 ghost use Rattle.command.specs.Lines.{is_input};
@@ -13,6 +12,7 @@ ghost use Rattle.command.specs.inside.Cutting.{Cuts, IsRoom};
 ghost use Rattle.command.specs.inside.Reading.{failed};
 ghost use Rattle.command.specs.Streams.{TakesCourse};
 ghost use Rattle.command.specs.inside.Streams.{IfContent, SameStreams};
+ghost use Rattle.task.specs.inside.Possible.{IsPlace};
 
 use crate::digests::part_buffer;
 use crate::fault::Fault;

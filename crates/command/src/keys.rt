@@ -6,7 +6,9 @@ ghost use Rattle.command.specs.Keying as spec;
 ghost use Rattle.command.specs.inside.Keys.{Extracts, PrintsDerived, PrintsKey, function_with};
 ghost use Rattle.command.specs.Streams.{TakesCourse};
 ghost use Rattle.command.specs.inside.Streams.{AfterFile, SameStreams};
-ghost use Rattle.task.specs.Deriving.{HasKey, by_blake3, derivation_shown};
+ghost use Rattle.task.specs.Deriving.{by_blake3};
+ghost use Rattle.task.specs.inside.Possible.{HasKey};
+ghost use Rattle.task.specs.inside.Views.{derivation_shown};
 
 use crate::fault::Fault;
 use crate::output::{write_bytes, write_output};

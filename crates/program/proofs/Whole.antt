@@ -12,9 +12,10 @@ use Rattle.request.specs.declared.request.Request.{Request}
 use Rattle.request.specs.declared.request.WordsFault.{WordsFault}
 use Rattle.request.specs.declared.request.WordsFault.TheVariants as words_fault
 use Rattle.task.specs.Parameters.{Judges}
-use Rattle.task.specs.Tasks.{Asked, asked, task_shown}
+use Rattle.task.specs.Tasks.{Asked, asked}
 use Rattle.task.specs.declared.fault.TaskFault.{TaskFault}
 use Rattle.task.specs.declared.fault.TaskFault.TheVariants as task
+use Rattle.task.specs.inside.Views.{task_shown}
 use Rattle.command.specs.Course.{Counted, Course, Printed, Runs, Takes, Tells, TellsAll, ending_told, no_failures}
 use Rattle.command.specs.Course.{refused_by, status_at}
 use Rattle.command.specs.Troubles.{of_task, out_of_memory, status_of, told, trouble_of}

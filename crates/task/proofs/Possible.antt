@@ -9,17 +9,16 @@ use Rattle.source.specs.declared.alg.Alg.{Alg}
 use Rattle.source.specs.declared.alg.Alg.TheVariants as alg
 use Rattle.sumlist.specs.declared.kind.Kind.{Kind}
 use Rattle.sumlist.specs.declared.kind.Kind.TheVariants as kind
-use Rattle.task.specs.Deriving.{Derived, HasKey, derivation, derivation_of, hkdf}
+use Rattle.task.specs.Deriving.{Derived, derivation, derivation_of, hkdf}
 use Rattle.task.specs.Deriving as deriving_of
 use Rattle.task.specs.Hashing.{blake2_parameters, blake3_output, part_size, parts}
 use Rattle.task.specs.Hashing.{names_several, requested, requested_of, sha, stretch_of, tagged_blake3}
 use Rattle.task.specs.Parameters.{◌>>=◌, Judges, absent, files, given_bytes, given_number, hmac_len, kind_of, named}
 use Rattle.task.specs.Parameters.{needed, number, number_in, sized, text, unset}
-use Rattle.task.specs.Parting.{IsOfJoin, IsPlace, joined, least_power, names_blake3, place, place_at}
-use Rattle.task.specs.Requested.{HasDigest, IsPartSize, IsWithin}
-use Rattle.task.specs.Tagging.{HasTag, macs, with_length}
+use Rattle.task.specs.Parting.{joined, least_power, names_blake3, place, place_at}
+use Rattle.task.specs.Tagging.{macs, with_length}
 use Rattle.task.specs.Tagging as tagging
-use Rattle.task.specs.Tasks.{Asked, IsPossible, asked, check, commands, hash, join, kdf, mac, one_source, part, task_shown}
+use Rattle.task.specs.Tasks.{Asked, asked, check, commands, hash, join, kdf, mac, one_source, part}
 use Rattle.task.specs.declared.fault.Setting.TheVariants.{Algorithm, Bytes, Chunks, Command, Context, First, IkmFile}
 use Rattle.task.specs.declared.fault.Setting.TheVariants.{Info, Length, Parts, Personal, Raw, Salt, Seek}
 use Rattle.task.specs.declared.fault.Setting.TheVariants.{List as ListSetting}
@@ -32,6 +31,8 @@ use Rattle.task.specs.declared.parameters.HmacHash.TheVariants as hmac
 use Rattle.task.specs.declared.tagging.Mac.{Mac}
 use Rattle.task.specs.declared.tagging.Mac.TheVariants as mac_of
 use Rattle.task.specs.declared.tasks.Task.{Task}
+use Rattle.task.specs.inside.Possible.{HasKey, IsOfJoin, IsPlace, HasDigest, IsPartSize, IsWithin, HasTag, IsPossible}
+use Rattle.task.specs.inside.Views.{task_shown}
 use Rattle.task.proofs.Powers.{room_at}
 use Rattle.task.proofs.Ranges.{IsBetween, given_in_range, in_range, number_in_range}
 use Rattle.task.proofs.Steps.{by_first, by_second, in_both, of_named, where_read}

@@ -1,11 +1,9 @@
 -- What a request of `kdf` has printed, or the first fault of its settings.
-use Rattle.std.specs.Prelude.{ℕ, ◌*◌, ◌-◌, ◌^◌, ◌≤◌, List, [], ◌∷◌, Option, Result, Ok, option_map, unwrap_or}
+use Rattle.std.specs.Prelude.{ℕ, ◌*◌, ◌-◌, ◌^◌, List, [], ◌∷◌, Option, Result, Ok, unwrap_or}
 use Rattle.request.specs.CommandLine.{Given, Text}
 use Rattle.sumlist.specs.declared.kind.Kind.{Kind}
 use Rattle.sumlist.specs.declared.kind.Kind.TheVariants as kind
 use Rattle.task.specs.Parameters.{◌>>=◌, ◌>>◌, absent, given_bytes, hmac_len, kind_of, needed, number_in}
-use Rattle.task.specs.declared.derivation.Derivation.{Derivation}
-use Rattle.task.specs.declared.derivation.Derivation.TheVariants as code
 use Rattle.task.specs.declared.fault.Setting.TheVariants as setting
 use Rattle.task.specs.declared.fault.UsageFault.{UsageFault}
 use Rattle.task.specs.declared.parameters.HmacHash.{HmacHash}
@@ -15,11 +13,6 @@ use Rattle.task.specs.declared.parameters.HmacHash.TheVariants as hash
 pub data Derived : Type 0 where
   by_hkdf : HmacHash → ℕ → Option (List ℕ) → List ℕ → Derived
   by_blake3 : Text → ℕ → Derived
-
-abbrev pub derivation_shown : Derivation → Derived
-derivation_shown (code.Hkdf by) =
-    by_hkdf by.hash by.length (option_map (λ v. v.items) by.salt) by.info.items
-derivation_shown (code.Blake3 context n) = by_blake3 context.now n
 
 -- HKDF derives 255 times the digest at most
 abbrev pub hkdf : HmacHash → Given → Result Derived UsageFault
@@ -49,8 +42,3 @@ derivation_of g kind.Blake3 = blake3 g
 
 abbrev pub derivation : Given → Result Derived UsageFault
 derivation g = kind_of g >>= derivation_of g
-
--- the function derives keys of this length
-abbrev pub HasKey : Derived → Type 0
-HasKey (by_hkdf h n salt info) = n ≤ 255 * hmac_len h
-HasKey (by_blake3 context n) = n ≤ 2 ^ 64 - 1

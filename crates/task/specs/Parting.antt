@@ -1,14 +1,12 @@
 -- What requests of `part` and `join` ask for, or the first fault of their settings.
-use Rattle.std.specs.Prelude.{◌≡◌, ℕ, ◌-◌, ◌%◌, ◌^◌, ◌<◌, ◌≤◌, ◌==◌, false, Option, None, Some, Result, Ok, Err, IfSome}
+use Rattle.std.specs.Prelude.{ℕ, ◌-◌, ◌%◌, ◌^◌, ◌==◌, false, Option, None, Some, Result, Ok, Err}
 use Rattle.std.specs.Prelude.{if◌then◌else◌}
 use Rattle.std.specs.Int.{leading_zeros, w64}
-use Rattle.b3.specs.Parts.{IsLeastPowerFrom}
 use Rattle.sumlist.specs.declared.kind.Kind.{Kind}
 use Rattle.sumlist.specs.declared.kind.Kind.TheVariants as kind
 use Rattle.request.specs.CommandLine.{Given}
 use Rattle.task.specs.Hashing.{stretch_of}
 use Rattle.task.specs.Parameters.{◌>>=◌, ◌>>◌, given_number, kind_of, number}
-use Rattle.task.specs.Requested.{IsWithin}
 use Rattle.task.specs.declared.fault.Setting.TheVariants.{Algorithm, Bytes, Chunks, First}
 use Rattle.task.specs.declared.fault.UsageFault.{UsageFault}
 use Rattle.task.specs.declared.fault.UsageFault.TheVariants.{NotForCommand, OutOfRange}
@@ -38,13 +36,6 @@ place g = do
   chunks ← given_number Chunks 1 (2 ^ 54) g
   place_at first chunks
 
--- so many chunks can begin there as one subtree
-abbrev pub HasRoom : ℕ → ℕ → Type 0
-HasRoom first n = (1 ≤ n) × (n ≤ 2 ^ 54) × ((p : ℕ) → IsLeastPowerFrom p n → first % p ≡ 0)
-
-abbrev pub IsPlace : ℕ → Option ℕ → Type 0
-IsPlace first chunks = (first < 2 ^ 54) × IfSome chunks (HasRoom first)
-
 -- which bytes of the joined output are printed, and how many bytes the parts have to have
 abbrev pub joined : Given → Result (Stretch × Option ℕ) UsageFault
 joined g = do
@@ -52,7 +43,3 @@ joined g = do
   stretch ← stretch_of g false
   bytes ← given_number Bytes 0 (2 ^ 64 - 1) g
   Ok (stretch, bytes)
-
--- they are printed as a line
-abbrev pub IsOfJoin : Stretch → Type 0
-IsOfJoin stretch = (stretch.is_raw ≡ false) × IsWithin stretch

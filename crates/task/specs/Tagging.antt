@@ -1,9 +1,7 @@
 -- What a request of `mac` has printed, or the first fault of its settings.
-use Rattle.std.specs.Prelude.{ℕ, ◌-◌, ◌/◌, ◌^◌, ◌≤◌, ◌==◌, List, [], ◌∷◌, length, Option, Some, None, Result, Ok, Err}
+use Rattle.std.specs.Prelude.{ℕ, ◌-◌, ◌/◌, ◌^◌, ◌==◌, List, [], ◌∷◌, length, Option, Some, None, Result, Ok, Err}
 use Rattle.std.specs.Prelude.{codes, if◌then◌else◌}
 use Rattle.request.specs.CommandLine.{Given, Text, text_of}
-use Rattle.source.specs.Digest.{IsInRange}
-use Rattle.source.specs.declared.alg.Alg.TheVariants as alg
 use Rattle.source.specs.declared.alg.TheConstants.{BLAKE2B_LEN, BLAKE2S_LEN, BLAKE3_LEN}
 use Rattle.task.specs.Parameters.{◌>>=◌, given_bytes, hexadecimal, hmac_len, named, needed, number, text, where_given}
 use Rattle.task.specs.declared.fault.Setting.TheVariants as setting
@@ -11,8 +9,6 @@ use Rattle.task.specs.declared.fault.UsageFault.{UsageFault}
 use Rattle.task.specs.declared.fault.UsageFault.TheVariants.{OneKey, WrongLength}
 use Rattle.task.specs.declared.parameters.HmacHash.{HmacHash}
 use Rattle.task.specs.declared.parameters.HmacHash.TheVariants as hash
-use Rattle.task.specs.declared.tagging.Key.{Key}
-use Rattle.task.specs.declared.tagging.Key.TheVariants.{Given as GivenKey, File}
 use Rattle.task.specs.declared.tagging.Mac.{Mac}
 use Rattle.task.specs.declared.tagging.Mac.TheVariants.{Hmac, Blake2b, Blake2s, Blake3}
 
@@ -35,13 +31,6 @@ macs = (codes "hmac-sha256", hmac hash.Sha256) ∷ (codes "hmac-sha512", hmac ha
 abbrev pub mac : Given → Result Mac UsageFault
 mac g = needed setting.Algorithm g >>= named setting.Algorithm macs >>= (λ f. f g)
 
--- the function has tags of this length
-abbrev pub HasTag : Mac → Type 0
-HasTag (Hmac h n) = (hmac_len h / 2 ≤ n) × (n ≤ hmac_len h)
-HasTag (Blake2b n) = IsInRange (alg.Blake2b n)
-HasTag (Blake2s n) = IsInRange (alg.Blake2s n)
-HasTag (Blake3 n) = n ≤ 2 ^ 64 - 1
-
 -- how many bytes the tags have
 abbrev pub mac_len : Mac → ℕ
 mac_len (Hmac h n) = n
@@ -60,10 +49,6 @@ wanted mac g = where_given (λ t. hexadecimal setting.Verify t >>= of_length (ma
 pub data KeyText : Type 0 where
   bytes : List ℕ → KeyText
   file : Text → KeyText
-
-abbrev pub key_shown : Key → KeyText
-key_shown (GivenKey key) = bytes key.items
-key_shown (File name) = file name.now
 
 -- one of the two ways to give a key
 abbrev pub one_key : Option (List ℕ) → Option Text → Result KeyText UsageFault

@@ -1,15 +1,13 @@
 -- What a request asks for, or the first fault of its settings.
-use Rattle.std.specs.Prelude.{⊤, ℕ, ◌==◌, Bool, List, Vec, [], ◌∷◌, Option, Some, None, Result, Ok, Err, IfSome, codes}
-use Rattle.std.specs.Prelude.{length, map, option_map, unwrap_or, if◌then◌else◌}
-use Rattle.std.specs.Borrow.{Bor}
+use Rattle.std.specs.Prelude.{ℕ, ◌==◌, Bool, List, [], ◌∷◌, Option, Some, None, Result, Ok, Err, codes}
+use Rattle.std.specs.Prelude.{length, unwrap_or, if◌then◌else◌}
 use Rattle.request.specs.CommandLine.{Given, Text, has_flag, text_of}
 use Rattle.sumlist.specs.declared.kind.Kind.{Kind}
-use Rattle.task.specs.Deriving.{Derived, HasKey, derivation, derivation_shown}
+use Rattle.task.specs.Deriving.{Derived, derivation}
 use Rattle.task.specs.Hashing.{parts, requested}
 use Rattle.task.specs.Parameters.{◌>>=◌, files, kind_of, named, needed}
-use Rattle.task.specs.Parting.{IsOfJoin, IsPlace, joined, place}
-use Rattle.task.specs.Requested.{HasDigest, IsPartSize}
-use Rattle.task.specs.Tagging.{HasTag, KeyText, key, key_shown}
+use Rattle.task.specs.Parting.{joined, place}
+use Rattle.task.specs.Tagging.{KeyText, key}
 use Rattle.task.specs.Tagging as tagging
 use Rattle.task.specs.declared.fault.Setting.TheVariants.{Command, IkmFile, List as ListSetting}
 use Rattle.task.specs.declared.fault.UsageFault.{UsageFault}
@@ -17,10 +15,6 @@ use Rattle.task.specs.declared.fault.UsageFault.TheVariants.{OneSource}
 use Rattle.task.specs.declared.hashing.Requested.{Requested}
 use Rattle.task.specs.declared.hashing.Stretch.{Stretch}
 use Rattle.task.specs.declared.tagging.Mac.{Mac}
-use Rattle.task.specs.declared.tasks.Names.{Names}
-use Rattle.task.specs.declared.tasks.Names.TheVariants.{Given as GivenNames, From}
-use Rattle.task.specs.declared.tasks.Task.{Task}
-use Rattle.task.specs.declared.tasks.Task.TheVariants as code
 
 -- the names of what is hashed: these, or those that the file of this name has
 pub data NameTexts : Type 0 where
@@ -35,22 +29,6 @@ pub data Asked : Type 0 where
   tags : Mac → KeyText → Option (List ℕ) → Text → Asked
   derives : Derived → Bool → Text → Asked
   checks : Kind → Bool → Text → Asked
-
--- the texts of some names
-abbrev pub texts_of : {X : Type 0} → Vec (Bor Text) X → List Text
-texts_of names = map (λ n. n.now) names.items
-
-abbrev pub names_shown : Names → NameTexts
-names_shown (GivenNames names) = these (texts_of names)
-names_shown (From file) = in_file file.now
-
-abbrev pub task_shown : Task → Asked
-task_shown (code.Hash wanted parts names) = hashes wanted parts (names_shown names)
-task_shown (code.Part first chunks file) = cuts first chunks file.now
-task_shown (code.Join stretch bytes name lists) = joins stretch bytes name.now (texts_of lists)
-task_shown (code.Mac mac key wanted file) = tags mac (key_shown key) (option_map (λ v. v.items) wanted) file.now
-task_shown (code.Kdf derivation is_raw material) = derives (derivation_shown derivation) is_raw material.now
-task_shown (code.Check kind is_summed list) = checks kind is_summed list.now
 
 -- without a file standard input is read
 abbrev pub names_of : List Text → List Text
@@ -107,12 +85,3 @@ commands = (codes "hash", hash) ∷ (codes "mac", mac) ∷ (codes "kdf", kdf) �
 -- nothing depends on `progress`, which is for the feeds that a run is given
 abbrev pub asked : Given → Result Asked UsageFault
 asked g = named Command commands g.0 >>= (λ command. command g)
-
--- there are digests, tags and keys of the lengths that are asked for, and parts of such a place
-abbrev pub IsPossible : Asked → Type 0
-IsPossible (hashes wanted parts names) = HasDigest wanted × IfSome parts IsPartSize
-IsPossible (cuts first chunks file) = IsPlace first chunks
-IsPossible (joins stretch bytes name lists) = IsOfJoin stretch
-IsPossible (tags mac key wanted file) = HasTag mac
-IsPossible (derives derived is_raw material) = HasKey derived
-IsPossible (checks kind is_summed list) = ⊤

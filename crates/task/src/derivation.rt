@@ -5,6 +5,7 @@ ghost use Rattle.request.specs.CommandLine.{given_of};
 ghost use Rattle.task.specs.Deriving as spec;
 ghost use Rattle.task.specs.Parameters.{Judges};
 ghost use Rattle.task.specs.inside.Seen.{seen};
+ghost use Rattle.task.specs.inside.Views.{derivation_shown};
 
 use crate::fault::{Setting, TaskFault, UsageFault};
 use crate::parameters::{HmacHash, given_bytes, kind_of, needed, number_in, refused};
@@ -33,7 +34,7 @@ pub struct Hkdf {
 impl<'a> Derivation<'a> {
     /// The derivation that a request of `kdf` names, or the first fault of its settings.
     pub(crate) fn of(alloc: Global, request: &Request<'a>) -> Result<Derivation<'a>, TaskFault>
-        ensures { Judges spec.derivation_shown (spec.derivation (given_of request.now)) result }
+        ensures { Judges derivation_shown (spec.derivation (given_of request.now)) result }
     {
         match kind_of(request)? {
             Kind::Sha256 => with_hkdf(alloc, request, HmacHash::Sha256),
@@ -50,7 +51,7 @@ fn with_hkdf<'a>(
     request: &Request<'a>,
     hash: HmacHash,
 ) -> Result<Derivation<'a>, TaskFault>
-    ensures { Judges spec.derivation_shown (spec.hkdf hash (given_of request.now)) result }
+    ensures { Judges derivation_shown (spec.hkdf hash (given_of request.now)) result }
 {
     refused(request, &[Setting::Context])?;
     let length = needed(request, Setting::Length)?;
@@ -67,7 +68,7 @@ fn with_hkdf<'a>(
 }
 
 fn with_blake3<'a>(request: &Request<'a>) -> Result<Derivation<'a>, UsageFault>
-    ensures { seen spec.derivation_shown result ≡ spec.blake3 (given_of request.now) }
+    ensures { seen derivation_shown result ≡ spec.blake3 (given_of request.now) }
 {
     refused(request, &[Setting::Salt, Setting::Info])?;
     let context = needed(request, Setting::Context)?;

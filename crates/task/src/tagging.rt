@@ -5,6 +5,7 @@ ghost use Rattle.request.specs.CommandLine.{given_of};
 ghost use Rattle.task.specs.Parameters.{Judges, number};
 ghost use Rattle.task.specs.Tagging as spec;
 ghost use Rattle.task.specs.inside.Seen.{seen};
+ghost use Rattle.task.specs.inside.Views.{key_shown};
 
 use crate::fault::{Setting, TaskFault, UsageFault};
 use crate::parameters::{HmacHash, given_bytes, hexadecimal, needed, number, text_of};
@@ -104,7 +105,7 @@ impl<'a> Key<'a> {
     /// The key of a request of `mac`, which gives it in one of the two ways. The digits of `--key`
     /// are judged first.
     pub(crate) fn of(alloc: Global, request: &Request<'a>) -> Result<Key<'a>, TaskFault>
-        ensures { Judges spec.key_shown (spec.key (given_of request.now)) result }
+        ensures { Judges key_shown (spec.key (given_of request.now)) result }
     {
         let given = given_bytes(alloc, request, Setting::Key)?;
         match (given, request.text("key-file")) {

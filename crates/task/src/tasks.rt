@@ -4,8 +4,10 @@ ghost use Rattle.std.specs.Prelude.{◌≡◌, IfOk, codes};
 ghost use Rattle.request.specs.CommandLine.{given_of, text_of};
 ghost use Rattle.task.specs.Parameters.{Judges, files};
 ghost use Rattle.task.specs.Tasks as spec;
-ghost use Rattle.task.specs.Tasks.{IsPossible, asked, names_shown, task_shown, texts_of};
+ghost use Rattle.task.specs.Tasks.{asked};
 ghost use Rattle.task.specs.inside.Seen.{seen};
+ghost use Rattle.task.specs.inside.Possible.{IsPossible};
+ghost use Rattle.task.specs.inside.Views.{names_shown, task_shown, texts_of};
 
 use crate::derivation::Derivation;
 use crate::fault::{Setting, TaskFault, UsageFault};

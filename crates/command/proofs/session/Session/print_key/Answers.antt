@@ -1,7 +1,7 @@
 use Rattle.std.proofs.Common.{refl}
-use Rattle.task.specs.Deriving.{derivation_shown}
 use Rattle.command.proofs.Deriving.{derives_printed, derives_stopped, unended}
 use Rattle.command.proofs.session.Session.print_key.Goals as goal
+use Rattle.task.specs.inside.Views.{derivation_shown}
 
 pub returns-in_err-print_bytes-clause-course : goal.returns-in_err-print_bytes-clause-course
 returns-in_err-print_bytes-clause-course g c =

@@ -1,0 +1,40 @@
+-- The tasks of the code as the definitions have them.
+use Rattle.std.specs.Prelude.{List, Vec, map, option_map}
+use Rattle.std.specs.Borrow.{Bor}
+use Rattle.request.specs.CommandLine.{Text}
+use Rattle.task.specs.Deriving.{Derived, by_blake3, by_hkdf}
+use Rattle.task.specs.Tagging.{KeyText, bytes, file}
+use Rattle.task.specs.Tasks.{Asked, NameTexts, checks, cuts, derives, hashes, in_file, joins, tags, these}
+use Rattle.task.specs.declared.derivation.Derivation.{Derivation}
+use Rattle.task.specs.declared.derivation.Derivation.TheVariants as derivation
+use Rattle.task.specs.declared.tagging.Key.{Key}
+use Rattle.task.specs.declared.tagging.Key.TheVariants.{Given as GivenKey, File}
+use Rattle.task.specs.declared.tasks.Names.{Names}
+use Rattle.task.specs.declared.tasks.Names.TheVariants.{Given as GivenNames, From}
+use Rattle.task.specs.declared.tasks.Task.{Task}
+use Rattle.task.specs.declared.tasks.Task.TheVariants as code
+
+-- the texts of some names
+abbrev pub texts_of : {X : Type 0} → Vec (Bor Text) X → List Text
+texts_of names = map (λ n. n.now) names.items
+
+abbrev pub names_shown : Names → NameTexts
+names_shown (GivenNames names) = these (texts_of names)
+names_shown (From list) = in_file list.now
+
+abbrev pub key_shown : Key → KeyText
+key_shown (GivenKey key) = bytes key.items
+key_shown (File name) = file name.now
+
+abbrev pub derivation_shown : Derivation → Derived
+derivation_shown (derivation.Hkdf by) =
+    by_hkdf by.hash by.length (option_map (λ v. v.items) by.salt) by.info.items
+derivation_shown (derivation.Blake3 context n) = by_blake3 context.now n
+
+abbrev pub task_shown : Task → Asked
+task_shown (code.Hash wanted parts names) = hashes wanted parts (names_shown names)
+task_shown (code.Part first chunks name) = cuts first chunks name.now
+task_shown (code.Join stretch count name lists) = joins stretch count name.now (texts_of lists)
+task_shown (code.Mac mac key wanted name) = tags mac (key_shown key) (option_map (λ v. v.items) wanted) name.now
+task_shown (code.Kdf derivation is_raw material) = derives (derivation_shown derivation) is_raw material.now
+task_shown (code.Check kind is_summed list) = checks kind is_summed list.now
