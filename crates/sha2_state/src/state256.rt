@@ -5,7 +5,7 @@ ghost use Rattle.std.specs.Prelude.{IfSome, IsErrOf, OnOk, OnErr};
 ghost use Rattle.sha2.specs.Sha256.{sha256};
 ghost use Rattle.sha2_state.specs.inside.States.{IsBegun256, StateHolds256};
 
-use crate::stream::Stream;
+use crate::stream;
 use crate::value::Value256;
 use blake2::StateFault;
 use words::Tag;
@@ -36,7 +36,10 @@ impl Sha256State {
         ensures { StateHolds256 self.new [] }
     {
         self.digest_length = OUT;
-        self.keep(&Stream::new());
+        let mut value = Value256 { h: self.h };
+        stream::begin(&mut value, &mut self.buffer);
+        self.h = value.h;
+        self.taken = 0;
     }
 
     /// Whether these can be the numbers of a hasher.
@@ -65,9 +68,10 @@ impl Sha256State {
         if piece.len() as u64 > LIMIT - self.taken {
             return Err(StateFault::TooLong);
         }
-        let mut stream = self.stream();
-        stream.update(piece);
-        self.keep(&stream);
+        let mut value = Value256 { h: self.h };
+        stream::update(&mut value, &mut self.buffer, u128::from(self.taken), piece);
+        self.h = value.h;
+        self.taken += piece.len() as u64;
         Ok(())
     }
 
@@ -83,30 +87,8 @@ impl Sha256State {
             return None;
         }
         let bits = 8 * self.taken;
-        Some(self.stream().finish(&bits.to_be_bytes()).tag())
-    }
-
-    fn stream(&self) -> Stream<Value256, 64>
-        ensures h { result.value.h ≡ self.now.h }
-        ensures buffer { result.buffer ≡ self.now.buffer }
-        ensures taken { result.taken ≡ self.now.taken }
-    {
-        Stream {
-            value: Value256 { h: self.h },
-            buffer: self.buffer,
-            taken: u128::from(self.taken),
-        }
-    }
-
-    fn keep(&mut self, stream: &Stream<Value256, 64>)
-        requires { stream.now.taken ≤ 2 ^ 61 - 1 }
-        ensures h { self.new.h ≡ stream.now.value.h }
-        ensures buffer { self.new.buffer ≡ stream.now.buffer }
-        ensures taken { self.new.taken ≡ stream.now.taken }
-        ensures digest_length { self.new.digest_length ≡ self.old.digest_length }
-    {
-        self.h = stream.value.h;
-        self.buffer = stream.buffer;
-        self.taken = stream.taken as u64;
+        let value = Value256 { h: self.h };
+        let taken = u128::from(self.taken);
+        Some(stream::finish(value, &self.buffer, taken, &bits.to_be_bytes()).tag())
     }
 }

@@ -5,7 +5,7 @@ ghost use Rattle.std.specs.Prelude.{IfSome, IsErrOf, OnOk, OnErr};
 ghost use Rattle.sha2.specs.Sha512.{sha512};
 ghost use Rattle.sha2_state.specs.inside.States.{IsBegun512, StateHolds512, taken_512};
 
-use crate::stream::Stream;
+use crate::stream;
 use crate::value::Value512;
 use blake2::StateFault;
 use words::Tag;
@@ -37,7 +37,10 @@ impl Sha512State {
         ensures { StateHolds512 self.new [] }
     {
         self.digest_length = OUT;
-        self.keep(&Stream::new());
+        let mut value = Value512 { h: self.h };
+        stream::begin(&mut value, &mut self.buffer);
+        self.h = value.h;
+        self.count(0);
     }
 
     /// Whether these can be the numbers of a hasher.
@@ -66,9 +69,11 @@ impl Sha512State {
         if piece.len() as u128 > LIMIT - self.taken() {
             return Err(StateFault::TooLong);
         }
-        let mut stream = self.stream();
-        stream.update(piece);
-        self.keep(&stream);
+        let taken = self.taken();
+        let mut value = Value512 { h: self.h };
+        stream::update(&mut value, &mut self.buffer, taken, piece);
+        self.h = value.h;
+        self.count(taken + piece.len() as u128);
         Ok(())
     }
 
@@ -83,8 +88,10 @@ impl Sha512State {
         if !self.is_begun() {
             return None;
         }
-        let bits = 8 * self.taken();
-        Some(self.stream().finish(&bits.to_be_bytes()).tag())
+        let taken = self.taken();
+        let bits = 8 * taken;
+        let value = Value512 { h: self.h };
+        Some(stream::finish(value, &self.buffer, taken, &bits.to_be_bytes()).tag())
     }
 
     // How many bytes the message has.
@@ -94,27 +101,14 @@ impl Sha512State {
         u128::from(self.taken_low) + 0x1_0000_0000_0000_0000 * u128::from(self.taken_high)
     }
 
-    fn stream(&self) -> Stream<Value512, 128>
-        ensures h { result.value.h ≡ self.now.h }
-        ensures buffer { result.buffer ≡ self.now.buffer }
-        ensures taken { result.taken ≡ taken_512 self.now }
-    {
-        Stream {
-            value: Value512 { h: self.h },
-            buffer: self.buffer,
-            taken: self.taken(),
-        }
-    }
-
-    fn keep(&mut self, stream: &Stream<Value512, 128>)
-        ensures h { self.new.h ≡ stream.now.value.h }
-        ensures buffer { self.new.buffer ≡ stream.now.buffer }
-        ensures taken { taken_512 self.new ≡ stream.now.taken }
+    // Keeps how many bytes the message has.
+    fn count(&mut self, taken: u128)
+        ensures taken { taken_512 self.new ≡ taken }
+        ensures h { self.new.h ≡ self.old.h }
+        ensures buffer { self.new.buffer ≡ self.old.buffer }
         ensures digest_length { self.new.digest_length ≡ self.old.digest_length }
     {
-        self.h = stream.value.h;
-        self.buffer = stream.buffer;
-        self.taken_low = (stream.taken % 0x1_0000_0000_0000_0000) as u64;
-        self.taken_high = (stream.taken / 0x1_0000_0000_0000_0000) as u64;
+        self.taken_low = (taken % 0x1_0000_0000_0000_0000) as u64;
+        self.taken_high = (taken / 0x1_0000_0000_0000_0000) as u64;
     }
 }

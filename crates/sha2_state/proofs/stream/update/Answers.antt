@@ -1,18 +1,18 @@
 use Rattle.std.proofs.Common.{◌≡◌, ◌%◌, length, arith, refl}
 use Rattle.sha2_state.proofs.Taking.{HasTaken_long, HasTaken_short}
-use Rattle.sha2_state.proofs.stream.Stream.update.Goals as goal
+use Rattle.sha2_state.proofs.stream.update.Goals as goal
 
-pub returns-then-piece-space-clause-appended : goal.returns-then-piece-space-clause-appended
-returns-then-piece-space-clause-appended g c = λ m count held.
+pub returns-then-piece-space : goal.returns-then-piece-space
+returns-then-piece-space g c = λ m count held.
     let v = g.met.V.HashValue in
-    let used : c.args.self.now.taken % g.row.N ≡ length m % g.row.N = rw count refl in
+    let used : c.args.taken % g.row.N ≡ length m % g.row.N = rw count refl in
     HasTaken_short g.V.HashValue.words_after g.V.HashValue.compressed g.row.N v.positive v.on_front v.next_block
     _ _ _ m c.args.piece.now held (omega arith) (rw count at c.write_at.ensures.front)
 
-pub returns-clause-appended : goal.returns-clause-appended
-returns-clause-appended g c = λ m count held.
+pub returns : goal.returns
+returns g c = λ m count held.
     let v = g.met.V.HashValue in
-    let used : c.args.self.now.taken % g.row.N ≡ length m % g.row.N = rw count refl in
+    let used : c.args.taken % g.row.N ≡ length m % g.row.N = rw count refl in
     rw c.split_at.ensures.by_index.0
     (HasTaken_long g.V.HashValue.words_after g.V.HashValue.compressed g.row.N v.positive v.on_front v.next_block
     _ _ m c.split_at.result.0.now c.split_at.result.1.now c.write_at-2.new.buffer
