@@ -19,9 +19,8 @@ TellsPart line part = (value : List ℕ) × Tells line (value_first part) (value
 -- each line tells its part
 abbrev pub AllTell : List (List ℕ) → List PartValue → Type 0
 AllTell [] [] = ⊤
-AllTell [] (part ∷ parts) = ⊥
-AllTell (line ∷ lines) [] = ⊥
 AllTell (line ∷ lines) (part ∷ parts) = TellsPart line part × AllTell lines parts
+AllTell _ _ = ⊥
 
 -- how many bytes parts have
 abbrev pub bytes_of : List PartValue → ℕ
