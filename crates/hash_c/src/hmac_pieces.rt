@@ -4,7 +4,7 @@
 ghost use Rattle.std.specs.Prelude.{◌≡◌, ◌≢◌, ◌+◌, ◌-◌, ◌^◌, ◌++◌, ◌↔◌, [], ℕ, List, length, take};
 ghost use Rattle.sha2.specs.Sha256.{sha256};
 ghost use Rattle.sha2.specs.Sha512.{sha512};
-ghost use Rattle.sha2_state.specs.inside.States.{IsBegun256, IsBegun512};
+ghost use Rattle.states.specs.inside.States.{IsBegun256, IsBegun512};
 ghost use Rattle.words.specs.Blake2.{blake2b, blake2s};
 ghost use Rattle.blake2.specs.Blake2.{blake2, unsalted};
 ghost use Rattle.blake2.specs.inside.States.{IsBegun2b, IsBegun2s};
@@ -17,8 +17,7 @@ use crate::pieces::update_state;
 use crate::statuses::{SUMS_DIGEST_LENGTH, SUMS_KEY_LENGTH, SUMS_NOT_BEGUN, SUMS_OK};
 use blake2::{Blake2bState, Blake2sState};
 use mac::{Blake2b512, Blake2s256, BlockHash, Sha256Stream, Sha512Stream};
-use sha2_state::{Sha256State, Sha512State};
-use states::{StateOf, begin_hmac, finish_hmac};
+use states::{Sha256State, Sha512State, StateOf, begin_hmac, finish_hmac};
 
 // Begins a MAC under a key.
 fn begin<H: BlockHash, S: StateOf<H>>(inner: &mut S, outer: &mut S, key: &[u8]) -> u32

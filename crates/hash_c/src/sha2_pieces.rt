@@ -3,13 +3,13 @@
 ghost use Rattle.std.specs.Prelude.{◌≡◌, ◌≢◌, ◌+◌, ◌-◌, ◌^◌, ◌++◌, ◌↔◌, [], ℕ, List, length};
 ghost use Rattle.sha2.specs.Sha256.{sha256};
 ghost use Rattle.sha2.specs.Sha512.{sha512};
-ghost use Rattle.sha2_state.specs.inside.States.{IsBegun256, IsBegun512, StateHolds256, StateHolds512};
+ghost use Rattle.states.specs.inside.States.{IsBegun256, IsBegun512, StateHolds256, StateHolds512};
 ghost use Rattle.hash_c.specs.Statuses.{input_status};
 ghost use Rattle.hash_c.specs.declared.statuses.TheConstants.{SUMS_NOT_BEGUN, SUMS_OK};
 
 use crate::pieces::{finish_state, update_state};
 use mac::{Sha256Stream, Sha512Stream};
-use sha2_state::{Sha256State, Sha512State};
+use states::{Sha256State, Sha512State};
 
 /// Begins a message, for a SHA-256 digest (FIPS 180-4, section 6.2).
 #[unsafe(no_mangle)]

@@ -5,11 +5,11 @@ ghost use Rattle.std.specs.Prelude.{OnErr, IsErrOf};
 ghost use Rattle.words.specs.Blake2.{blake2b, blake2s};
 ghost use Rattle.blake2.specs.Blake2.{unsalted};
 ghost use Rattle.blake2.specs.inside.States.{IsBegun2b, IsBegun2s, StateHolds2b, StateHolds2s};
-ghost use Rattle.sha2_state.specs.inside.States.{IsBegun256, IsBegun512, StateHolds256, StateHolds512};
+ghost use Rattle.states.specs.inside.States.{IsBegun256, IsBegun512, StateHolds256, StateHolds512};
 
+use crate::{Sha256State, Sha512State};
 use blake2::{Blake2b, Blake2bState, Blake2s, Blake2sState, StateFault};
 use mac::{Blake2b512, Blake2s256, BlockHash, Sha256Stream, Sha512Stream};
-use sha2_state::{Sha256State, Sha512State};
 use words::Tag;
 
 /// The plain numbers of a hasher of the function `H`. Each content is a value; what no hasher left is

@@ -3,7 +3,7 @@ use Rattle.std.specs.Prelude.{ℕ, List, []}
 use Rattle.words.specs.Blake2.{blake2b, blake2s}
 use Rattle.blake2.specs.Blake2.{unsalted}
 use Rattle.blake2.specs.inside.States.{StateHolds2b, StateHolds2s}
-use Rattle.sha2_state.specs.inside.States.{StateHolds256, StateHolds512}
+use Rattle.states.specs.inside.States.{StateHolds256, StateHolds512}
 use Rattle.states.specs.Macs.{IsMac}
 use Rattle.hash_c.specs.declared.hmac_pieces.HmacBlake2bState.{HmacBlake2bState}
 use Rattle.hash_c.specs.declared.hmac_pieces.HmacBlake2sState.{HmacBlake2sState}

@@ -1,2 +1,0 @@
-pub mod Schedules
-pub mod Taking
