@@ -45,6 +45,7 @@ mod map;
 mod memory;
 mod name_reader;
 mod parts;
+mod piece_reader;
 mod report;
 mod summary;
 mod tagging;
