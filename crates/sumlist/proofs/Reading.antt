@@ -37,7 +37,7 @@ none_if o h = grind arith
 abbrev NotSpace : ℕ → Type 0
 NotSpace x = eqb x 32 ≡ false
 
-cut-at : (word rest : List ℕ) → HasNo 32 word → cut (word ++ 32 ∷ rest) ≡ Some (word, rest)
+pub cut-at : (word rest : List ℕ) → HasNo 32 word → cut (word ++ 32 ∷ rest) ≡ Some (word, rest)
 cut-at [] rest free = refl
 cut-at (c ∷ word) rest free =
     rw (All-head NotSpace c word free, cut-at word rest (All-tail NotSpace c word free)) refl

@@ -19,6 +19,7 @@ pub use fitting::{fits, tagged_fits};
 pub use kind::Kind;
 pub use laws::{line_laws, report_laws};
 pub use line::{Line, LineFault, parse_line};
+pub use lines::split_at_byte;
 pub use map::map_laws;
 pub use memory::MemoryTree;
 pub use name_reader::NameReader;
