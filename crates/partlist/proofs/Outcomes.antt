@@ -24,25 +24,17 @@ same_part line p q t u = let same = one_meaning line _ _ _ _ _ _ t.1 u.1 in (sam
 
 -- parts that the same lines tell have as many bytes, and so has the last of them
 same_bytes : (ls : List (List ℕ)) (xs ys : List PartValue) → AllTell ls xs → AllTell ls ys → bytes_of xs ≡ bytes_of ys
-same_bytes [] [] [] t u = refl
-same_bytes [] [] (y ∷ ys) t u = absurd u
-same_bytes [] (x ∷ xs) ys t u = absurd t
-same_bytes (l ∷ ls) [] ys t u = absurd t
-same_bytes (l ∷ ls) (x ∷ xs) [] t u = absurd u
 same_bytes (l ∷ ls) (x ∷ xs) (y ∷ ys) t u =
     let one = (same_part l x y t.0 u.0).1 in
     let rest = same_bytes ls xs ys t.1 u.1 in
     omega (arith, one, rest)
+same_bytes ls xs ys t u = grind arith
 
 same_last : (n : ℕ) (ls : List (List ℕ)) (xs ys : List PartValue) → AllTell ls xs → AllTell ls ys
     → last_of n xs ≡ last_of n ys
-same_last n [] [] [] t u = refl
-same_last n [] [] (y ∷ ys) t u = absurd u
-same_last n [] (x ∷ xs) ys t u = absurd t
-same_last n (l ∷ ls) [] ys t u = absurd t
-same_last n (l ∷ ls) (x ∷ xs) [] t u = absurd u
 same_last n (l ∷ ls) (x ∷ xs) (y ∷ ys) t u =
     ap (λ k. last_of k xs) (same_part l x y t.0 u.0).1 ∙ same_last (value_len y) ls xs ys t.1 u.1
+same_last n ls xs ys t u = grind arith
 
 -- a part in a row begins where those before it end, the last of which is whole
 place_in_row : (n last : ℕ) (xs : List PartValue) (p : PartValue) (ys : List PartValue)
@@ -127,21 +119,15 @@ one_fault a b line NotAPart Overlaps e u v = absurd (u v.0 v.1)
 one_fault a b line NotAPart NotWhole e u v = absurd (u v.0 v.1)
 one_fault a b line BytesMissing NotAPart e u v = absurd (v u.0 u.1)
 one_fault a b line BytesMissing BytesMissing e u v = refl
-one_fault a b line BytesMissing Overlaps e u v =
-    let same = (same_part line u.0 v.0 u.1 v.1).0 in let x = u.2 in let y = v.2 in absurd (omega (arith, same, e, x, y))
-one_fault a b line BytesMissing NotWhole e u v =
-    let same = (same_part line u.0 v.0 u.1 v.1).0 in let x = u.2 in let y = v.2 in absurd (omega (arith, same, e, x, y))
+one_fault a b line BytesMissing Overlaps e u v = grind (arith, same_part line u.0 v.0 u.1 v.1)
+one_fault a b line BytesMissing NotWhole e u v = grind (arith, same_part line u.0 v.0 u.1 v.1)
 one_fault a b line Overlaps NotAPart e u v = absurd (v u.0 u.1)
-one_fault a b line Overlaps BytesMissing e u v =
-    let same = (same_part line u.0 v.0 u.1 v.1).0 in let x = u.2 in let y = v.2 in absurd (omega (arith, same, e, x, y))
+one_fault a b line Overlaps BytesMissing e u v = grind (arith, same_part line u.0 v.0 u.1 v.1)
 one_fault a b line Overlaps Overlaps e u v = refl
-one_fault a b line Overlaps NotWhole e u v =
-    let same = (same_part line u.0 v.0 u.1 v.1).0 in let x = u.2 in let y = v.2 in absurd (omega (arith, same, e, x, y))
+one_fault a b line Overlaps NotWhole e u v = grind (arith, same_part line u.0 v.0 u.1 v.1)
 one_fault a b line NotWhole NotAPart e u v = absurd (v u.0 u.1)
-one_fault a b line NotWhole BytesMissing e u v =
-    let same = (same_part line u.0 v.0 u.1 v.1).0 in let x = u.2 in let y = v.2 in absurd (omega (arith, same, e, x, y))
-one_fault a b line NotWhole Overlaps e u v =
-    let same = (same_part line u.0 v.0 u.1 v.1).0 in let x = u.2 in let y = v.2 in absurd (omega (arith, same, e, x, y))
+one_fault a b line NotWhole BytesMissing e u v = grind (arith, same_part line u.0 v.0 u.1 v.1)
+one_fault a b line NotWhole Overlaps e u v = grind (arith, same_part line u.0 v.0 u.1 v.1)
 one_fault a b line NotWhole NotWhole e u v = refl
 
 pub one_stop : OneStop

@@ -2,11 +2,13 @@
 use Rattle.std.proofs.Common.{◌≡◌, ◌≢◌, ℕ, ◌+◌, ◌-◌, ◌<◌, ◌≤◌, ◌^◌, false, List, [], ◌∷◌, ◌++◌, length, refl, sym}
 use Rattle.std.proofs.Common.{ap, ◌∙◌, subst}
 use Rattle.std.proofs.Common.{arith, inl, inr, append_assoc, append-nil, length-append, codes, eqb, Option, None}
-use Rattle.std.proofs.Common.{Some, Result, Ok, Err, MatchResult, OnErr, IfSome}
+use Rattle.std.proofs.Common.{Some, Result, Ok, Err, MatchResult, OnErr, OnOk, IfSome}
 use Rattle.std.proofs.lemmas.Bool.{cases_eq}
 use Rattle.std.proofs.lemmas.Bool.Decides.{nat_tests}
 use Rattle.std.proofs.lemmas.Fmt.{length-decimal-le}
-use Rattle.std.proofs.lemmas.List.Elements.{All-nil, All-push}
+use Rattle.std.proofs.lemmas.List.Elements.{All-append, All-nil, All-push}
+use Rattle.std.proofs.lemmas.Option.{IfSome_then}
+use Rattle.std.proofs.lemmas.Result.{MatchResult-weaker}
 use Rattle.std.proofs.KnownBytes.{Consumes-trans}
 use Rattle.std.specs.Fmt.{decimal}
 use Rattle.std.specs.Io.KnownBytes.{Consumes, IsAtEnd}
@@ -16,7 +18,7 @@ use Rattle.b3.specs.declared.row.PartValue.{PartValue}
 use Rattle.b3.specs.declared.row.Row.{Row}
 use Rattle.b3.specs.Values.{value_first, value_len}
 use Rattle.source.specs.Pumped.{Gives}
-use Rattle.sumlist.specs.Lines.{lines, HasNoEnd}
+use Rattle.sumlist.specs.Lines.{HasNo, lines}
 use Rattle.sumlist.proofs.Cutting.{lines-ended, lines-last}
 use Rattle.partlist.specs.Joined.{AllTell, AreInRow, IsWrongBehind, StopsAt, TellsPart}
 use Rattle.partlist.specs.declared.fault.LineFault.{LineFault}
@@ -28,12 +30,12 @@ use Rattle.partlist.proofs.Parsing.{first_fits, len_fits}
 
 -- ---- lines
 
-HasNoEnd-more : (xs : List ℕ) (c : ℕ) → HasNoEnd xs → c ≢ 10 → HasNoEnd (xs ++ c ∷ [])
-HasNoEnd-more xs c free other =
+HasNo-more : (xs : List ℕ) (c : ℕ) → HasNo 10 xs → c ≢ 10 → HasNo 10 (xs ++ c ∷ [])
+HasNo-more xs c free other =
     All-push (λ x. eqb x 10 ≡ false) xs c free (grind (arith, nat_tests, other))
 
 -- the first line begins with bytes that stand at the beginning and have no LF among them
-first_line : (front more : List ℕ) → HasNoEnd front → 0 < length front
+first_line : (front more : List ℕ) → HasNo 10 front → 0 < length front
     → (rest : List ℕ) × (after : List (List ℕ)) × (lines (front ++ more) ≡ (front ++ rest) ∷ after)
 first_line front [] free some =
     let one = append-nil front in
@@ -43,7 +45,7 @@ first_line front (c ∷ more) free some = elim (cases_eq c 10) [
       ([], lines more, rw end (lines-ended front more free) ∙ ap (λ l. l ∷ lines more) (sym (append-nil front)))
   | inr other ↦
       let size = length-append front (c ∷ []) in
-      let later = first_line (front ++ c ∷ []) more (HasNoEnd-more front c free other) (omega (arith, size)) in (
+      let later = first_line (front ++ c ∷ []) more (HasNo-more front c free other) (omega (arith, size)) in (
         c ∷ later.0,
         later.1,
         ap lines (sym (append_assoc front (c ∷ []) more)) ∙ later.2
@@ -104,46 +106,59 @@ Partway-start whole parts joiner joined = record {
   no_end = All-nil (λ x. eqb x 10 ≡ false);
 }
 
-pub Partway-byte : (whole more : List ℕ) (parts : List PartValue) (joiner : Joiner) (front : List ℕ) (byte : ℕ)
-    → byte ≢ 10 → Partway whole parts joiner front (byte ∷ more) → Partway whole parts joiner (front ++ byte ∷ []) more
-Partway-byte whole more parts joiner front byte other p = record {
+-- more bytes of the line came
+pub Partway-more : (whole xs more : List ℕ) (parts : List PartValue) (joiner : Joiner) (front : List ℕ)
+    → HasNo 10 xs → Partway whole parts joiner front (xs ++ more) → Partway whole parts joiner (front ++ xs) more
+Partway-more whole xs more parts joiner front free p = record {
   before = p.before;
   told = p.told;
-  split = p.split ∙ ap (λ l. p.before ++ lines l) (sym (append_assoc front (byte ∷ []) more));
+  split = p.split ∙ ap (λ l. p.before ++ lines l) (sym (append_assoc front xs more));
   tells = p.tells;
   joined = p.joined;
-  no_end = HasNoEnd-more front byte p.no_end other;
+  no_end = All-append (λ x. eqb x 10 ≡ false) front xs p.no_end free;
 }
 
 -- a line that is longer than any part's
-pub Partway-long : (whole more : List ℕ) (parts : List PartValue) (joiner : Joiner) (front : List ℕ) (byte : ℕ)
-    → byte ≢ 10 → length front ≡ 256 → Partway whole parts joiner front (byte ∷ more)
-    → Halts whole parts joiner NotAPart
-Partway-long whole more parts joiner front byte other long p =
-    let held = front ++ byte ∷ [] in
-    let size = length-append front (byte ∷ []) in
-    let first = first_line held more (HasNoEnd-more front byte p.no_end other) (omega (arith, size)) in
-    let all = length-append held first.0 in
+Partway-long : (whole more : List ℕ) (parts : List PartValue) (joiner : Joiner) (front : List ℕ)
+    → 256 < length front → Partway whole parts joiner front more → Halts whole parts joiner NotAPart
+Partway-long whole more parts joiner front long p =
+    let first = first_line front more p.no_end (omega (arith, long)) in
+    let all = length-append front first.0 in
     record {
       before = p.before;
-      line = held ++ first.0;
+      line = front ++ first.0;
       after = first.1;
       told = p.told;
-      split = p.split ∙ ap (λ l. p.before ++ lines l) (sym (append_assoc front (byte ∷ []) more))
-          ∙ ap (λ ls. p.before ++ ls) first.2;
+      split = p.split ∙ ap (λ ls. p.before ++ ls) first.2;
       tells = p.tells;
       joined = p.joined;
-      wrong = λ part tells. let short = line-length (held ++ first.0) part tells in
-          absurd (omega (arith, short, all, size, long));
+      wrong = λ part tells. let short = line-length (front ++ first.0) part tells in
+          absurd (omega (arith, short, all, long));
     }
 
--- the line that is held ends, and its part is joined
-pub Partway-line : (whole rest : List ℕ) (parts : List PartValue) (old new : Joiner) (front more : List ℕ)
-    → Partway whole parts old front rest → lines (front ++ rest) ≡ front ∷ lines more
-    → ((all : List PartValue) → HasJoined old all
-    → (part : PartValue) × TellsPart front part × HasJoined new (all ++ part ∷ []))
-    → Partway whole parts new [] more
-Partway-line whole rest parts old new front more p cut joins =
+-- bytes of the line were held too, or it is too long
+pub Partway-held : (r : Result (Unit {0}) LineFault) (whole xs more : List ℕ) (parts : List PartValue) (joiner : Joiner)
+    (front items : List ℕ) → HasNo 10 xs → OnOk r ((items ≡ front ++ xs) × (length items ≡ length front + length xs))
+    → MatchResult r (λ _. length front + length xs ≤ 256)
+    (λ fault. (fault ≡ NotAPart) × (256 < length front + length xs))
+    → Partway whole parts joiner front (xs ++ more)
+    → MatchResult r (λ _. Partway whole parts joiner items more) (λ fault. Halts whole parts joiner fault)
+Partway-held (Ok x) whole xs more parts joiner front items free held fits p =
+    rw held.0 (Partway-more whole xs more parts joiner front free p)
+Partway-held (Err fault) whole xs more parts joiner front items free held far p =
+    let size = length-append front xs in
+    rw far.0 (Partway-long whole more parts joiner (front ++ xs) (omega (arith, size, far.1))
+    (Partway-more whole xs more parts joiner front free p))
+
+-- the line that is held ends: its part is joined, or it is wrong
+pub Partway-line : (r : Result (Unit {0}) LineFault) (whole rest : List ℕ) (parts : List PartValue) (old new : Joiner)
+    (front more : List ℕ) → Partway whole parts old front rest → lines (front ++ rest) ≡ front ∷ lines more
+    → ((all : List PartValue) → HasJoined old all → MatchResult r
+    (λ _. (part : PartValue) × TellsPart front part × HasJoined new (all ++ part ∷ []))
+    (λ fault. IsWrongBehind all front fault))
+    → OnErr r (new ≡ old)
+    → MatchResult r (λ _. Partway whole parts new [] more) (λ fault. Halts whole parts new fault)
+Partway-line (Ok x) whole rest parts old new front more p cut joins kept =
     let part = joins (parts ++ p.told) p.joined in
     record {
       before = p.before ++ front ∷ [];
@@ -153,13 +168,7 @@ Partway-line whole rest parts old new front more p cut joins =
       joined = subst (HasJoined new) (append_assoc parts p.told (part.0 ∷ [])) part.2;
       no_end = All-nil (λ x. eqb x 10 ≡ false);
     }
-
--- it ends, and is wrong
-pub Partway-wrong : (whole rest : List ℕ) (parts : List PartValue) (old new : Joiner) (front more : List ℕ)
-    (fault : LineFault) → Partway whole parts old front rest → lines (front ++ rest) ≡ front ∷ lines more
-    → ((all : List PartValue) → HasJoined old all → IsWrongBehind all front fault) → new ≡ old
-    → Halts whole parts new fault
-Partway-wrong whole rest parts old new front more fault p cut wrong kept = record {
+Partway-line (Err fault) whole rest parts old new front more p cut wrong kept = record {
   before = p.before;
   line = front;
   after = lines more;
@@ -185,12 +194,10 @@ pub Partway-last : (r : Result (Unit {0}) LineFault) (whole : List ℕ) (parts :
     → OnErr r (new ≡ old)
     → MatchResult r (λ _. (more : List PartValue) × AllTell (lines whole) more × HasJoined new (parts ++ more))
     (λ fault. Halts whole parts new fault)
-Partway-last (Ok x) whole parts old new front some p joins kept =
+Partway-last r whole parts old new front some p joins kept =
     let cut = ap lines (append-nil front) ∙ lines-last front some p.no_end in
-    Partway-end whole parts new (Partway-line whole [] parts old new front [] p cut joins)
-Partway-last (Err fault) whole parts old new front some p wrong kept =
-    let cut = ap lines (append-nil front) ∙ lines-last front some p.no_end in
-    Partway-wrong whole [] parts old new front [] fault p cut wrong kept
+    MatchResult-weaker r (Partway-line r whole [] parts old new front [] p cut joins kept)
+    (λ _ h. Partway-end whole parts new h) (λ _ h. h)
 
 -- the line of this number can't be joined
 module _ (text : List ℕ) (parts : List PartValue) (old joiner : Joiner) (fault : LineFault) (number : ℕ)
@@ -247,40 +254,34 @@ Halting whole old now fault =
 pub Halting-at : (whole : Option (List ℕ)) (old now : Joiner) (fault : LineFault) → Halting whole old now fault
     → IfSome whole (λ text. (parts : List PartValue) → HasJoined old parts
     → StopsAt text parts (joined_count now - joined_count old + 1) fault)
-Halting-at None old now fault halting = tt
-Halting-at (Some text) old now fault halting = λ parts joined.
-    Halts-at text parts old now fault _ joined (halting parts joined) refl
+Halting-at whole old now fault halting = IfSome_then whole halting (λ text h parts joined.
+    Halts-at text parts old now fault _ joined (h parts joined) refl)
 
 pub Halting-before : (whole : Option (List ℕ)) (old now : Joiner) (fault : LineFault) → Halting whole old now fault
     → IfSome whole (λ text. (parts : List PartValue) → HasJoined old parts
     → JoinedBefore text parts now (joined_count now - joined_count old + 1))
-Halting-before None old now fault halting = tt
-Halting-before (Some text) old now fault halting = λ parts joined.
-    Halts-before text parts old now fault _ joined (halting parts joined) refl
+Halting-before whole old now fault halting = IfSome_then whole halting (λ text h parts joined.
+    Halts-before text parts old now fault _ joined (h parts joined) refl)
 
--- a line of the piece that was read is wrong
-pub Coming-wrong : (whole rest after : Option (List ℕ)) (old new now : Joiner) (front piece : List ℕ)
-    (fault : LineFault) → Coming whole rest old new front → Consumes rest after piece
-    → ((text more : List ℕ) (parts : List PartValue) → Partway text parts new front (piece ++ more)
-    → Halts text parts now fault)
-    → Halting whole old now fault
-Coming-wrong None rest after old new now front piece fault coming given wrong = tt
-Coming-wrong (Some text) rest None old new now front piece fault coming given wrong =
-    absurd (subst (λ r. Consumes r None piece) coming.1 given)
-Coming-wrong (Some text) rest (Some left) old new now front piece fault coming given wrong = λ parts joined.
-    let all : coming.0 ≡ piece ++ left = subst (λ r. Consumes r (Some left) piece) coming.1 given in
-    wrong text left parts (subst (Partway text parts new front) all (coming.2 parts joined))
+-- what is yet to come of a text is the piece that is read, and then the rest
+coming_read : (rest after : Option (List ℕ)) (more piece : List ℕ) → rest ≡ Some more → Consumes rest after piece
+    → (left : List ℕ) × (after ≡ Some left) × (more ≡ piece ++ left)
+coming_read rest after more piece is given = grind arith
 
--- nothing was left, and the last line is wrong
-pub Coming-ended : (whole rest after : Option (List ℕ)) (old new now : Joiner) (front piece : List ℕ)
-    (fault : LineFault) → Coming whole rest old new front → Consumes rest after piece → piece ≡ [] → IsAtEnd after
-    → ((text : List ℕ) (parts : List PartValue) → Partway text parts new front [] → Halts text parts now fault)
-    → Halting whole old now fault
-Coming-ended None rest after old new now front piece fault coming given none end wrong = tt
-Coming-ended (Some text) rest None old new now front piece fault coming given none end wrong =
-    absurd (subst (λ r. Consumes r None piece) coming.1 given)
-Coming-ended (Some text) rest (Some left) old new now front piece fault coming given none end wrong =
-    λ parts joined.
-    let all : coming.0 ≡ piece ++ left = subst (λ r. Consumes r (Some left) piece) coming.1 given in
-    let over : coming.0 ≡ [] = all ∙ ap (λ (l : List ℕ). l ++ left) none ∙ end in
-    wrong text parts (subst (Partway text parts new front) over (coming.2 parts joined))
+module _ (whole rest after : Option (List ℕ)) (old new now : Joiner) (front piece : List ℕ) (fault : LineFault)
+    (coming : Coming whole rest old new front) (given : Consumes rest after piece) where
+  -- a line of the piece that was read is wrong
+  pub Coming-wrong : ((text more : List ℕ) (parts : List PartValue) → Partway text parts new front (piece ++ more)
+      → Halts text parts now fault) → Halting whole old now fault
+  Coming-wrong wrong = IfSome_then whole coming (λ text h parts joined.
+      let read = coming_read rest after h.0 piece h.1 given in
+      wrong text read.0 parts (subst (Partway text parts new front) read.2 (h.2 parts joined)))
+
+  -- nothing was left, and the last line is wrong
+  pub Coming-ended : piece ≡ [] → IsAtEnd after
+      → ((text : List ℕ) (parts : List PartValue) → Partway text parts new front [] → Halts text parts now fault)
+      → Halting whole old now fault
+  Coming-ended none end wrong = IfSome_then whole coming (λ text h parts joined.
+      let read = coming_read rest after h.0 piece h.1 given in
+      let over : h.0 ≡ [] = read.2 ∙ ap (λ (l : List ℕ). l ++ read.0) none ∙ subst IsAtEnd read.1 end in
+      wrong text parts (subst (Partway text parts new front) over (h.2 parts joined)))

@@ -1,5 +1,5 @@
 -- Lines of parts one behind the other, and what stands in the way of joining them.
-use Rattle.std.specs.Prelude.{◌≡◌, ℕ, ◌+◌, ◌*◌, ◌^◌, ◌<◌, ⊤, List, [], ◌∷◌, ◌++◌, length, Option, None, Some}
+use Rattle.std.specs.Prelude.{◌≡◌, ℕ, ◌+◌, ◌*◌, ◌^◌, ◌<◌, ⊤, List, [], ◌∷◌, ◌++◌, length, Option, IfSome}
 use Rattle.b3.specs.Modes.{hash_parameters}
 use Rattle.b3.specs.declared.row.PartValue.{PartValue}
 use Rattle.b3.specs.Values.{IsValueOf, value_first, value_len, value_words}
@@ -77,8 +77,7 @@ pub record StopsAt (text : List ℕ) (parts : List PartValue) (number : ℕ) (fa
 
 -- as many bytes as were asked for, if any were
 abbrev pub IsAsked : Option ℕ → ℕ → Type 0
-IsAsked None n = ⊤
-IsAsked (Some bytes) n = n ≡ bytes
+IsAsked bytes n = IfSome bytes (λ asked. n ≡ asked)
 
 -- why parts in a row are no file of so many bytes, if any were asked for
 abbrev pub EndsWrong : List PartValue → Option ℕ → EndFault → Type 0

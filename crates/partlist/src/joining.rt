@@ -10,14 +10,16 @@ ghost use Rattle.b3.specs.declared.row.PartValue.{PartValue};
 ghost use Rattle.b3.specs.inside.Output.{output_position, output_root};
 ghost use Rattle.source.specs.Pumped.{Gives};
 ghost use Rattle.partlist.specs.Joined.{AllTell, AreValuesOf, EndsWrong, IsAsked, IsWrongBehind, TellsPart, bytes_of};
-ghost use Rattle.sumlist.specs.Lines.{lines};
+ghost use Rattle.sumlist.specs.Lines.{HasNo, lines};
 ghost use Rattle.partlist.specs.declared.fault.JoinFault.TheVariants.{Line};
+ghost use Rattle.partlist.specs.declared.fault.LineFault.TheVariants.{NotAPart};
 ghost use Rattle.partlist.specs.inside.Few.{most_parts};
 
 use crate::{EndFault, JoinFault, LineFault, parse_part};
 use arrayvec::ArrayVec;
 use b3::{Mode, NotNext, Output, PartValue, Row};
 use source::Feed;
+use sumlist::split_at_byte;
 
 // The bytes of a chunk.
 const CHUNK_LEN: u64 = 1024;
@@ -143,32 +145,34 @@ impl Joiner {
         ensures weight { OnOk result (257 * joined_count self.old + array_vec_len held.old + length piece.now
             ≤ 257 * joined_count self.new + array_vec_len held.new) }
     {
-        for &byte in piece {
-            self.add_byte(byte, held)?;
+        let mut rest = piece;
+        while let Some((front, after)) = split_at_byte(rest, b'\n') {
+            self.add_ended(front, held)?;
+            rest = after;
         }
-        Ok(())
+        hold(rest, held)
     }
 
-    // One byte more: LF ends the line that is held, and any other belongs to it.
-    fn add_byte(&mut self, byte: u8, held: &mut ArrayVec<u8, LINE_LEN>) -> Result<(), LineFault>
+    // Joins the part of the line that ends with these bytes, behind those that are held.
+    fn add_ended(&mut self, end: &[u8], held: &mut ArrayVec<u8, LINE_LEN>) -> Result<(), LineFault>
+        requires bound { array_vec_len held.old ≤ 256 }
+        requires free { HasNo 10 end.now }
         ensures bound { OnOk result (array_vec_len held.new ≤ 256) }
         ensures goes { (whole more : List ℕ) (parts : List PartValue)
-            → Partway whole parts self.old held.old.items (byte ∷ more)
+            → Partway whole parts self.old held.old.items (end.now ++ 10 ∷ more)
             → MatchResult result (λ _. Partway whole parts self.new held.new.items more)
             (λ fault. Halts whole parts self.new fault) }
         ensures forth { joined_count self.old ≤ joined_count self.new }
-        ensures weight { OnOk result (257 * joined_count self.old + array_vec_len held.old + 1
+        ensures weight { OnOk result (257 * joined_count self.old + array_vec_len held.old + length end.now + 1
             ≤ 257 * joined_count self.new + array_vec_len held.new) }
     {
-        if byte != b'\n' {
-            return match held.try_push(byte) {
-                Ok(()) => Ok(()),
-                Err(_) => Err(LineFault::NotAPart),
-            };
+        if held.is_empty() {
+            return self.add_line(end);
         }
-        self.add_line(held.as_slice())?;
+        hold(end, held)?;
+        let joined = self.add_line(held.as_slice());
         held.clear();
-        Ok(())
+        joined
     }
 
     // Joins the part of a last line that has no LF, if there is one.
@@ -190,6 +194,7 @@ impl Joiner {
         ensures added { (parts : List PartValue) → HasJoined self.old parts → MatchResult result
             (λ _. (part : PartValue) × TellsPart line.now part × HasJoined self.new (parts ++ part ∷ []))
             (λ fault. IsWrongBehind parts line.now fault) }
+        ensures short { OnOk result (length line.now ≤ 256) }
         ensures count { OnOk result (joined_count self.new ≡ joined_count self.old + 1) }
         ensures refused { OnErr result (self.new ≡ self.old) }
     {
@@ -219,5 +224,18 @@ impl Joiner {
             return Err(EndFault::EndsAfter(row.count()));
         }
         Ok(output)
+    }
+}
+
+// Holds these bytes of a line too, if it is not longer than the line of a part then.
+fn hold(bytes: &[u8], held: &mut ArrayVec<u8, LINE_LEN>) -> Result<(), LineFault>
+    ensures held { OnOk result ((held.new.items ≡ held.old.items ++ bytes.now)
+        × (array_vec_len held.new ≡ array_vec_len held.old + length bytes.now)) }
+    ensures fits { MatchResult result (λ _. array_vec_len held.old + length bytes.now ≤ 256)
+        (λ fault. (fault ≡ NotAPart) × (256 < array_vec_len held.old + length bytes.now)) }
+{
+    match held.try_extend_from_slice(bytes) {
+        Ok(()) => Ok(()),
+        Err(_) => Err(LineFault::NotAPart),
     }
 }

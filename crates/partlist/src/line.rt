@@ -1,7 +1,6 @@
 // The line of a part.
 
-ghost use Rattle.std.specs.Prelude.{◌≡◌, ℕ, ◌<◌, ◌^◌, ◌≤◌, List, ◌++◌, ◌∷◌, [], Some, Contains, MatchOption, IsTrue};
-ghost use Rattle.std.specs.Prelude.{◌↔◌, length, drop};
+ghost use Rattle.std.specs.Prelude.{◌≡◌, ℕ, ◌<◌, ◌^◌, ◌≤◌, List, ◌++◌, ◌∷◌, [], Some, MatchOption, length};
 ghost use Rattle.std.specs.Fmt.{decimal};
 ghost use Rattle.hex.specs.Hex.{IsBytes, encode_lower};
 ghost use Rattle.words.specs.Words.{word_bytes, words};
@@ -12,6 +11,7 @@ ghost use Rattle.partlist.specs.PartLine.{Tells, part_line};
 use b3::PartValue;
 use itoa::Buffer;
 use source::{Sink, WriteFailed, write_pieces};
+use sumlist::split_at_byte;
 
 const HEAD: [u8; 19] = *b"sums-part-1 blake3 ";
 
@@ -44,27 +44,11 @@ pub fn parse_part(line: &[u8]) -> Option<PartValue>
         (λ part. (value : List ℕ) × Tells line.now (value_first part) (value_len part) value
         × (value_words part ≡ words 4 8 value)) }
 {
-    let rest = after_head(line)?;
+    let rest = line.strip_prefix(&HEAD)?;
     let (first, rest) = cut_number(rest)?;
     let (len, digits) = cut_number(rest)?;
     let value = value_of(digits)?;
     PartValue::of_bytes(first, len, &value).ok()
-}
-
-// What stands after the head.
-fn after_head(line: &[u8]) -> Option<&[u8]>
-    ensures { MatchOption result ((rest : List ℕ) → line.now ≡ HEAD ++ rest → ⊥)
-        (λ rest. line.now ≡ HEAD ++ rest.now) }
-{
-    if line.len() < HEAD.len() {
-        return None;
-    }
-    let (head, rest) = line.split_at(HEAD.len());
-    if head == HEAD.as_slice() {
-        Some(rest)
-    } else {
-        None
-    }
 }
 
 // A number and a space, and what stands after them.
@@ -73,17 +57,8 @@ fn cut_number(text: &[u8]) -> Option<(u64, &[u8])>
         ((n : ℕ) (rest : List ℕ) → n < 2 ^ 64 → text.now ≡ decimal n ++ 32 ∷ rest → ⊥)
         (λ p. (p.0 < 2 ^ 64) × (text.now ≡ decimal p.0 ++ 32 ∷ p.1.now)) }
 {
-    let (digits, rest) = cut_at_space(text)?;
+    let (digits, rest) = split_at_byte(text, b' ')?;
     Some((number_of(digits)?, rest))
-}
-
-// What stands before the first space, and what stands after it.
-fn cut_at_space(text: &[u8]) -> Option<(&[u8], &[u8])>
-    ensures { MatchOption result (Contains text.now 32 → ⊥)
-        (λ p. (text.now ≡ p.0.now ++ 32 ∷ p.1.now) × (Contains p.0.now 32 → ⊥)) }
-{
-    let at = text.iter().position(|&byte| byte == b' ')?;
-    Some((&text[..at], &text[at + 1..]))
 }
 
 // The number that decimal digits without a leading zero spell.

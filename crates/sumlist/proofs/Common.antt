@@ -30,7 +30,7 @@ pub use Rattle.sumlist.specs.Checked.{ListChecked}
 pub use Rattle.sumlist.specs.Entry.{Fits, IsEntry, Listing, ending, written, written_len}
 pub use Rattle.sumlist.specs.Escape.{SpellsByte, SpellsName, escape_of, escaped, is_special, lead, needs_escape}
 pub use Rattle.sumlist.specs.Line.{HasForm, IsBlank, IsLine, IsMalformed, IsMark, Parts, Spells, Stated, core}
-pub use Rattle.sumlist.specs.Lines.{HasNoEnd, lines}
+pub use Rattle.sumlist.specs.Lines.{lines}
 pub use Rattle.sumlist.specs.Report.{AllAllowed, Allowed, Files, IsAllowed, Outcome, is_told, malformed, skipped, text}
 pub use Rattle.sumlist.specs.Report.{told, unreadable_count}
 pub use Rattle.sumlist.specs.Tagged.{IsLabel, Labelled, closing, label_of, opening, tagged, tagged_len}
@@ -42,10 +42,8 @@ pub use Rattle.sumlist.specs.declared.summary.Mark.TheVariants.{Told}
 pub use Rattle.sumlist.specs.declared.summary.Summary.{Summary}
 pub use Rattle.sumlist.specs.declared.verdict.Verdict.{Verdict}
 pub use Rattle.sumlist.specs.declared.verdict.Verdict.TheVariants.{Differs, Matches, Missing, TooLong, Unreadable}
-pub use Rattle.sumlist.specs.inside.Ahead.{Goes}
 pub use Rattle.sumlist.specs.inside.Body.{IsName, IsScanned, escape_value, name_of, onto}
 pub use Rattle.sumlist.specs.inside.Cut.{IsCut}
-pub use Rattle.sumlist.specs.inside.Held.{held_len}
 pub use Rattle.sumlist.specs.inside.Labels.{Ended}
 pub use Rattle.sumlist.specs.inside.Marks.{IsCounted, lines_of, no_lines, unreadable_by}
 pub use Rattle.sumlist.specs.inside.Stepped.{LineChecked}

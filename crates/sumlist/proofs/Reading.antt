@@ -39,7 +39,7 @@ none_if o h = grind arith
 abbrev NotSpace : ℕ → Type 0
 NotSpace x = eqb x 32 ≡ false
 
-cut-at : (word rest : List ℕ) → HasNo 32 word → cut (word ++ 32 ∷ rest) ≡ Some (word, rest)
+pub cut-at : (word rest : List ℕ) → HasNo 32 word → cut (word ++ 32 ∷ rest) ≡ Some (word, rest)
 cut-at [] rest free = refl
 cut-at (c ∷ word) rest free =
     rw (All-head NotSpace c word free, cut-at word rest (All-tail NotSpace c word free)) refl
@@ -249,17 +249,17 @@ module _ (kind : Kind) where
       subst (λ t. HasForm t kind f.0 f.1 f.2) (sym (cut-some text p is)) (form_at-some p.0 p.1 f found))
 
   -- a text that is cut at its first space
-  pub form_of-cut : {text word rest : List ℕ} → IsCut 32 text word rest → form_of kind text ≡ form_at kind word rest
-  form_of-cut {word} {rest} c = rw (c.whole, cut-at word rest c.free) refl
+  pub form_of-cut : (text word rest : List ℕ) → IsCut 32 text word rest → form_of kind text ≡ form_at kind word rest
+  form_of-cut text word rest c = rw (c.0, cut-at word rest c.1) refl
 
   word_cut : {text : List ℕ} (word rest : List ℕ) → IsWord word → text ≡ word ++ 32 ∷ rest → IsCut 32 text word rest
-  word_cut word rest w e = record { whole = e; free = no_space word w }
+  word_cut word rest w e = (e, no_space word w)
 
   pub form_of-is : (text : List ℕ) (a : Alg) (t x : List ℕ) → HasForm text kind a t x
       → form_of kind text ≡ Some (a, t, x)
   form_of-is text a t x (inl p) =
-      form_of-cut (word_cut p.digits (p.mark ∷ x) (digits_word p.digits t p.tag_is) p.whole)
+      form_of-cut _ _ _ (word_cut p.digits (p.mark ∷ x) (digits_word p.digits t p.tag_is) p.whole)
       ∙ rw ((mark-Decides p.mark).1 p.marked, alg_of-is kind (length p.digits) a p.kind_is p.range p.sized, p.tag_is) refl
   form_of-is text a t x (inr q) =
-      form_of-cut (word_cut q.label (40 ∷ (x ++ closing q.digits)) (label_word q.label a q.range q.names) q.whole)
+      form_of-cut _ _ _ (word_cut q.label (40 ∷ (x ++ closing q.digits)) (label_word q.label a q.range q.names) q.whole)
       ∙ rw (alg_labelled-is q.label a q.range q.names, end_cut-is _ _ x q.digits (refl, q.sized), q.tag_is) refl

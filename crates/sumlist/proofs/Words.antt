@@ -29,7 +29,7 @@ literal text l h e = subst IsWord (sym e)
 one_digit : (d : ℕ) → d < 10 → IsWord ((48 + d) ∷ [])
 one_digit d small = All-cons InWord (48 + d) [] (omega arith, λ e. omega (arith, small, e)) (All-nil InWord)
 
-decimal_word : (n : ℕ) → n < 2 ^ 64 → IsWord (decimal n)
+pub decimal_word : (n : ℕ) → n < 2 ^ 64 → IsWord (decimal n)
 decimal_word = decimal_by_steps (λ m ds. IsWord ds) one_digit
     (λ m ds l h. All-append InWord ds ((48 + m % 10) ∷ []) h (one_digit (m % 10) (omega arith)))
 

@@ -1,24 +1,22 @@
 // Lists checked against the files that they name.
 
-ghost use Rattle.std.specs.Prelude.{◌≡◌, ◌+◌, ◌-◌, ◌<◌, ◌≤◌, ◌^◌, ◌↔◌, ℕ, List, [], Option, length};
-ghost use Rattle.std.specs.Prelude.{IfOk, IfSome, IsErrOf, MatchResult, OnOk};
+ghost use Rattle.std.specs.Prelude.{◌≡◌, ◌+◌, ◌-◌, ◌<◌, ◌≤◌, ◌^◌, ◌↔◌, ℕ, List, [], Option, Result, false, true};
+ghost use Rattle.std.specs.Prelude.{length, IfOk, IfSome, IsErr, IsErrOf, MatchResult, OnOk};
 ghost use Rattle.std.specs.Io.KnownBytes.{Consumes, IsAtEnd};
 ghost use Rattle.source.specs.Counts.{count_after};
-ghost use Rattle.sumlist.specs.inside.Ahead.{Goes, HeldChecked, Stops};
 ghost use Rattle.sumlist.specs.Checked.{ListChecked, ListCounts, WriteCounts};
-ghost use Rattle.sumlist.specs.inside.Stepped.{LineChecked, StepCounts};
 ghost use Rattle.sumlist.specs.Lines.{IsKept};
-ghost use Rattle.sumlist.specs.inside.Held.{held_len};
+ghost use Rattle.sumlist.specs.inside.Ahead.{Checks};
+ghost use Rattle.sumlist.specs.inside.Stepped.{LineChecked, StepCounts, fault_of};
 ghost use Rattle.sumlist.specs.inside.Marks.{lines_of, part};
-ghost use Rattle.sumlist.specs.declared.checking.CheckFault.TheVariants.{ListRead, OutOfMemory, Write};
+ghost use Rattle.sumlist.specs.declared.checking.CheckFault.TheVariants.{OutOfMemory, Write};
 
-use crate::line_buffer::LineBuffer;
-use crate::lines::split_at_byte;
+use crate::piece_reader::PieceReader;
 use crate::report::{write_malformed, write_verdict};
 use crate::summary::Mark;
 use crate::verdict::{Verdict, check_entry};
 use crate::{Kind, Line, LineFault, Summary, Tree, parse_line};
-use source::{Feed, ReadFailed, Sink, WriteFailed};
+use source::{Feed, Sink, SourceFault, WriteFailed};
 use std::alloc::{AllocError, Global};
 use thiserror::Error;
 
@@ -40,11 +38,14 @@ pub enum CheckFault {
     ListTooLong,
 }
 
-impl From<ReadFailed> for CheckFault {
-    ghost from_gives = { λ _ fault. fault ≡ ListRead };
+impl From<SourceFault> for CheckFault {
+    ghost from_gives = { λ fault told. told ≡ fault_of fault };
 
-    fn from(_failed: ReadFailed) -> CheckFault {
-        CheckFault::ListRead
+    fn from(fault: SourceFault) -> CheckFault {
+        match fault {
+            SourceFault::Read => CheckFault::ListRead,
+            SourceFault::TooLong => CheckFault::ListTooLong,
+        }
     }
 }
 
@@ -95,153 +96,122 @@ pub fn check<L: Feed, T: Tree, W: Sink>(
         × Consumes (L.remaining list.old) (L.remaining list.new) given
         × (IsErrOf result CheckFault.ListTooLong ↔ (2 ^ 64 - 1 < length given))) }
 {
-    let mut held = LineBuffer::new(alloc)?;
-    let mut summary = Summary::new();
-    let mut total: u64 = 0;
-    let mut buffer = [0; 4096];
-    loop {
-        let count = list.read(&mut buffer)?;
-        if count == 0 {
-            return check_last(alloc, &held, summary, kind, tree, out);
-        }
-        let Some(sum) = total.checked_add(count as u64) else {
-            return Err(CheckFault::ListTooLong);
-        };
-        total = sum;
-        check_piece(
-            alloc,
-            &buffer[..count],
-            &mut held,
-            &mut summary,
-            kind,
-            tree,
-            out,
-        )?;
-    }
-}
-
-// Checks each line that ends in the piece, and holds the beginning of the next one, which has no LF.
-fn check_piece<T: Tree, W: Sink>(
-    alloc: Global,
-    piece: &[u8],
-    held: &mut LineBuffer,
-    summary: &mut Summary,
-    kind: Kind,
-    tree: &mut T,
-    out: &mut W,
-) -> Result<(), CheckFault>
-    requires few { lines_of summary.old + held_len held.old + length piece.now < 2 ^ 64 }
-    ensures few { OnOk result (lines_of summary.new + held_len held.new
-        ≤ lines_of summary.old + held_len held.old + length piece.now) }
-    ensures checked { IfSome (T.files tree.old) (λ files. MatchResult result
-        (λ _. Goes files kind
-        held.old piece.now summary.old (T.failure_count tree.old) (W.shown out.old).contents
-        held.new [] summary.new (T.failure_count tree.new) (W.shown out.new).contents)
-        (λ _. Stops files kind
-        held.old piece.now summary.old (T.failure_count tree.old) (W.shown out.old).contents
-        (T.failure_count tree.new) (W.shown out.new).contents)) }
-    ensures unreadable { OnOk result
-        ((k : ℕ) → T.failure_count tree.old ≡ count_after k summary.old.unreadable
-        → T.failure_count tree.new ≡ count_after k summary.new.unreadable) }
-    ensures kept { T.files tree.new ≡ T.files tree.old }
-    ensures writes { StepCounts result (W.shown out.old).failures (W.shown out.new).failures }
-{
-    let mut rest = piece;
-    while let Some((front, after)) = split_at_byte(rest, b'\n') {
-        held.append(front);
-        let number = summary.lines() + 1;
-        let mark = check_held(alloc, held, number, kind, tree, out)?;
-        held.clear();
-        summary.count(mark);
-        rest = after;
-    }
-    held.append(rest);
-    Ok(())
-}
-
-// Checks a last line that has no LF, if there is one.
-fn check_last<T: Tree, W: Sink>(
-    alloc: Global,
-    held: &LineBuffer,
-    mut summary: Summary,
-    kind: Kind,
-    tree: &mut T,
-    out: &mut W,
-) -> Result<Summary, CheckFault>
-    requires few { lines_of summary + held_len held.now < 2 ^ 64 }
-    ensures checked { IfSome (T.files tree.old) (λ files.
-        HeldChecked files kind held.now [] summary result
-        (T.failure_count tree.old) (T.failure_count tree.new)
-        (W.shown out.old).contents (W.shown out.new).contents) }
-    ensures unreadable { IfOk result
-        (λ s. (k : ℕ) → T.failure_count tree.old ≡ count_after k summary.unreadable
-        → T.failure_count tree.new ≡ count_after k s.unreadable) }
-    ensures kept { T.files tree.new ≡ T.files tree.old }
-    ensures writes { StepCounts result (W.shown out.old).failures (W.shown out.new).failures }
-{
-    if held.is_empty() {
-        return Ok(summary);
-    }
-    let number = summary.lines() + 1;
-    let mark = check_held(alloc, held, number, kind, tree, out)?;
-    summary.count(mark);
-    Ok(summary)
-}
-
-// Checks the line that is held, and writes its part of the report.
-fn check_held<T: Tree, W: Sink>(
-    alloc: Global,
-    held: &LineBuffer,
-    number: u64,
-    kind: Kind,
-    tree: &mut T,
-    out: &mut W,
-) -> Result<Mark, CheckFault>
-    ensures checked { IfSome (T.files tree.old) (λ files. (line : List ℕ) → IsKept held.now line
-        → LineChecked files kind line number result
-        (T.failure_count tree.old) (T.failure_count tree.new)
-        (W.shown out.old).contents (W.shown out.new).contents) }
-    ensures unreadable { IfOk result (λ mark. T.failure_count tree.new
-        ≡ count_after (T.failure_count tree.old) (part (Mark.Told Verdict.Unreadable) mark)) }
-    ensures kept { T.files tree.new ≡ T.files tree.old }
-    ensures writes { StepCounts result (W.shown out.old).failures (W.shown out.new).failures }
-{
-    let Some(line) = held.line() else {
-        write_malformed(number, out)?;
-        return Ok(Mark::Malformed);
+    let mut checker = Checker {
+        alloc,
+        kind,
+        reader: PieceReader::new(alloc)?,
+        summary: Summary::new(),
+        lines: 0,
     };
-    check_line(alloc, line, number, kind, tree, out)
+    while checker.step(list, tree, out)? {}
+    Ok(checker.summary)
 }
 
-// Checks the line of this number, and writes its part of the report.
-fn check_line<T: Tree, W: Sink>(
+// A list that is being checked, line by line.
+#[derive(Drop)]
+struct Checker {
     alloc: Global,
-    line: &[u8],
-    number: u64,
     kind: Kind,
-    tree: &mut T,
-    out: &mut W,
-) -> Result<Mark, CheckFault>
-    ensures checked { IfSome (T.files tree.old) (λ files.
-        LineChecked files kind line.now number result
-        (T.failure_count tree.old) (T.failure_count tree.new)
-        (W.shown out.old).contents (W.shown out.new).contents) }
-    ensures unreadable { IfOk result (λ mark. T.failure_count tree.new
-        ≡ count_after (T.failure_count tree.old) (part (Mark.Told Verdict.Unreadable) mark)) }
-    ensures kept { T.files tree.new ≡ T.files tree.old }
-    ensures writes { StepCounts result (W.shown out.old).failures (W.shown out.new).failures }
-{
-    match parse_line(alloc, line, kind) {
-        Ok(Line::Skipped) => Ok(Mark::Skipped),
-        Ok(Line::Entry(entry)) => {
-            let verdict = check_entry(&entry, tree)?;
-            write_verdict(entry.name(), verdict, out)?;
-            Ok(Mark::Told(verdict))
+    reader: PieceReader,
+    summary: Summary,
+    // how many lines were checked
+    lines: u64,
+    ghost counted: { lines ≡ lines_of summary },
+}
+
+impl Checker {
+    // Checks the next line, and answers whether another may follow.
+    fn step<L: Feed, T: Tree, W: Sink>(
+        &mut self,
+        list: &mut L,
+        tree: &mut T,
+        out: &mut W,
+    ) -> Result<bool, CheckFault>
+        requires few { lines_of self.old.summary + length self.old.reader.ahead ≤ self.old.reader.total }
+        ensures few { OnOk result
+            (lines_of self.new.summary + length self.new.reader.ahead ≤ self.new.reader.total) }
+        ensures checked { MatchResult result
+            (λ _. (r : Result Summary CheckFault) (n : ℕ) (c : Option (List ℕ))
+            → Checks (L.remaining list.new) (T.files tree.old) self.old.kind self.new.reader.ahead self.new.summary
+            r (T.failure_count tree.new) n (W.shown out.new).contents c
+            → Checks (L.remaining list.old) (T.files tree.old) self.old.kind self.old.reader.ahead self.old.summary
+            r (T.failure_count tree.old) n (W.shown out.old).contents c)
+            (λ _. (r : Result Summary CheckFault) → IsErr r
+            → Checks (L.remaining list.old) (T.files tree.old) self.old.kind self.old.reader.ahead self.old.summary
+            r (T.failure_count tree.old) (T.failure_count tree.new)
+            (W.shown out.old).contents (W.shown out.new).contents) }
+        ensures unreadable { OnOk result
+            ((k : ℕ) → T.failure_count tree.old ≡ count_after k self.old.summary.unreadable
+            → T.failure_count tree.new ≡ count_after k self.new.summary.unreadable) }
+        ensures kept { (T.files tree.new ≡ T.files tree.old) × (self.new.kind ≡ self.old.kind) }
+        ensures end { IfOk result (λ more. more ≡ false
+            → (self.new.reader.ahead ≡ []) × IsAtEnd (L.remaining list.new)) }
+        ensures forth { IfOk result (λ more. more ≡ true
+            → self.old.reader.total + length self.new.reader.ahead
+            < self.new.reader.total + length self.old.reader.ahead) }
+        ensures reads { ListCounts result (L.failure_count list.old) (L.failure_count list.new) }
+        ensures writes { WriteCounts result (W.shown out.old).failures (W.shown out.new).failures }
+        ensures gave { (given : List ℕ) × Consumes (L.remaining list.old) (L.remaining list.new) given
+            × (IsErrOf result CheckFault.ListTooLong ↔ (2 ^ 64 - 1 < self.old.reader.total + length given))
+            × OnOk result (self.new.reader.total ≡ self.old.reader.total + length given) }
+    {
+        if !self.reader.next(b'\n', list)? {
+            return Ok(false);
         }
-        Err(LineFault::Malformed) => {
-            write_malformed(number, out)?;
-            Ok(Mark::Malformed)
+        let mark = self.check(tree, out)?;
+        self.summary.count(mark);
+        self.lines += 1;
+        Ok(!self.reader.is_at_end())
+    }
+
+    // Checks the line that was read last, and writes its part of the report.
+    fn check<T: Tree, W: Sink>(&self, tree: &mut T, out: &mut W) -> Result<Mark, CheckFault>
+        requires few { lines_of self.now.summary + 1 < 2 ^ 64 }
+        ensures checked { IfSome (T.files tree.old) (λ files. (line : List ℕ) → IsKept self.now.reader.kept line
+            → LineChecked files self.now.kind line (lines_of self.now.summary + 1) result
+            (T.failure_count tree.old) (T.failure_count tree.new)
+            (W.shown out.old).contents (W.shown out.new).contents) }
+        ensures unreadable { IfOk result (λ mark. T.failure_count tree.new
+            ≡ count_after (T.failure_count tree.old) (part (Mark.Told Verdict.Unreadable) mark)) }
+        ensures kept { T.files tree.new ≡ T.files tree.old }
+        ensures writes { StepCounts result (W.shown out.old).failures (W.shown out.new).failures }
+    {
+        let Some(line) = self.reader.piece() else {
+            write_malformed(self.lines + 1, out)?;
+            return Ok(Mark::Malformed);
+        };
+        self.check_line(line, tree, out)
+    }
+
+    // Checks the line, and writes its part of the report.
+    fn check_line<T: Tree, W: Sink>(
+        &self,
+        line: &[u8],
+        tree: &mut T,
+        out: &mut W,
+    ) -> Result<Mark, CheckFault>
+        requires few { lines_of self.now.summary + 1 < 2 ^ 64 }
+        ensures checked { IfSome (T.files tree.old) (λ files.
+            LineChecked files self.now.kind line.now (lines_of self.now.summary + 1) result
+            (T.failure_count tree.old) (T.failure_count tree.new)
+            (W.shown out.old).contents (W.shown out.new).contents) }
+        ensures unreadable { IfOk result (λ mark. T.failure_count tree.new
+            ≡ count_after (T.failure_count tree.old) (part (Mark.Told Verdict.Unreadable) mark)) }
+        ensures kept { T.files tree.new ≡ T.files tree.old }
+        ensures writes { StepCounts result (W.shown out.old).failures (W.shown out.new).failures }
+    {
+        match parse_line(self.alloc, line, self.kind) {
+            Ok(Line::Skipped) => Ok(Mark::Skipped),
+            Ok(Line::Entry(entry)) => {
+                let verdict = check_entry(&entry, tree)?;
+                write_verdict(entry.name(), verdict, out)?;
+                Ok(Mark::Told(verdict))
+            }
+            Err(LineFault::Malformed) => {
+                write_malformed(self.lines + 1, out)?;
+                Ok(Mark::Malformed)
+            }
+            Err(LineFault::OutOfMemory) => Err(CheckFault::OutOfMemory),
         }
-        Err(LineFault::OutOfMemory) => Err(CheckFault::OutOfMemory),
     }
 }

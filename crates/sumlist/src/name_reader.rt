@@ -6,11 +6,9 @@ ghost use Rattle.std.specs.Prelude.{Err, IsUtf8, MatchOption, None, Some};
 ghost use Rattle.std.specs.Result.{result_err};
 ghost use Rattle.source.specs.Faults.{PumpCounts};
 ghost use Rattle.sumlist.specs.Naming.{IsNext, fresh};
-ghost use Rattle.sumlist.specs.inside.Taking.{IsTaken};
 
-use crate::line_buffer::LineBuffer;
-use crate::lines::split_at_byte;
-use source::{Feed, ReadFailed, SourceFault};
+use crate::piece_reader::PieceReader;
+use source::{Feed, SourceFault};
 use std::alloc::{AllocError, Global};
 use std::marker::Model;
 
@@ -18,15 +16,9 @@ use std::marker::Model;
 /// 4,096 bytes, and of a name at most 65,536 bytes, whatever comes.
 #[derive(Drop)]
 pub struct NameReader {
-    buffer: [u8; 4096],
-    start: usize,
-    end: usize,
-    held: LineBuffer,
+    pieces: PieceReader,
     // the first, which is the last
     fault: Option<SourceFault>,
-    ghost order: { start ≤ end },
-    ghost within: { end ≤ 4096 },
-    ghost size: { length buffer ≡ 4096 },
 }
 
 impl Model for NameReader {
@@ -44,10 +36,7 @@ impl NameReader {
         ensures { IfOk result (λ reader. reader ≡ fresh) }
     {
         Ok(NameReader {
-            buffer: [0; 4096],
-            start: 0,
-            end: 0,
-            held: LineBuffer::new(alloc)?,
+            pieces: PieceReader::new(alloc)?,
             fault: None,
         })
     }
@@ -76,43 +65,10 @@ impl NameReader {
         if let Some(fault) = self.fault {
             return Err(fault);
         }
-        let found = self.read_next(feed);
+        self.pieces.count_anew();
+        let found = self.pieces.next(0, feed);
         self.fault = found.err();
         found
-    }
-
-    // The same where there was no fault.
-    fn read_next<F: Feed>(&mut self, feed: &mut F) -> Result<bool, SourceFault>
-        ensures name { IfOk result (λ found. IfSome (F.remaining feed.old) (λ bytes.
-            (left : List ℕ) × (F.remaining feed.new ≡ Some left)
-            × IsNext found self.new.name (self.old.ahead ++ bytes) (self.new.ahead ++ left))) }
-        ensures too_long { IsErrOf result SourceFault.TooLong → IfSome (F.remaining feed.old) (λ bytes.
-            2 ^ 64 - 1 < length (self.old.ahead ++ bytes)) }
-        ensures gave { IfSome (F.remaining feed.old) (λ _. (given : List ℕ)
-            × Consumes (F.remaining feed.old) (F.remaining feed.new) given
-            × (IsErrOf result SourceFault.TooLong ↔ (2 ^ 64 - 1 < length (self.old.ahead ++ given)))) }
-        ensures count { PumpCounts result (F.failure_count feed.old) (F.failure_count feed.new) }
-    {
-        self.held.clear();
-        let mut total = (self.end - self.start) as u64;
-        loop {
-            if self.take() {
-                return Ok(true);
-            }
-            let count = match feed.read(&mut self.buffer) {
-                Ok(count) => count,
-                Err(ReadFailed) => return Err(SourceFault::Read),
-            };
-            self.start = 0;
-            self.end = count;
-            if count == 0 {
-                return Ok(!self.held.is_empty());
-            }
-            let Some(sum) = total.checked_add(count as u64) else {
-                return Err(SourceFault::TooLong);
-            };
-            total = sum;
-        }
     }
 
     /// The name that was read last, unless it is empty, longer than 65,536 bytes or not UTF-8.
@@ -121,25 +77,10 @@ impl NameReader {
             ((name : List ℕ) → self.now.name ≡ Some name → IsUtf8 name → name ≡ [])
             (λ name. (self.now.name ≡ Some name.now) × (name.now ≢ [])) }
     {
-        let bytes = self.held.line()?;
+        let bytes = self.pieces.piece()?;
         if bytes.is_empty() {
             return None;
         }
         str::from_utf8(bytes).ok()
-    }
-
-    // Takes what is ahead up to the first NUL, with it, or all where there is none.
-    fn take(&mut self) -> bool
-        ensures { IsTaken result self.old self.new }
-    {
-        let (_, ahead) = self.buffer[..self.end].split_at(self.start);
-        let Some((name, _)) = split_at_byte(ahead, 0) else {
-            self.held.append(ahead);
-            self.start = self.end;
-            return false;
-        };
-        self.held.append(name);
-        self.start += name.len() + 1;
-        true
     }
 }

@@ -5,7 +5,7 @@ use Rattle.b3.specs.declared.row.PartValue.{PartValue}
 use Rattle.b3.specs.declared.row.Row.{Row}
 use Rattle.b3.specs.inside.Rows.{HoldsRow, row_closed, row_count, row_first, row_open, row_parameters}
 use Rattle.source.specs.Counts.{next_count}
-use Rattle.sumlist.specs.Lines.{lines, HasNoEnd}
+use Rattle.sumlist.specs.Lines.{HasNo, lines}
 use Rattle.partlist.specs.Joined.{AllTell, AreInRow, AreValuesOf, IsWrongBehind, StopsAt, bytes_of, last_of}
 use Rattle.partlist.specs.declared.fault.JoinFault.{JoinFault}
 use Rattle.partlist.specs.declared.fault.JoinFault.TheVariants.{Read, Line}
@@ -43,7 +43,7 @@ pub record Partway (whole : List ℕ) (parts : List PartValue) (joiner : Joiner)
   pub split : lines whole ≡ before ++ lines (front ++ more)
   pub tells : AllTell before told
   pub joined : HasJoined joiner (parts ++ told)
-  pub no_end : HasNoEnd front
+  pub no_end : HasNo 10 front
 
 -- the next line of the text can't be joined
 pub record Halts (whole : List ℕ) (parts : List PartValue) (joiner : Joiner) (fault : LineFault) : Type 0 where

@@ -1,12 +1,12 @@
--- What is left of a check, and what a part of it does, however the list goes on.
-use Rattle.std.specs.Prelude.{◌≡◌, ℕ, ◌+◌, List, ◌++◌, Option, Result, IsErr, MatchResult}
+-- What a check of the lines that are left does.
+use Rattle.std.specs.Prelude.{◌≡◌, ℕ, ◌+◌, List, ◌++◌, Option, IfSome, Result, MatchResult}
 use Rattle.std.specs.Io.KnownBytes.{Appends}
 use Rattle.source.specs.Counts.{count_after}
 use Rattle.source.specs.Written.{AppendsPrefix}
 use Rattle.sumlist.specs.declared.kind.Kind.{Kind}
 use Rattle.sumlist.specs.declared.checking.CheckFault.{CheckFault}
 use Rattle.sumlist.specs.declared.summary.Summary.{Summary}
-use Rattle.sumlist.specs.Lines.{lines, HasNoEnd, IsKept}
+use Rattle.sumlist.specs.Lines.{lines}
 use Rattle.sumlist.specs.Report.{Files, Outcome, AllAllowed, report_from, unreadable_count, number_of, is_told}
 use Rattle.sumlist.specs.Report.{is_malformed, is_skipped}
 use Rattle.sumlist.specs.declared.verdict.Verdict.TheVariants.{Matches, Differs, Missing, Unreadable, TooLong}
@@ -32,20 +32,8 @@ pub record RestChecked (files : Files) (kind : Kind) (rest : List (List ℕ)) (s
   pub told : MatchResult r (λ t. Counts s outcomes t × Appends old new (report_from (lines_of s + 1) outcomes))
       (λ _. AppendsPrefix old new (report_from (lines_of s + 1) outcomes))
 
--- the lines of what is held of one and of the bytes after it
-pub record HeldChecked (files : Files) (kind : Kind) (held : Option (List ℕ)) (more : List ℕ) (s : Summary)
-    (r : Result Summary CheckFault) (m n : ℕ) (b c : Option (List ℕ)) : Type 0 where
-  pub checked : (front : List ℕ) → IsKept held front → HasNoEnd front
-      → RestChecked files kind (lines (front ++ more)) s r m n b c
-
--- from one moment to another: whatever comes, if the rest is checked from the later one on it is from the earlier
-pub record Goes (files : Files) (kind : Kind) (held : Option (List ℕ)) (ahead : List ℕ) (s : Summary) (m : ℕ)
-    (b next : Option (List ℕ)) (left : List ℕ) (t : Summary) (n : ℕ) (c : Option (List ℕ)) : Type 0 where
-  pub goes : (more : List ℕ) (r : Result Summary CheckFault) (o : ℕ) (d : Option (List ℕ))
-      → HeldChecked files kind next (left ++ more) t r n o c d → HeldChecked files kind held (ahead ++ more) s r m o b d
-
--- from one moment to a fault
-pub record Stops (files : Files) (kind : Kind) (held : Option (List ℕ)) (ahead : List ℕ) (s : Summary) (m : ℕ)
-    (b : Option (List ℕ)) (n : ℕ) (c : Option (List ℕ)) : Type 0 where
-  pub stops : (more : List ℕ) (r : Result Summary CheckFault) → IsErr r
-      → HeldChecked files kind held (ahead ++ more) s r m n b c
+-- the lines of the bytes that are ahead and of those to come
+pub record Checks (rest : Option (List ℕ)) (known : Option Files) (kind : Kind) (ahead : List ℕ) (s : Summary)
+    (r : Result Summary CheckFault) (count_old count_new : ℕ) (old new : Option (List ℕ)) : Type 0 where
+  pub of : IfSome rest (λ bytes. IfSome known (λ files.
+      RestChecked files kind (lines (ahead ++ bytes)) s r count_old count_new old new))

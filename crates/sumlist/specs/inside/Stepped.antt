@@ -3,6 +3,8 @@ use Rattle.std.specs.Prelude.{◌≡◌, ℕ, List, Option, Result, Ok, Err, Mat
 use Rattle.std.specs.Io.KnownBytes.{Appends}
 use Rattle.source.specs.Counts.{count_after, next_count}
 use Rattle.source.specs.Written.{AppendsPrefix}
+use Rattle.source.specs.declared.pumping.SourceFault.{SourceFault}
+use Rattle.source.specs.declared.pumping.SourceFault.TheVariants.{Read, TooLong}
 use Rattle.sumlist.specs.Report.{Files, Outcome, Allowed, text, is_told}
 use Rattle.sumlist.specs.inside.Marks.{mark_of}
 use Rattle.sumlist.specs.declared.checking.CheckFault.{CheckFault}
@@ -25,10 +27,15 @@ LineChecked files kind line number r count_old count_new old new =
     × MatchResult r (λ mark. (mark_of o ≡ mark) × Appends old new (text number o))
     (λ _. AppendsPrefix old new (text number o))
 
--- the same of a part that does not read the list
+-- only a write that failed is one more failure of the sink, and nothing else was read or found too long
 abbrev pub StepCounts : {T : Type 0} → Result T CheckFault → ℕ → ℕ → Type 0
 StepCounts (Ok _) old new = new ≡ old
 StepCounts (Err ListRead) old new = ⊥
 StepCounts (Err Write) old new = new ≡ next_count old
 StepCounts (Err OutOfMemory) old new = new ≡ old
 StepCounts (Err ListTooLong) old new = ⊥
+
+-- what a fault in the reading of the list means
+abbrev pub fault_of : SourceFault → CheckFault
+fault_of Read = ListRead
+fault_of TooLong = ListTooLong

@@ -1,87 +1,57 @@
-use Rattle.sumlist.proofs.Common.{◌≡◌, ◌++◌, [], Err, refl, take, length-take-le, length-append, arith}
-use Rattle.sumlist.proofs.Common.{rules, ℕ, err_from_is_err_and, ListTooLong, subst, IfSome_then}
-use Rattle.std.specs.Io.KnownBytes.{IsAtEnd}
+use Rattle.sumlist.proofs.Common.{◌++◌, ◌+◌, ◌-◌, ◌<◌, ◌^◌, [], arith, Consumes, IfSome, List, Option}
+use Rattle.sumlist.proofs.Common.{err_from_is_err_and, length, length-append, rules, ℕ}
+use Rattle.std.specs.Prelude.{◌↔◌}
 use Rattle.std.proofs.KnownBytes.{Consumes-nil, Consumes-trans}
-use Rattle.sumlist.proofs.Holding.{goes-on, IfSome-all, IfSome-read, IfSome-two, held-halted, whole_checked}
+use Rattle.sumlist.proofs.Stepping.{IfSome-all, checks-all, checks-halted, checks-none}
 use Rattle.sumlist.proofs.checking.check.Goals as goal
 
-pub returns-in_err-held-clause-checked : goal.returns-in_err-held-clause-checked
-returns-in_err-held-clause-checked g c = IfSome-all (g.L.Feed.remaining c.args.list.now) (λ bytes.
-    IfSome-all (g.T.Tree.files c.args.tree.now) (λ files.
-    whole_checked {files = files} {kind = c.args.kind} {list = bytes} _ (held-halted c.from_residual.ensures.0)))
+-- what was read before, and then
+all_read : (whole rest rest' : Option (List ℕ)) (read given : List ℕ) {P : Type 0} → Consumes whole rest read
+    → Consumes rest rest' given → P ↔ (2 ^ 64 - 1 < length read + length given)
+    → IfSome whole (λ _. (all : List ℕ) × Consumes whole rest' all × (P ↔ (2 ^ 64 - 1 < length all)))
+all_read whole rest rest' read given before after h = IfSome-all whole (λ _.
+    (read ++ given, Consumes-trans _ _ _ _ _ before after, rw (length-append read given) h))
 
-pub loop-held-init : goal.loop-held-init
-loop-held-init g c = record {
+pub returns-in_err-new-clause-checked : goal.returns-in_err-new-clause-checked
+returns-in_err-new-clause-checked g c = checks-all (checks-halted c.from_residual.ensures.0)
+
+pub loop-checker-init : goal.loop-checker-init
+loop-checker-init g c = record {
+  goes = rw (c.in_ok-new.ensures, c.new-2.ensures) (λ r n d h. h);
   read = [];
   consumed = Consumes-nil (g.L.Feed.remaining c.args.list.now);
-  goes = rw (c.in_ok-held.ensures, c.new-summary.ensures)
-      (IfSome-all (g.T.Tree.files c.args.tree.now) (λ files. record { goes = λ more r o d h. h }));
-  counts = rw (c.in_ok-held.ensures, c.new-summary.ensures) (search rules);
+  counts = rw (c.in_ok-new.ensures, c.new-2.ensures) (search rules);
 }
 
-pub returns-in_err-count-clause-checked : goal.returns-in_err-count-clause-checked
-returns-in_err-count-clause-checked g c =
-    let i = c.loop-held.invariant in
-    IfSome-read (g.L.Feed.remaining c.args.list.now) _ i.read _ i.consumed (λ left is.
-    IfSome_then (g.T.Tree.files c.args.tree.now) i.goes (λ files h. whole_checked _ (h.goes left _ _ _
-    (held-halted c.from_residual-in_err-count.ensures.0))))
+pub returns-in_err-step-clause-gave : goal.returns-in_err-step-clause-gave
+returns-in_err-step-clause-gave g c =
+    let i = c.loop-checker.invariant in
+    let gave = c.in_err-step.ensures.gave in
+    let exit = c.from_residual-in_err-step in
+    let fault = err_from_is_err_and exit.result exit.ensures.1 in
+    rw (fault.1, fault.2) (all_read _ _ _ i.read gave.0 i.consumed gave.1 (grind arith))
 
-pub returns-in_default-clause-checked : goal.returns-in_default-clause-checked
-returns-in_default-clause-checked g c =
-    let i = c.loop-held.invariant in
-    IfSome-read (g.L.Feed.remaining c.args.list.now) _ i.read _ i.consumed (λ left is.
-    IfSome_then (g.T.Tree.files c.args.tree.now) i.goes (λ files h. whole_checked _ (h.goes left (Err ListTooLong) _ _
-    (held-halted refl))))
-
-pub returns-in_default-clause-gave : goal.returns-in_default-clause-gave
-returns-in_default-clause-gave g c = IfSome-all (g.L.Feed.remaining c.args.list.now) (λ xs. (
-  c.loop-held.invariant.read ++ take c.in_ok-count.count c.read.new.buf,
-  Consumes-trans _ _ _ _ _ c.loop-held.invariant.consumed c.in_ok-count.ensures.given,
-  grind (arith, length-append {A = ℕ}, length-take-le {A = ℕ}),
-))
-
-pub loop-held-preserved : goal.loop-held-preserved
-loop-held-preserved g c =
-    let i = c.loop-held.invariant in
-    let piece = take c.in_ok-count.count c.read.new.buf in
+pub loop-checker-preserved : goal.loop-checker-preserved
+loop-checker-preserved g c =
+    let i = c.loop-checker.invariant in
+    let gave = c.in_ok-step.ensures.gave in
     record {
-      read = i.read ++ piece;
-      consumed = Consumes-trans _ _ _ _ _ i.consumed c.in_ok-count.ensures.given;
-      goes = IfSome-two i.counts.kept i.goes
-          c.in_ok-check_piece.ensures.checked (λ files h p. record {
-            goes = λ more r o d later. goes-on h piece more (p.goes more r o d later);
-          });
-      counts = grind (arith, length-append {A = ℕ}, length-take-le {A = ℕ});
+      goes = λ r n d later.
+          i.goes r n d ((rw (i.counts.kept, i.counts.kind) at c.in_ok-step.ensures.checked) r n d later);
+      read = i.read ++ gave.0;
+      consumed = Consumes-trans _ _ _ _ _ i.consumed gave.1;
+      counts = grind (arith, length-append {A = ℕ});
     }
 
-pub returns-in_err-check_piece-clause-checked : goal.returns-in_err-check_piece-clause-checked
-returns-in_err-check_piece-clause-checked g c =
-    let i = c.loop-held.invariant in
-    let piece = take c.in_ok-count.count c.read.new.buf in
-    IfSome-read (g.L.Feed.remaining c.args.list.now) _ (i.read ++ piece) _
-    (Consumes-trans _ _ _ _ _ i.consumed c.in_ok-count.ensures.given) (λ left is.
-    IfSome-two i.counts.kept i.goes
-    c.in_err-check_piece.ensures.checked (λ files h p.
-    whole_checked _ (goes-on h piece left (p.stops left _ c.from_residual-in_err-check_piece.ensures.0))))
+pub returns-clause-checked : goal.returns-clause-checked
+returns-clause-checked g c =
+    let i = c.loop-checker.invariant in
+    let end = c.in_ok-step.ensures.end c.if-branch.false in
+    checks-all (i.goes _ _ _
+    ((rw (i.counts.kept, i.counts.kind) at c.in_ok-step.ensures.checked) _ _ _ (checks-none end)))
 
-pub returns-in_err-check_piece-clause-gave : goal.returns-in_err-check_piece-clause-gave
-returns-in_err-check_piece-clause-gave g c =
-    let exit = c.from_residual-in_err-check_piece in
-    let fault = err_from_is_err_and exit.result exit.ensures.1 in
-    rw (fault.1, fault.2) (IfSome-all (g.L.Feed.remaining c.args.list.now) (λ xs. (
-      c.loop-held.invariant.read ++ take c.in_ok-count.count c.read.new.buf,
-      Consumes-trans _ _ _ _ _ c.loop-held.invariant.consumed c.in_ok-count.ensures.given,
-      grind (arith, length-append {A = ℕ}, length-take-le {A = ℕ}, c.in_err-check_piece.ensures.writes),
-    )))
-
-pub returns-then-count-eq0-clause-checked : goal.returns-then-count-eq0-clause-checked
-returns-then-count-eq0-clause-checked g c =
-    let i = c.loop-held.invariant in
-    let none = c.if-count-eq0.true in
-    let end = c.in_ok-count.ensures.end none (omega (arith, c.read.auto.buf, i.counts.size)) in
-    let piece = take c.in_ok-count.count c.read.new.buf in
-    IfSome-read (g.L.Feed.remaining c.args.list.now) _ (i.read ++ piece) _
-    (Consumes-trans _ _ _ _ _ i.consumed c.in_ok-count.ensures.given) (λ left is.
-    IfSome-two i.counts.kept i.goes
-    c.check_last.ensures.checked (λ files h p. let over : left ≡ [] = subst IsAtEnd is end in
-    whole_checked _ (goes-on h piece left (rw (none, over) p))))
+pub returns-clause-gave : goal.returns-clause-gave
+returns-clause-gave g c =
+    let i = c.loop-checker.invariant in
+    let gave = c.in_ok-step.ensures.gave in
+    all_read _ _ _ i.read gave.0 i.consumed gave.1 (grind arith)

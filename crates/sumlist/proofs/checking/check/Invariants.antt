@@ -1,26 +1,28 @@
-use Rattle.sumlist.proofs.Common.{◌≡◌, ◌+◌, ◌-◌, ◌^◌, ◌≤◌, ◌<◌, List, [], Some, IfSome, length, Consumes, count_after}
-use Rattle.sumlist.proofs.Common.{Goes, held_len, lines_of, no_lines, ℕ}
+use Rattle.sumlist.proofs.Common.{◌≡◌, ◌+◌, ◌-◌, ◌^◌, ◌≤◌, CheckFault, List, Option, Result, Summary, [], length}
+use Rattle.sumlist.proofs.Common.{Consumes, count_after, lines_of, no_lines, ℕ}
+use Rattle.sumlist.specs.inside.Ahead.{Checks}
 use Rattle.sumlist.proofs.checking.check.Given as goal
 
-abbrev pub invariant-loop-held : goal.invariant-loop-held
-invariant-loop-held g l = record {
+abbrev pub invariant-loop-checker : goal.invariant-loop-checker
+invariant-loop-checker g l = record {
+  goes : (r : Result Summary CheckFault) (n : ℕ) (c : Option (List ℕ))
+      → Checks (g.L.Feed.remaining l.list) (g.T.Tree.files l.initial.tree) l.fn.kind l.checker.reader.ahead
+      l.checker.summary r (g.T.Tree.failure_count l.tree) n (g.W.Sink.shown l.out).contents c
+      → Checks (g.L.Feed.remaining l.initial.list) (g.T.Tree.files l.initial.tree) l.fn.kind [] no_lines r
+      (g.T.Tree.failure_count l.initial.tree) n (g.W.Sink.shown l.initial.out).contents c;
   read : List ℕ;
   consumed : Consumes (g.L.Feed.remaining l.initial.list) (g.L.Feed.remaining l.list) read;
-  goes : IfSome (g.T.Tree.files l.initial.tree) (λ files. Goes files l.kind (Some []) read no_lines
-      (g.T.Tree.failure_count l.initial.tree) (g.W.Sink.shown l.initial.out).contents
-      l.held [] l.summary (g.T.Tree.failure_count l.tree) (g.W.Sink.shown l.out).contents);
   counts : record {
-    total : l.total ≡ length read;
+    kind : l.checker.kind ≡ l.fn.kind;
+    total : l.checker.reader.total ≡ length read;
     reads : g.L.Feed.failure_count l.list ≡ g.L.Feed.failure_count l.initial.list;
     writes : (g.W.Sink.shown l.out).failures ≡ (g.W.Sink.shown l.initial.out).failures;
     kept : g.T.Tree.files l.tree ≡ g.T.Tree.files l.initial.tree;
     unreadable : g.T.Tree.failure_count l.tree
-        ≡ count_after (g.T.Tree.failure_count l.initial.tree) l.summary.unreadable;
-    bound : lines_of l.summary + held_len l.held ≤ l.total;
-    range : l.total < 2 ^ 64;
-    size : length l.buffer ≡ 4096;
+        ≡ count_after (g.T.Tree.failure_count l.initial.tree) l.checker.summary.unreadable;
+    few : lines_of l.checker.summary + length l.checker.reader.ahead ≤ l.checker.reader.total;
   };
 }
 
-abbrev pub decreases-loop-held : goal.decreases-loop-held
-decreases-loop-held g l = 2 ^ 64 - l.total
+abbrev pub decreases-loop-checker : goal.decreases-loop-checker
+decreases-loop-checker g l = 2 ^ 64 + length l.checker.reader.ahead - l.checker.reader.total

@@ -8,19 +8,19 @@ returns-in_err-word c = rw (c.from_residual.ensures, cut-none c.args.text.now c.
 pub returns-in_err-mark : goal.returns-in_err-mark
 returns-in_err-mark c = rw (
   c.from_residual-in_err-mark.ensures,
-  form_of-cut c.args.kind c.in_ok-word.ensures,
+  form_of-cut c.args.kind _ _ _ c.in_ok-word.ensures,
   nil_from_length _ c.in_err-mark.ensures.cases,
 ) refl
 
 pub returns-then-is_mark : goal.returns-then-is_mark
 returns-then-is_mark c =
-    rw (form_of-cut c.args.kind c.in_ok-word.ensures, c.in_ok-mark.ensures.cases.0, sym c.if-is_mark.ensures)
+    rw (form_of-cut c.args.kind _ _ _ c.in_ok-word.ensures, c.in_ok-mark.ensures.cases.0, sym c.if-is_mark.ensures)
     c.split_plain.ensures
 
 pub returns-in-40 : goal.returns-in-40
-returns-in-40 c = rw (form_of-cut c.args.kind c.in_ok-word.ensures, c.in_ok-mark.ensures.cases.0, c.in-40.is)
+returns-in-40 c = rw (form_of-cut c.args.kind _ _ _ c.in_ok-word.ensures, c.in_ok-mark.ensures.cases.0, c.in-40.is)
     c.split_tagged.ensures
 
 pub returns-in_default-2 : goal.returns-in_default-2
-returns-in_default-2 c = form_of-cut c.args.kind c.in_ok-word.ensures
+returns-in_default-2 c = form_of-cut c.args.kind _ _ _ c.in_ok-word.ensures
     ∙ rw (c.in_ok-mark.ensures.cases.0, sym c.if-is_mark.ensures) (grind (arith, nat_tests))

@@ -1,9 +1,10 @@
-use Rattle.std.proofs.Common.{ℕ, ◌∷◌, ◌++◌, [], List, Result, Ok, Err, MatchResult}
+use Rattle.std.proofs.Common.{ℕ, ◌∷◌, ◌++◌, [], List, Result, Ok, Err, MatchResult, arith}
 use Rattle.b3.specs.declared.row.PartValue.{PartValue}
 use Rattle.partlist.specs.Joined.{IsWrongBehind, TellsPart}
 use Rattle.partlist.specs.declared.fault.LineFault.{LineFault}
 use Rattle.partlist.specs.declared.joining.Joiner.{Joiner}
 use Rattle.partlist.specs.inside.Joiner.{HasJoined}
+use Rattle.partlist.proofs.Reading.{line-length}
 use Rattle.partlist.proofs.joining.Joiner.add_line.Goals as goal
 
 added : (r : Result (Unit {0}) LineFault) (parts : List PartValue) (part : PartValue) (line : List ℕ) (joiner : Joiner)
@@ -17,6 +18,10 @@ added (Err fault) parts part line joiner tells wrong = wrong line tells
 
 pub returns-in_default-clause-added : goal.returns-in_default-clause-added
 returns-in_default-clause-added c = λ parts joined part tells. c.in_default.ensures _ _ tells.0 tells.1
+
+pub returns-clause-short : goal.returns-clause-short
+returns-clause-short c =
+    let short = line-length c.args.line.now c.in-Some.part c.in-Some.ensures in grind (arith, short)
 
 pub returns-clause-added : goal.returns-clause-added
 returns-clause-added c = λ parts joined.

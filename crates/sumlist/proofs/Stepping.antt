@@ -1,0 +1,128 @@
+-- A list that is checked line by line: a line's outcome comes before those of the lines that are left.
+use Rattle.sumlist.proofs.Common.{◌≡◌, ◌+◌, ◌++◌, List, [], ◌∷◌, subst, sym, refl, Option, None, Some, IfSome}
+use Rattle.sumlist.proofs.Common.{IfSome_then, IsErr, Result, Err, Ok, arith, MatchResult-from_err, Appends-nil}
+use Rattle.sumlist.proofs.Common.{Appends-trans, AppendsPrefix, Kind, Mark, Summary, CheckFault, Files, ListChecked}
+use Rattle.sumlist.proofs.Common.{IsCounted, LineChecked, Outcome, lines_of, no_lines, text, true, ℕ}
+use Rattle.std.specs.Io.KnownBytes.{IsAtEnd}
+use Rattle.std.proofs.lemmas.Result.{MatchResult-weaker}
+use Rattle.source.proofs.Writing.{AppendsPrefix-after, AppendsPrefix-more, AppendsPrefix-none}
+use Rattle.sumlist.specs.Lines.{IsKept}
+use Rattle.sumlist.specs.Report.{number_of, report_from}
+use Rattle.sumlist.specs.inside.Ahead.{Checks, Counts, RestChecked}
+use Rattle.sumlist.specs.inside.Marks.{mark_of}
+use Rattle.sumlist.specs.inside.Stepped.{Stepped}
+use Rattle.sumlist.specs.inside.Taking.{IsNextPiece}
+use Rattle.sumlist.proofs.Deciding.{all_settled}
+
+-- ---- lines
+
+pub lines_of-counted : (m : Mark) (s t : Summary) → IsCounted m s t → lines_of t ≡ lines_of s + 1
+lines_of-counted m s t c = grind arith
+
+counts_line : (o : Outcome) (os : List Outcome) (s u t : Summary) → IsCounted (mark_of o) s u → Counts u os t
+    → Counts s (o ∷ os) t
+unfolding number_of
+counts_line o os s u t c h = grind arith
+
+module _ {files : Files} {kind : Kind} {s : Summary} {m : ℕ} {b : Option (List ℕ)} where
+  rest-none : RestChecked files kind [] s (Ok s) m m b b
+  unfolding report_from number_of
+  rest-none = record { outcomes = []; allowed = tt; counted = omega arith; told = (grind arith, Appends-nil b) }
+
+  -- a fault before any
+  rest-halted : {ls : List (List ℕ)} {r : Result Summary CheckFault} → IsErr r → RestChecked files kind ls s r m m b b
+  rest-halted {ls} stopped = let others = all_settled files kind ls in record {
+    outcomes = others.0;
+    allowed = others.1;
+    counted = omega (arith, others.2);
+    told = MatchResult-from_err _ _ _ stopped (λ _. AppendsPrefix-none b _);
+  }
+
+  module _ {line : List ℕ} {ls : List (List ℕ)} {r : Result Summary CheckFault} {n : ℕ} {c : Option (List ℕ)} where
+    -- a fault at the first
+    rest-stopped : IsErr r
+        → (o : Outcome) × Stepped files kind line o m n × AppendsPrefix b c (text (lines_of s + 1) o)
+        → RestChecked files kind (line ∷ ls) s r m n b c
+    unfolding report_from number_of
+    rest-stopped stopped l = let others = all_settled files kind ls in record {
+      outcomes = l.0 ∷ others.0;
+      allowed = (l.1.allowed, others.1);
+      counted = omega (arith, others.2, l.1.counted);
+      told = MatchResult-from_err r _ _ stopped (λ _. AppendsPrefix-more b c _ _ l.2);
+    }
+
+    -- the first was checked, and then the rest
+    rest-line : {mark : Mark} {u : Summary} {p : ℕ} {d : Option (List ℕ)}
+        → LineChecked {E = CheckFault} files kind line (lines_of s + 1) (Ok mark) m n b c → IsCounted mark s u
+        → RestChecked files kind ls u r n p c d → RestChecked files kind (line ∷ ls) s r m p b d
+    unfolding report_from number_of
+    rest-line {u} {d} l counted q =
+        let grown = subst (λ x. IsCounted x s u) (sym l.2.0) counted in
+        let up = lines_of-counted (mark_of l.0) s u grown in
+        record {
+          outcomes = l.0 ∷ q.outcomes;
+          allowed = (l.1.allowed, q.allowed);
+          counted = omega (arith, l.1.counted, q.counted);
+          told = MatchResult-weaker r q.told (λ t h. (
+            counts_line l.0 q.outcomes s u t grown h.0,
+            Appends-trans b c d _ _ l.2.1 (rw up at h.1),
+          ))
+              (λ _ h. AppendsPrefix-after b c d _ _ l.2.1 (rw up at h));
+        }
+
+-- ---- what is told
+
+pub IfSome-all : {X : Type 0} (r : Option X) {P : X → Type 0} → ((x : X) → P x) → IfSome r P
+IfSome-all r h = grind arith
+
+-- what follows from two clauses on one value
+pub IfSome-two : {X : Type 0} {r s : Option X} {P Q R : X → Type 0} → s ≡ r → IfSome r P → IfSome s Q
+    → ((x : X) → P x → Q x → R x) → IfSome r R
+IfSome-two same p q h = grind arith
+
+module _ {rest : Option (List ℕ)} {known : Option Files} {kind : Kind} {r : Result Summary CheckFault} {n : ℕ}
+    {c : Option (List ℕ)} where
+  -- no line came before
+  pub checks-all : {m : ℕ} {b : Option (List ℕ)} → Checks rest known kind [] no_lines r m n b c
+      → IfSome rest (λ list. IfSome known (λ files. ListChecked files kind list r m n b c))
+  checks-all h = IfSome_then rest h.of (λ list k. IfSome_then known k (λ files q.
+      (q.outcomes, q.allowed, q.counted, let told = q.told in grind (arith, told))))
+
+  pub checks-halted : {ahead : List ℕ} {s : Summary} → IsErr r → Checks rest known kind ahead s r n n c c
+  checks-halted stopped = record { of = IfSome-all rest (λ _. IfSome-all known (λ _. rest-halted stopped)) }
+
+-- no line is left
+pub checks-none : {rest : Option (List ℕ)} {known : Option Files} {kind : Kind} {ahead : List ℕ} {s : Summary} {n : ℕ}
+    {c : Option (List ℕ)} → (ahead ≡ []) × IsAtEnd rest → Checks rest known kind ahead s (Ok s) n n c c
+checks-none {rest = None} end = record { of = tt }
+checks-none {rest = Some bytes} {known} end = record { of = IfSome-all known (λ _. rw (end.0, end.1) rest-none) }
+
+-- the next line was taken
+abbrev NextTaken : Option (List ℕ) → Option (List ℕ) → List ℕ → Option (List ℕ) → List ℕ → Type 0
+NextTaken kept rest ahead rest' ahead' = IfSome rest (λ bytes. (left : List ℕ) × (rest' ≡ Some left)
+    × IsNextPiece 10 true kept (ahead ++ bytes) (ahead' ++ left))
+
+-- what the check of a line says, of which this is kept
+abbrev NextChecked : Option Files → Kind → Option (List ℕ) → ℕ → Result Mark CheckFault → ℕ → ℕ → Option (List ℕ)
+    → Option (List ℕ) → Type 0
+NextChecked known kind kept number r m n b c = IfSome known (λ files. (line : List ℕ) → IsKept kept line
+    → LineChecked files kind line number r m n b c)
+
+module _ (kept rest : Option (List ℕ)) (ahead : List ℕ) (rest' : Option (List ℕ)) (ahead' : List ℕ)
+    (known : Option Files) (next : NextTaken kept rest ahead rest' ahead') {kind : Kind} {s : Summary}
+    {r : Result Summary CheckFault} {n o : ℕ} {c d : Option (List ℕ)} where
+  pub checks-stopped : (f : CheckFault) → IsErr r → NextChecked known kind kept (lines_of s + 1) (Err f) n o c d
+      → Checks rest known kind ahead s r n o c d
+  checks-stopped f stopped checked = record {
+    of = IfSome_then rest next (λ _ t. IfSome_then known checked (λ _ line.
+        rw t.2.2 (rest-stopped stopped (line t.2.0 t.2.1))));
+  }
+
+  pub checks-line : {u : Summary} {p : ℕ} {e : Option (List ℕ)} (mark : Mark) → IsCounted mark s u
+      → NextChecked known kind kept (lines_of s + 1) (Ok mark) n o c d → Checks rest' known kind ahead' u r o p d e
+      → Checks rest known kind ahead s r n p c e
+  checks-line {u} {p} {e} mark counted checked later = record {
+    of = IfSome_then rest next (λ _ t. IfSome-two {r = known} refl checked
+        (subst (λ x. Checks x known kind ahead' u r o p d e) t.1 later).of (λ _ line q.
+        rw t.2.2 (rest-line (line t.2.0 t.2.1) counted q)));
+  }

@@ -1,0 +1,180 @@
+// Pieces of a feed that each end at a byte, one after another.
+
+ghost use Rattle.std.specs.Io.KnownBytes.{Consumes, IsAtEnd};
+ghost use Rattle.std.specs.Prelude.{◌≡◌, ◌+◌, ◌-◌, ◌<◌, ◌≤◌, ◌^◌, ◌↔◌, ◌++◌, ℕ, List, Option, Some, None, true, false};
+ghost use Rattle.std.specs.Prelude.{IfOk, IfSome, IsErrOf, IsTrue, MatchOption, OnOk, [], length};
+ghost use Rattle.source.specs.Faults.{PumpCounts};
+ghost use Rattle.sumlist.specs.inside.Taking.{IsNextPiece, IsTaken, none_taken};
+
+use crate::line_buffer::LineBuffer;
+use crate::lines::split_at_byte;
+use source::{Feed, ReadFailed, SourceFault};
+use std::alloc::{AllocError, Global};
+use std::marker::Model;
+
+// One read of 4,096 bytes, and of a piece at most 65,536 bytes, whatever comes. A piece that came in one
+// read is not copied.
+#[derive(Drop)]
+pub(crate) struct PieceReader {
+    buffer: [u8; 4096],
+    // what is ahead
+    start: usize,
+    end: usize,
+    // where the last piece lies, if it is whole in the buffer
+    is_whole: bool,
+    from: usize,
+    len: usize,
+    // what is kept of it otherwise
+    held: LineBuffer,
+    // how many bytes were read
+    total: u64,
+    is_at_end: bool,
+    ghost order: { start ≤ end },
+    ghost within: { end ≤ 4096 },
+    ghost size: { length buffer ≡ 4096 },
+    ghost range: { total < 2 ^ 64 },
+    ghost lies: { is_whole ≡ true → from + len ≤ end },
+}
+
+impl Model for PieceReader {
+    ghost use Rattle.sumlist.specs.inside.Taking.{Cutting};
+    ghost use Rattle.sumlist.specs.inside.PieceView.{seen};
+
+    ghost Value = { Cutting };
+
+    ghost view = { seen };
+}
+
+impl PieceReader {
+    // No piece yet, and nothing read. This is the only growth.
+    pub(crate) fn new(alloc: Global) -> Result<PieceReader, AllocError>
+        ensures { IfOk result (λ reader. reader ≡ none_taken) }
+    {
+        Ok(PieceReader {
+            buffer: [0; 4096],
+            start: 0,
+            end: 0,
+            is_whole: false,
+            from: 0,
+            len: 0,
+            held: LineBuffer::new(alloc)?,
+            total: 0,
+            is_at_end: false,
+        })
+    }
+
+    // Counts from here on the bytes that are read, with those that are ahead.
+    pub(crate) fn count_anew(&mut self)
+        ensures ahead { self.new.ahead ≡ self.old.ahead }
+        ensures kept { self.new.kept ≡ self.old.kept }
+        ensures total { self.new.total ≡ length self.old.ahead }
+    {
+        self.total = (self.end - self.start) as u64;
+    }
+
+    // Reads the next piece that ends at this byte, and answers whether there was one: at the end of the feed
+    // a last piece needs no end. A piece that is longer than 65,536 bytes is passed over, and not kept.
+    // `TooLong` comes exactly where the bytes that were read become more than 2^64 - 1.
+    pub(crate) fn next<F: Feed>(&mut self, end: u8, feed: &mut F) -> Result<bool, SourceFault>
+        ensures piece { IfOk result (λ found. IfSome (F.remaining feed.old) (λ bytes.
+            (left : List ℕ) × (F.remaining feed.new ≡ Some left)
+            × IsNextPiece end found self.new.kept (self.old.ahead ++ bytes) (self.new.ahead ++ left))) }
+        ensures forth { IfOk result (λ found. found ≡ true
+            → self.old.total + length self.new.ahead < self.new.total + length self.old.ahead) }
+        ensures last { IfOk result (λ found. found ≡ false → self.new.is_at_end ≡ true) }
+        ensures end { OnOk result (self.new.is_at_end ≡ true
+            → (self.new.ahead ≡ []) × IsAtEnd (F.remaining feed.new)) }
+        ensures gave { (given : List ℕ) × Consumes (F.remaining feed.old) (F.remaining feed.new) given
+            × (IsErrOf result SourceFault.TooLong ↔ (2 ^ 64 - 1 < self.old.total + length given))
+            × OnOk result (self.new.total ≡ self.old.total + length given) }
+        ensures count { PumpCounts result (F.failure_count feed.old) (F.failure_count feed.new) }
+    {
+        self.held.clear();
+        self.is_whole = false;
+        self.is_at_end = false;
+        'pieces: loop {
+            if self.take(end) {
+                return Ok(true);
+            }
+            if !self.fill(feed)? {
+                return Ok(!self.is_empty());
+            }
+        }
+    }
+
+    // Reads more, where nothing is ahead, and answers whether there was more.
+    fn fill<F: Feed>(&mut self, feed: &mut F) -> Result<bool, SourceFault>
+        requires { self.old.is_whole ≡ false }
+        ensures kept { (self.new.kept ≡ self.old.kept) × (self.new.is_whole ≡ false) }
+        ensures gave { (given : List ℕ) × Consumes (F.remaining feed.old) (F.remaining feed.new) given
+            × (IsErrOf result SourceFault.TooLong ↔ (2 ^ 64 - 1 < self.old.total + length given))
+            × IfOk result (λ more. (self.new.total ≡ self.old.total + length given)
+            × (self.new.ahead ≡ given) × (more ≡ true → (0 < length given) × (self.new.is_at_end ≡ false))
+            × (more ≡ false → (given ≡ []) × IsAtEnd (F.remaining feed.new) × (self.new.is_at_end ≡ true))) }
+        ensures count { PumpCounts result (F.failure_count feed.old) (F.failure_count feed.new) }
+    {
+        let count = match feed.read(&mut self.buffer) {
+            Ok(count) => count,
+            Err(ReadFailed) => return Err(SourceFault::Read),
+        };
+        self.start = 0;
+        self.end = count;
+        self.is_at_end = count == 0;
+        let Some(total) = self.total.checked_add(count as u64) else {
+            return Err(SourceFault::TooLong);
+        };
+        self.total = total;
+        Ok(count != 0)
+    }
+
+    // Whether the feed has ended, so that no piece follows.
+    pub(crate) fn is_at_end(&self) -> bool
+        ensures { result ≡ self.now.is_at_end }
+    {
+        self.is_at_end
+    }
+
+    // The piece that was read last, unless it is longer than 65,536 bytes.
+    pub(crate) fn piece(&self) -> Option<&[u8]>
+        ensures { MatchOption result (self.now.kept ≡ None) (λ piece. self.now.kept ≡ Some piece.now) }
+    {
+        if !self.is_whole {
+            return self.held.line();
+        }
+        let (_, read) = self.buffer[..self.end].split_at(self.from);
+        Some(&read[..self.len])
+    }
+
+    // Whether the piece that was read last has no bytes.
+    fn is_empty(&self) -> bool
+        ensures { IsTrue result ↔ (self.now.kept ≡ Some []) }
+    {
+        match self.piece() {
+            Some(piece) => piece.is_empty(),
+            None => false,
+        }
+    }
+
+    // Takes what is ahead up to the first byte of this value, with it, or all where there is none.
+    fn take(&mut self, end: u8) -> bool
+        requires { self.old.is_whole ≡ false }
+        ensures { IsTaken end result self.old self.new }
+    {
+        let (_, ahead) = self.buffer[..self.end].split_at(self.start);
+        let Some((piece, _)) = split_at_byte(ahead, end) else {
+            self.held.append(ahead);
+            self.start = self.end;
+            return false;
+        };
+        let start = self.start;
+        self.start += piece.len() + 1;
+        if !self.held.is_empty() {
+            self.held.append(piece);
+            return true;
+        }
+        self.is_whole = true;
+        self.from = start;
+        self.len = piece.len();
+        true
+    }
+}
