@@ -1,4 +1,4 @@
-use Rattle.std.proofs.Common.{refl, ap, sym, ◌∙◌, map}
+use Rattle.std.proofs.Common.{refl, ap, sym, map}
 use Rattle.std.proofs.Common.{arith}
 use Rattle.std.proofs.Common.{take_all}
 use Rattle.command.specs.Lines.{digest_line}
