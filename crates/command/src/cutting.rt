@@ -11,7 +11,7 @@ ghost use Rattle.command.specs.Lines.{is_input};
 ghost use Rattle.command.specs.inside.Cutting as spec;
 ghost use Rattle.command.specs.inside.Cutting.{Cuts, IsRoom};
 ghost use Rattle.command.specs.inside.Reading.{failed};
-ghost use Rattle.command.specs.Streams.{TakesCourse};
+ghost use Rattle.command.specs.Streams.{OpensAtMost, TakesCourse, opens_of};
 ghost use Rattle.command.specs.inside.Streams.{IfContent, SameStreams};
 
 use crate::digests::part_buffer;
@@ -43,6 +43,8 @@ impl<'i, 't, 'o, L: Feed, T: Tree, W: Sink> Session<'i, 't, 'o, L, T, W> {
         ensures course { TakesCourse (λ bytes files. PartRuns first chunks name.entry.now files bytes)
             (λ notes. notes ≡ [])
             result (⟦<Self as Streams>⟧.seen self.old) (⟦<Self as Streams>⟧.seen self.new) }
+        ensures opens { OpensAtMost (opens_of name.entry.now) (⟦<Self as Streams>⟧.seen self.old)
+            (⟦<Self as Streams>⟧.seen self.new) }
         ensures same { SameStreams self.old self.new }
     {
         let part = self.part_in(first, chunks, name)?;
@@ -65,6 +67,8 @@ impl<'i, 't, 'o, L: Feed, T: Tree, W: Sink> Session<'i, 't, 'o, L, T, W> {
             (⟦<Self as Streams>⟧.seen self.old).input_failures (⟦<Self as Streams>⟧.seen self.new).input_failures
             (⟦<Self as Streams>⟧.seen self.old).file_failures (⟦<Self as Streams>⟧.seen self.new).file_failures) }
         ensures out { (⟦<Self as Streams>⟧.seen self.new).out ≡ (⟦<Self as Streams>⟧.seen self.old).out }
+        ensures opens { OpensAtMost (opens_of name.entry.now) (⟦<Self as Streams>⟧.seen self.old)
+            (⟦<Self as Streams>⟧.seen self.new) }
         ensures same { SameStreams self.old self.new }
     {
         let room = room_from(first, chunks);
