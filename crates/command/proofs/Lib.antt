@@ -15,6 +15,7 @@ pub mod CutParts
 pub mod Clean
 pub mod Listing
 pub mod Names
+pub mod Opening
 pub mod Gathering
 pub mod Rejoining
 pub mod Telling

@@ -10,7 +10,7 @@ ghost use Rattle.command.specs.Lines.{is_input};
 ghost use Rattle.command.specs.inside.Cutting as spec;
 ghost use Rattle.command.specs.inside.Cutting.{Cuts, IsRoom};
 ghost use Rattle.command.specs.inside.Reading.{failed};
-ghost use Rattle.command.specs.Streams.{TakesCourse};
+ghost use Rattle.command.specs.Streams.{OpensAtMost, TakesCourse, opens_of};
 ghost use Rattle.command.specs.inside.Streams.{IfContent, SameStreams};
 ghost use Rattle.task.specs.inside.Possible.{IsPlace};
 
@@ -46,6 +46,8 @@ impl<'i, 't, 'o, L: Feed, T: Tree, W: Sink> Session<'i, 't, 'o, L, T, W> {
             result (⟦<Self as Streams>⟧.seen self.old) (⟦<Self as Streams>⟧.seen self.new) }
         ensures left { is_input name.entry.now ≡ true → OnOk result (IfSome (L.remaining self.old.input.now)
             (λ bytes. L.remaining self.new.input.now ≡ Some (behind_chunks chunks bytes))) }
+        ensures opens { OpensAtMost (opens_of name.entry.now) (⟦<Self as Streams>⟧.seen self.old)
+            (⟦<Self as Streams>⟧.seen self.new) }
         ensures same { SameStreams self.old self.new }
     {
         let part = self.part_in(first, chunks, name)?;
@@ -70,6 +72,8 @@ impl<'i, 't, 'o, L: Feed, T: Tree, W: Sink> Session<'i, 't, 'o, L, T, W> {
         ensures left { is_input name.entry.now ≡ true → OnOk result (IfSome (L.remaining self.old.input.now)
             (λ bytes. L.remaining self.new.input.now ≡ Some (behind_chunks chunks bytes))) }
         ensures out { (⟦<Self as Streams>⟧.seen self.new).out ≡ (⟦<Self as Streams>⟧.seen self.old).out }
+        ensures opens { OpensAtMost (opens_of name.entry.now) (⟦<Self as Streams>⟧.seen self.old)
+            (⟦<Self as Streams>⟧.seen self.new) }
         ensures same { SameStreams self.old self.new }
     {
         let room = room_from(first, chunks);

@@ -2,6 +2,7 @@
 
 ghost use Rattle.std.specs.Prelude.{◌≡◌, ◌-◌, ◌*◌, ◌^◌, ℕ, [], length, vec_len, Some, true, IfOk, IfSome};
 ghost use Rattle.std.specs.Prelude.{IsErrOf, MatchResult, None, map};
+ghost use Rattle.std.specs.List.{sum_by};
 ghost use Rattle.b3.specs.Modes.{hash_root};
 ghost use Rattle.b3.specs.inside.Output.{output_position, output_root};
 ghost use Rattle.source.specs.Counts.{count_after};
@@ -14,7 +15,7 @@ ghost use Rattle.command.specs.Lines.{IsListable, digest_line, hash_of, line_tex
 ghost use Rattle.command.specs.inside.Hashed.{PrintsName, Settles};
 ghost use Rattle.command.specs.inside.Printing.{PrintsLine, PrintsListed};
 ghost use Rattle.command.specs.inside.Reading.{Leaves, Reads, failed};
-ghost use Rattle.command.specs.Streams.{TakesCourse};
+ghost use Rattle.command.specs.Streams.{OpensAtMost, TakesCourse, opens_of};
 ghost use Rattle.command.specs.inside.Streams.{AfterReading, IfContent, SameStreams};
 ghost use Rattle.command.specs.declared.fault.Fault.TheVariants.{BadName};
 
@@ -47,6 +48,8 @@ impl<'i, 't, 'o, L: Feed, T: Tree, W: Sink> Session<'i, 't, 'o, L, T, W> {
             HashesAll (digest_line requested) files bytes (map (λ n. n.now) names.entry.now))
             (λ notes. TellsAll (E.shown err.old) (E.shown err.new) notes)
             result (⟦<Self as Streams>⟧.seen self.old) (⟦<Self as Streams>⟧.seen self.new) }
+        ensures opens { OpensAtMost (sum_by opens_of (map (λ n. n.now) names.entry.now))
+            (⟦<Self as Streams>⟧.seen self.old) (⟦<Self as Streams>⟧.seen self.new) }
         ensures same { SameStreams self.old self.new }
     {
         let mut status: u8 = 0;

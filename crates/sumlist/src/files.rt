@@ -27,6 +27,7 @@ impl<'r, R: Files> FileTree<'r, R> {
     pub fn new(rt: &'r R) -> FileTree<'r, R>
         ensures untold { ⟦<FileTree<'r, R> as Tree>⟧.files result ≡ None }
         ensures fresh { ⟦<FileTree<'r, R> as Tree>⟧.failure_count result ≡ 0 }
+        ensures opens { ⟦<FileTree<'r, R> as Tree>⟧.opens result ≡ 0 }
     {
         FileTree { rt, failures: 0 }
     }
@@ -48,6 +49,8 @@ impl<'r, R: Files> Tree for FileTree<'r, R> {
     type F = Device<Either<R::File, Empty>>;
 
     ghost failure_count = { λ t. t.failures };
+
+    ghost opens = { λ _. 0 };
 
     ghost files = { λ _. None };
 

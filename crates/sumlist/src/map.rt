@@ -15,11 +15,14 @@ impl<'a> Tree for &'a BTreeMap<String, Vec<u8>> {
 
     ghost failure_count = { λ _. 0 };
 
+    ghost opens = { λ _. 0 };
+
     ghost files = { λ t. Some (map_content t.now) };
 
     fn open(&mut self, name: &str) -> Result<&'a [u8], OpenFault>
         ensures opened { IsOpened ⟦<&'a BTreeMap<String, Vec<u8>> as Tree>⟧.files
-            ⟦<&'a BTreeMap<String, Vec<u8>> as Tree>⟧.failure_count result self.old self.new name.now 0
+            ⟦<&'a BTreeMap<String, Vec<u8>> as Tree>⟧.failure_count
+            ⟦<&'a BTreeMap<String, Vec<u8>> as Tree>⟧.opens result self.old self.new name.now 0
             ⟦<&'a [u8] as Feed>⟧.remaining ⟦<&'a [u8] as Feed>⟧.failure_count }
         ensures only_missing { IfErr result (λ fault. fault ≡ OpenFault.Missing) }
     {
@@ -28,7 +31,8 @@ impl<'a> Tree for &'a BTreeMap<String, Vec<u8>> {
 
     fn open_at(&mut self, name: &str, position: u64) -> Result<&'a [u8], OpenFault>
         ensures opened { IsOpened ⟦<&'a BTreeMap<String, Vec<u8>> as Tree>⟧.files
-            ⟦<&'a BTreeMap<String, Vec<u8>> as Tree>⟧.failure_count result self.old self.new name.now position
+            ⟦<&'a BTreeMap<String, Vec<u8>> as Tree>⟧.failure_count
+            ⟦<&'a BTreeMap<String, Vec<u8>> as Tree>⟧.opens result self.old self.new name.now position
             ⟦<&'a [u8] as Feed>⟧.remaining ⟦<&'a [u8] as Feed>⟧.failure_count }
         ensures only_missing { IfErr result (λ fault. fault ≡ OpenFault.Missing) }
     {
@@ -40,8 +44,10 @@ impl<'a> Tree for &'a BTreeMap<String, Vec<u8>> {
     fn close(&mut self, _feed: &'a [u8]) {}
 }
 
-/// Does nothing. Its contract says what each map tells as files: their contents, and that none has failed.
+/// Does nothing. Its contract says what each map tells as files: their contents, that none has failed, and
+/// that it counts no opens.
 pub fn map_laws<'a>(files: &'a BTreeMap<String, Vec<u8>>)
     ensures told { ⟦<&'a BTreeMap<String, Vec<u8>> as Tree>⟧.files files.entry ≡ Some (map_content files.now) }
     ensures failures { ⟦<&'a BTreeMap<String, Vec<u8>> as Tree>⟧.failure_count files.entry ≡ 0 }
+    ensures opens { ⟦<&'a BTreeMap<String, Vec<u8>> as Tree>⟧.opens files.entry ≡ 0 }
 {}

@@ -150,11 +150,12 @@ fn a_refused_buffer_leaves_list_and_output_as_they_were(rt: HostRuntime) -> Resu
     Ok(())
 }
 
-// A tree that answers every open alike.
+// A tree that answers every open alike, and counts it.
 #[derive(Drop)]
 struct Refusing {
     fault: OpenFault,
     failures: u64,
+    opens: u64,
 }
 
 impl Tree for Refusing {
@@ -162,9 +163,12 @@ impl Tree for Refusing {
 
     ghost failure_count = { λ t. t.failures };
 
+    ghost opens = { λ t. t.opens };
+
     ghost files = { λ _. None };
 
     fn open_at(&mut self, _name: &str, _position: u64) -> Result<Bytes<'static>, OpenFault> {
+        self.opens = self.opens.saturating_add(1);
         if self.fault == OpenFault::Failed {
             self.failures = self.failures.saturating_add(1);
         }
@@ -184,23 +188,36 @@ fn opens_that_fail_are_told_and_counted(rt: HostRuntime) -> Result<(), Fail> {
             None,
             "abc.txt: UNREADABLE\nabc.txt: UNREADABLE\nnone.txt: UNREADABLE\nline 4: MALFORMED\n",
             3,
+            3,
         ),
         (
             OpenFault::Missing,
             None,
             "abc.txt: MISSING\nabc.txt: MISSING\nnone.txt: MISSING\nline 4: MALFORMED\n",
             0,
+            3,
         ),
-        (OpenFault::OutOfMemory, Some(CheckFault::OutOfMemory), "", 0),
+        (
+            OpenFault::OutOfMemory,
+            Some(CheckFault::OutOfMemory),
+            "",
+            0,
+            1,
+        ),
     ];
-    for (fault, told, report, failures) in cases {
-        let mut tree = Refusing { fault, failures: 0 };
+    for (fault, told, report, failures, opens) in cases {
+        let mut tree = Refusing {
+            fault,
+            failures: 0,
+            opens: 0,
+        };
         let mut feed = Bytes::new(LIST, 100);
         let mut out = VecSink::new(rt.alloc());
         let answer = check(rt.alloc(), &mut feed, Kind::Sha256, &mut tree, &mut out);
         assert_eq!(rt; answer.err(), told);
         assert_eq!(rt; out.written(), report.as_bytes());
         assert_eq!(rt; tree.failures, failures);
+        assert_eq!(rt; tree.opens, opens);
     }
     Ok(())
 }

@@ -1,24 +1,30 @@
 use Rattle.std.proofs.Common.{refl, ap, sym, map}
 use Rattle.std.proofs.Common.{arith}
 use Rattle.std.proofs.Common.{take_all}
+use Rattle.std.specs.List.{sum_by}
 use Rattle.command.specs.Lines.{digest_line}
+use Rattle.command.specs.Streams.{opens_of}
 use Rattle.command.specs.inside.Streams.{seen_of}
 use Rattle.command.proofs.Given.{goes-end, goes-next, goes-start, goes-stop}
 use Rattle.command.proofs.Going.{Same-trans}
 use Rattle.command.proofs.Names.{all_names, one_more}
+use Rattle.command.proofs.Opening.{opens_all, opens_more}
 use Rattle.command.proofs.session.Session.print_digests.Goals as goal
 
 pub loop-name-init : goal.loop-name-init
 loop-name-init g c =
-    let see = seen_of g.L.Feed.remaining g.L.Feed.failure_count g.T.Tree.files g.T.Tree.failure_count g.W.Sink.shown in
+    let see = seen_of g.L.Feed.remaining g.L.Feed.failure_count g.T.Tree.files g.T.Tree.failure_count
+    g.T.Tree.opens g.W.Sink.shown in
     record {
       same = record { input = refl; tree = refl; out = refl };
+      opens = omega arith;
       goes = goes-start (digest_line c.args.requested) (see c.args.self.now) (g.E.Sink.shown c.args.err.now);
     }
 
 pub returns-in_err-print_digest-clause-course : goal.returns-in_err-print_digest-clause-course
 returns-in_err-print_digest-clause-course g c =
-    let see = seen_of g.L.Feed.remaining g.L.Feed.failure_count g.T.Tree.files g.T.Tree.failure_count g.W.Sink.shown in
+    let see = seen_of g.L.Feed.remaining g.L.Feed.failure_count g.T.Tree.files g.T.Tree.failure_count
+    g.T.Tree.opens g.W.Sink.shown in
     goes-stop (digest_line c.args.requested) (see c.args.self.now) (g.E.Sink.shown c.args.err.now)
     (see c.loop-name.self) (see c.print_digest.new.self) _ _ _ _ _ _ _ _ _
     (all_names c.args.names.now c.loop-name.name-index _ c.loop-name-test.true) c.from_residual.ensures.1
@@ -26,10 +32,14 @@ returns-in_err-print_digest-clause-course g c =
 
 pub loop-name-preserved : goal.loop-name-preserved
 loop-name-preserved g c =
-    let see = seen_of g.L.Feed.remaining g.L.Feed.failure_count g.T.Tree.files g.T.Tree.failure_count g.W.Sink.shown in
+    let see = seen_of g.L.Feed.remaining g.L.Feed.failure_count g.T.Tree.files g.T.Tree.failure_count
+    g.T.Tree.opens g.W.Sink.shown in
     let most = c.max-status.ensures in
     record {
       same = Same-trans _ _ _ c.loop-name.invariant.same c.print_digest.ensures.same;
+      opens = opens_more c.args.names.now c.loop-name.name-index _ c.loop-name-test.true (see c.args.self.now)
+          (see c.loop-name.self) (see c.print_digest.new.self) c.loop-name.invariant.opens
+          c.in_ok-print_digest.ensures.name.read.opens;
       goes = goes-next (digest_line c.args.requested) (see c.args.self.now) (g.E.Sink.shown c.args.err.now)
           (see c.loop-name.self) (see c.print_digest.new.self) _ _ _ _ _ _ _ _
           (one_more c.args.names.now c.loop-name.name-index _ c.loop-name-test.true) (omega (arith, most))
@@ -38,8 +48,24 @@ loop-name-preserved g c =
 
 pub returns-clause-course : goal.returns-clause-course
 returns-clause-course g c =
-    let see = seen_of g.L.Feed.remaining g.L.Feed.failure_count g.T.Tree.files g.T.Tree.failure_count g.W.Sink.shown in
+    let see = seen_of g.L.Feed.remaining g.L.Feed.failure_count g.T.Tree.files g.T.Tree.failure_count
+    g.T.Tree.opens g.W.Sink.shown in
     goes-end (digest_line c.args.requested) (see c.args.self.now) (g.E.Sink.shown c.args.err.now)
     (see c.loop-name.self) _ _ _ _
     (ap (map (λ n. n.now)) (sym (take_all c.loop-name.name-index c.args.names.now c.loop-name-test.false)))
     c.loop-name.invariant.goes
+
+pub returns-in_err-print_digest-clause-opens : goal.returns-in_err-print_digest-clause-opens
+returns-in_err-print_digest-clause-opens g c =
+    let see = seen_of g.L.Feed.remaining g.L.Feed.failure_count g.T.Tree.files g.T.Tree.failure_count
+    g.T.Tree.opens g.W.Sink.shown in
+    opens_all c.args.names.now c.loop-name.name-index _ c.loop-name-test.true (see c.args.self.now)
+    (see c.loop-name.self) (see c.print_digest.new.self) c.loop-name.invariant.opens
+    c.in_err-print_digest.ensures.name.read.opens
+
+pub returns-clause-opens : goal.returns-clause-opens
+returns-clause-opens g c =
+    let all = ap (λ names. sum_by opens_of (map (λ n. n.now) names))
+    (take_all c.loop-name.name-index c.args.names.now c.loop-name-test.false) in
+    let opens = c.loop-name.invariant.opens in
+    omega (arith, all, opens)

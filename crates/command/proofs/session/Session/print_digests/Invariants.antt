@@ -1,14 +1,19 @@
 use Rattle.std.proofs.Common.{map, take}
+use Rattle.std.specs.List.{sum_by}
 use Rattle.command.specs.Lines.{digest_line}
+use Rattle.command.specs.Streams.{OpensAtMost, opens_of}
 use Rattle.command.specs.inside.Streams.{SameStreams, seen_of}
 use Rattle.command.proofs.Given.{Goes}
 use Rattle.command.proofs.session.Session.print_digests.Given as goal
 
 abbrev pub invariant-loop-name : goal.invariant-loop-name
 invariant-loop-name g l =
-    let see = seen_of g.L.Feed.remaining g.L.Feed.failure_count g.T.Tree.files g.T.Tree.failure_count g.W.Sink.shown in
+    let see = seen_of g.L.Feed.remaining g.L.Feed.failure_count g.T.Tree.files g.T.Tree.failure_count
+    g.T.Tree.opens g.W.Sink.shown in
     record {
       same : SameStreams l.initial.self l.self;
+      opens : OpensAtMost (sum_by opens_of (map (λ n. n.now) (take l.name-index l.names)))
+          (see l.initial.self) (see l.self);
       goes : Goes (digest_line l.requested) (see l.initial.self) (g.E.Sink.shown l.initial.err)
           (map (λ n. n.now) (take l.name-index l.names)) l.status (see l.self) (g.E.Sink.shown l.err);
     }

@@ -1,0 +1,98 @@
+-- How many files were opened.
+use Rattle.std.proofs.Common.{◌≡◌, ℕ, ◌+◌, ◌<◌, ◌≤◌, List, [], ◌∷◌, ◌++◌, length, suc, ap, map, take, drop, get_or}
+use Rattle.std.proofs.Common.{Bool, true, false, Option, None, Some, Result, IfSome, arith, refl, if◌then◌else◌}
+use Rattle.std.proofs.lemmas.List.Sums.{sum_by-append}
+use Rattle.std.specs.Borrow.{Bor}
+use Rattle.std.specs.List.{sum_by}
+use Rattle.request.specs.CommandLine.{Text}
+use Rattle.source.specs.Written.{Shown}
+use Rattle.sumlist.specs.Naming.{names}
+use Rattle.sumlist.specs.Report.{Files}
+use Rattle.command.specs.Lines.{Lining, content_of, is_input}
+use Rattle.command.specs.Streams.{OpensAtMost, Seen, opens_from, opens_of}
+use Rattle.command.specs.declared.fault.Fault.{Fault}
+use Rattle.command.specs.inside.Hashed.{PrintsNameAt}
+use Rattle.command.proofs.Names.{all_names, one_more}
+
+-- ---- the names that a loop has gone through
+
+module _ (given : List (Bor Text)) (i : ℕ) (d : Bor Text) (within : i < length given) (a b c : Seen)
+    (before : OpensAtMost (sum_by opens_of (map (λ n. n.now) (take i given))) a b)
+    (here : OpensAtMost (opens_of (get_or given i d).now) b c) where
+  abbrev front : List Text
+  front = map (λ n. n.now) (take i given)
+
+  abbrev name : Text
+  name = (get_or given i d).now
+
+  -- up to the next one
+  pub opens_more : OpensAtMost (sum_by opens_of (map (λ n. n.now) (take (i + 1) given))) a c
+  opens_more =
+      let more : sum_by opens_of (map (λ n. n.now) (take (i + 1) given)) ≡ sum_by opens_of (front ++ name ∷ [])
+      = ap (sum_by opens_of) (one_more given i d within) in
+      let sum : sum_by opens_of (front ++ name ∷ []) ≡ sum_by opens_of front + sum_by opens_of (name ∷ [])
+      = sum_by-append opens_of front (name ∷ []) in
+      let one : sum_by opens_of (name ∷ []) ≡ 0 + opens_of name = refl in
+      omega (arith, before, here, more, sum, one)
+
+  -- all of them are no fewer
+  pub opens_all : OpensAtMost (sum_by opens_of (map (λ n. n.now) given)) a c
+  opens_all =
+      let rest = map (λ n. n.now) (drop (suc i) given) in
+      let all : sum_by opens_of (map (λ n. n.now) given) ≡ sum_by opens_of (front ++ name ∷ rest)
+      = ap (sum_by opens_of) (all_names given i d within) in
+      let sum : sum_by opens_of (front ++ name ∷ rest) ≡ sum_by opens_of front + sum_by opens_of (name ∷ rest)
+      = sum_by-append opens_of front (name ∷ rest) in
+      let next : sum_by opens_of (name ∷ rest) ≡ sum_by opens_of (name ∷ []) + sum_by opens_of rest
+      = sum_by-append opens_of (name ∷ []) rest in
+      let one : sum_by opens_of (name ∷ []) ≡ 0 + opens_of name = refl in
+      omega (arith, before, here, all, sum, next, one)
+
+-- ---- the names in a list
+
+opens_once : (name : Text) → opens_of name ≤ 1
+opens_once name = on (is_input name)
+  where
+    on : (b : Bool) → (if b then 0 else 1) ≤ 1
+    on true = omega arith
+    on false = omega arith
+
+pub opens_at : (l : Lining) (n : ℕ) (name : Option (Bor Text)) (r : Result ℕ Fault) (old new : Seen)
+    (err_old err_new : Shown) → PrintsNameAt l n name r old new err_old err_new → OpensAtMost 1 old new
+opens_at l n None r old new err_old err_new printed = rw printed.1 (omega arith)
+opens_at l n (Some name) r old new err_old err_new printed =
+    let most = printed.read.opens in
+    let once = opens_once name.now in
+    omega (arith, most, once)
+
+-- what was opened of a list, where its bytes and the files are told
+abbrev pub OpensListed : Text → Option (List ℕ) → Option Files → (i j : ℕ) → Type 0
+OpensListed list first tree i j = IfSome first (λ bytes. IfSome tree (λ files.
+    j ≤ i + (opens_of list + opens_from (content_of list bytes files))))
+
+-- the list is standard input
+pub opens_of_input : (list : Text) (first : Option (List ℕ)) (tree : Option Files) (i j : ℕ) → is_input list ≡ true
+    → IfSome first (λ bytes. IfSome tree (λ files. j ≤ i + length (names bytes))) → OpensListed list first tree i j
+opens_of_input list None tree i j is most = tt
+opens_of_input list (Some bytes) None i j is most = tt
+opens_of_input list (Some bytes) (Some files) i j is most = rw is (omega (arith, most))
+
+-- it is a file that does not open
+pub opens_of_none : (list : Text) (first : Option (List ℕ)) (tree : Option Files) (i j : ℕ) → is_input list ≡ false
+    → j ≤ i + 1 → OpensListed list first tree i j
+opens_of_none list None tree i j is most = tt
+opens_of_none list (Some bytes) None i j is most = tt
+opens_of_none list (Some bytes) (Some files) i j is most = rw is (omega (arith, most))
+
+-- it is a file that was opened, and closed
+pub opens_of_file : {F : Type 0} (list : Text) (remaining : F → Option (List ℕ)) (feed : F) (first : Option (List ℕ))
+    (tree then_tree : Option Files) (i j k l : ℕ) → is_input list ≡ false
+    → IfSome tree (λ files. (bytes : List ℕ) × (files list ≡ Some bytes) × (remaining feed ≡ Some bytes))
+    → then_tree ≡ tree → j ≤ i + 1
+    → IfSome (remaining feed) (λ bytes. IfSome then_tree (λ files. k ≤ j + length (names bytes))) → l ≤ k
+    → OpensListed list first tree i l
+opens_of_file list remaining feed None tree then_tree i j k l is opened same one more last = tt
+opens_of_file list remaining feed (Some input) None then_tree i j k l is opened same one more last = tt
+opens_of_file list remaining feed (Some input) (Some files) then_tree i j k l is opened same one more last =
+    let most : k ≤ j + length (names opened.0) = rw (opened.2, same) at more in
+    rw (is, opened.1) (omega (arith, one, most, last))
