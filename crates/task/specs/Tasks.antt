@@ -2,10 +2,12 @@
 use Rattle.std.specs.Prelude.{⊤, ℕ, ◌==◌, Bool, List, Vec, [], ◌∷◌, Option, Some, None, Result, Ok, Err, IfSome, codes}
 use Rattle.std.specs.Prelude.{length, map, option_map, unwrap_or, if◌then◌else◌}
 use Rattle.std.specs.Borrow.{Bor}
+use Rattle.std.specs.Option.{option_map_or}
 use Rattle.request.specs.CommandLine.{Given, Text, has_flag, text_of}
 use Rattle.sumlist.specs.declared.kind.Kind.{Kind}
 use Rattle.task.specs.Deriving.{Derived, HasKey, derivation, derivation_shown}
 use Rattle.task.specs.Hashing.{parts, requested}
+use Rattle.task.specs.Hashing as hashing
 use Rattle.task.specs.Parameters.{◌>>=◌, files, kind_of, named, needed}
 use Rattle.task.specs.Parting.{IsOfJoin, IsPlace, joined, place}
 use Rattle.task.specs.Requested.{HasDigest, IsPartSize}
@@ -30,6 +32,7 @@ pub data NameTexts : Type 0 where
 -- what a run is to do
 pub data Asked : Type 0 where
   hashes : Requested → Option ℕ → NameTexts → Asked
+  compares : Requested → Option ℕ → List ℕ → Text → Asked
   cuts : ℕ → Option ℕ → Text → Asked
   joins : Stretch → Option ℕ → Text → List Text → Asked
   tags : Mac → KeyText → Option (List ℕ) → Text → Asked
@@ -46,6 +49,7 @@ names_shown (From file) = in_file file.now
 
 abbrev pub task_shown : Task → Asked
 task_shown (code.Hash wanted parts names) = hashes wanted parts (names_shown names)
+task_shown (code.Compare wanted parts digest file) = compares wanted parts digest.items file.now
 task_shown (code.Part first chunks file) = cuts first chunks file.now
 task_shown (code.Join stretch bytes name lists) = joins stretch bytes name.now (texts_of lists)
 task_shown (code.Mac mac key wanted file) = tags mac (key_shown key) (option_map (λ v. v.items) wanted) file.now
@@ -71,7 +75,8 @@ hash g = do
   wanted ← requested g
   parts ← parts g
   names ← one_source (text_of (codes "files0-from") g) (files g)
-  Ok (hashes wanted parts names)
+  digest ← hashing.wanted wanted g
+  Ok (option_map_or (λ d. compares wanted parts d (file_or_input g)) digest (hashes wanted parts names))
 
 abbrev pub mac : Given → Result Asked UsageFault
 mac g = do
@@ -111,6 +116,7 @@ asked g = named Command commands g.0 >>= (λ command. command g)
 -- there are digests, tags and keys of the lengths that are asked for, and parts of such a place
 abbrev pub IsPossible : Asked → Type 0
 IsPossible (hashes wanted parts names) = HasDigest wanted × IfSome parts IsPartSize
+IsPossible (compares wanted parts digest file) = HasDigest wanted × IfSome parts IsPartSize
 IsPossible (cuts first chunks file) = IsPlace first chunks
 IsPossible (joins stretch bytes name lists) = IsOfJoin stretch
 IsPossible (tags mac key wanted file) = HasTag mac
