@@ -32,6 +32,7 @@ complete -c sums -n '__sums_command_is hash' -l seek -x -d 'the first byte of th
 complete -c sums -n '__sums_command_is hash' -l parts -x -a '1 2 4 8 16 32 64 128 256 512 1024' -d 'hash each file in parts of N times 1024 bytes'
 complete -c sums -n '__sums_command_is hash' -l salt -x -d 'the salt in hexadecimal digits'
 complete -c sums -n '__sums_command_is hash' -l personal -x -d 'the personalization in hexadecimal digits'
+complete -c sums -n '__sums_command_is hash' -l verify -x -d 'tell whether the digest is the one of these hexadecimal digits'
 complete -c sums -n '__sums_command_is hash' -l tag -d 'print lines that name their algorithm'
 complete -c sums -n '__sums_command_is hash' -l raw -d 'print the bytes of the output as they are'
 complete -c sums -n '__sums_command_is hash' -l progress -d 'show how much of a file was read'

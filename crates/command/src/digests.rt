@@ -81,9 +81,9 @@ impl<'i, 't, 'o, L: Feed, T: Tree, W: Sink> Session<'i, 't, 'o, L, T, W> {
         }
     }
 
-    // The name is judged before the file is opened, and the file read to its end before the first
-    // byte of its line is written.
-    fn hash_file<'n>(
+    /// The name is judged before the file is opened, and the file read to its end before the first
+    /// byte of its line is written.
+    pub(crate) fn hash_file<'n>(
         &mut self,
         requested: Requested,
         parts: Option<u64>,
@@ -249,7 +249,7 @@ fn listable<'n>(form: Form, name: &'n str) -> Result<(), Fault<'n>>
     ensures { MatchResult result (λ _. IsListable form.is_tagged (alg_of form.hash) name.now)
         (λ fault. (fault ≡ BadName name.entry) × (IsListable form.is_tagged (alg_of form.hash) name.now → ⊥)) }
 {
-    let alg = algorithm(form.hash);
+    let alg = form.hash.alg();
     if !fits(2 * alg.digest_len(), name) || form.is_tagged && !tagged_fits(alg, name) {
         return Err(Fault::BadName(name));
     }
@@ -371,17 +371,6 @@ fn plain_digest<'n, F: Feed>(alg: Alg, name: &'n str, feed: &mut F) -> Result<Ta
     }
 }
 
-// The algorithm that the entry of such a digest has.
-fn algorithm(hash: Hash) -> Alg
-    ensures { result ≡ alg_of hash }
-{
-    match hash {
-        Hash::Plain(alg) => alg,
-        Hash::Blake2b(length, _, _) => Alg::Blake2b(length),
-        Hash::Blake2s(length, _, _) => Alg::Blake2s(length),
-    }
-}
-
 // Writes the line of a digest and a name. Memory is taken for a tagged line alone, before its first byte.
 fn write_listed<'n, W: Sink>(
     alloc: Global,
@@ -400,7 +389,7 @@ fn write_listed<'n, W: Sink>(
         return Ok(write_line(tag.bytes(), name, out)?);
     }
     let name = String::from_str(alloc, name)?;
-    let Ok(entry) = Entry::new(algorithm(form.hash), name, tag) else {
+    let Ok(entry) = Entry::new(form.hash.alg(), name, tag) else {
         unreachable!()
     };
     match write_tagged(&entry, out) {

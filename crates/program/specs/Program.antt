@@ -1,15 +1,15 @@
 -- What a run of the program prints, tells and answers, by its words, standard input and files.
-use Rattle.std.specs.Prelude.{◌⊎◌, ◌≡◌, ℕ, List, [], MatchResult}
+use Rattle.std.specs.Prelude.{◌⊎◌, ◌≡◌, ℕ, List, [], Some, MatchResult}
 use Rattle.source.specs.Written.{Done, Failed, Shown}
 use Rattle.sumlist.specs.Report.{Files}
 use Rattle.request.specs.CommandLine.{ErrorKind, Given, IsAmong, IsWrong, OfSums, Reads, Text, fault_of}
-use Rattle.task.specs.Tasks.{Asked, asked, checks, cuts, derives, hashes, in_file, joins, tags, these}
+use Rattle.task.specs.Tasks.{Asked, asked, checks, compares, cuts, derives, hashes, in_file, joins, tags, these}
 use Rattle.command.specs.Checking.{CheckRuns}
 use Rattle.command.specs.Course.{Counted, Course, Runs, Tells, no_failures, refused_by}
 use Rattle.command.specs.Cutting.{PartRuns}
 use Rattle.command.specs.Hashing.{HashesAll, HashesFrom}
 use Rattle.command.specs.Joining.{JoinRuns}
-use Rattle.command.specs.Keying.{KdfRuns, MacRuns}
+use Rattle.command.specs.Keying.{KdfRuns, LineRuns, MacRuns}
 use Rattle.command.specs.Lines.{digest_line}
 use Rattle.command.specs.Troubles.{cannot_write, out_of_memory, told, usage}
 
@@ -19,6 +19,8 @@ TaskRuns (hashes wanted parts (these names)) files input course =
     HashesAll (digest_line wanted) files input names course
 TaskRuns (hashes wanted parts (in_file list)) files input course =
     HashesFrom (digest_line wanted) list files input course
+TaskRuns (compares wanted parts digest name) files input course =
+    LineRuns (Some digest) (digest_line wanted) name input files course
 TaskRuns (cuts first chunks name) files input course = PartRuns first chunks name files input course
 TaskRuns (joins stretch bytes name lists) files input course = JoinRuns stretch bytes name lists files input course
 TaskRuns (tags mac key wanted name) files input course = MacRuns mac key wanted name files input course

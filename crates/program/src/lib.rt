@@ -98,6 +98,12 @@ fn run_request<'n, 'i, 't, 'o, L: Feed, T: Tree, W: Sink, E: Sink>(
             Names::Given(files) => session.print_digests(requested, parts, files.as_slice(), err),
             Names::From(list) => session.print_digests_from(requested, parts, list, err),
         },
+        Task::Compare {
+            requested,
+            parts,
+            digest,
+            file,
+        } => session.print_comparison(requested, parts, digest.as_slice(), file),
         Task::Part {
             first,
             chunks,

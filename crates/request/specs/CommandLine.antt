@@ -77,13 +77,13 @@ with_rules = fold with_rule
 abbrev pub with_commands : App → List App → App
 with_commands = fold (λ whole below. with_subcommand whole below.top)
 
--- `hash -a ALG [-l N] [--seek N] [--parts N] [--salt HEX] [--personal HEX] [--tag] [--raw] [--progress]
---     [--files0-from F] [FILE]..`
+-- `hash -a ALG [-l N] [--seek N] [--parts N] [--salt HEX] [--personal HEX] [--verify HEX] [--tag] [--raw]
+--     [--progress] [--files0-from F] [FILE]..`
 abbrev pub hash_app : NameList → App
 hash_app names = with_rules (new_app (codes "hash"))
     (algorithm_rule names ∷ length_rule ∷ number_rule (codes "seek") ∷ number_rule (codes "parts")
-    ∷ text_rule (codes "salt") ∷ text_rule (codes "personal") ∷ flag_rule (codes "tag") ∷ flag_rule (codes "raw")
-    ∷ flag_rule (codes "progress") ∷ text_rule (codes "files0-from") ∷ files_rule ∷ [])
+    ∷ text_rule (codes "salt") ∷ text_rule (codes "personal") ∷ text_rule (codes "verify") ∷ flag_rule (codes "tag")
+    ∷ flag_rule (codes "raw") ∷ flag_rule (codes "progress") ∷ text_rule (codes "files0-from") ∷ files_rule ∷ [])
 
 -- `mac -a MAC [--key HEX] [--key-file F] [-l N] [--verify HEX] [FILE]`
 abbrev pub mac_app : NameList → App

@@ -1,9 +1,11 @@
 -- What a request asks for, there is.
 use Rattle.std.proofs.Common.{◌≡◌, ℕ, ◌-◌, ◌/◌, ◌%◌, ◌^◌, ◌≤◌, ◌*◌, Bool, true, false, List, Option, Some, None}
 use Rattle.std.proofs.Common.{Result, Ok, Err, IfSome, IfOk, refl, subst, arith}
-use Rattle.std.specs.Prelude.{◌==◌, ◌&&◌, [], ◌∷◌, codes, count_ones, if◌then◌else◌}
+use Rattle.std.specs.Prelude.{◌==◌, ◌&&◌, [], ◌∷◌, codes, count_ones, if◌then◌else◌, length, max, min}
+use Rattle.std.proofs.Math.Nat.{le-max_left, le-min, min-le_left}
 use Rattle.std.proofs.lemmas.Bool.Decides.{nat_tests}
-use Rattle.request.specs.CommandLine.{Given, has_flag, text_of}
+use Rattle.request.specs.CommandLine.{Given, Text, has_flag, text_of}
+use Rattle.std.specs.Option.{option_map_or}
 use Rattle.source.specs.Digest.{IsInRange}
 use Rattle.source.specs.declared.alg.Alg.{Alg}
 use Rattle.source.specs.declared.alg.Alg.TheVariants as alg
@@ -11,20 +13,23 @@ use Rattle.sumlist.specs.declared.kind.Kind.{Kind}
 use Rattle.sumlist.specs.declared.kind.Kind.TheVariants as kind
 use Rattle.task.specs.Deriving.{Derived, derivation, derivation_of, hkdf}
 use Rattle.task.specs.Deriving as deriving_of
-use Rattle.task.specs.Hashing.{blake2_parameters, blake3_output, part_size, parts}
+use Rattle.task.specs.Hashing.{blake2_length, blake2_parameters, blake3_output, part_size, parts}
+use Rattle.task.specs.Hashing as hashing
 use Rattle.task.specs.Hashing.{names_several, requested, requested_of, sha, stretch_of, tagged_blake3}
 use Rattle.task.specs.Parameters.{◌>>=◌, Judges, absent, files, given_bytes, given_number, hmac_len, kind_of, named}
 use Rattle.task.specs.Parameters.{needed, number, number_in, sized, text, unset}
 use Rattle.task.specs.Parting.{joined, least_power, names_blake3, place, place_at}
 use Rattle.task.specs.Tagging.{macs, with_length}
 use Rattle.task.specs.Tagging as tagging
-use Rattle.task.specs.Tasks.{Asked, asked, check, commands, hash, join, kdf, mac, one_source, part}
+use Rattle.task.specs.Tasks.{Asked, NameTexts, asked, check, commands, compares, file_or_input, hash}
+use Rattle.task.specs.Tasks.{hashes, join, kdf, mac, one_source, part}
 use Rattle.task.specs.declared.fault.Setting.TheVariants.{Algorithm, Bytes, Chunks, Command, Context, First, IkmFile}
-use Rattle.task.specs.declared.fault.Setting.TheVariants.{Info, Length, Parts, Personal, Raw, Salt, Seek}
+use Rattle.task.specs.declared.fault.Setting.TheVariants.{Info, Length, Parts, Personal, Raw, Salt, Seek, Verify}
 use Rattle.task.specs.declared.fault.Setting.TheVariants.{List as ListSetting}
 use Rattle.task.specs.declared.fault.TaskFault.{TaskFault}
 use Rattle.task.specs.declared.fault.UsageFault.{UsageFault}
 use Rattle.task.specs.declared.fault.UsageFault.TheVariants.{NotForAlgorithm, NotWithTag, OneFile, OutOfRange}
+use Rattle.task.specs.declared.hashing.Requested.{Requested}
 use Rattle.task.specs.declared.hashing.Stretch.{Stretch}
 use Rattle.task.specs.declared.parameters.HmacHash.{HmacHash}
 use Rattle.task.specs.declared.parameters.HmacHash.TheVariants as hmac
@@ -44,14 +49,22 @@ sha_possible a g range =
     by_second HasDigest (absent (Length ∷ Seek ∷ Salt ∷ Personal ∷ Parts ∷ []) g) _ (λ _.
     by_second HasDigest (unset (NotForAlgorithm Raw) (has_flag (codes "raw") g)) _ (λ _. range))
 
+default_of : (most : ℕ) (digits : Option (List ℕ)) → 1 ≤ most
+    → IsBetween 1 most (option_map_or (λ t. min most (max 1 (length t / 2))) digits most)
+default_of most None low = (low, omega arith)
+default_of most (Some t) low = (le-min low (le-max_left 1 (length t / 2)), min-le_left most (max 1 (length t / 2)))
+
+blake2_between : (most : ℕ) (g : Given) → 1 ≤ most → IfOk (blake2_length most g) (IsBetween 1 most)
+blake2_between most g low =
+    let range = default_of most (text Verify g) low in number_in_range Length _ 1 most g range.0 range.1
+
 length_between : (most n : ℕ) (g : Given) → 1 ≤ most
     → IfOk (blake2_parameters most n g) (λ p. IsBetween 1 most p.0)
 length_between most n g low =
     let Q : ℕ × List ℕ × List ℕ → Type 0 = λ p. IsBetween 1 most p.0 in
     by_second Q (absent (Seek ∷ Parts ∷ []) g) _ (λ _.
     by_second Q (unset (NotForAlgorithm Raw) (has_flag (codes "raw") g)) _ (λ _.
-    by_first (IsBetween 1 most) Q (number Length most 1 most g) _
-    (number_in_range Length most 1 most g low (omega arith)) (λ length range.
+    by_first (IsBetween 1 most) Q (blake2_length most g) _ (blake2_between most g low) (λ length range.
     by_second Q (given_bytes Salt g) _ (λ salt. by_second Q (given_bytes Personal g) _ (λ personal.
     by_second Q (sized Salt n salt) _ (λ s. by_second Q (sized Personal n personal) _ (λ p. range)))))))
 
@@ -106,11 +119,18 @@ parts_possible g =
     let one : count_ones n ≡ 1 = grind (arith, nat_tests) in
     (one, range.1))))
 
+either_possible : (r : Requested) (m : Option ℕ) (names : NameTexts) (wanted : Option (List ℕ)) (file : Text)
+    → HasDigest r → IfSome m IsPartSize
+    → IsPossible (option_map_or (λ d. compares r m d file) wanted (hashes r m names))
+either_possible r m names None file digest size = (digest, size)
+either_possible r m names (Some d) file digest size = (digest, size)
+
 hash_possible : (g : Given) → IfOk (hash g) IsPossible
 hash_possible g =
     by_first HasDigest IsPossible (requested g) _ (by_second HasDigest (kind_of g) (requested_of g) (of_kind g)) (λ r digest.
     by_first (λ m. IfSome m IsPartSize) IsPossible (parts g) _ (parts_possible g) (λ m size.
-    by_second IsPossible (one_source (text_of (codes "files0-from") g) (files g)) _ (λ names. (digest, size))))
+    by_second IsPossible (one_source (text_of (codes "files0-from") g) (files g)) _ (λ names.
+    by_second IsPossible (hashing.wanted r g) _ (λ wanted. either_possible r m names wanted (file_or_input g) digest size))))
 
 -- ---- mac
 

@@ -1,6 +1,8 @@
 -- What a request of `hash` has printed, or the first fault of its settings.
-use Rattle.std.specs.Prelude.{ℕ, ◌-◌, ◌^◌, ◌==◌, ◌&&◌, ◌||◌, Bool, true, List, [], ◌∷◌, length, Option, Result, Ok, Err}
-use Rattle.std.specs.Prelude.{codes, count_ones, is_some, nat_lt, if◌then◌else◌}
+use Rattle.std.specs.Prelude.{ℕ, ◌-◌, ◌/◌, ◌^◌, ◌==◌, ◌&&◌, ◌||◌, Bool, true, List, [], ◌∷◌, length, Option, Result, Ok, Err}
+use Rattle.std.specs.Prelude.{codes, count_ones, is_some, max, min, nat_lt, if◌then◌else◌}
+use Rattle.std.specs.Option.{option_map_or}
+use Rattle.source.specs.Digest.{tag_len}
 use Rattle.source.specs.declared.alg.Alg.{Alg}
 use Rattle.source.specs.declared.alg.Alg.TheVariants as alg
 use Rattle.source.specs.declared.alg.TheConstants.{BLAKE2B_LEN, BLAKE2S_LEN, BLAKE3_LEN}
@@ -8,10 +10,12 @@ use Rattle.sumlist.specs.declared.kind.Kind.{Kind}
 use Rattle.sumlist.specs.declared.kind.Kind.TheVariants as kind
 use Rattle.request.specs.CommandLine.{Given, has_flag, text_of}
 use Rattle.task.specs.Parameters.{◌>>=◌, ◌>>◌, absent, files, given_bytes, kind_of, number, number_in, sized, text}
-use Rattle.task.specs.Parameters.{unset, where_given}
-use Rattle.task.specs.declared.fault.Setting.TheVariants.{Length, Parts, Personal, Raw, Salt, Seek}
+use Rattle.task.specs.Parameters.{unset, wanted_bytes, where_given}
+use Rattle.task.specs.Requested.{alg_of}
+use Rattle.task.specs.declared.fault.Setting.TheVariants.{Length, Parts, Personal, Raw, Salt, Seek, Verify}
 use Rattle.task.specs.declared.fault.UsageFault.{UsageFault}
-use Rattle.task.specs.declared.fault.UsageFault.TheVariants.{NotForAlgorithm, NotWithTag, OneFile, OutOfRange}
+use Rattle.task.specs.declared.fault.UsageFault.TheVariants.{NotForAlgorithm, NotWithRaw, NotWithTag, OneFile}
+use Rattle.task.specs.declared.fault.UsageFault.TheVariants.{OutOfRange}
 use Rattle.task.specs.declared.hashing.Hash.{Hash}
 use Rattle.task.specs.declared.hashing.Hash.TheVariants.{Plain, Blake2b, Blake2s}
 use Rattle.task.specs.declared.hashing.Requested.{Requested}
@@ -29,13 +33,17 @@ sha a g = do
   unset (NotForAlgorithm Raw) (has_flag (codes "raw") g)
   Ok (whole (Plain a) (has_flag (codes "tag") g))
 
+-- without `-l` a digest has as many bytes as the digits of `--verify` spell, within its range, or else the most
+abbrev pub blake2_length : ℕ → Given → Result ℕ UsageFault
+blake2_length most g = number Length (option_map_or (λ t. min most (max 1 (length t / 2))) (text Verify g) most) 1 most g
+
 -- the length of a digest of `most` bytes at most, salt and personalization of n bytes each: the digits of both are
 -- judged before the length of either
 abbrev pub blake2_parameters : ℕ → ℕ → Given → Result (ℕ × List ℕ × List ℕ) UsageFault
 blake2_parameters most n g = do
   absent (Seek ∷ Parts ∷ []) g
   unset (NotForAlgorithm Raw) (has_flag (codes "raw") g)
-  length ← number Length most 1 most g
+  length ← blake2_length most g
   salt ← given_bytes Salt g
   personal ← given_bytes Personal g
   salt ← sized Salt n salt
@@ -95,3 +103,18 @@ requested_of g kind.Blake3 = if has_flag (codes "tag") g then tagged_blake3 g el
 
 abbrev pub requested : Given → Result Requested UsageFault
 requested g = kind_of g >>= requested_of g
+
+-- how many bytes are printed, or compared
+abbrev pub requested_len : Requested → ℕ
+requested_len (Digest form) = tag_len (alg_of form.hash)
+requested_len (Output stretch) = stretch.length
+
+-- a digest to compare with stands for the digits of one file, and is as long as what would be printed
+abbrev pub of_digits : Given → Result (Unit {0}) UsageFault
+of_digits g = do
+  unset (NotWithTag Verify) (has_flag (codes "tag") g)
+  unset (NotWithRaw Verify) (has_flag (codes "raw") g)
+  unset (OneFile Verify) (names_several g)
+
+abbrev pub wanted : Requested → Given → Result (Option (List ℕ)) UsageFault
+wanted r g = where_given (λ t. of_digits g >> wanted_bytes (requested_len r) t) (text Verify g)

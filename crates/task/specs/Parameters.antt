@@ -14,7 +14,7 @@ use Rattle.sumlist.specs.declared.kind.Kind.{Kind}
 use Rattle.sumlist.specs.declared.kind.Kind.TheVariants as kind
 use Rattle.task.specs.Texts.{setting_id}
 use Rattle.task.specs.declared.fault.Setting.{Setting}
-use Rattle.task.specs.declared.fault.Setting.TheVariants.{Algorithm}
+use Rattle.task.specs.declared.fault.Setting.TheVariants.{Algorithm, Verify}
 use Rattle.task.specs.declared.fault.TaskFault.{TaskFault}
 use Rattle.task.specs.declared.fault.TaskFault.TheVariants.{OutOfMemory, Usage}
 use Rattle.task.specs.declared.fault.UsageFault.{UsageFault}
@@ -91,6 +91,13 @@ given_bytes setting g = where_given (hexadecimal setting) (text setting g)
 abbrev pub sized : Setting → ℕ → Option (List ℕ) → Result (List ℕ) UsageFault
 sized setting n None = Ok (replicate n 0)
 sized setting n (Some bytes) = if length bytes == n then Ok bytes else Err (WrongLength setting)
+
+-- bytes to compare with have as many
+abbrev pub of_length : ℕ → List ℕ → Result (List ℕ) UsageFault
+of_length n bytes = if length bytes == n then Ok bytes else Err (WrongLength Verify)
+
+abbrev pub wanted_bytes : ℕ → Text → Result (List ℕ) UsageFault
+wanted_bytes n t = hexadecimal Verify t >>= of_length n
 
 -- what stands beside a name
 abbrev pub named : {A : Type 0} → Setting → List (Text × A) → Text → Result A UsageFault

@@ -1,12 +1,11 @@
 -- What a request of `mac` has printed, or the first fault of its settings.
-use Rattle.std.specs.Prelude.{ℕ, ◌-◌, ◌/◌, ◌^◌, ◌==◌, List, [], ◌∷◌, length, Option, Some, None, Result, Ok, Err}
-use Rattle.std.specs.Prelude.{codes, if◌then◌else◌}
+use Rattle.std.specs.Prelude.{ℕ, ◌-◌, ◌/◌, ◌^◌, List, [], ◌∷◌, Option, Some, None, Result, Ok, Err, codes}
 use Rattle.request.specs.CommandLine.{Given, Text, text_of}
 use Rattle.source.specs.declared.alg.TheConstants.{BLAKE2B_LEN, BLAKE2S_LEN, BLAKE3_LEN}
-use Rattle.task.specs.Parameters.{◌>>=◌, given_bytes, hexadecimal, hmac_len, named, needed, number, text, where_given}
+use Rattle.task.specs.Parameters.{◌>>=◌, given_bytes, hmac_len, named, needed, number, text, wanted_bytes, where_given}
 use Rattle.task.specs.declared.fault.Setting.TheVariants as setting
 use Rattle.task.specs.declared.fault.UsageFault.{UsageFault}
-use Rattle.task.specs.declared.fault.UsageFault.TheVariants.{OneKey, WrongLength}
+use Rattle.task.specs.declared.fault.UsageFault.TheVariants.{OneKey}
 use Rattle.task.specs.declared.parameters.HmacHash.{HmacHash}
 use Rattle.task.specs.declared.parameters.HmacHash.TheVariants as hash
 use Rattle.task.specs.declared.tagging.Mac.{Mac}
@@ -39,11 +38,8 @@ mac_len (Blake2s n) = n
 mac_len (Blake3 n) = n
 
 -- a tag to compare with has as many
-abbrev pub of_length : ℕ → List ℕ → Result (List ℕ) UsageFault
-of_length n tag = if length tag == n then Ok tag else Err (WrongLength setting.Verify)
-
 abbrev pub wanted : Mac → Given → Result (Option (List ℕ)) UsageFault
-wanted mac g = where_given (λ t. hexadecimal setting.Verify t >>= of_length (mac_len mac)) (text setting.Verify g)
+wanted mac g = where_given (wanted_bytes (mac_len mac)) (text setting.Verify g)
 
 -- a key: its bytes, or the name of the file that has them
 pub data KeyText : Type 0 where

@@ -1,10 +1,12 @@
 -- What a request asks for, or the first fault of its settings.
 use Rattle.std.specs.Prelude.{ℕ, ◌==◌, Bool, List, [], ◌∷◌, Option, Some, None, Result, Ok, Err, codes}
 use Rattle.std.specs.Prelude.{length, unwrap_or, if◌then◌else◌}
+use Rattle.std.specs.Option.{option_map_or}
 use Rattle.request.specs.CommandLine.{Given, Text, has_flag, text_of}
 use Rattle.sumlist.specs.declared.kind.Kind.{Kind}
 use Rattle.task.specs.Deriving.{Derived, derivation}
 use Rattle.task.specs.Hashing.{parts, requested}
+use Rattle.task.specs.Hashing as hashing
 use Rattle.task.specs.Parameters.{◌>>=◌, files, kind_of, named, needed}
 use Rattle.task.specs.Parting.{joined, place}
 use Rattle.task.specs.Tagging.{KeyText, key}
@@ -24,6 +26,7 @@ pub data NameTexts : Type 0 where
 -- what a run is to do
 pub data Asked : Type 0 where
   hashes : Requested → Option ℕ → NameTexts → Asked
+  compares : Requested → Option ℕ → List ℕ → Text → Asked
   cuts : ℕ → Option ℕ → Text → Asked
   joins : Stretch → Option ℕ → Text → List Text → Asked
   tags : Mac → KeyText → Option (List ℕ) → Text → Asked
@@ -49,7 +52,8 @@ hash g = do
   wanted ← requested g
   parts ← parts g
   names ← one_source (text_of (codes "files0-from") g) (files g)
-  Ok (hashes wanted parts names)
+  digest ← hashing.wanted wanted g
+  Ok (option_map_or (λ d. compares wanted parts d (file_or_input g)) digest (hashes wanted parts names))
 
 abbrev pub mac : Given → Result Asked UsageFault
 mac g = do

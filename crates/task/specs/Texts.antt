@@ -5,8 +5,8 @@ use Rattle.task.specs.declared.fault.Setting.{Setting}
 use Rattle.task.specs.declared.fault.Setting.TheVariants as setting
 use Rattle.task.specs.declared.fault.UsageFault.{UsageFault}
 use Rattle.task.specs.declared.fault.UsageFault.TheVariants.{Needed, NotForAlgorithm, NotForCommand, NotHexadecimal}
-use Rattle.task.specs.declared.fault.UsageFault.TheVariants.{NotWithTag, OneFile, OneKey, OneSource, OutOfRange}
-use Rattle.task.specs.declared.fault.UsageFault.TheVariants.{WrongLength}
+use Rattle.task.specs.declared.fault.UsageFault.TheVariants.{NotWithRaw, NotWithTag, OneFile, OneKey, OneSource}
+use Rattle.task.specs.declared.fault.UsageFault.TheVariants.{OutOfRange, WrongLength}
 
 -- a setting as the command line has it
 abbrev pub setting_text : Setting → Text
@@ -42,6 +42,7 @@ usage_texts (Needed s) = (setting_text s, codes ": needed\n")
 usage_texts (NotForAlgorithm s) = (setting_text s, codes ": not for this algorithm\n")
 usage_texts (NotForCommand s) = (setting_text s, codes ": not for this command\n")
 usage_texts (NotWithTag s) = (setting_text s, codes ": not with --tag\n")
+usage_texts (NotWithRaw s) = (setting_text s, codes ": not with --raw\n")
 usage_texts (OneFile s) = (setting_text s, codes ": one file only\n")
 usage_texts (OutOfRange s) = (setting_text s, codes ": out of range\n")
 usage_texts (NotHexadecimal s) = (setting_text s, codes ": not hexadecimal\n")

@@ -56,6 +56,8 @@ pub enum UsageFault {
     NotForCommand(Setting),
     /// It says nothing beside `--tag`.
     NotWithTag(Setting),
+    /// It says nothing beside `--raw`.
+    NotWithRaw(Setting),
     /// It says nothing of several files.
     OneFile(Setting),
     /// It is outside its range, or none of its names.
@@ -161,6 +163,7 @@ impl UsageFault {
             }
             UsageFault::NotForCommand(setting) => (setting.text(), ": not for this command\n"),
             UsageFault::NotWithTag(setting) => (setting.text(), ": not with --tag\n"),
+            UsageFault::NotWithRaw(setting) => (setting.text(), ": not with --raw\n"),
             UsageFault::OneFile(setting) => (setting.text(), ": one file only\n"),
             UsageFault::OutOfRange(setting) => (setting.text(), ": out of range\n"),
             UsageFault::NotHexadecimal(setting) => (setting.text(), ": not hexadecimal\n"),

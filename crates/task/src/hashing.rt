@@ -1,13 +1,17 @@
 // What `hash` is to print of a file.
 
-ghost use Rattle.std.specs.Prelude.{◌≡◌};
+ghost use Rattle.std.specs.Prelude.{◌≡◌, ◌/◌, length, max, min, option_map};
+ghost use Rattle.std.specs.Option.{option_map_or};
 ghost use Rattle.request.specs.CommandLine.{given_of};
 ghost use Rattle.task.specs.Hashing as spec;
-ghost use Rattle.task.specs.Parameters.{Judges};
+ghost use Rattle.task.specs.Parameters.{Judges, text};
+ghost use Rattle.task.specs.Requested.{alg_of};
+ghost use Rattle.task.specs.declared.fault.Setting.TheVariants.{Verify};
 
 use crate::fault::{Setting, TaskFault, UsageFault};
 use crate::parameters::{
     file_count, given_bytes, kind_of, number, number_in, refused, refused_flag, sized, text_of,
+    wanted_bytes,
 };
 use request::Request;
 use source::{Alg, BLAKE2B_LEN, BLAKE2S_LEN, BLAKE3_LEN};
@@ -45,6 +49,19 @@ pub struct Stretch {
     pub is_raw: bool,
 }
 
+impl Hash {
+    /// The algorithm that the entry of such a digest has.
+    pub fn alg(self) -> Alg
+        ensures { result ≡ alg_of self }
+    {
+        match self {
+            Hash::Plain(alg) => alg,
+            Hash::Blake2b(length, _, _) => Alg::Blake2b(length),
+            Hash::Blake2s(length, _, _) => Alg::Blake2s(length),
+        }
+    }
+}
+
 impl Requested {
     /// What a request of `hash` has printed, or the first fault of its settings.
     pub(crate) fn of(alloc: Global, request: &Request<'_>) -> Result<Requested, TaskFault>
@@ -59,6 +76,42 @@ impl Requested {
             Kind::Blake3 => Ok(blake3_output(request)?),
         }
     }
+
+    /// The digest that a request of `hash` compares with, where it is given.
+    pub(crate) fn wanted(
+        self,
+        alloc: Global,
+        request: &Request<'_>,
+    ) -> Result<Option<Vec<u8>>, TaskFault>
+        ensures { Judges (option_map (λ v. v.items)) (spec.wanted self (given_of request.now)) result }
+    {
+        match text_of(request, Setting::Verify) {
+            Some(digits) => {
+                of_digits(request)?;
+                Ok(Some(wanted_bytes(alloc, self.byte_count(), digits)?))
+            }
+            None => Ok(None),
+        }
+    }
+
+    // How many bytes are printed, or compared.
+    fn byte_count(self) -> u64
+        ensures { result ≡ spec.requested_len self }
+    {
+        match self {
+            Requested::Digest(form) => form.hash.alg().digest_len() as u64,
+            Requested::Output(stretch) => stretch.length,
+        }
+    }
+}
+
+// Refuses what does not print the digits of one file.
+fn of_digits(request: &Request<'_>) -> Result<(), UsageFault>
+    ensures { result ≡ spec.of_digits (given_of request.now) }
+{
+    refused_flag(UsageFault::NotWithTag(Setting::Verify), request.has("tag"))?;
+    refused_flag(UsageFault::NotWithRaw(Setting::Verify), request.has("raw"))?;
+    refused_flag(UsageFault::OneFile(Setting::Verify), names_several(request))
 }
 
 fn whole(hash: Hash, is_tagged: bool) -> Requested
@@ -113,12 +166,31 @@ fn blake2_parameters<const N: usize>(
         UsageFault::NotForAlgorithm(Setting::Raw),
         request.has("raw"),
     )?;
-    let length = number(request, Setting::Length, most as u64, 1, most as u64)? as usize;
+    let length = blake2_length(request, most)? as usize;
     let salt = given_bytes(alloc, request, Setting::Salt)?;
     let personal = given_bytes(alloc, request, Setting::Personal)?;
     let salt = sized(Setting::Salt, salt)?;
     let personal = sized(Setting::Personal, personal)?;
     Ok((length, salt, personal))
+}
+
+// The length of a digest of `most` bytes at most.
+fn blake2_length(request: &Request<'_>, most: usize) -> Result<u64, UsageFault>
+    ensures { result ≡ spec.blake2_length most (given_of request.now) }
+{
+    let default = default_length(request, most);
+    number(request, Setting::Length, default, 1, most as u64)
+}
+
+// Without `-l` the digits of `--verify` say how long the digest is.
+fn default_length(request: &Request<'_>, most: usize) -> u64
+    ensures { result
+        ≡ option_map_or (λ t. min most (max 1 (length t / 2))) (text Verify (given_of request.now)) most }
+{
+    match text_of(request, Setting::Verify) {
+        Some(digits) => most.min((digits.len() / 2).max(1)) as u64,
+        None => most as u64,
+    }
 }
 
 // The label of BLAKE3 stands for the first bytes of its output, its digest.

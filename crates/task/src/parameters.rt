@@ -191,6 +191,23 @@ pub(crate) fn given_bytes(
     }
 }
 
+/// The bytes to compare with that the digits of `--verify` spell, so many.
+pub(crate) fn wanted_bytes(alloc: Global, count: u64, text: &str) -> Result<Vec<u8>, TaskFault>
+    ensures { Judges (λ v. v.items) (spec.wanted_bytes count text.now) result }
+{
+    Ok(of_length(count, hexadecimal(alloc, Setting::Verify, text)?)?)
+}
+
+fn of_length(count: u64, bytes: Vec<u8>) -> Result<Vec<u8>, UsageFault>
+    ensures { seen (λ v. v.items) result ≡ spec.of_length count bytes.items }
+{
+    if bytes.len() as u64 == count {
+        Ok(bytes)
+    } else {
+        Err(UsageFault::WrongLength(Setting::Verify))
+    }
+}
+
 /// The bytes of a setting that has `N` of them, zeros where it was not given.
 pub(crate) fn sized<const N: usize>(
     setting: Setting,

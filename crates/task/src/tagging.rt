@@ -4,11 +4,10 @@ ghost use Rattle.std.specs.Prelude.{◌≡◌, option_map};
 ghost use Rattle.request.specs.CommandLine.{given_of};
 ghost use Rattle.task.specs.Parameters.{Judges, number};
 ghost use Rattle.task.specs.Tagging as spec;
-ghost use Rattle.task.specs.inside.Seen.{seen};
 ghost use Rattle.task.specs.inside.Views.{key_shown};
 
 use crate::fault::{Setting, TaskFault, UsageFault};
-use crate::parameters::{HmacHash, given_bytes, hexadecimal, needed, number, text_of};
+use crate::parameters::{HmacHash, given_bytes, needed, number, text_of, wanted_bytes};
 use request::Request;
 use source::{BLAKE2B_LEN, BLAKE2S_LEN, BLAKE3_LEN};
 use std::alloc::Global;
@@ -47,18 +46,14 @@ impl Mac {
             "hmac-blake2s" => hmac(request, HmacHash::Blake2s),
             "blake2b" => Ok(Mac::Blake2b(tag_len(request, BLAKE2B_LEN as u64)? as usize)),
             "blake2s" => Ok(Mac::Blake2s(tag_len(request, BLAKE2S_LEN as u64)? as usize)),
-            "blake3" => Ok(Mac::Blake3(number(request, Setting::Length, BLAKE3_LEN as u64, 1, u64::MAX)?)),
+            "blake3" => Ok(Mac::Blake3(number(
+                request,
+                Setting::Length,
+                BLAKE3_LEN as u64,
+                1,
+                u64::MAX,
+            )?)),
             _ => Err(UsageFault::OutOfRange(Setting::Algorithm)),
-        }
-    }
-
-    // The length of the tags in bytes.
-    fn tag_len(self) -> u64
-        ensures { result ≡ spec.mac_len self }
-    {
-        match self {
-            Mac::Hmac(_, length) | Mac::Blake2b(length) | Mac::Blake2s(length) => length as u64,
-            Mac::Blake3(length) => length,
         }
     }
 
@@ -71,18 +66,18 @@ impl Mac {
         ensures { Judges (option_map (λ v. v.items)) (spec.wanted self (given_of request.now)) result }
     {
         match text_of(request, Setting::Verify) {
-            Some(text) => Ok(Some(self.wanted_of(hexadecimal(alloc, Setting::Verify, text)?)?)),
+            Some(text) => Ok(Some(wanted_bytes(alloc, self.tag_len(), text)?)),
             None => Ok(None),
         }
     }
 
-    fn wanted_of(self, tag: Vec<u8>) -> Result<Vec<u8>, UsageFault>
-        ensures { seen (λ v. v.items) result ≡ spec.of_length (spec.mac_len self) tag.items }
+    // The length of the tags in bytes.
+    fn tag_len(self) -> u64
+        ensures { result ≡ spec.mac_len self }
     {
-        if tag.len() as u64 == self.tag_len() {
-            Ok(tag)
-        } else {
-            Err(UsageFault::WrongLength(Setting::Verify))
+        match self {
+            Mac::Hmac(_, length) | Mac::Blake2b(length) | Mac::Blake2s(length) => length as u64,
+            Mac::Blake3(length) => length,
         }
     }
 }

@@ -36,6 +36,13 @@ pub enum Task<'a> {
         parts: Option<u64>,
         names: Names<'a>,
     },
+    /// Print whether this is the digest of a file, of as many bytes, hashed in such parts.
+    Compare {
+        requested: Requested,
+        parts: Option<u64>,
+        digest: Vec<u8>,
+        file: &'a str,
+    },
     /// Print the part of a file's bytes from that chunk on, to their end or so many chunks of them.
     Part {
         first: u64,
@@ -102,11 +109,19 @@ fn hash<'a>(alloc: Global, request: &Request<'a>) -> Result<Task<'a>, TaskFault>
     let requested = Requested::of(alloc, request)?;
     let parts = parts_of(request)?;
     let names = one_source(alloc, request)?;
-    Ok(Task::Hash {
-        requested,
-        parts,
-        names,
-    })
+    match requested.wanted(alloc, request)? {
+        Some(digest) => Ok(Task::Compare {
+            requested,
+            parts,
+            digest,
+            file: file_or_input(request),
+        }),
+        None => Ok(Task::Hash {
+            requested,
+            parts,
+            names,
+        }),
+    }
 }
 
 // Files are named by words, or in a file.
