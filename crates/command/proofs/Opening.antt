@@ -8,7 +8,7 @@ use Rattle.request.specs.CommandLine.{Text}
 use Rattle.source.specs.Written.{Shown}
 use Rattle.sumlist.specs.Naming.{names}
 use Rattle.sumlist.specs.Report.{Files}
-use Rattle.command.specs.Lines.{Lining, content_of, is_input}
+use Rattle.command.specs.Lines.{LineForm, content_of, is_input}
 use Rattle.command.specs.Streams.{OpensAtMost, Seen, opens_from, opens_of}
 use Rattle.command.specs.declared.fault.Fault.{Fault}
 use Rattle.command.specs.inside.Hashed.{PrintsNameAt}
@@ -57,7 +57,7 @@ opens_once name = on (is_input name)
     on true = omega arith
     on false = omega arith
 
-pub opens_at : (l : Lining) (n : ℕ) (name : Option (Bor Text)) (r : Result ℕ Fault) (old new : Seen)
+pub opens_at : (l : LineForm) (n : ℕ) (name : Option (Bor Text)) (r : Result ℕ Fault) (old new : Seen)
     (err_old err_new : Shown) → PrintsNameAt l n name r old new err_old err_new → OpensAtMost 1 old new
 opens_at l n None r old new err_old err_new printed = rw printed.1 (omega arith)
 opens_at l n (Some name) r old new err_old err_new printed =

@@ -4,13 +4,13 @@ ghost use Rattle.std.specs.Prelude.{◌≡◌, ℕ, ◌*◌, ◌^◌, ◌<◌, �
 ghost use Rattle.std.specs.Prelude.{IfSome, IsErrOf, MatchOption, None, OnOk, Some};
 ghost use Rattle.std.specs.Option.{SomeIff};
 ghost use Rattle.source.specs.Counts.{count_after};
-ghost use Rattle.command.specs.Course.{Counted};
+ghost use Rattle.command.specs.Run.{Counted};
 ghost use Rattle.command.specs.Cutting.{PartRuns, behind_chunks, cut, first_chunks};
 ghost use Rattle.command.specs.Lines.{is_input};
 ghost use Rattle.command.specs.inside.Cutting as spec;
-ghost use Rattle.command.specs.inside.Cutting.{Cuts, IsRoom};
+ghost use Rattle.command.specs.inside.Cutting.{MakesPart, IsRoom};
 ghost use Rattle.command.specs.inside.Reading.{failed};
-ghost use Rattle.command.specs.Streams.{OpensAtMost, TakesCourse, opens_of};
+ghost use Rattle.command.specs.Streams.{OpensAtMost, DoesRun, opens_of};
 ghost use Rattle.command.specs.inside.Streams.{IfContent, SameStreams};
 ghost use Rattle.task.specs.inside.Possible.{IsPlace};
 
@@ -41,7 +41,7 @@ impl<'i, 't, 'o, L: Feed, T: Tree, W: Sink> Session<'i, 't, 'o, L, T, W> {
         name: &'n str,
     ) -> Result<u8, Fault<'n>>
         requires { IsPlace first chunks }
-        ensures course { TakesCourse (λ bytes files. PartRuns first chunks name.entry.now files bytes)
+        ensures run { DoesRun (λ bytes files. PartRuns first chunks name.entry.now files bytes)
             (λ notes. notes ≡ [])
             result (⟦<Self as Streams>⟧.seen self.old) (⟦<Self as Streams>⟧.seen self.new) }
         ensures left { is_input name.entry.now ≡ true → OnOk result (IfSome (L.remaining self.old.input.now)
@@ -64,7 +64,7 @@ impl<'i, 't, 'o, L: Feed, T: Tree, W: Sink> Session<'i, 't, 'o, L, T, W> {
     ) -> Result<PartValue, Fault<'n>>
         requires { IsPlace first chunks }
         ensures part { IfContent name.entry.now (⟦<Self as Streams>⟧.seen self.old) (λ content.
-            Cuts first name.entry.now (option_map (cut first chunks name.entry.now) content) result) }
+            MakesPart first name.entry.now (option_map (cut first chunks name.entry.now) content) result) }
         ensures counted { IfContent name.entry.now (⟦<Self as Streams>⟧.seen self.old) (λ content.
             Counted (failed (is_input name.entry.now) content result)
             (⟦<Self as Streams>⟧.seen self.old).input_failures (⟦<Self as Streams>⟧.seen self.new).input_failures
@@ -101,7 +101,7 @@ fn part_of_feed<'n, F: Feed>(
     requires run { (e : ℕ) × (length run.old ≡ 1024 * 2 ^ e) }
     requires within { length run.old ≤ 1024 * room }
     ensures part { IfSome (F.remaining feed.old) (λ bytes.
-        Cuts first name.entry.now (Some (first_chunks chunks bytes)) result) }
+        MakesPart first name.entry.now (Some (first_chunks chunks bytes)) result) }
     ensures counted { F.failure_count feed.new
         ≡ count_after (F.failure_count feed.old) (failed true (Some []) result).input }
     ensures left { OnOk result (IfSome (F.remaining feed.old)

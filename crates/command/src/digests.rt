@@ -9,13 +9,13 @@ ghost use Rattle.source.specs.Counts.{count_after};
 ghost use Rattle.source.specs.Digest.{IsInRange, digest, input_limit, tag_len};
 ghost use Rattle.task.specs.Requested.{alg_of};
 ghost use Rattle.task.specs.inside.Possible.{HasDigest, IsPartSize, IsWithin};
-ghost use Rattle.command.specs.Course.{TellsAll};
+ghost use Rattle.command.specs.Run.{TellsAll};
 ghost use Rattle.command.specs.Hashing.{HashesAll};
 ghost use Rattle.command.specs.Lines.{IsListable, digest_line, hash_of, line_text};
 ghost use Rattle.command.specs.inside.Hashed.{PrintsName, Settles};
 ghost use Rattle.command.specs.inside.Printing.{PrintsLine, PrintsListed};
 ghost use Rattle.command.specs.inside.Reading.{Leaves, Reads, failed};
-ghost use Rattle.command.specs.Streams.{OpensAtMost, TakesCourse, opens_of};
+ghost use Rattle.command.specs.Streams.{OpensAtMost, DoesRun, opens_of};
 ghost use Rattle.command.specs.inside.Streams.{AfterReading, IfContent, SameStreams};
 ghost use Rattle.command.specs.declared.fault.Fault.TheVariants.{BadName};
 
@@ -44,7 +44,7 @@ impl<'i, 't, 'o, L: Feed, T: Tree, W: Sink> Session<'i, 't, 'o, L, T, W> {
     ) -> Result<u8, Fault<'n>>
         requires digest { HasDigest requested }
         requires parts { IfSome parts IsPartSize }
-        ensures course { TakesCourse (λ bytes files.
+        ensures run { DoesRun (λ bytes files.
             HashesAll (digest_line requested) files bytes (map (λ n. n.now) names.entry.now))
             (λ notes. TellsAll (E.shown err.old) (E.shown err.new) notes)
             result (⟦<Self as Streams>⟧.seen self.old) (⟦<Self as Streams>⟧.seen self.new) }

@@ -4,7 +4,7 @@ ghost use Rattle.std.specs.Prelude.{◌≡◌, ◌*◌, ◌-◌, ◌≤◌, [], 
 ghost use Rattle.command.specs.Keying.{KdfRuns, derived_by, expanded};
 ghost use Rattle.command.specs.Keying as spec;
 ghost use Rattle.command.specs.inside.Keys.{Extracts, PrintsDerived, PrintsKey, function_with};
-ghost use Rattle.command.specs.Streams.{OpensAtMost, TakesCourse};
+ghost use Rattle.command.specs.Streams.{OpensAtMost, DoesRun};
 ghost use Rattle.command.specs.inside.Streams.{AfterFile, SameStreams};
 ghost use Rattle.task.specs.Deriving.{by_blake3};
 ghost use Rattle.task.specs.inside.Possible.{HasKey};
@@ -36,7 +36,7 @@ impl<'i, 't, 'o, L: Feed, T: Tree, W: Sink> Session<'i, 't, 'o, L, T, W> {
         material: &'n str,
     ) -> Result<u8, Fault<'n>>
         requires { HasKey (derivation_shown derivation.now) }
-        ensures course { TakesCourse
+        ensures run { DoesRun
             (λ bytes files. KdfRuns (derivation_shown derivation.now) is_raw material.entry.now files)
             (λ notes. notes ≡ [])
             result (⟦<Self as Streams>⟧.seen self.old) (⟦<Self as Streams>⟧.seen self.new) }

@@ -5,11 +5,11 @@ ghost use Rattle.source.specs.Counts.{count_after};
 ghost use Rattle.source.specs.Written.{Writes};
 ghost use Rattle.sumlist.specs.Tally.{summary_text};
 ghost use Rattle.command.specs.Checking.{CheckRuns, ChecksList};
-ghost use Rattle.command.specs.Course.{TellsAll};
+ghost use Rattle.command.specs.Run.{TellsAll};
 ghost use Rattle.command.specs.inside.Faults.{noted_of, of_check};
 ghost use Rattle.command.specs.inside.Listing.{ListTaken};
 ghost use Rattle.command.specs.inside.Reading.{failed};
-ghost use Rattle.command.specs.Streams.{TakesCourse};
+ghost use Rattle.command.specs.Streams.{DoesRun};
 ghost use Rattle.command.specs.inside.Streams.{SameStreams};
 
 use crate::fault::Fault;
@@ -30,7 +30,7 @@ impl<'i, 't, 'o, L: Feed, T: Tree, W: Sink> Session<'i, 't, 'o, L, T, W> {
         name: &'n str,
         err: &mut E,
     ) -> Result<u8, Fault<'n>>
-        ensures course { TakesCourse (λ bytes files. CheckRuns kind is_summed name.entry.now files bytes)
+        ensures run { DoesRun (λ bytes files. CheckRuns kind is_summed name.entry.now files bytes)
             (λ notes. TellsAll (E.shown err.old) (E.shown err.new) notes)
             result (⟦<Self as Streams>⟧.seen self.old) (⟦<Self as Streams>⟧.seen self.new) }
         ensures same { SameStreams self.old self.new }

@@ -1,4 +1,4 @@
--- The course of a run is that of its request, with the last trouble told.
+-- A run of the program is that of its request, with the last trouble told.
 use Rattle.std.proofs.Common.{◌≡◌, ℕ, List, [], ◌∷◌, ◌++◌, Option, Some, None, Result, Ok, Err, IfOk, IfSome, refl}
 use Rattle.std.proofs.Common.{sym, ap, ◌∙◌, inl, inr, subst, append-nil, arith}
 use Rattle.std.specs.Prelude.{IsErrAnd, OnOk}
@@ -6,18 +6,18 @@ use Rattle.std.proofs.KnownBytes.{Appends-nil}
 use Rattle.std.proofs.lemmas.Result.{err_from_is_err_and}
 use Rattle.source.specs.Written.{Shown}
 use Rattle.sumlist.specs.Report.{Files}
-use Rattle.request.specs.CommandLine.{ErrorKind, Given, IsAmong, OfSums, Reads, Text, fault_of, given_of, kind_of}
+use Rattle.request.specs.CommandLine.{ErrorKind, Given, IsAmong, OfProgram, Reads, Text, fault_of, given_of, kind_of}
 use Rattle.request.specs.inside.Reading.{IsRead}
 use Rattle.request.specs.declared.request.Request.{Request}
 use Rattle.request.specs.declared.request.WordsFault.{WordsFault}
 use Rattle.request.specs.declared.request.WordsFault.TheVariants as words_fault
-use Rattle.task.specs.Parameters.{Judges}
+use Rattle.task.specs.Parameters.{IsAsDefined}
 use Rattle.task.specs.Tasks.{Asked, asked}
 use Rattle.task.specs.declared.fault.TaskFault.{TaskFault}
 use Rattle.task.specs.declared.fault.TaskFault.TheVariants as task
 use Rattle.task.specs.inside.Views.{task_shown}
-use Rattle.command.specs.Course.{Counted, Course, Printed, Runs, Takes, Tells, TellsAll, ending_told, no_failures}
-use Rattle.command.specs.Course.{refused_by, status_at}
+use Rattle.command.specs.Run.{Counted, Run, Printed, Runs, Does, Tells, TellsAll, ending_told, no_failures}
+use Rattle.command.specs.Run.{refused_by, status_at}
 use Rattle.command.specs.Troubles.{of_task, out_of_memory, status_of, told, trouble_of}
 use Rattle.command.specs.declared.fault.Fault.{Fault}
 use Rattle.command.proofs.Telling.{TellsAll-append, TellsAll-one}
@@ -25,8 +25,8 @@ use Rattle.program.specs.Program.{IsAnswered, ProgramRuns, RequestRuns, TaskRuns
 
 -- what `line` promises of its answer, as one fact
 pub read_as : (words : List Text) (read : Result Request WordsFault)
-    → IfOk read (λ r. OfSums (λ app. Reads app words (given_of r))) → OnOk read (OfSums (λ app. fault_of app words ≡ []))
-    → ((e : _) → read ≡ Err (words_fault.Words e) → OfSums (λ app. IsAmong (kind_of e) (fault_of app words)))
+    → IfOk read (λ r. OfProgram (λ app. Reads app words (given_of r))) → OnOk read (OfProgram (λ app. fault_of app words ≡ []))
+    → ((e : _) → read ≡ Err (words_fault.Words e) → OfProgram (λ app. IsAmong (kind_of e) (fault_of app words)))
     → IsRead words read
 read_as words (Ok r) reads passes fault = (reads, passes)
 read_as words (Err words_fault.OutOfMemory) reads passes fault = tt
@@ -35,25 +35,25 @@ read_as words (Err (words_fault.Words e)) reads passes fault = fault e refl
 Counted-none : (i u : ℕ) → Counted no_failures i i u u
 Counted-none i u = (omega arith, omega arith)
 
-Runs-done : (course : Course) (status : ℕ) (out_old out_new err_old err_new : Shown)
-    → Takes course (Ok status) out_old out_new → TellsAll err_old err_new course.notes
-    → Runs course status out_old out_new err_old err_new
-Runs-done course status out_old out_new err_old err_new takes tells = record {
+Runs-done : (run : Run) (status : ℕ) (out_old out_new err_old err_new : Shown)
+    → Does run (Ok status) out_old out_new → TellsAll err_old err_new run.notes
+    → Runs run status out_old out_new err_old err_new
+Runs-done run status out_old out_new err_old err_new takes tells = record {
   status = sym (ap status_at takes.ending);
   out = takes.out;
-  err = subst (TellsAll err_old err_new) (sym (ap (λ l. course.notes ++ l) (ap ending_told takes.ending) ∙
-      append-nil course.notes)) tells;
+  err = subst (TellsAll err_old err_new) (sym (ap (λ l. run.notes ++ l) (ap ending_told takes.ending) ∙
+      append-nil run.notes)) tells;
 }
 
-Runs-stopped : (course : Course) (f : Fault) (status : ℕ) (out_old out_new err_old err_mid err_new : Shown)
-    → Takes course (Err f) out_old out_new → TellsAll err_old err_mid course.notes
+Runs-stopped : (run : Run) (f : Fault) (status : ℕ) (out_old out_new err_old err_mid err_new : Shown)
+    → Does run (Err f) out_old out_new → TellsAll err_old err_mid run.notes
     → status ≡ status_of (trouble_of f) → Tells err_mid err_new (told (trouble_of f))
-    → Runs course status out_old out_new err_old err_new
-Runs-stopped course f status out_old out_new err_old err_mid err_new takes tells is last = record {
+    → Runs run status out_old out_new err_old err_new
+Runs-stopped run f status out_old out_new err_old err_mid err_new takes tells is last = record {
   status = is ∙ sym (ap status_at takes.ending);
   out = takes.out;
-  err = subst (TellsAll err_old err_new) (sym (ap (λ l. course.notes ++ l) (ap ending_told takes.ending)))
-      (TellsAll-append err_old err_mid err_new course.notes (told (trouble_of f) ∷ []) tells
+  err = subst (TellsAll err_old err_new) (sym (ap (λ l. run.notes ++ l) (ap ending_told takes.ending)))
+      (TellsAll-append err_old err_mid err_new run.notes (told (trouble_of f) ∷ []) tells
       (TellsAll-one err_mid err_new (told (trouble_of f)) last));
 }
 
@@ -61,20 +61,20 @@ module _ (first : Option (List ℕ)) (tree : Option Files) where
   -- what was done of a request
   abbrev pub Requested : Given → Result ℕ Fault → (out_old out_new err_old err_new : Shown) → (i j u v : ℕ) → Type 0
   Requested r answer out_old out_new err_old err_new i j u v =
-      IfSome first (λ bytes. IfSome tree (λ files. (course : Course) × RequestRuns r files bytes course × Takes course
-      answer out_old out_new × TellsAll err_old err_new course.notes × Counted course.failures i j u v))
+      IfSome first (λ bytes. IfSome tree (λ files. (run : Run) × RequestRuns r files bytes run × Does run
+      answer out_old out_new × TellsAll err_old err_new run.notes × Counted run.failures i j u v))
 
   -- what was done of a task by a command that passes over nothing
   abbrev pub Quietly : Asked → Result ℕ Fault → (out_old out_new : Shown) → (i j u v : ℕ) → Type 0
   Quietly asked answer out_old out_new i j u v =
-      IfSome first (λ bytes. IfSome tree (λ files. (course : Course) × TaskRuns asked files bytes course × Takes
-      course answer out_old out_new × (course.notes ≡ []) × Counted course.failures i j u v))
+      IfSome first (λ bytes. IfSome tree (λ files. (run : Run) × TaskRuns asked files bytes run × Does
+      run answer out_old out_new × (run.notes ≡ []) × Counted run.failures i j u v))
 
   -- and by one that tells what it passes over
   abbrev pub Tellingly : Asked → Result ℕ Fault → (out_old out_new err_old err_new : Shown) → (i j u v : ℕ) → Type 0
   Tellingly asked answer out_old out_new err_old err_new i j u v =
-      IfSome first (λ bytes. IfSome tree (λ files. (course : Course) × TaskRuns asked files bytes course × Takes
-      course answer out_old out_new × TellsAll err_old err_new course.notes × Counted course.failures i j
+      IfSome first (λ bytes. IfSome tree (λ files. (run : Run) × TaskRuns asked files bytes run × Does
+      run answer out_old out_new × TellsAll err_old err_new run.notes × Counted run.failures i j
       u v))
 
   -- what a run did
@@ -83,9 +83,9 @@ module _ (first : Option (List ℕ)) (tree : Option Files) where
       IfSome first (λ bytes. IfSome tree (λ files. ProgramRuns words bytes files status out_old out_new err_old
       err_new i j u v))
 
-requested : (r : Given) (task : Asked) (files : Files) (bytes : List ℕ) (course : Course) → asked r ≡ Ok task
-    → TaskRuns task files bytes course → RequestRuns r files bytes course
-requested r task files bytes course is runs = inl (rw is runs)
+requested : (r : Given) (task : Asked) (files : Files) (bytes : List ℕ) (run : Run) → asked r ≡ Ok task
+    → TaskRuns task files bytes run → RequestRuns r files bytes run
+requested r task files bytes run is runs = inl (rw is runs)
 
 pub told_task : (first : Option (List ℕ)) (tree : Option Files) (r : Given) (task : Asked) (answer : Result ℕ Fault)
     (out_old out_new err_old err_new : Shown) (i j u v : ℕ)
@@ -105,7 +105,7 @@ quiet_task (Some bytes) None r task answer out_old out_new err i j u v is h = tt
 quiet_task (Some bytes) (Some files) r task answer out_old out_new err i j u v is h =
     (h.0, requested r task files bytes h.0 is h.1, h.2, rw h.3 refl, h.4)
 
-refused : (r : Given) (e : TaskFault) (files : Files) (bytes : List ℕ) → Judges task_shown (asked r) (Err e)
+refused : (r : Given) (e : TaskFault) (files : Files) (bytes : List ℕ) → IsAsDefined task_shown (asked r) (Err e)
     → RequestRuns r files bytes (refused_by (trouble_of (of_task e)) no_failures)
 refused r (task.Usage fault) files bytes judged = inl (rw judged refl)
 refused r task.OutOfMemory files bytes judged = inr refl
@@ -116,7 +116,7 @@ nothing_printed task.OutOfMemory s = (refl, Appends-nil s.contents)
 
 pub no_task : (first : Option (List ℕ)) (tree : Option Files) (r : Given) (e : TaskFault) (answer : Result ℕ Fault)
     (out err : Shown) (i u : ℕ)
-    → IsErrAnd answer (λ g. g ≡ of_task e) → Judges task_shown (asked r) (Err e)
+    → IsErrAnd answer (λ g. g ≡ of_task e) → IsAsDefined task_shown (asked r) (Err e)
     → Requested first tree r answer out out err err i i u u
 no_task None tree r e answer out err i u stop judged = tt
 no_task (Some bytes) None r e answer out err i u stop judged = tt
@@ -132,7 +132,7 @@ no_task (Some bytes) (Some files) r e answer out err i u stop judged =
 module _ (words : List Text) where
   pub run_done : (first : Option (List ℕ)) (tree : Option Files) (r : Given) (status : ℕ)
       (out_old out_new err_old err_new : Shown) (i j u v : ℕ)
-      → OfSums (λ app. fault_of app words ≡ []) → OfSums (λ app. Reads app words r)
+      → OfProgram (λ app. fault_of app words ≡ []) → OfProgram (λ app. Reads app words r)
       → Requested first tree r (Ok status) out_old out_new err_old err_new i j u v
       → Program first tree words status out_old out_new err_old err_new i j u v
   run_done None tree r status out_old out_new err_old err_new i j u v passes read h = tt
@@ -142,7 +142,7 @@ module _ (words : List Text) where
 
   pub run_stopped : (first : Option (List ℕ)) (tree : Option Files) (r : Given) (f : Fault) (status : ℕ)
       (out_old out_new err_old err_mid err_new : Shown) (i j u v : ℕ)
-      → OfSums (λ app. fault_of app words ≡ []) → OfSums (λ app. Reads app words r)
+      → OfProgram (λ app. fault_of app words ≡ []) → OfProgram (λ app. Reads app words r)
       → Requested first tree r (Err f) out_old out_new err_old err_mid i j u v
       → status ≡ status_of (trouble_of f) → Tells err_mid err_new (told (trouble_of f))
       → Program first tree words status out_old out_new err_old err_new i j u v
@@ -177,7 +177,7 @@ module _ (words : List Text) where
 
   pub run_answered : (first : Option (List ℕ)) (tree : Option Files) (kind : ErrorKind) (text : Text) (status : ℕ)
       (out_old out_new err_old err_new : Shown) (i u : ℕ)
-      → OfSums (λ app. IsAmong kind (fault_of app words))
+      → OfProgram (λ app. IsAmong kind (fault_of app words))
       → IsAnswered kind text status out_old out_new err_old err_new
       → Program first tree words status out_old out_new err_old err_new i i u u
   run_answered None tree kind text status out_old out_new err_old err_new i u among h = tt

@@ -4,8 +4,8 @@
 ghost use Rattle.std.specs.Prelude.{IfSome, List, map};
 ghost use Rattle.request.specs.CommandLine.{Text, given_of, kind_of};
 ghost use Rattle.request.specs.inside.Reading.{IsRead};
-ghost use Rattle.command.specs.Course.{TellsAll};
-ghost use Rattle.command.specs.Streams.{TakesCourse};
+ghost use Rattle.command.specs.Run.{TellsAll};
+ghost use Rattle.command.specs.Streams.{DoesRun};
 ghost use Rattle.command.specs.inside.Streams.{SameStreams};
 ghost use Rattle.program.specs.Program.{IsAnswered, ProgramRuns, RequestRuns};
 
@@ -83,7 +83,7 @@ fn run_request<'n, 'i, 't, 'o, L: Feed, T: Tree, W: Sink, E: Sink>(
     request: Request<'n>,
     err: &mut E,
 ) -> Result<u8, Fault<'n>>
-    ensures course { TakesCourse (λ bytes files. RequestRuns (given_of request.entry) files bytes)
+    ensures run { DoesRun (λ bytes files. RequestRuns (given_of request.entry) files bytes)
         (λ notes. TellsAll (E.shown err.old) (E.shown err.new) notes) result
         (⟦<Session<'i, 't, 'o, L, T, W> as Streams>⟧.seen session.old)
         (⟦<Session<'i, 't, 'o, L, T, W> as Streams>⟧.seen session.new) }

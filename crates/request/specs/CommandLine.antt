@@ -146,8 +146,8 @@ abbrev pub Reads : App → List Text → Given → Type 0
 Reads app words given = subcommand_of app words ≡ Some given
 
 -- a fact of the program's command, whose lists of names hold the names above
-abbrev pub OfSums : (App → Type 0) → Type 0
-OfSums P = (names : NameList) × (macs : NameList) × (names_of names ≡ algorithm_names)
+abbrev pub OfProgram : (App → Type 0) → Type 0
+OfProgram P = (names : NameList) × (macs : NameList) × (names_of names ≡ algorithm_names)
     × (names_of macs ≡ mac_names) × P (sums_app names macs)
 
 -- words that are wrong, and no call for help or the version

@@ -29,7 +29,7 @@ pub use Rattle.std.specs.Str.{bytes_eq}
 pub use Rattle.sumlist.specs.Checked.{ListChecked}
 pub use Rattle.sumlist.specs.Entry.{Fits, IsEntry, Listing, ending, written, written_len}
 pub use Rattle.sumlist.specs.Escape.{SpellsByte, SpellsName, escape_of, escaped, is_special, lead, needs_escape}
-pub use Rattle.sumlist.specs.Line.{HasForm, IsBlank, IsLine, IsMalformed, IsMark, Parts, Spells, Stated, core}
+pub use Rattle.sumlist.specs.Line.{HasForm, IsBlank, IsLine, IsMalformed, IsMark, Parts, Spells, Says, core}
 pub use Rattle.sumlist.specs.Lines.{lines}
 pub use Rattle.sumlist.specs.Report.{AllAllowed, Allowed, Files, IsAllowed, Outcome, is_told, malformed, skipped, text}
 pub use Rattle.sumlist.specs.Report.{told, unreadable_count}

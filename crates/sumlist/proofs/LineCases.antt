@@ -1,6 +1,6 @@
 -- Each line is skipped, spells one entry, or is malformed: every part of the meaning of a line can be decided.
 use Rattle.sumlist.proofs.Common.{◌*◌, ◌∙◌, ◌≡◌, ◌⊎◌, Fits, IsBlank, IsLine, IsMalformed, IsUtf8, Kind, List, Listing}
-use Rattle.sumlist.proofs.Common.{None, Option, Some, Spells, Stated, [], ap, arith, bytes_eq-Decides, core, inl, inr}
+use Rattle.sumlist.proofs.Common.{None, Option, Some, Spells, Says, [], ap, arith, bytes_eq-Decides, core, inl, inr}
 use Rattle.sumlist.proofs.Common.{length, refl, slice_index, subst, sym, written_len, ℕ}
 use Rattle.std.proofs.lemmas.Bool.Decides.{Decides-and, Decides-eqb, Decides-ltb, Decides-not, Decides-or}
 use Rattle.std.proofs.lemmas.Map.Made.{is_member-Decides}
@@ -51,7 +51,7 @@ module _ (line : List ℕ) (kind : Kind) where
           is_line = l;
           not_skipped = unskipped;
           is_entry = record { text = s.1; fits = s.2; range = f.0; sized = f.1; bytes = f.2 };
-          form = subst (λ c. Stated c kind e) is form;
+          form = subst (λ c. Says c kind e) is form;
         }
 
     -- and is malformed where its core states none

@@ -3,7 +3,7 @@ use Rattle.sumlist.proofs.Common.{◌≡◌, inl, inr, ◌*◌, ◌≤◌, Bool,
 use Rattle.sumlist.proofs.Common.{ap, length-append, if◌then◌else◌, ◌∙◌, eqb, arith, All-weaker, false≢true}
 use Rattle.sumlist.proofs.Common.{nat_tests, decode_of-encode_lower, length-encode_with, encode_lower, lower_digits}
 use Rattle.sumlist.proofs.Common.{Alg, Kind, Listing, IsEntry, escaped, escape_of, needs_escape}
-use Rattle.sumlist.proofs.Common.{SpellsName, HasForm, Stated, core, IsBlank, Spells, IsLabel, label_of}
+use Rattle.sumlist.proofs.Common.{SpellsName, HasForm, Says, core, IsBlank, Spells, IsLabel, label_of}
 use Rattle.sumlist.proofs.Common.{closing, tagged_len, ℕ}
 use Rattle.std.specs.Prelude.{not}
 use Rattle.std.specs.List.{list_all}
@@ -45,7 +45,7 @@ core_whole (c ∷ xs) all =
 
 -- ---- a line of a word, a space, and more
 
-spells : (line : List ℕ) (kind : Kind) (e : Listing) → Stated line kind e → IsEntry e → Inner line
+spells : (line : List ℕ) (kind : Kind) (e : Listing) → Says line kind e → IsEntry e → Inner line
     → (IsBlank line → ⊥) → length line ≤ 65536 → Spells line kind e
 spells line kind e stated i all told fits =
     let whole = core_whole line all in

@@ -1,6 +1,6 @@
 -- A core states the entry that its reading finds, and nothing else, and the entry's tag fits its algorithm.
 use Rattle.sumlist.proofs.Common.{◌++◌, ◌∙◌, ◌∷◌, ◌≡◌, ◌≤◌, Alg, Bool, HasForm, IsBytes, IsInRange, Kind, List}
-use Rattle.sumlist.proofs.Common.{Listing, Some, Stated, [], ap, arith, closing, cond, core, decode_of-ok}
+use Rattle.sumlist.proofs.Common.{Listing, Some, Says, [], ap, arith, closing, cond, core, decode_of-ok}
 use Rattle.sumlist.proofs.Common.{eqb-true, false, inl, inr, length, length-append, name_of, nat_tests, refl, subst}
 use Rattle.sumlist.proofs.Common.{sym, tag_len, text, true, ℕ}
 use Rattle.std.proofs.Common.{◌==◌}
@@ -20,7 +20,7 @@ form_fit text kind a t x (inl p) =
 form_fit text kind a t x (inr p) =
     let d = decode_of-ok p.digits t p.tag_is in (p.range, omega (arith, p.sized, d.2), d.3)
 
-pub stated_fit : (core : List ℕ) (kind : Kind) (e : Listing) → Stated core kind e
+pub stated_fit : (core : List ℕ) (kind : Kind) (e : Listing) → Says core kind e
     → IsInRange e.alg × (length e.tag ≡ tag_len e.alg) × IsBytes e.tag
 stated_fit core kind e (inl p) = form_fit core kind e.alg e.tag e.name p
 stated_fit core kind e (inr p) = form_fit p.0 kind e.alg e.tag p.1 p.3
@@ -52,7 +52,7 @@ module _ (kind : Kind) where
   unslashed-plain : (core : List ℕ) → is_slashed core ≡ false → unslashed core ≡ core
   unslashed-plain core e = grind arith
 
-  pub stated-is : (core : List ℕ) (e : Listing) → Stated core kind e → stated kind core ≡ Some e
+  pub stated-is : (core : List ℕ) (e : Listing) → Says core kind e → stated kind core ≡ Some e
   stated-is core e (inl p) =
       let plain = not_slashed core e.alg e.tag e.name p in
       rw (plain, unslashed-plain core plain, form_of-is kind core e.alg e.tag e.name p) refl
@@ -60,19 +60,19 @@ module _ (kind : Kind) where
       ∙ rw (form_of-is kind q.0 e.alg e.tag q.1 q.3, unescaped-spelled q.1 e.name q.4) refl
 
   stated_by : (core : List ℕ) (a : Alg) (t x name : List ℕ) → HasForm (unslashed core) kind a t x
-      → name_of (is_slashed core) x ≡ Some name → Stated core kind (listing name a t)
+      → name_of (is_slashed core) x ≡ Some name → Says core kind (listing name a t)
   stated_by [] a t x name p n = inl (subst (λ y. HasForm [] kind a t y) (same_Some x name n) p)
   stated_by (c ∷ text) a t x name p n = by (c == 92) refl p n
     where
       by : (b : Bool) → (c == 92) ≡ b → HasForm (cond b text (c ∷ text)) kind a t x → name_of b x ≡ Some name
-          → Stated (c ∷ text) kind (listing name a t)
+          → Says (c ∷ text) kind (listing name a t)
       by true slash p n = inr (text, x, ap (λ k. k ∷ text) (eqb-true c 92 slash), p, spelled-unescaped x name n)
       by false other p n = inl (subst (λ y. HasForm (c ∷ text) kind a t y) (same_Some x name n) p)
 
-  pub stated-some : (core : List ℕ) (e : Listing) → stated kind core ≡ Some e → Stated core kind e
+  pub stated-some : (core : List ℕ) (e : Listing) → stated kind core ≡ Some e → Says core kind e
   stated-some core e s = option_and_then_some _ (form_of kind (unslashed core)) e s (λ f form more.
       option_and_then_some _ (name_of (is_slashed core) f.2) e more (λ name named same.
-      subst (Stated core kind) (same_Some (listing name f.0 f.1) e same)
+      subst (Says core kind) (same_Some (listing name f.0 f.1) e same)
       (stated_by core f.0 f.1 f.2 name (form_of-some kind (unslashed core) f form) named)))
 
   -- what the reading finds step by step

@@ -49,8 +49,8 @@ abbrev pub HasForm : List ℕ → Kind → Alg → List ℕ → List ℕ → Typ
 HasForm text kind alg tag body = Parts text kind alg tag body ⊎ Labelled text alg tag body
 
 -- a core whose body is the name itself, or which begins with a backslash and whose body spells the name
-abbrev pub Stated : List ℕ → Kind → Listing → Type 0
-Stated core kind e =
+abbrev pub Says : List ℕ → Kind → Listing → Type 0
+Says core kind e =
     HasForm core kind e.alg e.tag e.name
     ⊎ ((text : List ℕ) × (body : List ℕ)
     × (core ≡ 92 ∷ text) × HasForm text kind e.alg e.tag body × SpellsName body e.name)
@@ -60,7 +60,7 @@ pub record Spells (line : List ℕ) (kind : Kind) (e : Listing) : Type 0 where
   pub is_line : IsLine line
   pub not_skipped : IsSkipped line → ⊥
   pub is_entry : IsEntry e
-  pub form : Stated (core line) kind e
+  pub form : Says (core line) kind e
 
 -- a line that is neither skipped nor spells an entry
 pub record IsMalformed (line : List ℕ) (kind : Kind) : Type 0 where

@@ -16,7 +16,7 @@ use Rattle.task.specs.Deriving as deriving_of
 use Rattle.task.specs.Hashing.{blake2_length, blake2_parameters, blake3_output, part_size, parts}
 use Rattle.task.specs.Hashing as hashing
 use Rattle.task.specs.Hashing.{names_several, requested, requested_of, sha, stretch_of, tagged_blake3}
-use Rattle.task.specs.Parameters.{◌>>=◌, Judges, absent, files, given_bytes, given_number, hmac_len, kind_of, named}
+use Rattle.task.specs.Parameters.{◌>>=◌, IsAsDefined, absent, files, given_bytes, given_number, hmac_len, kind_of, named}
 use Rattle.task.specs.Parameters.{needed, number, number_in, sized, text, unset}
 use Rattle.task.specs.Parting.{joined, least_power, names_blake3, place, place_at}
 use Rattle.task.specs.Tagging.{macs, with_length}
@@ -269,7 +269,7 @@ possible g =
     (λ f p. p)
 
 -- so it is of what the code answers
-pub possible_judged : (g : Given) (r : Result Task TaskFault) → Judges task_shown (asked g) r
+pub possible_judged : (g : Given) (r : Result Task TaskFault) → IsAsDefined task_shown (asked g) r
     → IfOk r (λ task. IsPossible (task_shown task))
 possible_judged g (Ok task) is =
     subst (λ (x : Result Asked UsageFault). IfOk x IsPossible) is (possible g)

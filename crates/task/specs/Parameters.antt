@@ -34,10 +34,10 @@ abbrev pub ◌>>◌ : {A B : Type 0} → Result A UsageFault → Result B UsageF
 first >> second = first >>= (λ _. second)
 
 -- the code's answer is the defined one, or memory ran out
-abbrev pub Judges : {A B : Type 0} → (A → B) → Result B UsageFault → Result A TaskFault → Type 0
-Judges view wanted (Ok x) = wanted ≡ Ok (view x)
-Judges view wanted (Err (Usage fault)) = wanted ≡ Err fault
-Judges view wanted (Err OutOfMemory) = ⊤
+abbrev pub IsAsDefined : {A B : Type 0} → (A → B) → Result B UsageFault → Result A TaskFault → Type 0
+IsAsDefined view wanted (Ok x) = wanted ≡ Ok (view x)
+IsAsDefined view wanted (Err (Usage fault)) = wanted ≡ Err fault
+IsAsDefined view wanted (Err OutOfMemory) = ⊤
 
 -- the text of a setting, where it was given
 abbrev pub text : Setting → Given → Option Text

@@ -3,7 +3,7 @@
 ghost use Rattle.std.specs.Prelude.{◌≡◌};
 ghost use Rattle.request.specs.CommandLine.{given_of};
 ghost use Rattle.task.specs.Deriving as spec;
-ghost use Rattle.task.specs.Parameters.{Judges};
+ghost use Rattle.task.specs.Parameters.{IsAsDefined};
 ghost use Rattle.task.specs.inside.Seen.{seen};
 ghost use Rattle.task.specs.inside.Views.{derivation_shown};
 
@@ -34,7 +34,7 @@ pub struct Hkdf {
 impl<'a> Derivation<'a> {
     /// The derivation that a request of `kdf` names, or the first fault of its settings.
     pub(crate) fn of(alloc: Global, request: &Request<'a>) -> Result<Derivation<'a>, TaskFault>
-        ensures { Judges derivation_shown (spec.derivation (given_of request.now)) result }
+        ensures { IsAsDefined derivation_shown (spec.derivation (given_of request.now)) result }
     {
         match kind_of(request)? {
             Kind::Sha256 => with_hkdf(alloc, request, HmacHash::Sha256),
@@ -51,7 +51,7 @@ fn with_hkdf<'a>(
     request: &Request<'a>,
     hash: HmacHash,
 ) -> Result<Derivation<'a>, TaskFault>
-    ensures { Judges derivation_shown (spec.hkdf hash (given_of request.now)) result }
+    ensures { IsAsDefined derivation_shown (spec.hkdf hash (given_of request.now)) result }
 {
     refused(request, &[Setting::Context])?;
     let length = needed(request, Setting::Length)?;

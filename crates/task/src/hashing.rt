@@ -4,7 +4,7 @@ ghost use Rattle.std.specs.Prelude.{◌≡◌, ◌/◌, length, max, min, option
 ghost use Rattle.std.specs.Option.{option_map_or};
 ghost use Rattle.request.specs.CommandLine.{given_of};
 ghost use Rattle.task.specs.Hashing as spec;
-ghost use Rattle.task.specs.Parameters.{Judges, text};
+ghost use Rattle.task.specs.Parameters.{IsAsDefined, text};
 ghost use Rattle.task.specs.Requested.{alg_of};
 ghost use Rattle.task.specs.declared.fault.Setting.TheVariants.{Verify};
 
@@ -65,7 +65,7 @@ impl Hash {
 impl Requested {
     /// What a request of `hash` has printed, or the first fault of its settings.
     pub(crate) fn of(alloc: Global, request: &Request<'_>) -> Result<Requested, TaskFault>
-        ensures { Judges (λ r. r) (spec.requested (given_of request.now)) result }
+        ensures { IsAsDefined (λ r. r) (spec.requested (given_of request.now)) result }
     {
         match kind_of(request)? {
             Kind::Sha256 => Ok(sha(request, Alg::Sha256)?),
@@ -83,7 +83,7 @@ impl Requested {
         alloc: Global,
         request: &Request<'_>,
     ) -> Result<Option<Vec<u8>>, TaskFault>
-        ensures { Judges (option_map (λ v. v.items)) (spec.wanted self (given_of request.now)) result }
+        ensures { IsAsDefined (option_map (λ v. v.items)) (spec.wanted self (given_of request.now)) result }
     {
         match text_of(request, Setting::Verify) {
             Some(digits) => {
@@ -139,14 +139,14 @@ fn sha(request: &Request<'_>, alg: Alg) -> Result<Requested, UsageFault>
 }
 
 fn with_blake2b(alloc: Global, request: &Request<'_>) -> Result<Requested, TaskFault>
-    ensures { Judges (λ r. r) (spec.blake2b_digest (given_of request.now)) result }
+    ensures { IsAsDefined (λ r. r) (spec.blake2b_digest (given_of request.now)) result }
 {
     let (length, salt, personal) = blake2_parameters(alloc, request, BLAKE2B_LEN)?;
     Ok(whole(Hash::Blake2b(length, salt, personal), request.has("tag")))
 }
 
 fn with_blake2s(alloc: Global, request: &Request<'_>) -> Result<Requested, TaskFault>
-    ensures { Judges (λ r. r) (spec.blake2s_digest (given_of request.now)) result }
+    ensures { IsAsDefined (λ r. r) (spec.blake2s_digest (given_of request.now)) result }
 {
     let (length, salt, personal) = blake2_parameters(alloc, request, BLAKE2S_LEN)?;
     Ok(whole(Hash::Blake2s(length, salt, personal), request.has("tag")))
@@ -159,7 +159,7 @@ fn blake2_parameters<const N: usize>(
     request: &Request<'_>,
     most: usize,
 ) -> Result<(usize, [u8; N], [u8; N]), TaskFault>
-    ensures { Judges (λ p. p) (spec.blake2_parameters most N (given_of request.now)) result }
+    ensures { IsAsDefined (λ p. p) (spec.blake2_parameters most N (given_of request.now)) result }
 {
     refused(request, &[Setting::Seek, Setting::Parts])?;
     refused_flag(

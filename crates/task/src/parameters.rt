@@ -4,7 +4,7 @@ ghost use Rattle.std.specs.Prelude.{◌≡◌, ◌≢◌, ◌&&◌, Err, IsSomeA
 ghost use Rattle.std.specs.Prelude.{option_map, replicate, unwrap_or};
 ghost use Rattle.request.specs.CommandLine.{given_of};
 ghost use Rattle.task.specs.Parameters as spec;
-ghost use Rattle.task.specs.Parameters.{Judges};
+ghost use Rattle.task.specs.Parameters.{IsAsDefined};
 ghost use Rattle.task.specs.inside.Seen.{seen};
 ghost use Rattle.task.specs.declared.fault.Setting.TheVariants.{Algorithm};
 ghost use Rattle.task.specs.declared.fault.UsageFault.TheVariants.{OutOfRange, WrongLength};
@@ -168,7 +168,7 @@ fn within(setting: Setting, least: u64, most: u64, value: u64) -> Result<u64, Us
 
 /// The bytes that a setting's hexadecimal digits spell.
 pub(crate) fn hexadecimal(alloc: Global, setting: Setting, text: &str) -> Result<Vec<u8>, TaskFault>
-    ensures { Judges (λ v. v.items) (spec.hexadecimal setting text.now) result }
+    ensures { IsAsDefined (λ v. v.items) (spec.hexadecimal setting text.now) result }
 {
     match hex::decode(alloc, text) {
         Ok(bytes) => Ok(bytes),
@@ -183,7 +183,7 @@ pub(crate) fn given_bytes(
     request: &Request<'_>,
     setting: Setting,
 ) -> Result<Option<Vec<u8>>, TaskFault>
-    ensures { Judges (option_map (λ v. v.items)) (spec.given_bytes setting (given_of request.now)) result }
+    ensures { IsAsDefined (option_map (λ v. v.items)) (spec.given_bytes setting (given_of request.now)) result }
 {
     match text_of(request, setting) {
         Some(text) => Ok(Some(hexadecimal(alloc, setting, text)?)),
@@ -193,7 +193,7 @@ pub(crate) fn given_bytes(
 
 /// The bytes to compare with that the digits of `--verify` spell, so many.
 pub(crate) fn wanted_bytes(alloc: Global, count: u64, text: &str) -> Result<Vec<u8>, TaskFault>
-    ensures { Judges (λ v. v.items) (spec.wanted_bytes count text.now) result }
+    ensures { IsAsDefined (λ v. v.items) (spec.wanted_bytes count text.now) result }
 {
     Ok(of_length(count, hexadecimal(alloc, Setting::Verify, text)?)?)
 }

@@ -2,7 +2,7 @@
 
 ghost use Rattle.std.specs.Prelude.{◌≡◌, option_map};
 ghost use Rattle.request.specs.CommandLine.{given_of};
-ghost use Rattle.task.specs.Parameters.{Judges, number};
+ghost use Rattle.task.specs.Parameters.{IsAsDefined, number};
 ghost use Rattle.task.specs.Tagging as spec;
 ghost use Rattle.task.specs.inside.Views.{key_shown};
 
@@ -63,7 +63,7 @@ impl Mac {
         alloc: Global,
         request: &Request<'_>,
     ) -> Result<Option<Vec<u8>>, TaskFault>
-        ensures { Judges (option_map (λ v. v.items)) (spec.wanted self (given_of request.now)) result }
+        ensures { IsAsDefined (option_map (λ v. v.items)) (spec.wanted self (given_of request.now)) result }
     {
         match text_of(request, Setting::Verify) {
             Some(text) => Ok(Some(wanted_bytes(alloc, self.tag_len(), text)?)),
@@ -100,7 +100,7 @@ impl<'a> Key<'a> {
     /// The key of a request of `mac`, which gives it in one of the two ways. The digits of `--key`
     /// are judged first.
     pub(crate) fn of(alloc: Global, request: &Request<'a>) -> Result<Key<'a>, TaskFault>
-        ensures { Judges key_shown (spec.key (given_of request.now)) result }
+        ensures { IsAsDefined key_shown (spec.key (given_of request.now)) result }
     {
         let given = given_bytes(alloc, request, Setting::Key)?;
         match (given, request.text("key-file")) {

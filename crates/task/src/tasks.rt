@@ -2,7 +2,7 @@
 
 ghost use Rattle.std.specs.Prelude.{◌≡◌, IfOk, codes};
 ghost use Rattle.request.specs.CommandLine.{given_of, text_of};
-ghost use Rattle.task.specs.Parameters.{Judges, files};
+ghost use Rattle.task.specs.Parameters.{IsAsDefined, files};
 ghost use Rattle.task.specs.Tasks as spec;
 ghost use Rattle.task.specs.Tasks.{asked};
 ghost use Rattle.task.specs.inside.Seen.{seen};
@@ -82,7 +82,7 @@ impl<'a> Task<'a> {
     /// The task that a request asks for, or what is wrong with the first of its settings: each
     /// command has an order in which it judges them.
     pub fn of(alloc: Global, request: Request<'a>) -> Result<Task<'a>, TaskFault>
-        ensures judged { Judges task_shown (asked (given_of request.entry)) result }
+        ensures judged { IsAsDefined task_shown (asked (given_of request.entry)) result }
         ensures possible { IfOk result (λ task. IsPossible (task_shown task)) }
     {
         task_of(alloc, &request)
@@ -90,7 +90,7 @@ impl<'a> Task<'a> {
 }
 
 fn task_of<'a>(alloc: Global, request: &Request<'a>) -> Result<Task<'a>, TaskFault>
-    ensures { Judges task_shown (asked (given_of request.now)) result }
+    ensures { IsAsDefined task_shown (asked (given_of request.now)) result }
 {
     match request.command() {
         "hash" => hash(alloc, request),
@@ -104,7 +104,7 @@ fn task_of<'a>(alloc: Global, request: &Request<'a>) -> Result<Task<'a>, TaskFau
 }
 
 fn hash<'a>(alloc: Global, request: &Request<'a>) -> Result<Task<'a>, TaskFault>
-    ensures { Judges task_shown (spec.hash (given_of request.now)) result }
+    ensures { IsAsDefined task_shown (spec.hash (given_of request.now)) result }
 {
     let requested = Requested::of(alloc, request)?;
     let parts = parts_of(request)?;
@@ -126,7 +126,7 @@ fn hash<'a>(alloc: Global, request: &Request<'a>) -> Result<Task<'a>, TaskFault>
 
 // Files are named by words, or in a file.
 fn one_source<'a>(alloc: Global, request: &Request<'a>) -> Result<Names<'a>, TaskFault>
-    ensures { Judges names_shown
+    ensures { IsAsDefined names_shown
         (spec.one_source (text_of (codes "files0-from") (given_of request.now)) (files (given_of request.now))) result }
 {
     match request.text("files0-from") {
@@ -151,7 +151,7 @@ fn names_of<'a>(alloc: Global, request: &Request<'a>) -> Result<Vec<&'a str>, Al
 }
 
 fn mac<'a>(alloc: Global, request: &Request<'a>) -> Result<Task<'a>, TaskFault>
-    ensures { Judges task_shown (spec.mac (given_of request.now)) result }
+    ensures { IsAsDefined task_shown (spec.mac (given_of request.now)) result }
 {
     let mac = Mac::of(request)?;
     let key = Key::of(alloc, request)?;
@@ -165,7 +165,7 @@ fn mac<'a>(alloc: Global, request: &Request<'a>) -> Result<Task<'a>, TaskFault>
 }
 
 fn kdf<'a>(alloc: Global, request: &Request<'a>) -> Result<Task<'a>, TaskFault>
-    ensures { Judges task_shown (spec.kdf (given_of request.now)) result }
+    ensures { IsAsDefined task_shown (spec.kdf (given_of request.now)) result }
 {
     let derivation = Derivation::of(alloc, request)?;
     let material = needed(request, Setting::IkmFile)?;
@@ -200,7 +200,7 @@ fn part<'a>(request: &Request<'a>) -> Result<Task<'a>, UsageFault>
 }
 
 fn join<'a>(alloc: Global, request: &Request<'a>) -> Result<Task<'a>, TaskFault>
-    ensures { Judges task_shown (spec.join (given_of request.now)) result }
+    ensures { IsAsDefined task_shown (spec.join (given_of request.now)) result }
 {
     let (stretch, bytes) = joined_of(request)?;
     let name = request.text("name").unwrap_or("-");

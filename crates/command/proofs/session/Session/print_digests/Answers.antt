@@ -21,8 +21,8 @@ loop-name-init g c =
       goes = goes-start (digest_line c.args.requested) (see c.args.self.now) (g.E.Sink.shown c.args.err.now);
     }
 
-pub returns-in_err-print_digest-clause-course : goal.returns-in_err-print_digest-clause-course
-returns-in_err-print_digest-clause-course g c =
+pub returns-in_err-print_digest-clause-run : goal.returns-in_err-print_digest-clause-run
+returns-in_err-print_digest-clause-run g c =
     let see = seen_of g.L.Feed.remaining g.L.Feed.failure_count g.T.Tree.files g.T.Tree.failure_count
     g.T.Tree.opens g.W.Sink.shown in
     goes-stop (digest_line c.args.requested) (see c.args.self.now) (g.E.Sink.shown c.args.err.now)
@@ -46,8 +46,8 @@ loop-name-preserved g c =
           c.loop-name.invariant.goes c.in_ok-print_digest.ensures.name;
     }
 
-pub returns-clause-course : goal.returns-clause-course
-returns-clause-course g c =
+pub returns-clause-run : goal.returns-clause-run
+returns-clause-run g c =
     let see = seen_of g.L.Feed.remaining g.L.Feed.failure_count g.T.Tree.files g.T.Tree.failure_count
     g.T.Tree.opens g.W.Sink.shown in
     goes-end (digest_line c.args.requested) (see c.args.self.now) (g.E.Sink.shown c.args.err.now)

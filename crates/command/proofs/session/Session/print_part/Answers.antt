@@ -2,22 +2,22 @@ use Rattle.std.proofs.Common.{refl}
 use Rattle.command.proofs.CutParts.{cut_printed, cut_stopped, untold}
 use Rattle.command.proofs.session.Session.print_part.Goals as goal
 
-pub returns-in_err-part-clause-course : goal.returns-in_err-part-clause-course
-returns-in_err-part-clause-course g c =
+pub returns-in_err-part-clause-run : goal.returns-in_err-part-clause-run
+returns-in_err-part-clause-run g c =
     cut_stopped c.args.first c.args.chunks c.args.name.now
     _ _ c.in_err-part.field-0.0 _ _ _ _ _ _ _
     c.in_err-part.ensures.part c.in_err-part.ensures.counted c.from_residual.ensures.1 c.part_in.ensures.out
 
-pub returns-in_err-write_part-clause-course : goal.returns-in_err-write_part-clause-course
-returns-in_err-write_part-clause-course g c =
+pub returns-in_err-write_part-clause-run : goal.returns-in_err-write_part-clause-run
+returns-in_err-write_part-clause-run g c =
     let part = c.in_ok-part.part in
     cut_printed c.args.first c.args.chunks c.args.name.now
     _ _ part _ _ _ _ _ _ _ _
     c.in_ok-part.ensures.part c.in_ok-part.ensures.counted c.part_in.ensures.out
     (untold part _ _ _ c.from_residual-in_err-write_part.ensures.1 c.in_err-write_part.ensures)
 
-pub returns-clause-course : goal.returns-clause-course
-returns-clause-course g c =
+pub returns-clause-run : goal.returns-clause-run
+returns-clause-run g c =
     cut_printed c.args.first c.args.chunks c.args.name.now
     _ _ c.in_ok-part.part _ _ _ _ _ _ _ _
     c.in_ok-part.ensures.part c.in_ok-part.ensures.counted c.part_in.ensures.out
