@@ -8,8 +8,9 @@ use Rattle.std.proofs.lemmas.Result.{MatchResult-weaker}
 use Rattle.source.proofs.Writing.{AppendsPrefix-after, AppendsPrefix-more, AppendsPrefix-none}
 use Rattle.sumlist.specs.Lines.{IsKept}
 use Rattle.sumlist.specs.Report.{number_of, report_from}
+use Rattle.sumlist.specs.Tally.{entries_of}
 use Rattle.sumlist.specs.inside.Ahead.{Checks, Counts, RestChecked}
-use Rattle.sumlist.specs.inside.Marks.{mark_of}
+use Rattle.sumlist.specs.inside.Marks.{entry_by, mark_of}
 use Rattle.sumlist.specs.inside.Stepped.{Stepped}
 use Rattle.sumlist.specs.inside.Taking.{IsNextPiece}
 use Rattle.sumlist.proofs.Deciding.{all_settled}
@@ -18,6 +19,9 @@ use Rattle.sumlist.proofs.Deciding.{all_settled}
 
 pub lines_of-counted : (m : Mark) (s t : Summary) → IsCounted m s t → lines_of t ≡ lines_of s + 1
 lines_of-counted m s t c = grind arith
+
+pub entries_of-counted : (m : Mark) (s t : Summary) → IsCounted m s t → entries_of t ≡ entries_of s + entry_by m
+entries_of-counted m s t c = grind arith
 
 counts_line : (o : Outcome) (os : List Outcome) (s u t : Summary) → IsCounted (mark_of o) s u → Counts u os t
     → Counts s (o ∷ os) t

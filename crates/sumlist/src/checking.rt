@@ -8,7 +8,8 @@ ghost use Rattle.sumlist.specs.Checked.{ListChecked, ListCounts, WriteCounts};
 ghost use Rattle.sumlist.specs.Lines.{IsKept};
 ghost use Rattle.sumlist.specs.inside.Ahead.{Checks};
 ghost use Rattle.sumlist.specs.inside.Stepped.{LineChecked, StepCounts, fault_of};
-ghost use Rattle.sumlist.specs.inside.Marks.{lines_of, part};
+ghost use Rattle.sumlist.specs.Tally.{entries_of};
+ghost use Rattle.sumlist.specs.inside.Marks.{entry_by, lines_of, part};
 ghost use Rattle.sumlist.specs.declared.checking.CheckFault.TheVariants.{OutOfMemory, Write};
 
 use crate::piece_reader::PieceReader;
@@ -71,7 +72,8 @@ impl From<AllocError> for CheckFault {
 /// of 4,096 bytes and one line of at most 65,536; a longer line is malformed.
 ///
 /// `name: OK` is written only where the digest of the file's content is the tag, and `name:
-/// UNREADABLE` exactly as often as opening or reading a file failed, which ends nothing.
+/// UNREADABLE` exactly as often as opening or reading a file failed, which ends nothing. The file of each
+/// entry is opened once at most.
 pub fn check<L: Feed, T: Tree, W: Sink>(
     alloc: Global,
     list: &mut L,
@@ -85,6 +87,7 @@ pub fn check<L: Feed, T: Tree, W: Sink>(
         (W.shown out.old).contents (W.shown out.new).contents)) }
     ensures unreadable { IfOk result (λ s. T.failure_count tree.new
         ≡ count_after (T.failure_count tree.old) s.unreadable) }
+    ensures opens { IfOk result (λ s. T.opens tree.new ≤ T.opens tree.old + entries_of s) }
     ensures kept { T.files tree.new ≡ T.files tree.old }
 
     ensures end { OnOk result (IsAtEnd (L.remaining list.new)) }
@@ -143,6 +146,9 @@ impl Checker {
         ensures unreadable { OnOk result
             ((k : ℕ) → T.failure_count tree.old ≡ count_after k self.old.summary.unreadable
             → T.failure_count tree.new ≡ count_after k self.new.summary.unreadable) }
+        ensures opens { OnOk result
+            ((k : ℕ) → T.opens tree.old ≤ k + entries_of self.old.summary
+            → T.opens tree.new ≤ k + entries_of self.new.summary) }
         ensures kept { (T.files tree.new ≡ T.files tree.old) × (self.new.kind ≡ self.old.kind) }
         ensures end { IfOk result (λ more. more ≡ false
             → (self.new.reader.ahead ≡ []) × IsAtEnd (L.remaining list.new)) }
@@ -173,6 +179,7 @@ impl Checker {
             (W.shown out.old).contents (W.shown out.new).contents) }
         ensures unreadable { IfOk result (λ mark. T.failure_count tree.new
             ≡ count_after (T.failure_count tree.old) (part (Mark.Told Verdict.Unreadable) mark)) }
+        ensures opens { IfOk result (λ mark. T.opens tree.new ≤ T.opens tree.old + entry_by mark) }
         ensures kept { T.files tree.new ≡ T.files tree.old }
         ensures writes { StepCounts result (W.shown out.old).failures (W.shown out.new).failures }
     {
@@ -197,6 +204,7 @@ impl Checker {
             (W.shown out.old).contents (W.shown out.new).contents) }
         ensures unreadable { IfOk result (λ mark. T.failure_count tree.new
             ≡ count_after (T.failure_count tree.old) (part (Mark.Told Verdict.Unreadable) mark)) }
+        ensures opens { IfOk result (λ mark. T.opens tree.new ≤ T.opens tree.old + entry_by mark) }
         ensures kept { T.files tree.new ≡ T.files tree.old }
         ensures writes { StepCounts result (W.shown out.old).failures (W.shown out.new).failures }
     {

@@ -32,6 +32,11 @@ no_lines = record { ok = 0; failed = 0; missing = 0; unreadable = 0; too_long = 
 abbrev pub lines_of : Summary → ℕ
 lines_of s = s.ok + s.failed + s.missing + s.unreadable + s.too_long + s.malformed + s.skipped
 
+-- one for an entry, else none
+abbrev pub entry_by : Mark → ℕ
+entry_by (Told v) = 1
+entry_by m = 0
+
 -- one more line, of this mark
 pub record IsCounted (mark : Mark) (old new : Summary) : Type 0 where
   pub ok : new.ok ≡ old.ok + part (Told Matches) mark

@@ -20,6 +20,7 @@ loop-checker-init g c = record {
   goes = rw (c.in_ok-new.ensures, c.new-2.ensures) (λ r n d h. h);
   read = [];
   consumed = Consumes-nil (g.L.Feed.remaining c.args.list.now);
+  opens = omega arith;
   counts = rw (c.in_ok-new.ensures, c.new-2.ensures) (search rules);
 }
 
@@ -40,6 +41,7 @@ loop-checker-preserved g c =
           i.goes r n d ((rw (i.counts.kept, i.counts.kind) at c.in_ok-step.ensures.checked) r n d later);
       read = i.read ++ gave.0;
       consumed = Consumes-trans _ _ _ _ _ i.consumed gave.1;
+      opens = c.in_ok-step.ensures.opens _ i.opens;
       counts = grind (arith, length-append {A = ℕ});
     }
 
@@ -55,3 +57,6 @@ returns-clause-gave g c =
     let i = c.loop-checker.invariant in
     let gave = c.in_ok-step.ensures.gave in
     all_read _ _ _ i.read gave.0 i.consumed gave.1 (grind arith)
+
+pub returns-clause-opens : goal.returns-clause-opens
+returns-clause-opens g c = c.in_ok-step.ensures.opens _ c.loop-checker.invariant.opens

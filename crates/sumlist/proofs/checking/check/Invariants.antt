@@ -1,5 +1,6 @@
 use Rattle.sumlist.proofs.Common.{◌≡◌, ◌+◌, ◌-◌, ◌^◌, ◌≤◌, CheckFault, List, Option, Result, Summary, [], length}
 use Rattle.sumlist.proofs.Common.{Consumes, count_after, lines_of, no_lines, ℕ}
+use Rattle.sumlist.specs.Tally.{entries_of}
 use Rattle.sumlist.specs.inside.Ahead.{Checks}
 use Rattle.sumlist.proofs.checking.check.Given as goal
 
@@ -12,6 +13,7 @@ invariant-loop-checker g l = record {
       (g.T.Tree.failure_count l.initial.tree) n (g.W.Sink.shown l.initial.out).contents c;
   read : List ℕ;
   consumed : Consumes (g.L.Feed.remaining l.initial.list) (g.L.Feed.remaining l.list) read;
+  opens : g.T.Tree.opens l.tree ≤ g.T.Tree.opens l.initial.tree + entries_of l.checker.summary;
   counts : record {
     kind : l.checker.kind ≡ l.fn.kind;
     total : l.checker.reader.total ≡ length read;
