@@ -16,7 +16,7 @@ use Rattle.source.specs.declared.alg.Alg.TheVariants.{Blake2b, Blake2s, Blake3, 
 use Rattle.source.specs.declared.alg.TheConstants.{BLAKE2B_LEN, BLAKE2S_LEN}
 use Rattle.sumlist.specs.Kinds.{kind_of}
 use Rattle.sumlist.specs.Lines.{HasNo}
-use Rattle.sumlist.specs.inside.Labels.{NotEnded, NotNamed, NotNumbered, alg_of}
+use Rattle.sumlist.specs.inside.Labels.{IsNumbered, NotEnded, NotNamed, alg_of}
 use Rattle.sumlist.specs.inside.Reading.{Form, alg_labelled, alg_told, alg_whole, bytes_told, cut}
 use Rattle.sumlist.specs.inside.Reading.{end_at, end_cut, form_at, form_of, is_mark, with_tag}
 use Rattle.sumlist.proofs.Words.{IsWord, digits_word, label_word, no_space}
@@ -93,37 +93,28 @@ one_named l a b n is = subst (Named l) (same_Some b a is) n
 
 -- by its label without a number
 pub alg_whole-some : (l : List ℕ) (a : Alg) → alg_whole l ≡ Some a → Named l a
-alg_whole-some l a e =
-    by_text l (codes "SHA256") _ _ _ (λ s. one_named l a Sha256 (tt, s))
-    (by_text l (codes "SHA512") _ _ _ (λ s. one_named l a Sha512 (tt, s))
-    (by_text l (codes "BLAKE2b") _ _ _ (λ s. one_named l a (Blake2b BLAKE2B_LEN) ((omega arith, omega arith), inl s))
-    (by_text l (codes "BLAKE2s") _ _ _ (λ s. one_named l a (Blake2s BLAKE2S_LEN) ((omega arith, omega arith), inl s))
-    (by_text l (codes "BLAKE3") _ _ _ (λ s. one_named l a Blake3 (tt, s))
-    (λ is. absurd (none-some a is)))))) e
+alg_whole-some l a e = grind (arith, nat_tests, bytes_eq-Decides)
 
 either_told : (o p : Option Alg) (a : Alg) → option_or o p ≡ Some a → (o ≡ Some a) ⊎ (p ≡ Some a)
-either_told None p a e = inr e
-either_told (Some b) p a e = inl e
+either_told o p a e = grind arith
 
-pub alg_labelled-some : (l : List ℕ) (a : Alg) → alg_labelled l ≡ Some a → Named l a
-alg_labelled-some l a e = elim (either_told (alg_whole l) _ a e) [
-  | inl whole ↦ alg_whole-some l a whole
-  | inr rest ↦
-      by_text (take 8 l) (codes "BLAKE2b-") _ _ _ (λ s. number Blake2b BLAKE2B_LEN (λ n h r.
-      ((h, r.0), inr (behind (codes "BLAKE2b-") s r.1))))
-      (by_text (take 8 l) (codes "BLAKE2s-") _ _ _ (λ s. number Blake2s BLAKE2S_LEN (λ n h r.
-      ((h, r.0), inr (behind (codes "BLAKE2s-") s r.1))))
-      (λ is. absurd (none-some a is))) rest
-]
-  where
-    behind : {digits : List ℕ} (front : List ℕ) → take 8 l ≡ front → drop 8 l ≡ digits → l ≡ front ++ digits
-    behind front s t = sym (take-append-drop 8 l) ∙ ap₂ (λ (x y : List ℕ). x ++ y) s t
+module _ (l : List ℕ) (a : Alg) where
+  number_told : (of : ℕ → Alg) (front : List ℕ) (most : ℕ)
+      → ((n : ℕ) → IsNumbered l front most n → Named l (of n)) → take 8 l ≡ front
+      → alg_told of (drop 8 l) most ≡ Some a → Named l a
+  number_told of front most named s e = option_and_then_some _ (bytes_told (drop 8 l) most) a e (λ n told same.
+      let parts = take-append-drop 8 l in
+      let h : IsNumbered l front most n = grind (arith, bytes_told-some (drop 8 l) most n told) in
+      subst (Named l) (same_Some (of n) a same) (named n h))
 
-    number : (of : ℕ → Alg) (most : ℕ)
-        → ((n : ℕ) → 0 < n → (n ≤ most) × (drop 8 l ≡ decimal (8 * n)) → Named l (of n))
-        → alg_told of (drop 8 l) most ≡ Some a → Named l a
-    number of most named is = option_and_then_some _ (bytes_told (drop 8 l) most) a is (λ n told same.
-        let t = bytes_told-some (drop 8 l) most n told in one_named l a (of n) (named n t.0 (t.1, t.2)) same)
+  pub alg_labelled-some : alg_labelled l ≡ Some a → Named l a
+  alg_labelled-some e = elim (either_told (alg_whole l) _ a e) [
+    | inl whole ↦ alg_whole-some l a whole
+    | inr rest ↦
+        by_text (take 8 l) (codes "BLAKE2b-") _ _ _ (number_told Blake2b _ _ (λ n h. ((h.0, h.1), inr h.2)))
+        (by_text (take 8 l) (codes "BLAKE2s-") _ _ _ (number_told Blake2s _ _ (λ n h. ((h.0, h.1), inr h.2)))
+        (λ is. absurd (none-some a is))) rest
+  ]
 
 -- BLAKE2's label with a number, and where that is left out at the length `most`
 numbered_2b : (n : ℕ) → IsInRange (Blake2b n) → alg_labelled (codes "BLAKE2b-" ++ decimal (8 * n)) ≡ Some (Blake2b n)
@@ -150,27 +141,6 @@ alg_labelled-is l (Blake2s n) r (inl e) =
     written_is Blake2s BLAKE2S_LEN n l (codes "BLAKE2s") _ (n == BLAKE2S_LEN) refl e refl (numbered_2s n r)
 alg_labelled-is l (Blake2s n) r (inr e) = ap alg_labelled e ∙ numbered_2s n r
 alg_labelled-is l Blake3 r e = ap alg_labelled e
-
--- a label that is none of those without a number, and has none of the numbers, names nothing
-unlisted : (l m : List ℕ) (a : Alg) → alg_whole l ≡ None → l ≡ m → alg_whole m ≡ Some a → ⊥
-unlisted l m a none e some = none-some a (sym none ∙ ap alg_whole e ∙ some)
-
-unwritten : (of : ℕ → Alg) (most n : ℕ) (l whole long : List ℕ) (b : Bool) → alg_whole l ≡ None
-    → (l ≡ long → ⊥) → alg_whole whole ≡ Some (of most) → l ≡ cond b whole long → ⊥
-unwritten of most n l whole long true none other is e = unlisted l whole (of most) none e is
-unwritten of most n l whole long false none other is e = other e
-
-pub not_named : (l : List ℕ) → alg_whole l ≡ None → NotNumbered l (codes "BLAKE2b-") BLAKE2B_LEN
-    → NotNumbered l (codes "BLAKE2s-") BLAKE2S_LEN → NotNamed l
-not_named l none b s Sha256 r e = unlisted l (codes "SHA256") Sha256 none e refl
-not_named l none b s Sha512 r e = unlisted l (codes "SHA512") Sha512 none e refl
-not_named l none b s (Blake2b n) r (inl e) = unwritten Blake2b BLAKE2B_LEN n l (codes "BLAKE2b") _ (n == BLAKE2B_LEN) none
-    (b n (omega (arith, r.0)) r.1) refl e
-not_named l none b s (Blake2b n) r (inr e) = b n (omega (arith, r.0)) r.1 e
-not_named l none b s (Blake2s n) r (inl e) = unwritten Blake2s BLAKE2S_LEN n l (codes "BLAKE2s") _ (n == BLAKE2S_LEN) none
-    (s n (omega (arith, r.0)) r.1) refl e
-not_named l none b s (Blake2s n) r (inr e) = s n (omega (arith, r.0)) r.1 e
-not_named l none b s Blake3 r e = unlisted l (codes "BLAKE3") Blake3 none e refl
 
 pub alg_labelled-none : (l : List ℕ) → NotNamed l → alg_labelled l ≡ None
 alg_labelled-none l none =
