@@ -19,7 +19,7 @@ use Rattle.sumlist.specs.Lines.{HasNo}
 use Rattle.sumlist.specs.inside.Labels.{IsNumbered, NotEnded, NotNamed, alg_of}
 use Rattle.sumlist.specs.inside.Reading.{Form, alg_labelled, alg_told, alg_whole, bytes_told, cut}
 use Rattle.sumlist.specs.inside.Reading.{end_at, end_cut, form_at, form_of, is_mark, with_tag}
-use Rattle.sumlist.proofs.Words.{IsWord, digits_word, label_word, no_space}
+use Rattle.sumlist.proofs.Words.{IsWord, by_label, digits_word, label_word, no_space}
 
 -- what is told by a test
 pub by_test : {A P Q : Type 0} (b : Bool) → Decides b Q → (x y z : A) → (Q → x ≡ z → P) → ((Q → ⊥) → y ≡ z → P)
@@ -116,31 +116,10 @@ module _ (l : List ℕ) (a : Alg) where
         (λ is. absurd (none-some a is))) rest
   ]
 
--- BLAKE2's label with a number, and where that is left out at the length `most`
-numbered_2b : (n : ℕ) → IsInRange (Blake2b n) → alg_labelled (codes "BLAKE2b-" ++ decimal (8 * n)) ≡ Some (Blake2b n)
-numbered_2b n r =
-    ap (option_and_then (λ (k : ℕ). Some (Blake2b k))) (bytes_told-is BLAKE2B_LEN n r.0 r.1 (omega arith))
-
-numbered_2s : (n : ℕ) → IsInRange (Blake2s n) → alg_labelled (codes "BLAKE2s-" ++ decimal (8 * n)) ≡ Some (Blake2s n)
-numbered_2s n r =
-    ap (option_and_then (λ (k : ℕ). Some (Blake2s k))) (bytes_told-is BLAKE2S_LEN n r.0 r.1 (omega arith))
-
-written_is : (of : ℕ → Alg) (most n : ℕ) (l whole long : List ℕ) (b : Bool) → (n == most) ≡ b → l ≡ cond b whole long
-    → alg_labelled whole ≡ Some (of most) → alg_labelled long ≡ Some (of n) → alg_labelled l ≡ Some (of n)
-written_is of most n l whole long true same e w h =
-    ap alg_labelled e ∙ w ∙ ap (λ k. Some (of k)) (sym (eqb-true n most same))
-written_is of most n l whole long false other e w h = ap alg_labelled e ∙ h
-
 pub alg_labelled-is : (l : List ℕ) (a : Alg) → IsInRange a → IsLabel l a → alg_labelled l ≡ Some a
-alg_labelled-is l Sha256 r e = ap alg_labelled e
-alg_labelled-is l Sha512 r e = ap alg_labelled e
-alg_labelled-is l (Blake2b n) r (inl e) =
-    written_is Blake2b BLAKE2B_LEN n l (codes "BLAKE2b") _ (n == BLAKE2B_LEN) refl e refl (numbered_2b n r)
-alg_labelled-is l (Blake2b n) r (inr e) = ap alg_labelled e ∙ numbered_2b n r
-alg_labelled-is l (Blake2s n) r (inl e) =
-    written_is Blake2s BLAKE2S_LEN n l (codes "BLAKE2s") _ (n == BLAKE2S_LEN) refl e refl (numbered_2s n r)
-alg_labelled-is l (Blake2s n) r (inr e) = ap alg_labelled e ∙ numbered_2s n r
-alg_labelled-is l Blake3 r e = ap alg_labelled e
+alg_labelled-is = by_label (λ l a. alg_labelled l ≡ Some a) refl refl refl refl refl
+    (λ n r. ap (option_and_then (λ (k : ℕ). Some (Blake2b k))) (bytes_told-is BLAKE2B_LEN n r.0 r.1 (omega arith)))
+    (λ n r. ap (option_and_then (λ (k : ℕ). Some (Blake2s k))) (bytes_told-is BLAKE2S_LEN n r.0 r.1 (omega arith)))
 
 pub alg_labelled-none : (l : List ℕ) → NotNamed l → alg_labelled l ≡ None
 alg_labelled-none l none =
