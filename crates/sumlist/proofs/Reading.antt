@@ -1,6 +1,6 @@
 -- A text is read from its left: what the reading finds is the form that the text has, and it finds each.
 use Rattle.sumlist.proofs.Common.{◌⊎◌, ◌*◌, ◌++◌, ◌+◌, ◌-◌, ◌<◌, ◌∙◌, ◌∷◌, ◌≡◌, ◌≤◌, Alg, Bool, Decides, Ended, HasForm}
-use Rattle.sumlist.proofs.Common.{IsCut, IsInRange, IsLabel, IsMark, Kind, List, None, Ok, Option, Some, [], ap}
+use Rattle.sumlist.proofs.Common.{IsCut, IsInRange, IsLabel, IsMark, Kind, Labelled, List, None, Ok, Option, Parts, Some, [], ap}
 use Rattle.sumlist.proofs.Common.{arith, bytes_eq, bytes_eq-Decides, cases_eq, closing, codes, cond, decimal, decode_of}
 use Rattle.sumlist.proofs.Common.{drop, eqb, eqb-true, false, false≢true, inl, inr, length, length-append, nat_tests, refl, subst}
 use Rattle.sumlist.proofs.Common.{sym, tag_len, take, take-append-drop, take-append_seam, text, true, ℕ}
@@ -149,48 +149,40 @@ end_cut-none rest n none = none_if (end_cut n rest) (λ p e. none p.0 p.1 (end_c
 
 -- ---- the forms
 
-with_tag-some : (a : Alg) (digits body : List ℕ) (f : Form) → with_tag a digits body ≡ Some f
-    → (decode_of digits ≡ Ok f.1) × (a ≡ f.0) × (body ≡ f.2)
-with_tag-some a digits body f e = grind arith
-
 mark-Decides : (mark : ℕ) → Decides (is_mark mark) (IsMark mark)
 mark-Decides mark = Decides-or _ _ (Decides-eqb mark 32) (Decides-eqb mark 42)
 
+pub plain_form : (kind : Kind) (ds : List ℕ) (c : ℕ) (a : Alg) (tag body : List ℕ) → IsMark c → kind_of a ≡ kind
+    → IsInRange a → length ds ≡ 2 * tag_len a → decode_of ds ≡ Ok tag → Parts (ds ++ 32 ∷ c ∷ body) kind a tag body
+plain_form kind ds c a tag body m k r s t =
+    record { digits = ds; mark = c; whole = refl; marked = m; kind_is = k; range = r; sized = s; tag_is = t }
+
+pub labelled_form : (l ds : List ℕ) (a : Alg) (tag body : List ℕ) → IsInRange a → IsLabel l a
+    → length ds ≡ 2 * tag_len a → decode_of ds ≡ Ok tag → Labelled (l ++ 32 ∷ 40 ∷ (body ++ closing ds)) a tag body
+labelled_form l ds a tag body r n s t =
+    record { label = l; digits = ds; whole = refl; range = r; names = n; sized = s; tag_is = t }
+
 module _ (kind : Kind) where
+  with_tag-some : (text : List ℕ) (a : Alg) (digits body : List ℕ) (f : Form)
+      → ((t : List ℕ) → decode_of digits ≡ Ok t → HasForm text kind a t body) → with_tag a digits body ≡ Some f
+      → HasForm text kind f.0 f.1 f.2
+  with_tag-some text a digits body f has e = grind arith
+
   form_at-some : (word rest : List ℕ) (f : Form) → form_at kind word rest ≡ Some f
       → HasForm (word ++ 32 ∷ rest) kind f.0 f.1 f.2
   form_at-some word [] f e = absurd (none-some f e)
   form_at-some word (mark ∷ rest) f e =
       by_test (is_mark mark) (mark-Decides mark) _ _ _ (λ marked is.
-      option_and_then_some _ (alg_of kind (length word)) f is (λ a named told.
-      let t = with_tag-some a word rest f told in
+      option_and_then_some _ (alg_of kind (length word)) f is (λ a named.
       let n = alg_of-some kind (length word) a named in
-      inl record {
-        digits = word;
-        mark = mark;
-        whole = ap (λ l. word ++ 32 ∷ mark ∷ l) t.2;
-        marked = marked;
-        kind_is = ap kind_of (sym t.1) ∙ n.0;
-        range = subst IsInRange t.1 n.1;
-        sized = n.2 ∙ ap (λ b. 2 * tag_len b) t.1;
-        tag_is = t.0;
-      }))
+      with_tag-some _ a word rest f (λ t ok. inl (plain_form kind word mark a t rest marked n.0 n.1 n.2 ok))))
       (λ unmarked. by_test (mark == 40) (Decides-eqb mark 40) _ _ _ (λ bracket is.
       option_and_then_some _ (alg_labelled word) f is (λ a named more.
-      option_and_then_some _ (end_cut (2 * tag_len a) rest) f more (λ p ends told.
-      let t = with_tag-some a p.1 p.0 f told in
-      let n = subst (Named word) t.1 (alg_labelled-some word a named) in
+      option_and_then_some _ (end_cut (2 * tag_len a) rest) f more (λ p ends.
+      let n = alg_labelled-some word a named in
       let d = end_cut-some rest (2 * tag_len a) p ends in
-      inr record {
-        label = word;
-        digits = p.1;
-        whole = ap₂ (λ (m : ℕ) (l : List ℕ). word ++ 32 ∷ m ∷ l) bracket
-            (d.0 ∙ ap (λ b. b ++ closing p.1) t.2);
-        range = n.0;
-        names = n.1;
-        sized = d.1 ∙ ap (λ b. 2 * tag_len b) t.1;
-        tag_is = t.0;
-      })))
+      with_tag-some _ a p.1 p.0 f
+      (λ t ok. rw (bracket, d.0) (inr (labelled_form word p.1 a t p.0 n.0 n.1 d.1 ok))))))
       (λ neither is. absurd (none-some f is))) e
 
   pub form_of-some : (text : List ℕ) (f : Form) → form_of kind text ≡ Some f → HasForm text kind f.0 f.1 f.2
