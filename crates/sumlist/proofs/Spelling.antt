@@ -14,6 +14,7 @@ use Rattle.sumlist.specs.Entry.{written_line}
 use Rattle.sumlist.specs.Kinds.{kind_of}
 use Rattle.sumlist.specs.Tagged.{tagged_line}
 use Rattle.sumlist.proofs.EscapedNames.{escaped-plain}
+use Rattle.sumlist.proofs.Reading.{labelled_form, plain_form}
 use Rattle.sumlist.proofs.Words.{InWord, IsWord, digits_word, label_word, no_comment}
 
 -- ---- the escaped form of a name
@@ -83,16 +84,10 @@ written_spells e i =
     let value = decode_of-encode_lower e.tag i.bytes in
     let word = digits_word digits e.tag value in
     let size = length-encode_with lower_digits e.tag in
-    spells_by e (kind_of e.alg) digits (λ body. 32 ∷ body) (λ body. inl (record {
-      digits = digits;
-      mark = 32;
-      whole = refl;
-      marked = inl refl;
-      kind_is = refl;
-      range = i.range;
-      sized = size ∙ ap (λ n. 2 * n) i.sized;
-      tag_is = value;
-    })) (needs_escape e.name) refl i word (simp (list_all-append, word_inner digits word, escaped_inner e.name))
+    let sized = size ∙ ap (λ n. 2 * n) i.sized in
+    spells_by e (kind_of e.alg) digits (λ body. 32 ∷ body)
+    (λ body. inl (plain_form _ digits 32 e.alg e.tag body (inl refl) refl i.range sized value))
+    (needs_escape e.name) refl i word (simp (list_all-append, word_inner digits word, escaped_inner e.name))
     (omega (arith, length-append {A = ℕ}, size, i.fits.within))
 
 -- ---- the tagged line, whatever the kind of its list
@@ -108,15 +103,10 @@ tagged_spells e kind i fits =
     let value = decode_of-encode_lower e.tag i.bytes in
     let label = label_word (label_of e.alg) e.alg i.range (label_named e.alg) in
     let size = length-encode_with lower_digits e.tag in
-    spells_by e kind (label_of e.alg) (λ body. 40 ∷ (body ++ closing digits)) (λ body. inr (record {
-      label = label_of e.alg;
-      digits = digits;
-      whole = refl;
-      range = i.range;
-      names = label_named e.alg;
-      sized = size ∙ ap (λ n. 2 * n) i.sized;
-      tag_is = value;
-    })) (needs_escape e.name) refl i label
+    let sized = size ∙ ap (λ n. 2 * n) i.sized in
+    spells_by e kind (label_of e.alg) (λ body. 40 ∷ (body ++ closing digits))
+    (λ body. inr (labelled_form _ digits e.alg e.tag body i.range (label_named e.alg) sized value))
+    (needs_escape e.name) refl i label
     (let word = digits_word digits e.tag value in
     simp (list_all-append, word_inner (label_of e.alg) label, escaped_inner e.name, word_inner digits word))
     (omega (arith, length-append {A = ℕ}, size, i.sized, fits))

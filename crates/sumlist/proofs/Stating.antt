@@ -15,15 +15,14 @@ use Rattle.sumlist.proofs.Words.{InWord, IsWord, digits_word, label_word}
 
 form_fit : (text : List ℕ) (kind : Kind) (a : Alg) (t x : List ℕ) → HasForm text kind a t x
     → IsInRange a × (length t ≡ tag_len a) × IsBytes t
-form_fit text kind a t x (inl p) =
-    let d = decode_of-ok p.digits t p.tag_is in (p.range, omega (arith, p.sized, d.2), d.3)
-form_fit text kind a t x (inr p) =
-    let d = decode_of-ok p.digits t p.tag_is in (p.range, omega (arith, p.sized, d.2), d.3)
+form_fit text kind a t x h = elim h [
+  | inl p ↦ let d = decode_of-ok p.digits t p.tag_is in (p.range, omega (arith, p.sized, d.2), d.3)
+  | inr p ↦ let d = decode_of-ok p.digits t p.tag_is in (p.range, omega (arith, p.sized, d.2), d.3)
+]
 
 pub stated_fit : (core : List ℕ) (kind : Kind) (e : Listing) → Says core kind e
     → IsInRange e.alg × (length e.tag ≡ tag_len e.alg) × IsBytes e.tag
-stated_fit core kind e (inl p) = form_fit core kind e.alg e.tag e.name p
-stated_fit core kind e (inr p) = form_fit p.0 kind e.alg e.tag p.1 p.3
+stated_fit core kind e s = elim s [ inl p ↦ form_fit _ kind _ _ _ p | inr p ↦ form_fit _ kind _ _ _ p.3 ]
 
 pub form_len : {text : List ℕ} {kind : Kind} {a : Alg} {t x : List ℕ} → HasForm text kind a t x
     → length x ≤ length text
