@@ -19,7 +19,7 @@ use Rattle.sumlist.specs.Lines.{HasNo}
 use Rattle.sumlist.specs.inside.Labels.{IsNumbered, NotEnded, NotNamed, alg_of}
 use Rattle.sumlist.specs.inside.Reading.{Form, alg_labelled, alg_told, alg_whole, bytes_told, cut}
 use Rattle.sumlist.specs.inside.Reading.{end_at, end_cut, form_at, form_of, is_mark, with_tag}
-use Rattle.sumlist.proofs.Words.{IsWord, by_label, digits_word, label_word, no_space}
+use Rattle.sumlist.proofs.Words.{NotSpace, by_label, digits_word, label_word, no_space}
 
 -- what is told by a test
 pub by_test : {A P Q : Type 0} (b : Bool) → Decides b Q → (x y z : A) → (Q → x ≡ z → P) → ((Q → ⊥) → y ≡ z → P)
@@ -27,22 +27,14 @@ pub by_test : {A P Q : Type 0} (b : Bool) → Decides b Q → (x y z : A) → (Q
 by_test true d x y z met failed e = met (d.0 refl) e
 by_test false d x y z met failed e = failed (λ q. false≢true (d.1 q)) e
 
-by_text : {A P : Type 0} (xs ys : List ℕ) (x y z : A) → (xs ≡ ys → x ≡ z → P) → (y ≡ z → P)
-    → cond (bytes_eq xs ys) x y ≡ z → P
-by_text xs ys x y z met failed e = by_test (bytes_eq xs ys) (bytes_eq-Decides xs ys) x y z met (λ n. failed) e
-
 none_if : {A : Type 0} (o : Option A) → ((x : A) → o ≡ Some x → ⊥) → o ≡ None
 none_if o h = grind arith
 
 -- ---- the first space
 
-abbrev NotSpace : ℕ → Type 0
-NotSpace x = eqb x 32 ≡ false
-
 pub cut-at : (word rest : List ℕ) → HasNo 32 word → cut (word ++ 32 ∷ rest) ≡ Some (word, rest)
 cut-at [] rest free = refl
-cut-at (c ∷ word) rest free =
-    rw (All-head NotSpace c word free, cut-at word rest (All-tail NotSpace c word free)) refl
+cut-at (c ∷ word) rest free = rw (All-head NotSpace c word free, cut-at word rest (All-tail NotSpace c word free)) refl
 
 pub cut-none : (text : List ℕ) → HasNo 32 text → cut text ≡ None
 cut-none [] free = refl
@@ -70,26 +62,15 @@ bytes_told-some digits (suc k) n e =
     grind (arith, bytes_told-some digits k n, bytes_eq-Decides digits (decimal (8 * suc k)))
 
 told_once : (m n : ℕ) → m ≤ n → n ≤ 64 → decimal (8 * m) ≡ decimal (8 * n) → m ≡ n
-told_once m n fits small e =
-    let same = decimal_injective (8 * m) (8 * n) (omega (arith, fits, small)) (omega (arith, small)) e in
-    omega (arith, same)
+told_once m n fits small e = omega (arith, decimal_injective (8 * m) (8 * n) (omega arith) (omega arith) e)
 
 bytes_told-is : (most n : ℕ) → 0 < n → n ≤ most → most ≤ 64 → bytes_told (decimal (8 * n)) most ≡ Some n
 bytes_told-is zero n some fits small = absurd (omega (arith, some, fits))
 bytes_told-is (suc k) n some fits small =
-    let equal = bytes_eq-Decides (decimal (8 * n)) (decimal (8 * suc k)) in
-    elim (cases_eq n (suc k)) [
-      | inl same ↦ rw (equal.1 (ap (λ m. decimal (8 * m)) same)) (ap Some (sym same))
-      | inr other ↦
-          let unequal = false_from_ne_true _ (λ t. other (told_once n (suc k) fits small (equal.0 t))) in
-          rw unequal (bytes_told-is k n some (omega (arith, fits, other)) (omega (arith, small)))
-    ]
+    grind (arith, bytes_told-is k n, told_once n (suc k), bytes_eq-Decides (decimal (8 * n)) (decimal (8 * suc k)))
 
 abbrev Named : List ℕ → Alg → Type 0
 Named label alg = IsInRange alg × IsLabel label alg
-
-one_named : (l : List ℕ) (a b : Alg) → Named l b → Some b ≡ Some a → Named l a
-one_named l a b n is = subst (Named l) (same_Some b a is) n
 
 -- by its label without a number
 pub alg_whole-some : (l : List ℕ) (a : Alg) → alg_whole l ≡ Some a → Named l a
@@ -111,9 +92,10 @@ module _ (l : List ℕ) (a : Alg) where
   alg_labelled-some e = elim (either_told (alg_whole l) _ a e) [
     | inl whole ↦ alg_whole-some l a whole
     | inr rest ↦
-        by_text (take 8 l) (codes "BLAKE2b-") _ _ _ (number_told Blake2b _ _ (λ n h. ((h.0, h.1), inr h.2)))
-        (by_text (take 8 l) (codes "BLAKE2s-") _ _ _ (number_told Blake2s _ _ (λ n h. ((h.0, h.1), inr h.2)))
-        (λ is. absurd (none-some a is))) rest
+        by_test _ (bytes_eq-Decides (take 8 l) (codes "BLAKE2b-")) _ _ _
+        (number_told Blake2b _ _ (λ n h. ((h.0, h.1), inr h.2)))
+        (λ _. by_test _ (bytes_eq-Decides (take 8 l) (codes "BLAKE2s-")) _ _ _
+        (number_told Blake2s _ _ (λ n h. ((h.0, h.1), inr h.2))) (λ _ is. absurd (none-some a is))) rest
   ]
 
 pub alg_labelled-is : (l : List ℕ) (a : Alg) → IsInRange a → IsLabel l a → alg_labelled l ≡ Some a
@@ -133,16 +115,9 @@ end_cut-some rest n p e = grind (arith, nat_tests, bytes_eq-Decides)
 pub end_cut-is : (rest : List ℕ) (n : ℕ) (body digits : List ℕ) → Ended rest n body digits
     → end_cut n rest ≡ Some (body, digits)
 end_cut-is rest n body digits e =
-    let whole = body ++ closing digits in
-    let parts = length-append body (closing digits) in
-    let size : length whole - (n + 4) ≡ length body = let few = e.1 in omega (arith, parts, few) in
-    ap (end_cut n) e.0 ∙ ap (λ k. end_at k whole n) size
-    ∙ rw (
-      take-append_seam body (closing digits),
-      drop-append-add body (closing digits) 4,
-      (bytes_eq-Decides whole whole).1 refl,
-      (Decides-eqb (length digits) n).1 e.1,
-    ) refl
+    let size : length rest - (n + 4) ≡ length body = grind (arith, length-append body (closing digits)) in
+    rw (size, e.0, take-append_seam, drop-append-add body (closing digits) 4)
+    (grind (arith, nat_tests, bytes_eq-Decides))
 
 pub end_cut-none : (rest : List ℕ) (n : ℕ) → NotEnded rest n → end_cut n rest ≡ None
 end_cut-none rest n none = none_if (end_cut n rest) (λ p e. none p.0 p.1 (end_cut-some rest n p e))
@@ -193,14 +168,11 @@ module _ (kind : Kind) where
   pub form_of-cut : (text word rest : List ℕ) → IsCut 32 text word rest → form_of kind text ≡ form_at kind word rest
   form_of-cut text word rest c = rw (c.0, cut-at word rest c.1) refl
 
-  word_cut : {text : List ℕ} (word rest : List ℕ) → IsWord word → text ≡ word ++ 32 ∷ rest → IsCut 32 text word rest
-  word_cut word rest w e = (e, no_space word w)
-
   pub form_of-is : (text : List ℕ) (a : Alg) (t x : List ℕ) → HasForm text kind a t x
       → form_of kind text ≡ Some (a, t, x)
   form_of-is text a t x (inl p) =
-      form_of-cut _ _ _ (word_cut p.digits (p.mark ∷ x) (digits_word p.digits t p.tag_is) p.whole)
+      form_of-cut text p.digits (p.mark ∷ x) (p.whole, no_space _ (digits_word p.digits t p.tag_is))
       ∙ rw ((mark-Decides p.mark).1 p.marked, alg_of-is kind (length p.digits) a p.kind_is p.range p.sized, p.tag_is) refl
   form_of-is text a t x (inr q) =
-      form_of-cut _ _ _ (word_cut q.label (40 ∷ (x ++ closing q.digits)) (label_word q.label a q.range q.names) q.whole)
+      form_of-cut text q.label _ (q.whole, no_space _ (label_word q.label a q.range q.names))
       ∙ rw (alg_labelled-is q.label a q.range q.names, end_cut-is _ _ x q.digits (refl, q.sized), q.tag_is) refl

@@ -7,7 +7,7 @@ use Rattle.sumlist.proofs.Common.{SpellsName, HasForm, Says, core, IsBlank, Spel
 use Rattle.sumlist.proofs.Common.{closing, tagged_len, ℕ}
 use Rattle.std.specs.Prelude.{not}
 use Rattle.std.specs.List.{list_all}
-use Rattle.std.proofs.lemmas.List.Elements.{All-contains}
+use Rattle.std.proofs.lemmas.List.Elements.{All-contains, All-head}
 use Rattle.std.proofs.lemmas.List.Folds.{list_all-append}
 use Rattle.std.proofs.lemmas.List.Sums.{AllPass-from_list_all, list_all-from_AllPass}
 use Rattle.sumlist.specs.Entry.{written_line}
@@ -15,7 +15,7 @@ use Rattle.sumlist.specs.Kinds.{kind_of}
 use Rattle.sumlist.specs.Tagged.{tagged_line}
 use Rattle.sumlist.proofs.EscapedNames.{escaped-plain}
 use Rattle.sumlist.proofs.Reading.{labelled_form, plain_form}
-use Rattle.sumlist.proofs.Words.{InWord, IsWord, digits_word, label_word, no_comment}
+use Rattle.sumlist.proofs.Words.{InWord, IsWord, digits_word, label_word}
 
 -- ---- the escaped form of a name
 
@@ -60,8 +60,8 @@ spells line kind e stated i all told fits =
     }
 
 not_blank : (word rest : List ℕ) → IsWord word → IsBlank (word ++ 32 ∷ rest) → ⊥
-not_blank word rest w (inl none) = let size = ap length none in omega (arith, length-append {A = ℕ}, size)
-not_blank word rest w (inr hash) = no_comment word rest w hash
+not_blank [] rest w b = grind arith
+not_blank (x ∷ word) rest w b = let above = (All-head InWord x word w).0 in grind arith
 
 -- where such a text has a form for each body, it spells the entry whose name is the body, escaped
 module _ (e : Listing) (kind : Kind) (word : List ℕ) (more : List ℕ → List ℕ)

@@ -50,20 +50,13 @@ label_word = by_label (λ l a. IsWord l) (literal (codes "SHA256") (search rules
     (literal (codes "BLAKE3") (search rules)) (λ n r. numbered (codes "BLAKE2b-") n r.1 (search rules))
     (λ n r. numbered (codes "BLAKE2s-") n (omega (arith, r.1)) (search rules))
 
-digit_in_word : (c : ℕ) → is_hex_digit c ≡ true → InWord c
-digit_in_word c h = grind (arith, nat_tests)
-
 pub digits_word : (digits tag : List ℕ) → decode_of digits ≡ Ok tag → IsWord digits
-digits_word digits tag e =
-    All-weaker (λ c. is_hex_digit c ≡ true) InWord digit_in_word digits (decode_of-ok digits tag e).1
+digits_word digits tag e = All-weaker (λ c. is_hex_digit c ≡ true) InWord (λ c h. grind (arith, nat_tests)) digits
+    (decode_of-ok digits tag e).1
 
 -- ---- what a word is not
 
-pub no_comment : (word rest : List ℕ) → IsWord word → slice_index (word ++ 32 ∷ rest) 0 ≢ 35
-no_comment [] rest w e = omega (arith, e)
-no_comment (x ∷ word) rest w e = let above = (All-head InWord x word w).0 in omega (arith, e, above)
-
-abbrev NotSpace : ℕ → Type 0
+abbrev pub NotSpace : ℕ → Type 0
 NotSpace x = eqb x 32 ≡ false
 
 pub no_space : (word : List ℕ) → IsWord word → HasNo 32 word
