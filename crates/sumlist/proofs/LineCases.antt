@@ -1,5 +1,5 @@
 -- Each line is skipped, spells one entry, or is malformed: every part of the meaning of a line can be decided.
-use Rattle.sumlist.proofs.Common.{◌*◌, ◌∙◌, ◌≡◌, ◌⊎◌, Fits, IsBlank, IsLine, IsMalformed, IsUtf8, Kind, List, Listing}
+use Rattle.sumlist.proofs.Common.{◌*◌, ◌∙◌, ◌≡◌, ◌⊎◌, Fits, IsBlank, IsEntry, IsLine, IsMalformed, IsUtf8, Kind, List, Listing}
 use Rattle.sumlist.proofs.Common.{None, Option, Some, Spells, Says, [], ap, arith, bytes_eq-Decides, core, inl, inr}
 use Rattle.sumlist.proofs.Common.{length, refl, slice_index, subst, sym, written_len, ℕ}
 use Rattle.std.proofs.lemmas.Bool.Decides.{Decides-and, Decides-eqb, Decides-ltb, Decides-not, Decides-or}
@@ -47,23 +47,15 @@ module _ (line : List ℕ) (kind : Kind) where
     spells_if l e s =
         let form = stated-some kind k e s.0 in
         let f = stated_fit k kind e form in
-        record {
-          is_line = l;
-          not_skipped = unskipped;
-          is_entry = record { text = s.1; fits = s.2; range = f.0; sized = f.1; bytes = f.2 };
-          form = subst (λ c. Says c kind e) is form;
-        }
+        let i : IsEntry e = record { text = s.1; fits = s.2; range = f.0; sized = f.1; bytes = f.2 } in
+        record { is_line = l; not_skipped = unskipped; is_entry = i; form = rw is at form }
+
+    stated_if : (e : Listing) → Spells line kind e → IsStated kind k e
+    stated_if e s = (ap (stated kind) is ∙ stated-is kind (core line) e s.form, s.is_entry.text, s.is_entry.fits)
 
     -- and is malformed where its core states none
     pub malformed_if : ((e : Listing) → IsStated kind k e → ⊥) → IsMalformed line kind
-    malformed_if none = record {
-      not_skipped = unskipped;
-      spells_none = λ e s. none e (
-        ap (stated kind) is ∙ stated-is kind (core line) e s.form,
-        s.is_entry.text,
-        s.is_entry.fits,
-      );
-    }
+    malformed_if none = record { not_skipped = unskipped; spells_none = λ e s. none e (stated_if e s) }
 
     stated_or_not : IsLine line → (o : Option Listing) → stated kind k ≡ o → LineCase line kind
     stated_or_not l None s = inr (inr (malformed_if (λ e one. none-some e (sym s ∙ one.0))))

@@ -58,21 +58,17 @@ module _ (kind : Kind) where
   stated-is core e (inr q) = ap (stated kind) q.2
       ∙ rw (form_of-is kind q.0 e.alg e.tag q.1 q.3, unescaped-spelled q.1 e.name q.4) refl
 
-  stated_by : (core : List ℕ) (a : Alg) (t x name : List ℕ) → HasForm (unslashed core) kind a t x
-      → name_of (is_slashed core) x ≡ Some name → Says core kind (listing name a t)
-  stated_by [] a t x name p n = inl (subst (λ y. HasForm [] kind a t y) (same_Some x name n) p)
-  stated_by (c ∷ text) a t x name p n = by (c == 92) refl p n
-    where
-      by : (b : Bool) → (c == 92) ≡ b → HasForm (cond b text (c ∷ text)) kind a t x → name_of b x ≡ Some name
-          → Says (c ∷ text) kind (listing name a t)
-      by true slash p n = inr (text, x, ap (λ k. k ∷ text) (eqb-true c 92 slash), p, spelled-unescaped x name n)
-      by false other p n = inl (subst (λ y. HasForm (c ∷ text) kind a t y) (same_Some x name n) p)
+  stated_by : (core : List ℕ) (a : Alg) (t x name : List ℕ) → HasForm (unslashed core) kind a t x → (b : Bool)
+      → is_slashed core ≡ b → name_of b x ≡ Some name → Says core kind (listing name a t)
+  stated_by core a t x name p true is n = inr (unslashed core, x, grind (arith, nat_tests), p, spelled-unescaped x name n)
+  stated_by core a t x name p false is n =
+      inl (rw (same_Some x name n) at (rw (unslashed-plain core is) at p))
 
   pub stated-some : (core : List ℕ) (e : Listing) → stated kind core ≡ Some e → Says core kind e
   stated-some core e s = option_and_then_some _ (form_of kind (unslashed core)) e s (λ f form more.
       option_and_then_some _ (name_of (is_slashed core) f.2) e more (λ name named same.
       subst (Says core kind) (same_Some (listing name f.0 f.1) e same)
-      (stated_by core f.0 f.1 f.2 name (form_of-some kind (unslashed core) f form) named)))
+      (stated_by core f.0 f.1 f.2 name (form_of-some kind (unslashed core) f form) (is_slashed core) refl named)))
 
   -- what the reading finds step by step
   pub stated-form : (core : List ℕ) {text : List ℕ} {b : Bool} {f : Form}
