@@ -13,10 +13,3 @@ returns-then-is_same c =
     let whole = strip_prefix_is Decides-eqb c.args.label.now c.args.front.now (Some c.in_ok-digits.digits)
     c.in_ok-digits.ensures.cases in
     search (rules, whole)
-
-pub returns : goal.returns
-returns c = λ n some fits e.
-    let whole = strip_prefix_is Decides-eqb c.args.label.now c.args.front.now (Some c.in_ok-digits.digits)
-    c.in_ok-digits.ensures.cases in
-    c.loop-n.invariant.none n some (omega (arith, fits, c.loop-n-test.false))
-    (append_cancel_left c.args.front.now c.in_ok-digits.digits.now (decimal (8 * n)) (sym whole ∙ e))

@@ -35,17 +35,6 @@ not_empty : (is_empty : Bool) (kept : Option (List ℕ)) (whole : List ℕ) → 
     → IsKept kept whole → not is_empty ≡ true → 0 < length whole
 not_empty is_empty kept whole empty h some = grind (arith, some_kept)
 
-pub pieces-init : goal.pieces-init
-pieces-init g c = record {
-  read = [];
-  consumed = Consumes-nil (g.F.Feed.remaining c.args.feed.now);
-  front = [];
-  kept = rw c.clear.ensures (refl, omega arith);
-  free = search rules;
-  whole = append-nil c.args.self.now.ahead ∙ sym (ap (λ r. r.ahead) c.self.view_is);
-  counts = grind (arith, c.self.inside.range, ap (λ r. r.total) c.self.view_is);
-}
-
 pub returns-then-take-clause-piece : goal.returns-then-take-clause-piece
 returns-then-take-clause-piece g c =
     let i = c.pieces.invariant in
@@ -61,11 +50,6 @@ returns-then-take-clause-forth g c =
     let i = c.pieces.invariant in
     let t = c.if-take.ensures in
     λ _. grind (arith, ap length i.whole, ap length t.1.0, length-append {A = ℕ})
-
-pub returns-then-take-clause-gave : goal.returns-then-take-clause-gave
-returns-then-take-clause-gave g c =
-    let i = c.pieces.invariant in
-    (i.read, i.consumed, grind arith, c.if-take.ensures.2 ∙ i.counts.total)
 
 pub returns-in_err-fill-clause-gave : goal.returns-in_err-fill-clause-gave
 returns-in_err-fill-clause-gave g c =
@@ -92,25 +76,6 @@ returns-then-not-branch-clause-piece g c =
       simp (end.0, gave.3.1, over, append-nil) (ended c.args.end c.is_empty.result _ _ c.is_empty.ensures
           (rw (← c.in_ok-fill.ensures.kept.0) at all)),
     ))
-
-pub returns-then-not-branch-clause-forth : goal.returns-then-not-branch-clause-forth
-returns-then-not-branch-clause-forth g c =
-    let i = c.pieces.invariant in
-    let gave = c.in_ok-fill.ensures.gave in
-    let all = all_taken c.args.end c.pieces.self c.take.new.self i.front _ i.kept i.free i.whole c.if-take.ensures in
-    let some = not_empty c.is_empty.result _ _ c.is_empty.ensures (rw (← c.in_ok-fill.ensures.kept.0) at all.0) in
-    let end = gave.3.3 c.if-not-branch.true in
-    λ found. grind (arith, some found, ap length end.0, ap length gave.3.1, length-append {A = ℕ})
-
-pub returns-then-not-branch-clause-gave : goal.returns-then-not-branch-clause-gave
-returns-then-not-branch-clause-gave g c =
-    let i = c.pieces.invariant in
-    let gave = c.in_ok-fill.ensures.gave in (
-      i.read ++ gave.0,
-      Consumes-trans _ _ _ _ _ i.consumed gave.1,
-      grind (arith, length-append {A = ℕ}),
-      grind (arith, length-append {A = ℕ}),
-    )
 
 pub pieces-preserved : goal.pieces-preserved
 pieces-preserved g c =
