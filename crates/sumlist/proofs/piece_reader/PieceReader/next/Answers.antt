@@ -31,10 +31,6 @@ ended : (end : ℕ) (is_empty : Bool) (kept : Option (List ℕ)) (whole : List �
     → IsKept kept whole × HasNo end whole → IsNextPiece end (not is_empty) kept whole []
 ended end is_empty kept whole empty h = grind (arith, pieces-last, some_kept)
 
-not_empty : (is_empty : Bool) (kept : Option (List ℕ)) (whole : List ℕ) → IsTrue is_empty ↔ (kept ≡ Some [])
-    → IsKept kept whole → not is_empty ≡ true → 0 < length whole
-not_empty is_empty kept whole empty h some = grind (arith, some_kept)
-
 pub returns-then-take-clause-piece : goal.returns-then-take-clause-piece
 returns-then-take-clause-piece g c =
     let i = c.pieces.invariant in
