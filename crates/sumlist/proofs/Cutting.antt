@@ -42,10 +42,6 @@ IsKept-after held front bit h = grind (arith, nat_tests, length-append {A = ℕ}
 pub some_kept : (held : Option (List ℕ)) (front : List ℕ) → (held ≡ Some [] → ⊥) → IsKept held front → 0 < length front
 some_kept held front apart h = grind (arith, nil_from_length)
 
--- what is kept of a piece that is not whole in what was read
-pub kept_open : (w : Bool) (x y k : Option (List ℕ)) → w ≡ false → (if w then x else y) ≡ k → y ≡ k
-kept_open w x y k is_open e = rw is_open at e
-
 -- some was read, and the rest is left
 pub IfSome-read : (old new : Option (List ℕ)) (taken : List ℕ) (P : List ℕ → Type 0) → Consumes old new taken
     → ((left : List ℕ) → new ≡ Some left → P (taken ++ left)) → IfSome old P

@@ -17,12 +17,6 @@ use Rattle.sumlist.proofs.Deciding.{all_settled}
 
 -- ---- lines
 
-pub lines_of-counted : (m : Mark) (s t : Summary) → IsCounted m s t → lines_of t ≡ lines_of s + 1
-lines_of-counted m s t c = grind arith
-
-pub entries_of-counted : (m : Mark) (s t : Summary) → IsCounted m s t → entries_of t ≡ entries_of s + entry_by m
-entries_of-counted m s t c = grind arith
-
 counts_line : (o : Outcome) (os : List Outcome) (s u t : Summary) → IsCounted (mark_of o) s u → Counts u os t
     → Counts s (o ∷ os) t
 unfolding number_of
@@ -35,12 +29,8 @@ module _ {files : Files} {kind : Kind} {s : Summary} {m : ℕ} {b : Option (List
 
   -- a fault before any
   rest-halted : {ls : List (List ℕ)} {r : Result Summary CheckFault} → IsErr r → RestChecked files kind ls s r m m b b
-  rest-halted {ls} stopped = let others = all_settled files kind ls in record {
-    outcomes = others.0;
-    allowed = others.1;
-    counted = omega (arith, others.2);
-    told = MatchResult-from_err _ _ _ stopped (λ _. AppendsPrefix-none b _);
-  }
+  rest-halted {ls} stopped = let os = all_settled files kind ls in
+      record { outcomes = os.0; allowed = os.1; counted = omega (arith, os.2); told = grind (arith, AppendsPrefix-none) }
 
   module _ {line : List ℕ} {ls : List (List ℕ)} {r : Result Summary CheckFault} {n : ℕ} {c : Option (List ℕ)} where
     -- a fault at the first
@@ -48,11 +38,12 @@ module _ {files : Files} {kind : Kind} {s : Summary} {m : ℕ} {b : Option (List
         → (o : Outcome) × Stepped files kind line o m n × AppendsPrefix b c (text (lines_of s + 1) o)
         → RestChecked files kind (line ∷ ls) s r m n b c
     unfolding report_from number_of
-    rest-stopped stopped l = let others = all_settled files kind ls in record {
-      outcomes = l.0 ∷ others.0;
-      allowed = (l.1.allowed, others.1);
-      counted = omega (arith, others.2, l.1.counted);
-      told = MatchResult-from_err r _ _ stopped (λ _. AppendsPrefix-more b c _ _ l.2);
+    rest-stopped stopped l = let os = all_settled files kind ls in
+        let told = AppendsPrefix-more b c _ (report_from (lines_of s + 2) os.0) l.2 in record {
+      outcomes = l.0 ∷ os.0;
+      allowed = (l.1.allowed, os.1);
+      counted = omega (arith, os.2, l.1.counted);
+      told = grind arith;
     }
 
     -- the first was checked, and then the rest
@@ -62,7 +53,7 @@ module _ {files : Files} {kind : Kind} {s : Summary} {m : ℕ} {b : Option (List
     unfolding report_from number_of
     rest-line {u} {d} l counted q =
         let grown = subst (λ x. IsCounted x s u) (sym l.2.0) counted in
-        let up = lines_of-counted (mark_of l.0) s u grown in
+        let up : lines_of u ≡ lines_of s + 1 = grind arith in
         record {
           outcomes = l.0 ∷ q.outcomes;
           allowed = (l.1.allowed, q.allowed);

@@ -1,5 +1,5 @@
 use Rattle.sumlist.proofs.Common.{MatchResult-from_err, arith}
-use Rattle.sumlist.proofs.Stepping.{checks-halted, checks-line, checks-stopped, entries_of-counted}
+use Rattle.sumlist.proofs.Stepping.{checks-halted, checks-line, checks-stopped}
 use Rattle.sumlist.proofs.checking.Checker.step.Goals as goal
 
 pub returns-in_err-next-clause-checked : goal.returns-in_err-next-clause-checked

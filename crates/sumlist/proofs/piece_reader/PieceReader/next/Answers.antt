@@ -13,18 +13,14 @@ module _ (end : ℕ) (r s : Cutting) (front whole : List ℕ) (kept : IsKept r.k
     (is : whole ≡ front ++ r.ahead) where
   -- the end was found
   found : IsTaken end true r s → (left : List ℕ) → IsNextPiece end true s.kept (whole ++ left) (s.ahead ++ left)
-  found t left = (
-    front ++ t.0,
-    rw t.3 (IsKept-after r.kept front t.0 kept),
-    rw (is, append_assoc) (pieces-cut end r.ahead t.0 s.ahead t.1 front left free),
-  )
+  found t left =
+      let cut = pieces-cut end r.ahead t.0 s.ahead t.1 front left free in
+      (front ++ t.0, rw t.3 (IsKept-after r.kept front t.0 kept), rw (is, append_assoc) cut)
 
   -- all that is ahead belongs to the piece
   all_taken : IsTaken end false r s → IsKept s.kept whole × HasNo end whole
-  all_taken t = rw (is, t.4) (
-    IsKept-after r.kept front r.ahead kept,
-    All-append (λ x. eqb x end ≡ false) front r.ahead free t.0,
-  )
+  all_taken t =
+      rw (is, t.4) (IsKept-after r.kept front r.ahead kept, All-append (λ x. eqb x end ≡ false) front r.ahead free t.0)
 
 -- nothing more is to come
 ended : (end : ℕ) (is_empty : Bool) (kept : Option (List ℕ)) (whole : List ℕ) → IsTrue is_empty ↔ (kept ≡ Some [])
@@ -34,12 +30,9 @@ ended end is_empty kept whole empty h = grind (arith, pieces-last, some_kept)
 pub returns-then-take-clause-piece : goal.returns-then-take-clause-piece
 returns-then-take-clause-piece g c =
     let i = c.pieces.invariant in
-    IfSome-read (g.F.Feed.remaining c.args.feed.now) _ i.read _ i.consumed (λ left is. (
-      left,
-      is,
-      rw (← append_assoc)
-          (found c.args.end c.pieces.self c.take.new.self i.front _ i.kept i.free i.whole c.if-take.ensures left),
-    ))
+    let next = found c.args.end c.pieces.self c.take.new.self i.front _ i.kept i.free i.whole c.if-take.ensures in
+    IfSome-read (g.F.Feed.remaining c.args.feed.now) _ i.read _ i.consumed
+    (λ left is. (left, is, rw (← append_assoc) (next left)))
 
 pub returns-then-take-clause-forth : goal.returns-then-take-clause-forth
 returns-then-take-clause-forth g c =
@@ -52,12 +45,8 @@ returns-in_err-fill-clause-gave g c =
     let i = c.pieces.invariant in
     let gave = c.in_err-fill.ensures.gave in
     let fault = err_from_is_err_and c.from_residual.result c.from_residual.ensures.1 in
-    rw (fault.1, fault.2) (
-      i.read ++ gave.0,
-      Consumes-trans _ _ _ _ _ i.consumed gave.1,
-      grind (arith, length-append {A = ℕ}),
-      tt,
-    )
+    let all = Consumes-trans _ _ _ _ _ i.consumed gave.1 in
+    rw (fault.1, fault.2) (i.read ++ gave.0, all, grind (arith, length-append {A = ℕ}), tt)
 
 pub returns-then-not-branch-clause-piece : goal.returns-then-not-branch-clause-piece
 returns-then-not-branch-clause-piece g c =
@@ -65,13 +54,10 @@ returns-then-not-branch-clause-piece g c =
     let gave = c.in_ok-fill.ensures.gave in
     let end = gave.3.3 c.if-not-branch.true in
     let all = all_taken c.args.end c.pieces.self c.take.new.self i.front _ i.kept i.free i.whole c.if-take.ensures in
+    let last = ended c.args.end c.is_empty.result _ _ c.is_empty.ensures (rw (← c.in_ok-fill.ensures.kept.0) at all) in
     IfSome-read (g.F.Feed.remaining c.args.feed.now) _ (i.read ++ gave.0) _
-    (Consumes-trans _ _ _ _ _ i.consumed gave.1) (λ left is. let over : left ≡ [] = subst IsAtEnd is end.1 in (
-      left,
-      is,
-      simp (end.0, gave.3.1, over, append-nil) (ended c.args.end c.is_empty.result _ _ c.is_empty.ensures
-          (rw (← c.in_ok-fill.ensures.kept.0) at all)),
-    ))
+    (Consumes-trans _ _ _ _ _ i.consumed gave.1) (λ left is. let over : left ≡ [] = subst IsAtEnd is end.1 in
+    (left, is, simp (end.0, gave.3.1, over, append-nil) last))
 
 pub pieces-preserved : goal.pieces-preserved
 pieces-preserved g c =
