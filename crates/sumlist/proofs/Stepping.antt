@@ -38,13 +38,10 @@ module _ {files : Files} {kind : Kind} {s : Summary} {m : ℕ} {b : Option (List
         → (o : Outcome) × Stepped files kind line o m n × AppendsPrefix b c (text (lines_of s + 1) o)
         → RestChecked files kind (line ∷ ls) s r m n b c
     unfolding report_from number_of
-    rest-stopped stopped l = let os = all_settled files kind ls in
-        let told = AppendsPrefix-more b c _ (report_from (lines_of s + 2) os.0) l.2 in record {
-      outcomes = l.0 ∷ os.0;
-      allowed = (l.1.allowed, os.1);
-      counted = omega (arith, os.2, l.1.counted);
-      told = grind arith;
-    }
+    rest-stopped stopped l =
+        let os = all_settled files kind ls in
+        let told = AppendsPrefix-more b c _ (report_from (lines_of s + 2) os.0) l.2 in
+        record { outcomes = l.0 ∷ os.0; allowed = (l.1.allowed, os.1); counted = omega arith; told = grind arith }
 
     -- the first was checked, and then the rest
     rest-line : {mark : Mark} {u : Summary} {p : ℕ} {d : Option (List ℕ)}
@@ -57,11 +54,9 @@ module _ {files : Files} {kind : Kind} {s : Summary} {m : ℕ} {b : Option (List
         record {
           outcomes = l.0 ∷ q.outcomes;
           allowed = (l.1.allowed, q.allowed);
-          counted = omega (arith, l.1.counted, q.counted);
-          told = MatchResult-weaker r q.told (λ t h. (
-            counts_line l.0 q.outcomes s u t grown h.0,
-            Appends-trans b c d _ _ l.2.1 (rw up at h.1),
-          ))
+          counted = omega arith;
+          told = MatchResult-weaker r q.told
+              (λ t h. (counts_line l.0 q.outcomes s u t grown h.0, Appends-trans b c d _ _ l.2.1 (rw up at h.1)))
               (λ _ h. AppendsPrefix-after b c d _ _ l.2.1 (rw up at h));
         }
 
