@@ -60,8 +60,7 @@ module _ (line : List ℕ) (kind : Kind) where
     stated_or_not l None s = inr (inr (malformed_if (λ e one. none-some e (sym s ∙ one.0))))
     stated_or_not l (Some e) s = elim (name_cases (2 * length e.tag) e.name) [
       | inl named ↦ inr (inl (e, spells_if l e (s, named.0, named.1)))
-      | inr bad ↦ inr (inr (malformed_if (λ f one. bad (subst (λ g. IsUtf8 g.name × Fits (2 * length g.tag) g.name)
-          (same_Some f e (sym one.0 ∙ s)) (one.1, one.2)))))
+      | inr bad ↦ inr (inr (malformed_if (λ f p. let t = rw (same_Some f e (sym p.0 ∙ s)) at p in bad (t.1, t.2))))
     ]
 
   pub line_cases : LineCase line kind

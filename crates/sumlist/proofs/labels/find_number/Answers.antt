@@ -10,6 +10,5 @@ returns-in_err-digits c = rw c.from_residual.ensures (λ n some fits.
 
 pub returns-then-is_same : goal.returns-then-is_same
 returns-then-is_same c =
-    let whole = strip_prefix_is Decides-eqb c.args.label.now c.args.front.now (Some c.in_ok-digits.digits)
-    c.in_ok-digits.ensures.cases in
+    let whole = strip_prefix_is Decides-eqb _ _ (Some c.in_ok-digits.digits) c.in_ok-digits.ensures.cases in
     search (rules, whole)
