@@ -7,6 +7,8 @@ use Rattle.sumlist.proofs.Common.{codes, decimal, decode_of, decode_of-ok, eqb, 
 use Rattle.sumlist.proofs.Common.{rules, slice_index, subst, sym, text, true, ℕ}
 use Rattle.std.proofs.lemmas.Fmt.{decimal_by_steps}
 use Rattle.std.proofs.lemmas.List.Elements.{All-head}
+use Rattle.std.proofs.lemmas.List.Sums.{AllPass-from_list_all}
+use Rattle.std.specs.List.{list_all}
 use Rattle.std.specs.Prelude.{not}
 use Rattle.hex.specs.Hex.{is_hex_digit}
 use Rattle.source.specs.declared.alg.Alg.TheVariants.{Blake2b, Blake2s, Blake3, Sha256, Sha512}
@@ -22,8 +24,9 @@ IsWord xs = All InWord xs
 
 -- ---- what is a word
 
-literal : (text : List ℕ) → AllPass (λ c. leb 45 c && not (eqb c 92)) text → IsWord text
-literal text h = All-weaker (λ c. leb 45 c && not (eqb c 92) ≡ true) InWord (λ c t. grind (arith, nat_tests)) text h
+literal : (text : List ℕ) → list_all (λ c. leb 45 c && not (eqb c 92)) text ≡ true → IsWord text
+literal text h = All-weaker (λ c. leb 45 c && not (eqb c 92) ≡ true) InWord (λ c t. grind (arith, nat_tests)) text
+    (AllPass-from_list_all _ text h)
 
 one_digit : (d : ℕ) → d < 10 → IsWord ((48 + d) ∷ [])
 one_digit d small = All-cons InWord (48 + d) [] (omega arith, λ e. omega (arith, small, e)) (All-nil InWord)
@@ -32,9 +35,8 @@ pub decimal_word : (n : ℕ) → n < 2 ^ 64 → IsWord (decimal n)
 decimal_word = decimal_by_steps (λ m ds. IsWord ds) one_digit
     (λ m ds l h. All-append InWord ds ((48 + m % 10) ∷ []) h (one_digit (m % 10) (omega arith)))
 
-numbered : (front : List ℕ) (n : ℕ) → n ≤ 64 → AllPass (λ c. leb 45 c && not (eqb c 92)) front
-    → IsWord (front ++ decimal (8 * n))
-numbered front n fits h = All-append InWord front _ (literal front h) (decimal_word (8 * n) (omega (arith, fits)))
+numbered : (front : List ℕ) (n : ℕ) → n ≤ 64 → IsWord front → IsWord (front ++ decimal (8 * n))
+numbered front n fits h = All-append InWord front _ h (decimal_word (8 * n) (omega (arith, fits)))
 
 -- what holds of each label holds of the one of an algorithm
 pub by_label : (P : List ℕ → Alg → Type 0) → P (codes "SHA256") Sha256 → P (codes "SHA512") Sha512
@@ -45,10 +47,10 @@ pub by_label : (P : List ℕ → Alg → Type 0) → P (codes "SHA256") Sha256 �
 by_label P p q s t u b c l a r e = grind (arith, nat_tests)
 
 pub label_word : (l : List ℕ) (a : Alg) → IsInRange a → IsLabel l a → IsWord l
-label_word = by_label (λ l a. IsWord l) (literal (codes "SHA256") (search rules)) (literal (codes "SHA512") (search rules))
-    (literal (codes "BLAKE2b") (search rules)) (literal (codes "BLAKE2s") (search rules))
-    (literal (codes "BLAKE3") (search rules)) (λ n r. numbered (codes "BLAKE2b-") n r.1 (search rules))
-    (λ n r. numbered (codes "BLAKE2s-") n (omega (arith, r.1)) (search rules))
+label_word = by_label (λ l a. IsWord l) (literal (codes "SHA256") refl) (literal (codes "SHA512") refl)
+    (literal (codes "BLAKE2b") refl) (literal (codes "BLAKE2s") refl) (literal (codes "BLAKE3") refl)
+    (λ n r. numbered (codes "BLAKE2b-") n r.1 (literal (codes "BLAKE2b-") refl))
+    (λ n r. numbered (codes "BLAKE2s-") n (omega (arith, r.1)) (literal (codes "BLAKE2s-") refl))
 
 pub digits_word : (digits tag : List ℕ) → decode_of digits ≡ Ok tag → IsWord digits
 digits_word digits tag e = All-weaker (λ c. is_hex_digit c ≡ true) InWord (λ c h. grind (arith, nat_tests)) digits
