@@ -1,7 +1,7 @@
 -- The first piece of a text ends at its first end, and the other pieces are those of the rest; what is kept of a piece
 -- that comes bit by bit.
 use Rattle.sumlist.proofs.Common.{◌≡◌, ◌<◌, List, [], ◌∷◌, ◌++◌, length, refl, ap, ◌∙◌, arith, eqb, lines, ℕ}
-use Rattle.sumlist.proofs.Common.{Bool, Consumes, IfSome, false, if◌then◌else◌}
+use Rattle.sumlist.proofs.Common.{Consumes, IfSome, false}
 use Rattle.sumlist.proofs.Common.{Option, Some, All-append, append_assoc, IsCut, length-append, nat_tests}
 use Rattle.sumlist.proofs.Common.{nil_from_length}
 use Rattle.std.proofs.lemmas.Bool.{eq-eqb}

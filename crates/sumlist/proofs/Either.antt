@@ -1,6 +1,6 @@
 -- Facts that can be told: each holds, or does not.
-use Rattle.sumlist.proofs.Common.{◌≡◌, ◌⊎◌, ◌≤◌, Bool, Decides, List, arith, bytes_eq, bytes_eq-Decides, cases_lt}
-use Rattle.sumlist.proofs.Common.{false, false≢true, inl, inr, refl, true, ℕ}
+use Rattle.sumlist.proofs.Common.{◌⊎◌, Bool, Decides}
+use Rattle.sumlist.proofs.Common.{false, false≢true, inl, inr, refl, true}
 
 abbrev pub Either : Type 0 → Type 0
 Either P = P ⊎ (P → ⊥)

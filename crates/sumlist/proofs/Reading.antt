@@ -1,24 +1,23 @@
 -- A text is read from its left: what the reading finds is the form that the text has, and it finds each.
 use Rattle.sumlist.proofs.Common.{◌⊎◌, ◌*◌, ◌++◌, ◌+◌, ◌-◌, ◌<◌, ◌∙◌, ◌∷◌, ◌≡◌, ◌≤◌, Alg, Bool, Decides, Ended, HasForm}
 use Rattle.sumlist.proofs.Common.{IsCut, IsInRange, IsLabel, IsMark, Kind, Labelled, List, None, Ok, Option, Parts, Some, [], ap}
-use Rattle.sumlist.proofs.Common.{arith, bytes_eq, bytes_eq-Decides, cases_eq, closing, codes, cond, decimal, decode_of}
-use Rattle.sumlist.proofs.Common.{drop, eqb, eqb-true, false, false≢true, inl, inr, length, length-append, nat_tests, refl, subst}
+use Rattle.sumlist.proofs.Common.{arith, bytes_eq-Decides, closing, codes, cond, decimal, decode_of}
+use Rattle.sumlist.proofs.Common.{drop, false, false≢true, inl, inr, length, length-append, nat_tests, refl, subst}
 use Rattle.sumlist.proofs.Common.{sym, tag_len, take, take-append-drop, take-append_seam, text, true, ℕ}
-use Rattle.std.proofs.Common.{◌==◌, ap₂, suc, zero}
+use Rattle.std.proofs.Common.{◌==◌, suc, zero}
 use Rattle.std.proofs.Math.Seq.{drop-append-add}
-use Rattle.std.proofs.lemmas.Bool.{false_from_ne_true}
 use Rattle.std.proofs.lemmas.Bool.Decides.{Decides-eqb, Decides-or}
 use Rattle.std.proofs.lemmas.Fmt.{decimal_injective}
 use Rattle.std.proofs.lemmas.List.Elements.{All-head, All-tail}
 use Rattle.std.proofs.lemmas.Option.{none-some, option_and_then_some, same_Some}
 use Rattle.std.specs.Option.{option_and_then, option_or}
-use Rattle.source.specs.declared.alg.Alg.TheVariants.{Blake2b, Blake2s, Blake3, Sha256, Sha512}
+use Rattle.source.specs.declared.alg.Alg.TheVariants.{Blake2b, Blake2s}
 use Rattle.source.specs.declared.alg.TheConstants.{BLAKE2B_LEN, BLAKE2S_LEN}
 use Rattle.sumlist.specs.Kinds.{kind_of}
 use Rattle.sumlist.specs.Lines.{HasNo}
 use Rattle.sumlist.specs.inside.Labels.{IsNumbered, NotEnded, NotNamed, alg_of}
 use Rattle.sumlist.specs.inside.Reading.{Form, alg_labelled, alg_told, alg_whole, bytes_told, cut}
-use Rattle.sumlist.specs.inside.Reading.{end_at, end_cut, form_at, form_of, is_mark, with_tag}
+use Rattle.sumlist.specs.inside.Reading.{end_cut, form_at, form_of, is_mark, with_tag}
 use Rattle.sumlist.proofs.Words.{NotSpace, by_label, digits_word, label_word, no_space}
 
 -- what is told by a test

@@ -1,9 +1,8 @@
 -- A core states the entry that its reading finds, and nothing else, and the entry's tag fits its algorithm.
 use Rattle.sumlist.proofs.Common.{◌++◌, ◌∙◌, ◌∷◌, ◌≡◌, ◌≤◌, Alg, Bool, HasForm, IsBytes, IsInRange, Kind, List}
-use Rattle.sumlist.proofs.Common.{Listing, Some, Says, [], ap, arith, closing, cond, core, decode_of-ok}
-use Rattle.sumlist.proofs.Common.{eqb-true, false, inl, inr, length, length-append, name_of, nat_tests, refl, subst}
+use Rattle.sumlist.proofs.Common.{Listing, Some, Says, [], ap, arith, closing, core, decode_of-ok}
+use Rattle.sumlist.proofs.Common.{false, inl, inr, length, length-append, name_of, nat_tests, refl, subst}
 use Rattle.sumlist.proofs.Common.{sym, tag_len, text, true, ℕ}
-use Rattle.std.proofs.Common.{◌==◌}
 use Rattle.std.proofs.lemmas.List.Elements.{All-head}
 use Rattle.std.proofs.lemmas.Option.{option_and_then_some, same_Some}
 use Rattle.sumlist.specs.inside.Reading.{Form, entry_of, form_of, is_slashed, stated, unslashed}

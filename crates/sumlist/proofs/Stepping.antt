@@ -1,6 +1,6 @@
 -- A list that is checked line by line: a line's outcome comes before those of the lines that are left.
 use Rattle.sumlist.proofs.Common.{◌≡◌, ◌+◌, ◌++◌, List, [], ◌∷◌, subst, sym, refl, Option, None, Some, IfSome}
-use Rattle.sumlist.proofs.Common.{IfSome_then, IsErr, Result, Err, Ok, arith, MatchResult-from_err, Appends-nil}
+use Rattle.sumlist.proofs.Common.{IfSome_then, IsErr, Result, Err, Ok, arith, Appends-nil}
 use Rattle.sumlist.proofs.Common.{Appends-trans, AppendsPrefix, Kind, Mark, Summary, CheckFault, Files, ListChecked}
 use Rattle.sumlist.proofs.Common.{IsCounted, LineChecked, Outcome, lines_of, no_lines, text, true, ℕ}
 use Rattle.std.specs.Io.KnownBytes.{IsAtEnd}
@@ -8,9 +8,8 @@ use Rattle.std.proofs.lemmas.Result.{MatchResult-weaker}
 use Rattle.source.proofs.Writing.{AppendsPrefix-after, AppendsPrefix-more, AppendsPrefix-none}
 use Rattle.sumlist.specs.Lines.{IsKept}
 use Rattle.sumlist.specs.Report.{number_of, report_from}
-use Rattle.sumlist.specs.Tally.{entries_of}
 use Rattle.sumlist.specs.inside.Ahead.{Checks, Counts, RestChecked}
-use Rattle.sumlist.specs.inside.Marks.{entry_by, mark_of}
+use Rattle.sumlist.specs.inside.Marks.{mark_of}
 use Rattle.sumlist.specs.inside.Stepped.{Stepped}
 use Rattle.sumlist.specs.inside.Taking.{IsNextPiece}
 use Rattle.sumlist.proofs.Deciding.{all_settled}

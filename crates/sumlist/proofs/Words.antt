@@ -1,12 +1,10 @@
 -- What stands before the first space of a core is a word, digits or a label: a word has no byte that a line
 -- treats otherwise.
 use Rattle.sumlist.proofs.Common.{◌%◌, ◌&&◌, ◌*◌, ◌++◌, ◌+◌, ◌<◌, ◌^◌, ◌∷◌, ◌≡◌, ◌≢◌, ◌≤◌, Alg, All, All-append}
-use Rattle.sumlist.proofs.Common.{Bool, cond}
-use Rattle.sumlist.proofs.Common.{All-cons, All-nil, All-weaker, AllPass, IsInRange, IsLabel, List, Ok, [], arith}
-use Rattle.sumlist.proofs.Common.{codes, decimal, decode_of, decode_of-ok, eqb, false, inl, inr, leb, nat_tests, refl}
-use Rattle.sumlist.proofs.Common.{rules, slice_index, subst, sym, text, true, ℕ}
+use Rattle.sumlist.proofs.Common.{All-cons, All-nil, All-weaker, IsInRange, IsLabel, List, Ok, [], arith}
+use Rattle.sumlist.proofs.Common.{codes, decimal, decode_of, decode_of-ok, eqb, false, leb, nat_tests, refl}
+use Rattle.sumlist.proofs.Common.{text, true, ℕ}
 use Rattle.std.proofs.lemmas.Fmt.{decimal_by_steps}
-use Rattle.std.proofs.lemmas.List.Elements.{All-head}
 use Rattle.std.proofs.lemmas.List.Sums.{AllPass-from_list_all}
 use Rattle.std.specs.List.{list_all}
 use Rattle.std.specs.Prelude.{not}

@@ -1,6 +1,5 @@
-use Rattle.sumlist.proofs.Common.{◌*◌, ◌∙◌, None, Some, arith, decimal, rules, sym}
+use Rattle.sumlist.proofs.Common.{◌*◌, None, Some, decimal, rules}
 use Rattle.std.proofs.lemmas.Bool.Decides.{Decides-eqb}
-use Rattle.std.proofs.lemmas.List.{append_cancel_left}
 use Rattle.std.proofs.lemmas.Slice.Eq.{strip_prefix_is}
 use Rattle.sumlist.proofs.labels.find_number.Goals as goal
 

@@ -1,4 +1,4 @@
-use Rattle.sumlist.proofs.Common.{◌∙◌, arith, refl, sym}
+use Rattle.sumlist.proofs.Common.{◌∙◌, arith, sym}
 use Rattle.sumlist.proofs.Reading.{form_of-some}
 use Rattle.sumlist.proofs.Stating.{entry_of-name, form_len, stated-form}
 use Rattle.sumlist.proofs.line.read_core.Goals as goal

@@ -1,4 +1,4 @@
-use Rattle.sumlist.proofs.Common.{MatchResult-from_err, arith}
+use Rattle.sumlist.proofs.Common.{MatchResult-from_err}
 use Rattle.sumlist.proofs.Stepping.{checks-halted, checks-line, checks-stopped}
 use Rattle.sumlist.proofs.checking.Checker.step.Goals as goal
 

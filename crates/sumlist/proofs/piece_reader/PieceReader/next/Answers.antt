@@ -1,6 +1,6 @@
-use Rattle.std.proofs.KnownBytes.{Consumes-nil, Consumes-trans}
-use Rattle.sumlist.proofs.Common.{◌≡◌, ◌<◌, ◌∙◌, ◌++◌, [], All-append, Bool, List, Option, Some, append-nil, append_assoc}
-use Rattle.sumlist.proofs.Common.{ap, arith, eqb, err_from_is_err_and, false, length, length-append, refl, rules, subst}
+use Rattle.std.proofs.KnownBytes.{Consumes-trans}
+use Rattle.sumlist.proofs.Common.{◌≡◌, ◌++◌, [], All-append, Bool, List, Option, Some, append-nil, append_assoc}
+use Rattle.sumlist.proofs.Common.{ap, arith, eqb, err_from_is_err_and, false, length, length-append, subst}
 use Rattle.sumlist.proofs.Common.{sym, true, ℕ}
 use Rattle.std.specs.Io.KnownBytes.{IsAtEnd}
 use Rattle.std.specs.Prelude.{IsTrue, not, ◌↔◌}
