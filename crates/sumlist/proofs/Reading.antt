@@ -71,7 +71,7 @@ bytes_told-is (suc k) n some fits small =
 abbrev Named : List ℕ → Alg → Type 0
 Named label alg = IsInRange alg × IsLabel label alg
 
--- by its label without a number
+-- a label without a number tells its algorithm
 pub alg_whole-some : (l : List ℕ) (a : Alg) → alg_whole l ≡ Some a → Named l a
 alg_whole-some l a e = grind (arith, nat_tests, bytes_eq-Decides)
 
