@@ -1,6 +1,8 @@
 -- Each line is skipped, spells one entry, or is malformed: every part of the meaning of a line can be decided.
-use Rattle.sumlist.proofs.Common.{◌*◌, ◌∙◌, ◌≡◌, ◌⊎◌, Fits, IsBlank, IsEntry, IsLine, IsMalformed, IsUtf8, Kind, List, Listing}
-use Rattle.sumlist.proofs.Common.{None, Option, Some, Spells, [], ap, arith, bytes_eq-Decides, core, false, false≢true, inl, inr}
+use Rattle.sumlist.proofs.Common.{◌*◌, ◌∙◌, ◌≡◌, ◌⊎◌, Fits, IsBlank, IsEntry, IsLine, IsMalformed, IsUtf8, Kind}
+use Rattle.sumlist.proofs.Common.{List, Listing}
+use Rattle.sumlist.proofs.Common.{None, Option, Some, Spells, [], ap, arith, bytes_eq-Decides, core, false}
+use Rattle.sumlist.proofs.Common.{false≢true, inl, inr}
 use Rattle.sumlist.proofs.Common.{length, refl, slice_index, subst, sym, true, written_len, ℕ}
 use Rattle.std.proofs.lemmas.Bool.Decides.{Decides-and, Decides-eqb, Decides-like, Decides-ltb, Decides-not, Decides-or}
 use Rattle.std.proofs.lemmas.Map.Made.{is_member-Decides}

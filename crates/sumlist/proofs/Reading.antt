@@ -1,6 +1,7 @@
 -- A text is read from its left: what the reading finds is the form that the text has, and it finds each.
 use Rattle.sumlist.proofs.Common.{◌⊎◌, ◌*◌, ◌++◌, ◌+◌, ◌-◌, ◌<◌, ◌∙◌, ◌∷◌, ◌≡◌, ◌≤◌, Alg, Bool, Decides, Ended, HasForm}
-use Rattle.sumlist.proofs.Common.{IsCut, IsInRange, IsLabel, IsMark, Kind, Labelled, List, None, Ok, Option, Parts, Some, [], ap}
+use Rattle.sumlist.proofs.Common.{IsCut, IsInRange, IsLabel, IsMark, Kind, Labelled, List, None, Ok, Option}
+use Rattle.sumlist.proofs.Common.{Parts, Some, [], ap}
 use Rattle.sumlist.proofs.Common.{arith, bytes_eq-Decides, closing, codes, cond, decimal, decode_of}
 use Rattle.sumlist.proofs.Common.{drop, false, false≢true, inl, inr, length, length-append, nat_tests, refl, subst}
 use Rattle.sumlist.proofs.Common.{sym, tag_len, take, take-append-drop, take-append_seam, text, true, ℕ}
@@ -49,8 +50,8 @@ alg_of-some : (kind : Kind) (n : ℕ) (a : Alg) → alg_of kind n ≡ Some a
     → (kind_of a ≡ kind) × IsInRange a × (n ≡ 2 * tag_len a)
 alg_of-some kind n a e = grind (arith, nat_tests)
 
-alg_of-is : (kind : Kind) (n : ℕ) (a : Alg) → kind_of a ≡ kind → IsInRange a → n ≡ 2 * tag_len a → alg_of kind n ≡ Some a
-alg_of-is kind n a k r e = rw (sym k, e) (grind (arith, nat_tests))
+alg_of-is : (k : Kind) (n : ℕ) (a : Alg) → kind_of a ≡ k → IsInRange a → n ≡ 2 * tag_len a → alg_of k n ≡ Some a
+alg_of-is k n a is r e = rw (sym is, e) (grind (arith, nat_tests))
 
 -- ---- the label
 
@@ -171,7 +172,7 @@ module _ (kind : Kind) where
       → form_of kind text ≡ Some (a, t, x)
   form_of-is text a t x (inl p) =
       form_of-cut text p.digits (p.mark ∷ x) (p.whole, no_space _ (digits_word p.digits t p.tag_is))
-      ∙ rw ((mark-Decides p.mark).1 p.marked, alg_of-is kind (length p.digits) a p.kind_is p.range p.sized, p.tag_is) refl
+      ∙ rw ((mark-Decides _).1 p.marked, alg_of-is kind (length p.digits) a p.kind_is p.range p.sized, p.tag_is) refl
   form_of-is text a t x (inr q) =
       form_of-cut text q.label _ (q.whole, no_space _ (label_word q.label a q.range q.names))
       ∙ rw (alg_labelled-is q.label a q.range q.names, end_cut-is _ _ x q.digits (refl, q.sized), q.tag_is) refl

@@ -59,7 +59,7 @@ module _ (kind : Kind) where
 
   stated_by : (core : List ℕ) (a : Alg) (t x name : List ℕ) → HasForm (unslashed core) kind a t x → (b : Bool)
       → is_slashed core ≡ b → name_of b x ≡ Some name → Says core kind (listing name a t)
-  stated_by core a t x name p true is n = inr (unslashed core, x, grind (arith, nat_tests), p, spelled-unescaped x name n)
+  stated_by core a t x name p true is n = inr (unslashed core, x, grind (arith, nat_tests), p, spelled-unescaped x _ n)
   stated_by core a t x name p false is n =
       inl (rw (same_Some x name n) at (rw (unslashed-plain core is) at p))
 

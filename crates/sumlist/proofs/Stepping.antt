@@ -29,7 +29,7 @@ module _ {files : Files} {kind : Kind} {s : Summary} {m : ℕ} {b : Option (List
   -- a fault before any
   rest-halted : {ls : List (List ℕ)} {r : Result Summary CheckFault} → IsErr r → RestChecked files kind ls s r m m b b
   rest-halted {ls} stopped = let os = all_settled files kind ls in
-      record { outcomes = os.0; allowed = os.1; counted = omega (arith, os.2); told = grind (arith, AppendsPrefix-none) }
+      record { outcomes = os.0; allowed = os.1; counted = omega arith; told = grind (arith, AppendsPrefix-none) }
 
   module _ {line : List ℕ} {ls : List (List ℕ)} {r : Result Summary CheckFault} {n : ℕ} {c : Option (List ℕ)} where
     -- a fault at the first
