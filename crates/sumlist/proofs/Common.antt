@@ -1,20 +1,19 @@
 -- The words that the lemmas of this crate have in common, under one name.
-pub use Rattle.hex.proofs.HexLemmas.{decode_of-encode_lower, decode_of-ok, decode_of-same, length-encode_with}
+pub use Rattle.hex.proofs.HexLemmas.{decode_of-encode_lower, decode_of-ok, length-encode_with}
 pub use Rattle.hex.specs.Hex.{IsBytes, decode_of, encode_lower, lower_digits}
-pub use Rattle.hex.specs.declared.error.FromHexError.{FromHexError}
 pub use Rattle.source.proofs.Writing.{Writing}
 pub use Rattle.source.specs.Counts.{count_after}
 pub use Rattle.source.specs.Digest.{IsInRange, digest, input_limit, tag_len}
-pub use Rattle.source.specs.Written.{AppendsPrefix, Shown, Writes}
+pub use Rattle.source.specs.Written.{AppendsPrefix}
 pub use Rattle.source.specs.declared.alg.Alg.{Alg}
-pub use Rattle.std.proofs.Common.{Bool, Contains, Decides, Err, IfSome, IsErr, IsUtf8, List, MatchOption, None, Ok}
+pub use Rattle.std.proofs.Common.{Bool, Contains, Decides, Err, IfSome, IsErr, IsUtf8, List, None, Ok}
 pub use Rattle.std.proofs.Common.{Option, Result, Some, [], ap, append-nil, append_assoc, arith, codes, cond, decimal}
-pub use Rattle.std.proofs.Common.{drop, eqb, false, get_or, if◌then◌else◌, inl, inr, leb, length, length-append}
+pub use Rattle.std.proofs.Common.{drop, eqb, false, if◌then◌else◌, inl, inr, leb, length, length-append}
 pub use Rattle.std.proofs.Common.{length-take-le, refl, rules, slice_index, subst, sym, take, take-append-drop, true, ℕ}
-pub use Rattle.std.proofs.Common.{◌%◌, ◌&&◌, ◌*◌, ◌++◌, ◌+◌, ◌-◌, ◌/◌, ◌<◌, ◌^◌, ◌||◌, ◌∙◌, ◌∷◌, ◌≡◌, ◌≢◌, ◌≤◌, ◌⊎◌}
+pub use Rattle.std.proofs.Common.{◌%◌, ◌&&◌, ◌*◌, ◌++◌, ◌+◌, ◌-◌, ◌<◌, ◌^◌, ◌||◌, ◌∙◌, ◌∷◌, ◌≡◌, ◌≢◌, ◌≤◌, ◌⊎◌}
 pub use Rattle.std.proofs.KnownBytes.{Appends-nil, Appends-trans}
-pub use Rattle.std.proofs.Math.Seq.{drop-append_seam, take-append_seam}
-pub use Rattle.std.proofs.lemmas.Bool.{cases_eq, cases_lt, eqb-false, eqb-true, false≢true}
+pub use Rattle.std.proofs.Math.Seq.{take-append_seam}
+pub use Rattle.std.proofs.lemmas.Bool.{cases_eq, cases_lt, false≢true}
 pub use Rattle.std.proofs.lemmas.Bool.Decides.{nat_tests}
 pub use Rattle.std.proofs.lemmas.List.{nil_from_length}
 pub use Rattle.std.proofs.lemmas.List.Elements.{All-append, All-cons, All-nil, All-weaker, Contains-append_right}
@@ -22,27 +21,23 @@ pub use Rattle.std.proofs.lemmas.List.Elements.{Contains-push_cases}
 pub use Rattle.std.proofs.lemmas.Option.{IfSome_then}
 pub use Rattle.std.proofs.lemmas.Result.{MatchResult-from_err, err_from_is_err_and}
 pub use Rattle.std.proofs.lemmas.Slice.Eq.{bytes_eq-Decides}
-pub use Rattle.std.specs.Io.KnownBytes.{Appends, Consumes}
-pub use Rattle.std.specs.List.{All, AllPass}
-pub use Rattle.std.specs.Prelude.{nat_le}
-pub use Rattle.std.specs.Str.{bytes_eq}
+pub use Rattle.std.specs.Io.KnownBytes.{Consumes}
+pub use Rattle.std.specs.List.{All}
 pub use Rattle.sumlist.specs.Checked.{ListChecked}
-pub use Rattle.sumlist.specs.Entry.{Fits, IsEntry, Listing, ending, written, written_len}
-pub use Rattle.sumlist.specs.Escape.{SpellsByte, SpellsName, escape_of, escaped, is_special, lead, needs_escape}
+pub use Rattle.sumlist.specs.Entry.{Fits, IsEntry, Listing, written, written_len}
+pub use Rattle.sumlist.specs.Escape.{SpellsByte, SpellsName, escape_of, escaped, is_special, needs_escape}
 pub use Rattle.sumlist.specs.Line.{HasForm, IsBlank, IsLine, IsMalformed, IsMark, Parts, Spells, Says, core}
 pub use Rattle.sumlist.specs.Lines.{lines}
 pub use Rattle.sumlist.specs.Report.{AllAllowed, Allowed, Files, IsAllowed, Outcome, is_told, malformed, skipped, text}
 pub use Rattle.sumlist.specs.Report.{told, unreadable_count}
-pub use Rattle.sumlist.specs.Tagged.{IsLabel, Labelled, closing, label_of, opening, tagged, tagged_len}
+pub use Rattle.sumlist.specs.Tagged.{IsLabel, Labelled, closing, label_of, tagged, tagged_len}
 pub use Rattle.sumlist.specs.declared.checking.CheckFault.{CheckFault}
-pub use Rattle.sumlist.specs.declared.checking.CheckFault.TheVariants.{ListTooLong}
 pub use Rattle.sumlist.specs.declared.kind.Kind.{Kind}
 pub use Rattle.sumlist.specs.declared.summary.Mark.{Mark}
-pub use Rattle.sumlist.specs.declared.summary.Mark.TheVariants.{Told}
 pub use Rattle.sumlist.specs.declared.summary.Summary.{Summary}
 pub use Rattle.sumlist.specs.declared.verdict.Verdict.{Verdict}
 pub use Rattle.sumlist.specs.declared.verdict.Verdict.TheVariants.{Differs, Matches, Missing, TooLong, Unreadable}
-pub use Rattle.sumlist.specs.inside.Body.{IsName, IsScanned, escape_value, name_of, onto}
+pub use Rattle.sumlist.specs.inside.Body.{IsName, escape_value, name_of, onto}
 pub use Rattle.sumlist.specs.inside.Cut.{IsCut}
 pub use Rattle.sumlist.specs.inside.Labels.{Ended}
 pub use Rattle.sumlist.specs.inside.Marks.{IsCounted, lines_of, no_lines, unreadable_by}

@@ -1,7 +1,7 @@
 -- The first piece of a text ends at its first end, and the other pieces are those of the rest; what is kept of a piece
 -- that comes bit by bit.
 use Rattle.sumlist.proofs.Common.{◌≡◌, ◌<◌, List, [], ◌∷◌, ◌++◌, length, refl, ap, ◌∙◌, arith, eqb, lines, ℕ}
-use Rattle.sumlist.proofs.Common.{Bool, Consumes, IfSome, false, if◌then◌else◌}
+use Rattle.sumlist.proofs.Common.{Consumes, IfSome, false}
 use Rattle.sumlist.proofs.Common.{Option, Some, All-append, append_assoc, IsCut, length-append, nat_tests}
 use Rattle.sumlist.proofs.Common.{nil_from_length}
 use Rattle.std.proofs.lemmas.Bool.{eq-eqb}
@@ -41,10 +41,6 @@ IsKept-after held front bit h = grind (arith, nat_tests, length-append {A = ℕ}
 
 pub some_kept : (held : Option (List ℕ)) (front : List ℕ) → (held ≡ Some [] → ⊥) → IsKept held front → 0 < length front
 some_kept held front apart h = grind (arith, nil_from_length)
-
--- what is kept of a piece that is not whole in what was read
-pub kept_open : (w : Bool) (x y k : Option (List ℕ)) → w ≡ false → (if w then x else y) ≡ k → y ≡ k
-kept_open w x y k is_open e = rw is_open at e
 
 -- some was read, and the rest is left
 pub IfSome-read : (old new : Option (List ℕ)) (taken : List ℕ) (P : List ℕ → Type 0) → Consumes old new taken

@@ -1,30 +1,31 @@
 -- Each line is skipped, spells one entry, or is malformed: every part of the meaning of a line can be decided.
-use Rattle.sumlist.proofs.Common.{◌*◌, ◌∙◌, ◌≡◌, ◌⊎◌, Fits, IsBlank, IsLine, IsMalformed, IsUtf8, Kind, List, Listing}
-use Rattle.sumlist.proofs.Common.{None, Option, Some, Spells, Says, [], ap, arith, bytes_eq-Decides, core, inl, inr}
-use Rattle.sumlist.proofs.Common.{length, refl, slice_index, subst, sym, written_len, ℕ}
-use Rattle.std.proofs.lemmas.Bool.Decides.{Decides-and, Decides-eqb, Decides-ltb, Decides-not, Decides-or}
+use Rattle.sumlist.proofs.Common.{◌*◌, ◌∙◌, ◌≡◌, ◌⊎◌, Fits, IsBlank, IsEntry, IsLine, IsMalformed, IsUtf8, Kind}
+use Rattle.sumlist.proofs.Common.{List, Listing}
+use Rattle.sumlist.proofs.Common.{None, Option, Some, Spells, [], ap, arith, bytes_eq-Decides, core, false}
+use Rattle.sumlist.proofs.Common.{false≢true, inl, inr}
+use Rattle.sumlist.proofs.Common.{length, refl, slice_index, subst, sym, true, written_len, ℕ}
+use Rattle.std.proofs.lemmas.Bool.Decides.{Decides-and, Decides-eqb, Decides-like, Decides-ltb, Decides-not, Decides-or}
 use Rattle.std.proofs.lemmas.Map.Made.{is_member-Decides}
 use Rattle.std.proofs.lemmas.Option.{none-some, same_Some}
 use Rattle.std.proofs.lemmas.Str.{IsUtf8-from_is_utf8, is_utf8-from_IsUtf8}
 use Rattle.sumlist.specs.Line.{IsSkipped}
 use Rattle.sumlist.specs.inside.Reading.{IsStated, stated}
-use Rattle.sumlist.proofs.Either.{Either, either_by, either_map}
+use Rattle.sumlist.proofs.Either.{Either, either_by}
 use Rattle.sumlist.proofs.Stating.{stated-is, stated-some, stated_fit}
 
 name_cases : (digits : ℕ) (name : List ℕ) → Either (IsUtf8 name × Fits digits name)
-name_cases digits name = either_map
+name_cases digits name = either_by _ (Decides-like _
     (λ p. (p.0, record { nonempty = p.1.0; without_nul = p.1.1.0; within = omega (arith, p.1.1.1) }))
     (λ p. (p.0, (p.1.nonempty, (p.1.without_nul, let within = p.1.within in omega (arith, within)))))
-    (either_by _ (Decides-and _ _ (IsUtf8-from_is_utf8 name, is_utf8-from_IsUtf8 name)
+    (Decides-and _ _ (IsUtf8-from_is_utf8 name, is_utf8-from_IsUtf8 name)
     (Decides-and _ _ (Decides-not _ (bytes_eq-Decides name []))
     (Decides-and _ _ (Decides-not _ (is_member-Decides Decides-eqb name 0))
     (Decides-ltb (written_len digits name) 65537)))))
 
 line_is : (line : List ℕ) → Either (IsLine line)
-line_is line = either_map (λ p. record { one = p.0; within = omega (arith, p.1) })
+line_is line = either_by _ (Decides-like _ (λ p. record { one = p.0; within = omega (arith, p.1) })
     (λ l. (l.one, let within = l.within in omega (arith, within)))
-    (either_by _ (Decides-and _ _ (Decides-not _ (is_member-Decides Decides-eqb line 10))
-    (Decides-ltb (length line) 65537)))
+    (Decides-and _ _ (Decides-not _ (is_member-Decides Decides-eqb line 10)) (Decides-ltb (length line) 65537)))
 
 blank_cases : (core : List ℕ) → Either (IsBlank core)
 blank_cases core = either_by _ (Decides-or _ _ (bytes_eq-Decides core []) (Decides-eqb (slice_index core 0) 35))
@@ -38,39 +39,30 @@ module _ (line : List ℕ) (kind : Kind) where
   spells_one d e p q =
       same_Some d e (sym (stated-is kind (core line) d p.form) ∙ stated-is kind (core line) e q.form)
 
-  module _ (k : List ℕ) (is : k ≡ core line) (more : IsBlank k → ⊥) where
+  module _ (k : List ℕ) (is : k ≡ core line) (more : IsBlank k → false ≡ true) where
     unskipped : IsSkipped line → ⊥
-    unskipped s = more (subst IsBlank (sym is) s.1)
+    unskipped s = false≢true (more (subst IsBlank (sym is) s.1))
 
     -- a line whose core states an entry spells it
     pub spells_if : IsLine line → (e : Listing) → IsStated kind k e → Spells line kind e
     spells_if l e s =
         let form = stated-some kind k e s.0 in
         let f = stated_fit k kind e form in
-        record {
-          is_line = l;
-          not_skipped = unskipped;
-          is_entry = record { text = s.1; fits = s.2; range = f.0; sized = f.1; bytes = f.2 };
-          form = subst (λ c. Says c kind e) is form;
-        }
+        let i : IsEntry e = record { text = s.1; fits = s.2; range = f.0; sized = f.1; bytes = f.2 } in
+        record { is_line = l; not_skipped = unskipped; is_entry = i; form = rw is at form }
+
+    stated_if : (e : Listing) → Spells line kind e → IsStated kind k e
+    stated_if e s = (ap (stated kind) is ∙ stated-is kind (core line) e s.form, s.is_entry.text, s.is_entry.fits)
 
     -- and is malformed where its core states none
     pub malformed_if : ((e : Listing) → IsStated kind k e → ⊥) → IsMalformed line kind
-    malformed_if none = record {
-      not_skipped = unskipped;
-      spells_none = λ e s. none e (
-        ap (stated kind) is ∙ stated-is kind (core line) e s.form,
-        s.is_entry.text,
-        s.is_entry.fits,
-      );
-    }
+    malformed_if none = record { not_skipped = unskipped; spells_none = λ e s. none e (stated_if e s) }
 
     stated_or_not : IsLine line → (o : Option Listing) → stated kind k ≡ o → LineCase line kind
     stated_or_not l None s = inr (inr (malformed_if (λ e one. none-some e (sym s ∙ one.0))))
     stated_or_not l (Some e) s = elim (name_cases (2 * length e.tag) e.name) [
       | inl named ↦ inr (inl (e, spells_if l e (s, named.0, named.1)))
-      | inr bad ↦ inr (inr (malformed_if (λ f one. bad (subst (λ g. IsUtf8 g.name × Fits (2 * length g.tag) g.name)
-          (same_Some f e (sym one.0 ∙ s)) (one.1, one.2)))))
+      | inr bad ↦ inr (inr (malformed_if (λ f p. let t = rw (same_Some f e (sym p.0 ∙ s)) at p in bad (t.1, t.2))))
     ]
 
   pub line_cases : LineCase line kind
@@ -78,6 +70,6 @@ module _ (line : List ℕ) (kind : Kind) where
     | inr bad ↦ inr (inr record { not_skipped = λ s. bad s.0; spells_none = λ e p. bad p.is_line })
     | inl l ↦ elim (blank_cases (core line)) [
       | inl blank ↦ inl (l, blank)
-      | inr more ↦ stated_or_not (core line) refl more l (stated kind (core line)) refl
+      | inr more ↦ stated_or_not (core line) refl (λ b. absurd (more b)) l (stated kind (core line)) refl
     ]
   ]

@@ -1,25 +1,25 @@
 -- A text is read from its left: what the reading finds is the form that the text has, and it finds each.
 use Rattle.sumlist.proofs.Common.{◌⊎◌, ◌*◌, ◌++◌, ◌+◌, ◌-◌, ◌<◌, ◌∙◌, ◌∷◌, ◌≡◌, ◌≤◌, Alg, Bool, Decides, Ended, HasForm}
-use Rattle.sumlist.proofs.Common.{IsCut, IsInRange, IsLabel, IsMark, Kind, List, None, Ok, Option, Some, [], ap}
-use Rattle.sumlist.proofs.Common.{arith, bytes_eq, bytes_eq-Decides, cases_eq, closing, codes, cond, decimal, decode_of}
-use Rattle.sumlist.proofs.Common.{drop, eqb, eqb-true, false, false≢true, inl, inr, length, length-append, nat_tests, refl, subst}
+use Rattle.sumlist.proofs.Common.{IsCut, IsInRange, IsLabel, IsMark, Kind, Labelled, List, None, Ok, Option}
+use Rattle.sumlist.proofs.Common.{Parts, Some, [], ap}
+use Rattle.sumlist.proofs.Common.{arith, bytes_eq-Decides, closing, codes, cond, decimal, decode_of}
+use Rattle.sumlist.proofs.Common.{drop, false, false≢true, inl, inr, length, length-append, nat_tests, refl, subst}
 use Rattle.sumlist.proofs.Common.{sym, tag_len, take, take-append-drop, take-append_seam, text, true, ℕ}
-use Rattle.std.proofs.Common.{◌==◌, ap₂, suc, zero}
+use Rattle.std.proofs.Common.{◌==◌, suc, zero}
 use Rattle.std.proofs.Math.Seq.{drop-append-add}
-use Rattle.std.proofs.lemmas.Bool.{false_from_ne_true}
 use Rattle.std.proofs.lemmas.Bool.Decides.{Decides-eqb, Decides-or}
 use Rattle.std.proofs.lemmas.Fmt.{decimal_injective}
 use Rattle.std.proofs.lemmas.List.Elements.{All-head, All-tail}
 use Rattle.std.proofs.lemmas.Option.{none-some, option_and_then_some, same_Some}
 use Rattle.std.specs.Option.{option_and_then, option_or}
-use Rattle.source.specs.declared.alg.Alg.TheVariants.{Blake2b, Blake2s, Blake3, Sha256, Sha512}
+use Rattle.source.specs.declared.alg.Alg.TheVariants.{Blake2b, Blake2s}
 use Rattle.source.specs.declared.alg.TheConstants.{BLAKE2B_LEN, BLAKE2S_LEN}
 use Rattle.sumlist.specs.Kinds.{kind_of}
 use Rattle.sumlist.specs.Lines.{HasNo}
-use Rattle.sumlist.specs.inside.Labels.{NotEnded, NotNamed, NotNumbered, alg_of}
+use Rattle.sumlist.specs.inside.Labels.{IsNumbered, NotEnded, NotNamed, alg_of}
 use Rattle.sumlist.specs.inside.Reading.{Form, alg_labelled, alg_told, alg_whole, bytes_told, cut}
-use Rattle.sumlist.specs.inside.Reading.{end_at, end_cut, form_at, form_of, is_mark, with_tag}
-use Rattle.sumlist.proofs.Words.{IsWord, digits_word, label_word, no_space}
+use Rattle.sumlist.specs.inside.Reading.{end_cut, form_at, form_of, is_mark, with_tag}
+use Rattle.sumlist.proofs.Words.{NotSpace, by_label, digits_word, label_word, no_space}
 
 -- what is told by a test
 pub by_test : {A P Q : Type 0} (b : Bool) → Decides b Q → (x y z : A) → (Q → x ≡ z → P) → ((Q → ⊥) → y ≡ z → P)
@@ -27,22 +27,14 @@ pub by_test : {A P Q : Type 0} (b : Bool) → Decides b Q → (x y z : A) → (Q
 by_test true d x y z met failed e = met (d.0 refl) e
 by_test false d x y z met failed e = failed (λ q. false≢true (d.1 q)) e
 
-by_text : {A P : Type 0} (xs ys : List ℕ) (x y z : A) → (xs ≡ ys → x ≡ z → P) → (y ≡ z → P)
-    → cond (bytes_eq xs ys) x y ≡ z → P
-by_text xs ys x y z met failed e = by_test (bytes_eq xs ys) (bytes_eq-Decides xs ys) x y z met (λ n. failed) e
-
 none_if : {A : Type 0} (o : Option A) → ((x : A) → o ≡ Some x → ⊥) → o ≡ None
 none_if o h = grind arith
 
 -- ---- the first space
 
-abbrev NotSpace : ℕ → Type 0
-NotSpace x = eqb x 32 ≡ false
-
 pub cut-at : (word rest : List ℕ) → HasNo 32 word → cut (word ++ 32 ∷ rest) ≡ Some (word, rest)
 cut-at [] rest free = refl
-cut-at (c ∷ word) rest free =
-    rw (All-head NotSpace c word free, cut-at word rest (All-tail NotSpace c word free)) refl
+cut-at (c ∷ word) rest free = rw (All-head NotSpace c word free, cut-at word rest (All-tail NotSpace c word free)) refl
 
 pub cut-none : (text : List ℕ) → HasNo 32 text → cut text ≡ None
 cut-none [] free = refl
@@ -58,8 +50,8 @@ alg_of-some : (kind : Kind) (n : ℕ) (a : Alg) → alg_of kind n ≡ Some a
     → (kind_of a ≡ kind) × IsInRange a × (n ≡ 2 * tag_len a)
 alg_of-some kind n a e = grind (arith, nat_tests)
 
-alg_of-is : (kind : Kind) (n : ℕ) (a : Alg) → kind_of a ≡ kind → IsInRange a → n ≡ 2 * tag_len a → alg_of kind n ≡ Some a
-alg_of-is kind n a k r e = rw (sym k, e) (grind (arith, nat_tests))
+alg_of-is : (k : Kind) (n : ℕ) (a : Alg) → kind_of a ≡ k → IsInRange a → n ≡ 2 * tag_len a → alg_of k n ≡ Some a
+alg_of-is k n a is r e = rw (sym is, e) (grind (arith, nat_tests))
 
 -- ---- the label
 
@@ -70,107 +62,46 @@ bytes_told-some digits (suc k) n e =
     grind (arith, bytes_told-some digits k n, bytes_eq-Decides digits (decimal (8 * suc k)))
 
 told_once : (m n : ℕ) → m ≤ n → n ≤ 64 → decimal (8 * m) ≡ decimal (8 * n) → m ≡ n
-told_once m n fits small e =
-    let same = decimal_injective (8 * m) (8 * n) (omega (arith, fits, small)) (omega (arith, small)) e in
-    omega (arith, same)
+told_once m n fits small e = omega (arith, decimal_injective (8 * m) (8 * n) (omega arith) (omega arith) e)
 
 bytes_told-is : (most n : ℕ) → 0 < n → n ≤ most → most ≤ 64 → bytes_told (decimal (8 * n)) most ≡ Some n
 bytes_told-is zero n some fits small = absurd (omega (arith, some, fits))
 bytes_told-is (suc k) n some fits small =
-    let equal = bytes_eq-Decides (decimal (8 * n)) (decimal (8 * suc k)) in
-    elim (cases_eq n (suc k)) [
-      | inl same ↦ rw (equal.1 (ap (λ m. decimal (8 * m)) same)) (ap Some (sym same))
-      | inr other ↦
-          let unequal = false_from_ne_true _ (λ t. other (told_once n (suc k) fits small (equal.0 t))) in
-          rw unequal (bytes_told-is k n some (omega (arith, fits, other)) (omega (arith, small)))
-    ]
+    grind (arith, bytes_told-is k n, told_once n (suc k), bytes_eq-Decides (decimal (8 * n)) (decimal (8 * suc k)))
 
 abbrev Named : List ℕ → Alg → Type 0
 Named label alg = IsInRange alg × IsLabel label alg
 
-one_named : (l : List ℕ) (a b : Alg) → Named l b → Some b ≡ Some a → Named l a
-one_named l a b n is = subst (Named l) (same_Some b a is) n
-
--- by its label without a number
+-- a label without a number tells its algorithm
 pub alg_whole-some : (l : List ℕ) (a : Alg) → alg_whole l ≡ Some a → Named l a
-alg_whole-some l a e =
-    by_text l (codes "SHA256") _ _ _ (λ s. one_named l a Sha256 (tt, s))
-    (by_text l (codes "SHA512") _ _ _ (λ s. one_named l a Sha512 (tt, s))
-    (by_text l (codes "BLAKE2b") _ _ _ (λ s. one_named l a (Blake2b BLAKE2B_LEN) ((omega arith, omega arith), inl s))
-    (by_text l (codes "BLAKE2s") _ _ _ (λ s. one_named l a (Blake2s BLAKE2S_LEN) ((omega arith, omega arith), inl s))
-    (by_text l (codes "BLAKE3") _ _ _ (λ s. one_named l a Blake3 (tt, s))
-    (λ is. absurd (none-some a is)))))) e
+alg_whole-some l a e = grind (arith, nat_tests, bytes_eq-Decides)
 
 either_told : (o p : Option Alg) (a : Alg) → option_or o p ≡ Some a → (o ≡ Some a) ⊎ (p ≡ Some a)
-either_told None p a e = inr e
-either_told (Some b) p a e = inl e
+either_told o p a e = grind arith
 
-pub alg_labelled-some : (l : List ℕ) (a : Alg) → alg_labelled l ≡ Some a → Named l a
-alg_labelled-some l a e = elim (either_told (alg_whole l) _ a e) [
-  | inl whole ↦ alg_whole-some l a whole
-  | inr rest ↦
-      by_text (take 8 l) (codes "BLAKE2b-") _ _ _ (λ s. number Blake2b BLAKE2B_LEN (λ n h r.
-      ((h, r.0), inr (behind (codes "BLAKE2b-") s r.1))))
-      (by_text (take 8 l) (codes "BLAKE2s-") _ _ _ (λ s. number Blake2s BLAKE2S_LEN (λ n h r.
-      ((h, r.0), inr (behind (codes "BLAKE2s-") s r.1))))
-      (λ is. absurd (none-some a is))) rest
-]
-  where
-    behind : {digits : List ℕ} (front : List ℕ) → take 8 l ≡ front → drop 8 l ≡ digits → l ≡ front ++ digits
-    behind front s t = sym (take-append-drop 8 l) ∙ ap₂ (λ (x y : List ℕ). x ++ y) s t
+module _ (l : List ℕ) (a : Alg) where
+  number_told : (of : ℕ → Alg) (front : List ℕ) (most : ℕ)
+      → ((n : ℕ) → IsNumbered l front most n → Named l (of n)) → take 8 l ≡ front
+      → alg_told of (drop 8 l) most ≡ Some a → Named l a
+  number_told of front most named s e = option_and_then_some _ (bytes_told (drop 8 l) most) a e (λ n told same.
+      let parts = take-append-drop 8 l in
+      let h : IsNumbered l front most n = grind (arith, bytes_told-some (drop 8 l) most n told) in
+      subst (Named l) (same_Some (of n) a same) (named n h))
 
-    number : (of : ℕ → Alg) (most : ℕ)
-        → ((n : ℕ) → 0 < n → (n ≤ most) × (drop 8 l ≡ decimal (8 * n)) → Named l (of n))
-        → alg_told of (drop 8 l) most ≡ Some a → Named l a
-    number of most named is = option_and_then_some _ (bytes_told (drop 8 l) most) a is (λ n told same.
-        let t = bytes_told-some (drop 8 l) most n told in one_named l a (of n) (named n t.0 (t.1, t.2)) same)
-
--- BLAKE2's label with a number, and where that is left out at the length `most`
-numbered_2b : (n : ℕ) → IsInRange (Blake2b n) → alg_labelled (codes "BLAKE2b-" ++ decimal (8 * n)) ≡ Some (Blake2b n)
-numbered_2b n r =
-    ap (option_and_then (λ (k : ℕ). Some (Blake2b k))) (bytes_told-is BLAKE2B_LEN n r.0 r.1 (omega arith))
-
-numbered_2s : (n : ℕ) → IsInRange (Blake2s n) → alg_labelled (codes "BLAKE2s-" ++ decimal (8 * n)) ≡ Some (Blake2s n)
-numbered_2s n r =
-    ap (option_and_then (λ (k : ℕ). Some (Blake2s k))) (bytes_told-is BLAKE2S_LEN n r.0 r.1 (omega arith))
-
-written_is : (of : ℕ → Alg) (most n : ℕ) (l whole long : List ℕ) (b : Bool) → (n == most) ≡ b → l ≡ cond b whole long
-    → alg_labelled whole ≡ Some (of most) → alg_labelled long ≡ Some (of n) → alg_labelled l ≡ Some (of n)
-written_is of most n l whole long true same e w h =
-    ap alg_labelled e ∙ w ∙ ap (λ k. Some (of k)) (sym (eqb-true n most same))
-written_is of most n l whole long false other e w h = ap alg_labelled e ∙ h
+  pub alg_labelled-some : alg_labelled l ≡ Some a → Named l a
+  alg_labelled-some e = elim (either_told (alg_whole l) _ a e) [
+    | inl whole ↦ alg_whole-some l a whole
+    | inr rest ↦
+        by_test _ (bytes_eq-Decides (take 8 l) (codes "BLAKE2b-")) _ _ _
+        (number_told Blake2b _ _ (λ n h. ((h.0, h.1), inr h.2)))
+        (λ _. by_test _ (bytes_eq-Decides (take 8 l) (codes "BLAKE2s-")) _ _ _
+        (number_told Blake2s _ _ (λ n h. ((h.0, h.1), inr h.2))) (λ _ is. absurd (none-some a is))) rest
+  ]
 
 pub alg_labelled-is : (l : List ℕ) (a : Alg) → IsInRange a → IsLabel l a → alg_labelled l ≡ Some a
-alg_labelled-is l Sha256 r e = ap alg_labelled e
-alg_labelled-is l Sha512 r e = ap alg_labelled e
-alg_labelled-is l (Blake2b n) r (inl e) =
-    written_is Blake2b BLAKE2B_LEN n l (codes "BLAKE2b") _ (n == BLAKE2B_LEN) refl e refl (numbered_2b n r)
-alg_labelled-is l (Blake2b n) r (inr e) = ap alg_labelled e ∙ numbered_2b n r
-alg_labelled-is l (Blake2s n) r (inl e) =
-    written_is Blake2s BLAKE2S_LEN n l (codes "BLAKE2s") _ (n == BLAKE2S_LEN) refl e refl (numbered_2s n r)
-alg_labelled-is l (Blake2s n) r (inr e) = ap alg_labelled e ∙ numbered_2s n r
-alg_labelled-is l Blake3 r e = ap alg_labelled e
-
--- a label that is none of those without a number, and has none of the numbers, names nothing
-unlisted : (l m : List ℕ) (a : Alg) → alg_whole l ≡ None → l ≡ m → alg_whole m ≡ Some a → ⊥
-unlisted l m a none e some = none-some a (sym none ∙ ap alg_whole e ∙ some)
-
-unwritten : (of : ℕ → Alg) (most n : ℕ) (l whole long : List ℕ) (b : Bool) → alg_whole l ≡ None
-    → (l ≡ long → ⊥) → alg_whole whole ≡ Some (of most) → l ≡ cond b whole long → ⊥
-unwritten of most n l whole long true none other is e = unlisted l whole (of most) none e is
-unwritten of most n l whole long false none other is e = other e
-
-pub not_named : (l : List ℕ) → alg_whole l ≡ None → NotNumbered l (codes "BLAKE2b-") BLAKE2B_LEN
-    → NotNumbered l (codes "BLAKE2s-") BLAKE2S_LEN → NotNamed l
-not_named l none b s Sha256 r e = unlisted l (codes "SHA256") Sha256 none e refl
-not_named l none b s Sha512 r e = unlisted l (codes "SHA512") Sha512 none e refl
-not_named l none b s (Blake2b n) r (inl e) = unwritten Blake2b BLAKE2B_LEN n l (codes "BLAKE2b") _ (n == BLAKE2B_LEN) none
-    (b n (omega (arith, r.0)) r.1) refl e
-not_named l none b s (Blake2b n) r (inr e) = b n (omega (arith, r.0)) r.1 e
-not_named l none b s (Blake2s n) r (inl e) = unwritten Blake2s BLAKE2S_LEN n l (codes "BLAKE2s") _ (n == BLAKE2S_LEN) none
-    (s n (omega (arith, r.0)) r.1) refl e
-not_named l none b s (Blake2s n) r (inr e) = s n (omega (arith, r.0)) r.1 e
-not_named l none b s Blake3 r e = unlisted l (codes "BLAKE3") Blake3 none e refl
+alg_labelled-is = by_label (λ l a. alg_labelled l ≡ Some a) refl refl refl refl refl
+    (λ n r. ap (option_and_then (λ (k : ℕ). Some (Blake2b k))) (bytes_told-is BLAKE2B_LEN n r.0 r.1 (omega arith)))
+    (λ n r. ap (option_and_then (λ (k : ℕ). Some (Blake2s k))) (bytes_told-is BLAKE2S_LEN n r.0 r.1 (omega arith)))
 
 pub alg_labelled-none : (l : List ℕ) → NotNamed l → alg_labelled l ≡ None
 alg_labelled-none l none =
@@ -184,64 +115,49 @@ end_cut-some rest n p e = grind (arith, nat_tests, bytes_eq-Decides)
 pub end_cut-is : (rest : List ℕ) (n : ℕ) (body digits : List ℕ) → Ended rest n body digits
     → end_cut n rest ≡ Some (body, digits)
 end_cut-is rest n body digits e =
-    let whole = body ++ closing digits in
-    let parts = length-append body (closing digits) in
-    let size : length whole - (n + 4) ≡ length body = let few = e.1 in omega (arith, parts, few) in
-    ap (end_cut n) e.0 ∙ ap (λ k. end_at k whole n) size
-    ∙ rw (
-      take-append_seam body (closing digits),
-      drop-append-add body (closing digits) 4,
-      (bytes_eq-Decides whole whole).1 refl,
-      (Decides-eqb (length digits) n).1 e.1,
-    ) refl
+    let size : length rest - (n + 4) ≡ length body = grind (arith, length-append body (closing digits)) in
+    rw (size, e.0, take-append_seam, drop-append-add body (closing digits) 4)
+    (grind (arith, nat_tests, bytes_eq-Decides))
 
 pub end_cut-none : (rest : List ℕ) (n : ℕ) → NotEnded rest n → end_cut n rest ≡ None
 end_cut-none rest n none = none_if (end_cut n rest) (λ p e. none p.0 p.1 (end_cut-some rest n p e))
 
 -- ---- the forms
 
-with_tag-some : (a : Alg) (digits body : List ℕ) (f : Form) → with_tag a digits body ≡ Some f
-    → (decode_of digits ≡ Ok f.1) × (a ≡ f.0) × (body ≡ f.2)
-with_tag-some a digits body f e = grind arith
-
 mark-Decides : (mark : ℕ) → Decides (is_mark mark) (IsMark mark)
 mark-Decides mark = Decides-or _ _ (Decides-eqb mark 32) (Decides-eqb mark 42)
 
+pub plain_form : (kind : Kind) (ds : List ℕ) (c : ℕ) (a : Alg) (tag body : List ℕ) → IsMark c → kind_of a ≡ kind
+    → IsInRange a → length ds ≡ 2 * tag_len a → decode_of ds ≡ Ok tag → Parts (ds ++ 32 ∷ c ∷ body) kind a tag body
+plain_form kind ds c a tag body m k r s t =
+    record { digits = ds; mark = c; whole = refl; marked = m; kind_is = k; range = r; sized = s; tag_is = t }
+
+pub labelled_form : (l ds : List ℕ) (a : Alg) (tag body : List ℕ) → IsInRange a → IsLabel l a
+    → length ds ≡ 2 * tag_len a → decode_of ds ≡ Ok tag → Labelled (l ++ 32 ∷ 40 ∷ (body ++ closing ds)) a tag body
+labelled_form l ds a tag body r n s t =
+    record { label = l; digits = ds; whole = refl; range = r; names = n; sized = s; tag_is = t }
+
 module _ (kind : Kind) where
+  with_tag-some : (text : List ℕ) (a : Alg) (digits body : List ℕ) (f : Form)
+      → ((t : List ℕ) → decode_of digits ≡ Ok t → HasForm text kind a t body) → with_tag a digits body ≡ Some f
+      → HasForm text kind f.0 f.1 f.2
+  with_tag-some text a digits body f has e = grind arith
+
   form_at-some : (word rest : List ℕ) (f : Form) → form_at kind word rest ≡ Some f
       → HasForm (word ++ 32 ∷ rest) kind f.0 f.1 f.2
   form_at-some word [] f e = absurd (none-some f e)
   form_at-some word (mark ∷ rest) f e =
       by_test (is_mark mark) (mark-Decides mark) _ _ _ (λ marked is.
-      option_and_then_some _ (alg_of kind (length word)) f is (λ a named told.
-      let t = with_tag-some a word rest f told in
+      option_and_then_some _ (alg_of kind (length word)) f is (λ a named.
       let n = alg_of-some kind (length word) a named in
-      inl record {
-        digits = word;
-        mark = mark;
-        whole = ap (λ l. word ++ 32 ∷ mark ∷ l) t.2;
-        marked = marked;
-        kind_is = ap kind_of (sym t.1) ∙ n.0;
-        range = subst IsInRange t.1 n.1;
-        sized = n.2 ∙ ap (λ b. 2 * tag_len b) t.1;
-        tag_is = t.0;
-      }))
+      with_tag-some _ a word rest f (λ t ok. inl (plain_form kind word mark a t rest marked n.0 n.1 n.2 ok))))
       (λ unmarked. by_test (mark == 40) (Decides-eqb mark 40) _ _ _ (λ bracket is.
       option_and_then_some _ (alg_labelled word) f is (λ a named more.
-      option_and_then_some _ (end_cut (2 * tag_len a) rest) f more (λ p ends told.
-      let t = with_tag-some a p.1 p.0 f told in
-      let n = subst (Named word) t.1 (alg_labelled-some word a named) in
+      option_and_then_some _ (end_cut (2 * tag_len a) rest) f more (λ p ends.
+      let n = alg_labelled-some word a named in
       let d = end_cut-some rest (2 * tag_len a) p ends in
-      inr record {
-        label = word;
-        digits = p.1;
-        whole = ap₂ (λ (m : ℕ) (l : List ℕ). word ++ 32 ∷ m ∷ l) bracket
-            (d.0 ∙ ap (λ b. b ++ closing p.1) t.2);
-        range = n.0;
-        names = n.1;
-        sized = d.1 ∙ ap (λ b. 2 * tag_len b) t.1;
-        tag_is = t.0;
-      })))
+      with_tag-some _ a p.1 p.0 f
+      (λ t ok. rw (bracket, d.0) (inr (labelled_form word p.1 a t p.0 n.0 n.1 d.1 ok))))))
       (λ neither is. absurd (none-some f is))) e
 
   pub form_of-some : (text : List ℕ) (f : Form) → form_of kind text ≡ Some f → HasForm text kind f.0 f.1 f.2
@@ -252,14 +168,11 @@ module _ (kind : Kind) where
   pub form_of-cut : (text word rest : List ℕ) → IsCut 32 text word rest → form_of kind text ≡ form_at kind word rest
   form_of-cut text word rest c = rw (c.0, cut-at word rest c.1) refl
 
-  word_cut : {text : List ℕ} (word rest : List ℕ) → IsWord word → text ≡ word ++ 32 ∷ rest → IsCut 32 text word rest
-  word_cut word rest w e = (e, no_space word w)
-
   pub form_of-is : (text : List ℕ) (a : Alg) (t x : List ℕ) → HasForm text kind a t x
       → form_of kind text ≡ Some (a, t, x)
   form_of-is text a t x (inl p) =
-      form_of-cut _ _ _ (word_cut p.digits (p.mark ∷ x) (digits_word p.digits t p.tag_is) p.whole)
-      ∙ rw ((mark-Decides p.mark).1 p.marked, alg_of-is kind (length p.digits) a p.kind_is p.range p.sized, p.tag_is) refl
+      form_of-cut text p.digits (p.mark ∷ x) (p.whole, no_space _ (digits_word p.digits t p.tag_is))
+      ∙ rw ((mark-Decides _).1 p.marked, alg_of-is kind (length p.digits) a p.kind_is p.range p.sized, p.tag_is) refl
   form_of-is text a t x (inr q) =
-      form_of-cut _ _ _ (word_cut q.label (40 ∷ (x ++ closing q.digits)) (label_word q.label a q.range q.names) q.whole)
+      form_of-cut text q.label _ (q.whole, no_space _ (label_word q.label a q.range q.names))
       ∙ rw (alg_labelled-is q.label a q.range q.names, end_cut-is _ _ x q.digits (refl, q.sized), q.tag_is) refl

@@ -3,18 +3,19 @@ use Rattle.sumlist.proofs.Common.{◌≡◌, inl, inr, ◌*◌, ◌≤◌, Bool,
 use Rattle.sumlist.proofs.Common.{ap, length-append, if◌then◌else◌, ◌∙◌, eqb, arith, All-weaker, false≢true}
 use Rattle.sumlist.proofs.Common.{nat_tests, decode_of-encode_lower, length-encode_with, encode_lower, lower_digits}
 use Rattle.sumlist.proofs.Common.{Alg, Kind, Listing, IsEntry, escaped, escape_of, needs_escape}
-use Rattle.sumlist.proofs.Common.{SpellsName, HasForm, Says, core, IsBlank, Spells, IsLabel, label_of}
+use Rattle.sumlist.proofs.Common.{SpellsName, HasForm, IsLine, Says, core, IsBlank, Spells, IsLabel, label_of}
 use Rattle.sumlist.proofs.Common.{closing, tagged_len, ℕ}
 use Rattle.std.specs.Prelude.{not}
 use Rattle.std.specs.List.{list_all}
-use Rattle.std.proofs.lemmas.List.Elements.{All-contains}
+use Rattle.std.proofs.lemmas.List.Elements.{All-contains, All-head}
 use Rattle.std.proofs.lemmas.List.Folds.{list_all-append}
 use Rattle.std.proofs.lemmas.List.Sums.{AllPass-from_list_all, list_all-from_AllPass}
 use Rattle.sumlist.specs.Entry.{written_line}
 use Rattle.sumlist.specs.Kinds.{kind_of}
 use Rattle.sumlist.specs.Tagged.{tagged_line}
 use Rattle.sumlist.proofs.EscapedNames.{escaped-plain}
-use Rattle.sumlist.proofs.Words.{InWord, IsWord, digits_word, label_word, no_comment}
+use Rattle.sumlist.proofs.Reading.{labelled_form, plain_form}
+use Rattle.sumlist.proofs.Words.{InWord, IsWord, digits_word, label_word}
 
 -- ---- the escaped form of a name
 
@@ -49,18 +50,13 @@ spells : (line : List ℕ) (kind : Kind) (e : Listing) → Says line kind e → 
     → (IsBlank line → ⊥) → length line ≤ 65536 → Spells line kind e
 spells line kind e stated i all told fits =
     let whole = core_whole line all in
-    let each = AllPass-from_list_all is_inner line all in
-    record {
-      is_line =
-          record { one = λ c. false≢true (All-contains (λ c. is_inner c ≡ true) line 10 each c); within = fits };
-      not_skipped = λ s. told (rw whole at s.1);
-      is_entry = i;
-      form = rw whole stated;
-    }
+    let free = All-contains (λ c. is_inner c ≡ true) line 10 (AllPass-from_list_all is_inner line all) in
+    let l : IsLine line = record { one = λ c. false≢true (free c); within = fits } in
+    record { is_line = l; not_skipped = λ s. told (rw whole at s.1); is_entry = i; form = rw whole stated }
 
 not_blank : (word rest : List ℕ) → IsWord word → IsBlank (word ++ 32 ∷ rest) → ⊥
-not_blank word rest w (inl none) = let size = ap length none in omega (arith, length-append {A = ℕ}, size)
-not_blank word rest w (inr hash) = no_comment word rest w hash
+not_blank [] rest w b = grind arith
+not_blank (x ∷ word) rest w b = let above = (All-head InWord x word w).0 in grind arith
 
 -- where such a text has a form for each body, it spells the entry whose name is the body, escaped
 module _ (e : Listing) (kind : Kind) (word : List ℕ) (more : List ℕ → List ℕ)
@@ -82,18 +78,11 @@ written_spells e i =
     let digits = encode_lower e.tag in
     let value = decode_of-encode_lower e.tag i.bytes in
     let word = digits_word digits e.tag value in
-    let size = length-encode_with lower_digits e.tag in
-    spells_by e (kind_of e.alg) digits (λ body. 32 ∷ body) (λ body. inl (record {
-      digits = digits;
-      mark = 32;
-      whole = refl;
-      marked = inl refl;
-      kind_is = refl;
-      range = i.range;
-      sized = size ∙ ap (λ n. 2 * n) i.sized;
-      tag_is = value;
-    })) (needs_escape e.name) refl i word (simp (list_all-append, word_inner digits word, escaped_inner e.name))
-    (omega (arith, length-append {A = ℕ}, size, i.fits.within))
+    let sized = length-encode_with lower_digits e.tag ∙ ap (λ n. 2 * n) i.sized in
+    spells_by e (kind_of e.alg) digits (λ body. 32 ∷ body)
+    (λ body. inl (plain_form _ digits 32 e.alg e.tag body (inl refl) refl i.range sized value))
+    (needs_escape e.name) refl i word (simp (list_all-append, word_inner digits word, escaped_inner e.name))
+    (omega (arith, length-append {A = ℕ}, sized, i.sized, i.fits.within))
 
 -- ---- the tagged line, whatever the kind of its list
 
@@ -107,16 +96,10 @@ tagged_spells e kind i fits =
     let digits = encode_lower e.tag in
     let value = decode_of-encode_lower e.tag i.bytes in
     let label = label_word (label_of e.alg) e.alg i.range (label_named e.alg) in
-    let size = length-encode_with lower_digits e.tag in
-    spells_by e kind (label_of e.alg) (λ body. 40 ∷ (body ++ closing digits)) (λ body. inr (record {
-      label = label_of e.alg;
-      digits = digits;
-      whole = refl;
-      range = i.range;
-      names = label_named e.alg;
-      sized = size ∙ ap (λ n. 2 * n) i.sized;
-      tag_is = value;
-    })) (needs_escape e.name) refl i label
-    (let word = digits_word digits e.tag value in
-    simp (list_all-append, word_inner (label_of e.alg) label, escaped_inner e.name, word_inner digits word))
-    (omega (arith, length-append {A = ℕ}, size, i.sized, fits))
+    let sized = length-encode_with lower_digits e.tag ∙ ap (λ n. 2 * n) i.sized in
+    let word = digits_word digits e.tag value in
+    spells_by e kind (label_of e.alg) (λ body. 40 ∷ (body ++ closing digits))
+    (λ body. inr (labelled_form _ digits e.alg e.tag body i.range (label_named e.alg) sized value))
+    (needs_escape e.name) refl i label
+    (simp (list_all-append, word_inner (label_of e.alg) label, escaped_inner e.name, word_inner digits word))
+    (omega (arith, length-append {A = ℕ}, sized, fits))

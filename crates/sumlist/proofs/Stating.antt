@@ -1,9 +1,8 @@
 -- A core states the entry that its reading finds, and nothing else, and the entry's tag fits its algorithm.
 use Rattle.sumlist.proofs.Common.{◌++◌, ◌∙◌, ◌∷◌, ◌≡◌, ◌≤◌, Alg, Bool, HasForm, IsBytes, IsInRange, Kind, List}
-use Rattle.sumlist.proofs.Common.{Listing, Some, Says, [], ap, arith, closing, cond, core, decode_of-ok}
-use Rattle.sumlist.proofs.Common.{eqb-true, false, inl, inr, length, length-append, name_of, nat_tests, refl, subst}
+use Rattle.sumlist.proofs.Common.{Listing, Some, Says, [], ap, arith, closing, core, decode_of-ok}
+use Rattle.sumlist.proofs.Common.{false, inl, inr, length, length-append, name_of, nat_tests, refl, subst}
 use Rattle.sumlist.proofs.Common.{sym, tag_len, text, true, ℕ}
-use Rattle.std.proofs.Common.{◌==◌}
 use Rattle.std.proofs.lemmas.List.Elements.{All-head}
 use Rattle.std.proofs.lemmas.Option.{option_and_then_some, same_Some}
 use Rattle.sumlist.specs.inside.Reading.{Form, entry_of, form_of, is_slashed, stated, unslashed}
@@ -15,15 +14,14 @@ use Rattle.sumlist.proofs.Words.{InWord, IsWord, digits_word, label_word}
 
 form_fit : (text : List ℕ) (kind : Kind) (a : Alg) (t x : List ℕ) → HasForm text kind a t x
     → IsInRange a × (length t ≡ tag_len a) × IsBytes t
-form_fit text kind a t x (inl p) =
-    let d = decode_of-ok p.digits t p.tag_is in (p.range, omega (arith, p.sized, d.2), d.3)
-form_fit text kind a t x (inr p) =
-    let d = decode_of-ok p.digits t p.tag_is in (p.range, omega (arith, p.sized, d.2), d.3)
+form_fit text kind a t x h = elim h [
+  | inl p ↦ let d = decode_of-ok p.digits t p.tag_is in (p.range, omega (arith, p.sized, d.2), d.3)
+  | inr p ↦ let d = decode_of-ok p.digits t p.tag_is in (p.range, omega (arith, p.sized, d.2), d.3)
+]
 
 pub stated_fit : (core : List ℕ) (kind : Kind) (e : Listing) → Says core kind e
     → IsInRange e.alg × (length e.tag ≡ tag_len e.alg) × IsBytes e.tag
-stated_fit core kind e (inl p) = form_fit core kind e.alg e.tag e.name p
-stated_fit core kind e (inr p) = form_fit p.0 kind e.alg e.tag p.1 p.3
+stated_fit core kind e s = elim s [ inl p ↦ form_fit _ kind _ _ _ p | inr p ↦ form_fit _ kind _ _ _ p.3 ]
 
 pub form_len : {text : List ℕ} {kind : Kind} {a : Alg} {t x : List ℕ} → HasForm text kind a t x
     → length x ≤ length text
@@ -59,21 +57,17 @@ module _ (kind : Kind) where
   stated-is core e (inr q) = ap (stated kind) q.2
       ∙ rw (form_of-is kind q.0 e.alg e.tag q.1 q.3, unescaped-spelled q.1 e.name q.4) refl
 
-  stated_by : (core : List ℕ) (a : Alg) (t x name : List ℕ) → HasForm (unslashed core) kind a t x
-      → name_of (is_slashed core) x ≡ Some name → Says core kind (listing name a t)
-  stated_by [] a t x name p n = inl (subst (λ y. HasForm [] kind a t y) (same_Some x name n) p)
-  stated_by (c ∷ text) a t x name p n = by (c == 92) refl p n
-    where
-      by : (b : Bool) → (c == 92) ≡ b → HasForm (cond b text (c ∷ text)) kind a t x → name_of b x ≡ Some name
-          → Says (c ∷ text) kind (listing name a t)
-      by true slash p n = inr (text, x, ap (λ k. k ∷ text) (eqb-true c 92 slash), p, spelled-unescaped x name n)
-      by false other p n = inl (subst (λ y. HasForm (c ∷ text) kind a t y) (same_Some x name n) p)
+  stated_by : (core : List ℕ) (a : Alg) (t x name : List ℕ) → HasForm (unslashed core) kind a t x → (b : Bool)
+      → is_slashed core ≡ b → name_of b x ≡ Some name → Says core kind (listing name a t)
+  stated_by core a t x name p true is n = inr (unslashed core, x, grind (arith, nat_tests), p, spelled-unescaped x _ n)
+  stated_by core a t x name p false is n =
+      inl (rw (same_Some x name n) at (rw (unslashed-plain core is) at p))
 
   pub stated-some : (core : List ℕ) (e : Listing) → stated kind core ≡ Some e → Says core kind e
   stated-some core e s = option_and_then_some _ (form_of kind (unslashed core)) e s (λ f form more.
       option_and_then_some _ (name_of (is_slashed core) f.2) e more (λ name named same.
       subst (Says core kind) (same_Some (listing name f.0 f.1) e same)
-      (stated_by core f.0 f.1 f.2 name (form_of-some kind (unslashed core) f form) named)))
+      (stated_by core f.0 f.1 f.2 name (form_of-some kind (unslashed core) f form) (is_slashed core) refl named)))
 
   -- what the reading finds step by step
   pub stated-form : (core : List ℕ) {text : List ℕ} {b : Bool} {f : Form}

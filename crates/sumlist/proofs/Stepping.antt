@@ -1,6 +1,6 @@
 -- A list that is checked line by line: a line's outcome comes before those of the lines that are left.
 use Rattle.sumlist.proofs.Common.{◌≡◌, ◌+◌, ◌++◌, List, [], ◌∷◌, subst, sym, refl, Option, None, Some, IfSome}
-use Rattle.sumlist.proofs.Common.{IfSome_then, IsErr, Result, Err, Ok, arith, MatchResult-from_err, Appends-nil}
+use Rattle.sumlist.proofs.Common.{IfSome_then, IsErr, Result, Err, Ok, arith, Appends-nil}
 use Rattle.sumlist.proofs.Common.{Appends-trans, AppendsPrefix, Kind, Mark, Summary, CheckFault, Files, ListChecked}
 use Rattle.sumlist.proofs.Common.{IsCounted, LineChecked, Outcome, lines_of, no_lines, text, true, ℕ}
 use Rattle.std.specs.Io.KnownBytes.{IsAtEnd}
@@ -8,20 +8,13 @@ use Rattle.std.proofs.lemmas.Result.{MatchResult-weaker}
 use Rattle.source.proofs.Writing.{AppendsPrefix-after, AppendsPrefix-more, AppendsPrefix-none}
 use Rattle.sumlist.specs.Lines.{IsKept}
 use Rattle.sumlist.specs.Report.{number_of, report_from}
-use Rattle.sumlist.specs.Tally.{entries_of}
 use Rattle.sumlist.specs.inside.Ahead.{Checks, Counts, RestChecked}
-use Rattle.sumlist.specs.inside.Marks.{entry_by, mark_of}
+use Rattle.sumlist.specs.inside.Marks.{mark_of}
 use Rattle.sumlist.specs.inside.Stepped.{Stepped}
 use Rattle.sumlist.specs.inside.Taking.{IsNextPiece}
 use Rattle.sumlist.proofs.Deciding.{all_settled}
 
 -- ---- lines
-
-pub lines_of-counted : (m : Mark) (s t : Summary) → IsCounted m s t → lines_of t ≡ lines_of s + 1
-lines_of-counted m s t c = grind arith
-
-pub entries_of-counted : (m : Mark) (s t : Summary) → IsCounted m s t → entries_of t ≡ entries_of s + entry_by m
-entries_of-counted m s t c = grind arith
 
 counts_line : (o : Outcome) (os : List Outcome) (s u t : Summary) → IsCounted (mark_of o) s u → Counts u os t
     → Counts s (o ∷ os) t
@@ -35,12 +28,8 @@ module _ {files : Files} {kind : Kind} {s : Summary} {m : ℕ} {b : Option (List
 
   -- a fault before any
   rest-halted : {ls : List (List ℕ)} {r : Result Summary CheckFault} → IsErr r → RestChecked files kind ls s r m m b b
-  rest-halted {ls} stopped = let others = all_settled files kind ls in record {
-    outcomes = others.0;
-    allowed = others.1;
-    counted = omega (arith, others.2);
-    told = MatchResult-from_err _ _ _ stopped (λ _. AppendsPrefix-none b _);
-  }
+  rest-halted {ls} stopped = let os = all_settled files kind ls in
+      record { outcomes = os.0; allowed = os.1; counted = omega arith; told = grind (arith, AppendsPrefix-none) }
 
   module _ {line : List ℕ} {ls : List (List ℕ)} {r : Result Summary CheckFault} {n : ℕ} {c : Option (List ℕ)} where
     -- a fault at the first
@@ -48,12 +37,10 @@ module _ {files : Files} {kind : Kind} {s : Summary} {m : ℕ} {b : Option (List
         → (o : Outcome) × Stepped files kind line o m n × AppendsPrefix b c (text (lines_of s + 1) o)
         → RestChecked files kind (line ∷ ls) s r m n b c
     unfolding report_from number_of
-    rest-stopped stopped l = let others = all_settled files kind ls in record {
-      outcomes = l.0 ∷ others.0;
-      allowed = (l.1.allowed, others.1);
-      counted = omega (arith, others.2, l.1.counted);
-      told = MatchResult-from_err r _ _ stopped (λ _. AppendsPrefix-more b c _ _ l.2);
-    }
+    rest-stopped stopped l =
+        let os = all_settled files kind ls in
+        let told = AppendsPrefix-more b c _ (report_from (lines_of s + 2) os.0) l.2 in
+        record { outcomes = l.0 ∷ os.0; allowed = (l.1.allowed, os.1); counted = omega arith; told = grind arith }
 
     -- the first was checked, and then the rest
     rest-line : {mark : Mark} {u : Summary} {p : ℕ} {d : Option (List ℕ)}
@@ -62,15 +49,13 @@ module _ {files : Files} {kind : Kind} {s : Summary} {m : ℕ} {b : Option (List
     unfolding report_from number_of
     rest-line {u} {d} l counted q =
         let grown = subst (λ x. IsCounted x s u) (sym l.2.0) counted in
-        let up = lines_of-counted (mark_of l.0) s u grown in
+        let up : lines_of u ≡ lines_of s + 1 = grind arith in
         record {
           outcomes = l.0 ∷ q.outcomes;
           allowed = (l.1.allowed, q.allowed);
-          counted = omega (arith, l.1.counted, q.counted);
-          told = MatchResult-weaker r q.told (λ t h. (
-            counts_line l.0 q.outcomes s u t grown h.0,
-            Appends-trans b c d _ _ l.2.1 (rw up at h.1),
-          ))
+          counted = omega arith;
+          told = MatchResult-weaker r q.told
+              (λ t h. (counts_line l.0 q.outcomes s u t grown h.0, Appends-trans b c d _ _ l.2.1 (rw up at h.1)))
               (λ _ h. AppendsPrefix-after b c d _ _ l.2.1 (rw up at h));
         }
 

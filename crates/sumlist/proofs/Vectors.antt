@@ -5,6 +5,7 @@ use Rattle.std.specs.Fmt.{digits}
 use Rattle.hex.specs.Hex.{encode_with, decode_pairs}
 use Rattle.source.specs.declared.alg.Alg.TheVariants.{Blake2b, Blake2s}
 use Rattle.sumlist.specs.Report.{report_from}
+use Rattle.sumlist.proofs.Reading.{labelled_form}
 
 -- BLAKE2b of "abc" with a digest of one byte, under a name with a backslash and an LF
 abbrev example : Listing
@@ -32,15 +33,7 @@ label_of_160_bits = refl
 -- the name ends at the last bracket that digits follow
 labelled_example : Labelled (codes "BLAKE2b-8 (a) = b) = 6B") (Blake2b 1) (0x6b ∷ []) (codes "a) = b")
 unfolding digits decode_pairs
-labelled_example = record {
-  label = codes "BLAKE2b-8";
-  digits = codes "6B";
-  whole = refl;
-  range = (omega arith, omega arith);
-  names = inr refl;
-  sized = refl;
-  tag_is = refl;
-}
+labelled_example = labelled_form _ _ _ _ (codes "a) = b") (omega arith, omega arith) (inr refl) refl refl
 
 -- an empty line in the middle counts, an empty last one does not
 lines_example : lines (97 ∷ 10 ∷ 10 ∷ 98 ∷ 10 ∷ []) ≡ (97 ∷ []) ∷ [] ∷ (98 ∷ []) ∷ []

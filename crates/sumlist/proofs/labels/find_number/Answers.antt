@@ -1,6 +1,5 @@
-use Rattle.sumlist.proofs.Common.{◌*◌, ◌∙◌, None, Some, arith, decimal, rules, sym}
+use Rattle.sumlist.proofs.Common.{◌*◌, None, Some, decimal, rules}
 use Rattle.std.proofs.lemmas.Bool.Decides.{Decides-eqb}
-use Rattle.std.proofs.lemmas.List.{append_cancel_left}
 use Rattle.std.proofs.lemmas.Slice.Eq.{strip_prefix_is}
 use Rattle.sumlist.proofs.labels.find_number.Goals as goal
 
@@ -10,13 +9,5 @@ returns-in_err-digits c = rw c.from_residual.ensures (λ n some fits.
 
 pub returns-then-is_same : goal.returns-then-is_same
 returns-then-is_same c =
-    let whole = strip_prefix_is Decides-eqb c.args.label.now c.args.front.now (Some c.in_ok-digits.digits)
-    c.in_ok-digits.ensures.cases in
+    let whole = strip_prefix_is Decides-eqb _ _ (Some c.in_ok-digits.digits) c.in_ok-digits.ensures.cases in
     search (rules, whole)
-
-pub returns : goal.returns
-returns c = λ n some fits e.
-    let whole = strip_prefix_is Decides-eqb c.args.label.now c.args.front.now (Some c.in_ok-digits.digits)
-    c.in_ok-digits.ensures.cases in
-    c.loop-n.invariant.none n some (omega (arith, fits, c.loop-n-test.false))
-    (append_cancel_left c.args.front.now c.in_ok-digits.digits.now (decimal (8 * n)) (sym whole ∙ e))

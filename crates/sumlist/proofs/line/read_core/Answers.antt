@@ -1,4 +1,4 @@
-use Rattle.sumlist.proofs.Common.{◌∙◌, arith, refl, sym}
+use Rattle.sumlist.proofs.Common.{◌∙◌, arith, sym}
 use Rattle.sumlist.proofs.Reading.{form_of-some}
 use Rattle.sumlist.proofs.Stating.{entry_of-name, form_len, stated-form}
 use Rattle.sumlist.proofs.line.read_core.Goals as goal
@@ -14,9 +14,3 @@ returns-in_err-given c = rw c.from_residual-in_err-given.ensures (λ e s.
     let named = entry_of-name c.unslash-is_escaped.result.0 (c.in_ok-alg.alg, c.in_ok-alg.tag, c.in_ok-alg.body.now) e
     (sym is ∙ s.0) in
     (rw (c.bytes.ensures.value, named.1) at c.in_err-given.ensures) (e.name, named.0, s.1, s.2))
-
-pub returns : goal.returns
-returns c =
-    let is = stated-form c.args.kind c.args.core.now c.unslash-is_escaped.ensures.core c.in_ok-alg.ensures in
-    let n = rw c.bytes.ensures.value at c.in_ok-given.ensures.0 in
-    (n.0, (is ∙ rw n.1 refl, n.2, n.3), rw (c.in_ok-given.ensures.1, c.in_ok-given.ensures.2) n.1)

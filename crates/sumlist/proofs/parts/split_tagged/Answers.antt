@@ -9,12 +9,8 @@ returns-in_err-alg c =
 pub returns-in_err-body : goal.returns-in_err-body
 returns-in_err-body c =
     let alg = alg_labelled-is c.args.label.now c.in_ok-alg.alg c.in_ok-alg.ensures.0 c.in_ok-alg.ensures.1 in
-    rw (
-      c.from_residual-in_err-body.ensures,
-      alg,
-      sym c.digits_of.ensures.value,
-      end_cut-none c.args.rest.now c.digits_of.result c.in_err-body.ensures,
-    ) refl
+    let none = end_cut-none c.args.rest.now c.digits_of.result c.in_err-body.ensures in
+    rw (c.from_residual-in_err-body.ensures, alg, sym c.digits_of.ensures.value, none) refl
 
 pub returns-in_err-tag : goal.returns-in_err-tag
 returns-in_err-tag c =

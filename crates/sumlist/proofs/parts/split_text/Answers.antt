@@ -6,11 +6,9 @@ pub returns-in_err-word : goal.returns-in_err-word
 returns-in_err-word c = rw (c.from_residual.ensures, cut-none c.args.text.now c.in_err-word.ensures) refl
 
 pub returns-in_err-mark : goal.returns-in_err-mark
-returns-in_err-mark c = rw (
-  c.from_residual-in_err-mark.ensures,
-  form_of-cut c.args.kind _ _ _ c.in_ok-word.ensures,
-  nil_from_length _ c.in_err-mark.ensures.cases,
-) refl
+returns-in_err-mark c =
+    let empty = nil_from_length _ c.in_err-mark.ensures.cases in
+    rw (c.from_residual-in_err-mark.ensures, form_of-cut c.args.kind _ _ _ c.in_ok-word.ensures, empty) refl
 
 pub returns-then-is_mark : goal.returns-then-is_mark
 returns-then-is_mark c =

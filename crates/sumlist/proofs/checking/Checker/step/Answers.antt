@@ -1,5 +1,5 @@
-use Rattle.sumlist.proofs.Common.{MatchResult-from_err, arith}
-use Rattle.sumlist.proofs.Stepping.{checks-halted, checks-line, checks-stopped, entries_of-counted}
+use Rattle.sumlist.proofs.Common.{MatchResult-from_err}
+use Rattle.sumlist.proofs.Stepping.{checks-halted, checks-line, checks-stopped}
 use Rattle.sumlist.proofs.checking.Checker.step.Goals as goal
 
 pub returns-in_err-next-clause-checked : goal.returns-in_err-next-clause-checked
@@ -16,9 +16,3 @@ pub returns-clause-checked : goal.returns-clause-checked
 returns-clause-checked g c =
     let next = rw c.if-not-branch.false at c.in_ok-next.ensures.piece in
     λ r n d later. checks-line _ _ _ _ _ _ next _ c.count.ensures c.in_ok-mark.ensures.checked later
-
-pub returns-clause-opens : goal.returns-clause-opens
-returns-clause-opens g c =
-    let more = entries_of-counted _ _ _ c.count.ensures in
-    let opened = c.in_ok-mark.ensures.opens in
-    λ k few. omega (arith, more, opened, few)

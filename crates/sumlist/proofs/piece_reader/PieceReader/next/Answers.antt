@@ -1,6 +1,6 @@
-use Rattle.std.proofs.KnownBytes.{Consumes-nil, Consumes-trans}
-use Rattle.sumlist.proofs.Common.{◌≡◌, ◌<◌, ◌∙◌, ◌++◌, [], All-append, Bool, List, Option, Some, append-nil, append_assoc}
-use Rattle.sumlist.proofs.Common.{ap, arith, eqb, err_from_is_err_and, false, length, length-append, refl, rules, subst}
+use Rattle.std.proofs.KnownBytes.{Consumes-trans}
+use Rattle.sumlist.proofs.Common.{◌≡◌, ◌++◌, [], All-append, Bool, List, Option, Some, append-nil, append_assoc}
+use Rattle.sumlist.proofs.Common.{ap, arith, eqb, err_from_is_err_and, false, length, length-append, subst}
 use Rattle.sumlist.proofs.Common.{sym, true, ℕ}
 use Rattle.std.specs.Io.KnownBytes.{IsAtEnd}
 use Rattle.std.specs.Prelude.{IsTrue, not, ◌↔◌}
@@ -13,48 +13,26 @@ module _ (end : ℕ) (r s : Cutting) (front whole : List ℕ) (kept : IsKept r.k
     (is : whole ≡ front ++ r.ahead) where
   -- the end was found
   found : IsTaken end true r s → (left : List ℕ) → IsNextPiece end true s.kept (whole ++ left) (s.ahead ++ left)
-  found t left = (
-    front ++ t.0,
-    rw t.3 (IsKept-after r.kept front t.0 kept),
-    rw (is, append_assoc) (pieces-cut end r.ahead t.0 s.ahead t.1 front left free),
-  )
+  found t left =
+      let cut = pieces-cut end r.ahead t.0 s.ahead t.1 front left free in
+      (front ++ t.0, rw t.3 (IsKept-after r.kept front t.0 kept), rw (is, append_assoc) cut)
 
   -- all that is ahead belongs to the piece
   all_taken : IsTaken end false r s → IsKept s.kept whole × HasNo end whole
-  all_taken t = rw (is, t.4) (
-    IsKept-after r.kept front r.ahead kept,
-    All-append (λ x. eqb x end ≡ false) front r.ahead free t.0,
-  )
+  all_taken t =
+      rw (is, t.4) (IsKept-after r.kept front r.ahead kept, All-append (λ x. eqb x end ≡ false) front r.ahead free t.0)
 
 -- nothing more is to come
 ended : (end : ℕ) (is_empty : Bool) (kept : Option (List ℕ)) (whole : List ℕ) → IsTrue is_empty ↔ (kept ≡ Some [])
     → IsKept kept whole × HasNo end whole → IsNextPiece end (not is_empty) kept whole []
 ended end is_empty kept whole empty h = grind (arith, pieces-last, some_kept)
 
-not_empty : (is_empty : Bool) (kept : Option (List ℕ)) (whole : List ℕ) → IsTrue is_empty ↔ (kept ≡ Some [])
-    → IsKept kept whole → not is_empty ≡ true → 0 < length whole
-not_empty is_empty kept whole empty h some = grind (arith, some_kept)
-
-pub pieces-init : goal.pieces-init
-pieces-init g c = record {
-  read = [];
-  consumed = Consumes-nil (g.F.Feed.remaining c.args.feed.now);
-  front = [];
-  kept = rw c.clear.ensures (refl, omega arith);
-  free = search rules;
-  whole = append-nil c.args.self.now.ahead ∙ sym (ap (λ r. r.ahead) c.self.view_is);
-  counts = grind (arith, c.self.inside.range, ap (λ r. r.total) c.self.view_is);
-}
-
 pub returns-then-take-clause-piece : goal.returns-then-take-clause-piece
 returns-then-take-clause-piece g c =
     let i = c.pieces.invariant in
-    IfSome-read (g.F.Feed.remaining c.args.feed.now) _ i.read _ i.consumed (λ left is. (
-      left,
-      is,
-      rw (← append_assoc)
-          (found c.args.end c.pieces.self c.take.new.self i.front _ i.kept i.free i.whole c.if-take.ensures left),
-    ))
+    let next = found c.args.end c.pieces.self c.take.new.self i.front _ i.kept i.free i.whole c.if-take.ensures in
+    IfSome-read (g.F.Feed.remaining c.args.feed.now) _ i.read _ i.consumed
+    (λ left is. (left, is, rw (← append_assoc) (next left)))
 
 pub returns-then-take-clause-forth : goal.returns-then-take-clause-forth
 returns-then-take-clause-forth g c =
@@ -62,22 +40,13 @@ returns-then-take-clause-forth g c =
     let t = c.if-take.ensures in
     λ _. grind (arith, ap length i.whole, ap length t.1.0, length-append {A = ℕ})
 
-pub returns-then-take-clause-gave : goal.returns-then-take-clause-gave
-returns-then-take-clause-gave g c =
-    let i = c.pieces.invariant in
-    (i.read, i.consumed, grind arith, c.if-take.ensures.2 ∙ i.counts.total)
-
 pub returns-in_err-fill-clause-gave : goal.returns-in_err-fill-clause-gave
 returns-in_err-fill-clause-gave g c =
     let i = c.pieces.invariant in
     let gave = c.in_err-fill.ensures.gave in
     let fault = err_from_is_err_and c.from_residual.result c.from_residual.ensures.1 in
-    rw (fault.1, fault.2) (
-      i.read ++ gave.0,
-      Consumes-trans _ _ _ _ _ i.consumed gave.1,
-      grind (arith, length-append {A = ℕ}),
-      tt,
-    )
+    let all = Consumes-trans _ _ _ _ _ i.consumed gave.1 in
+    rw (fault.1, fault.2) (i.read ++ gave.0, all, grind (arith, length-append {A = ℕ}), tt)
 
 pub returns-then-not-branch-clause-piece : goal.returns-then-not-branch-clause-piece
 returns-then-not-branch-clause-piece g c =
@@ -85,32 +54,10 @@ returns-then-not-branch-clause-piece g c =
     let gave = c.in_ok-fill.ensures.gave in
     let end = gave.3.3 c.if-not-branch.true in
     let all = all_taken c.args.end c.pieces.self c.take.new.self i.front _ i.kept i.free i.whole c.if-take.ensures in
+    let last = ended c.args.end c.is_empty.result _ _ c.is_empty.ensures (rw (← c.in_ok-fill.ensures.kept.0) at all) in
     IfSome-read (g.F.Feed.remaining c.args.feed.now) _ (i.read ++ gave.0) _
-    (Consumes-trans _ _ _ _ _ i.consumed gave.1) (λ left is. let over : left ≡ [] = subst IsAtEnd is end.1 in (
-      left,
-      is,
-      simp (end.0, gave.3.1, over, append-nil) (ended c.args.end c.is_empty.result _ _ c.is_empty.ensures
-          (rw (← c.in_ok-fill.ensures.kept.0) at all)),
-    ))
-
-pub returns-then-not-branch-clause-forth : goal.returns-then-not-branch-clause-forth
-returns-then-not-branch-clause-forth g c =
-    let i = c.pieces.invariant in
-    let gave = c.in_ok-fill.ensures.gave in
-    let all = all_taken c.args.end c.pieces.self c.take.new.self i.front _ i.kept i.free i.whole c.if-take.ensures in
-    let some = not_empty c.is_empty.result _ _ c.is_empty.ensures (rw (← c.in_ok-fill.ensures.kept.0) at all.0) in
-    let end = gave.3.3 c.if-not-branch.true in
-    λ found. grind (arith, some found, ap length end.0, ap length gave.3.1, length-append {A = ℕ})
-
-pub returns-then-not-branch-clause-gave : goal.returns-then-not-branch-clause-gave
-returns-then-not-branch-clause-gave g c =
-    let i = c.pieces.invariant in
-    let gave = c.in_ok-fill.ensures.gave in (
-      i.read ++ gave.0,
-      Consumes-trans _ _ _ _ _ i.consumed gave.1,
-      grind (arith, length-append {A = ℕ}),
-      grind (arith, length-append {A = ℕ}),
-    )
+    (Consumes-trans _ _ _ _ _ i.consumed gave.1) (λ left is. let over : left ≡ [] = subst IsAtEnd is end.1 in
+    (left, is, simp (end.0, gave.3.1, over, append-nil) last))
 
 pub pieces-preserved : goal.pieces-preserved
 pieces-preserved g c =
