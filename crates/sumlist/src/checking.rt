@@ -72,8 +72,8 @@ impl From<AllocError> for CheckFault {
 /// of 4,096 bytes and one line of at most 65,536; a longer line is malformed.
 ///
 /// `name: OK` is written only where the digest of the file's content is the tag, and `name:
-/// UNREADABLE` exactly as often as opening or reading a file failed, which ends nothing. The file of each
-/// entry is opened once at most.
+/// UNREADABLE` exactly as often as opening or reading a file failed, which ends nothing. Where no fault
+/// ends the check, the file of each entry is opened once at most.
 pub fn check<L: Feed, T: Tree, W: Sink>(
     alloc: Global,
     list: &mut L,
