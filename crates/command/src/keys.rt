@@ -27,8 +27,8 @@ const OUTPUT_LIMIT: usize = 16320;
 impl<'i, 't, 'o, L: Feed, T: Tree, W: Sink> Session<'i, 't, 'o, L, T, W> {
     /// Prints the key that is derived of a file (RFC 5869, 2; BLAKE3's derive_key): its digits and LF, or
     /// nothing but its bytes. Answers 0; `-` is a file's name here. The faults are `CannotRead` and
-    /// `TooLong` of the file, `Usage` where the salt or the info is longer than the hash takes, which no
-    /// command line is, `CannotWrite` and `OutOfMemory`.
+    /// `TooLong` of the file, `Usage` where the salt or the info is longer than the hash takes, which a
+    /// command line is too short for, `CannotWrite` and `OutOfMemory`.
     pub fn print_key<'n>(
         &mut self,
         derivation: &Derivation<'n>,

@@ -4,7 +4,8 @@ ghost use Rattle.std.specs.Prelude.{◌≡◌, ◌++◌, [], IfSome, Some, codes
 ghost use Rattle.source.specs.Counts.{count_after};
 ghost use Rattle.source.specs.Written.{Writes};
 ghost use Rattle.sumlist.specs.Tally.{summary_text};
-ghost use Rattle.command.specs.Checking.{CheckRuns, ChecksList};
+ghost use Rattle.command.specs.Checking.{CheckRuns};
+ghost use Rattle.command.specs.Lines.{content_of};
 ghost use Rattle.command.specs.Run.{TellsAll};
 ghost use Rattle.command.specs.inside.Faults.{noted_of, of_check};
 ghost use Rattle.command.specs.inside.Listing.{ListTaken};
@@ -30,7 +31,8 @@ impl<'i, 't, 'o, L: Feed, T: Tree, W: Sink> Session<'i, 't, 'o, L, T, W> {
         name: &'n str,
         err: &mut E,
     ) -> Result<u8, Fault<'n>>
-        ensures run { DoesRun (λ bytes files. CheckRuns kind is_summed name.entry.now files bytes)
+        ensures run { DoesRun (λ bytes files.
+            CheckRuns is_summed files kind name.entry.now (content_of name.entry.now bytes files))
             (λ notes. TellsAll (E.shown err.old) (E.shown err.new) notes)
             result (⟦<Self as Streams>⟧.seen self.old) (⟦<Self as Streams>⟧.seen self.new) }
         ensures same { SameStreams self.old self.new }
@@ -61,7 +63,7 @@ fn check_list<'n, F: Feed, T: Tree, W: Sink, E: Sink>(
     err: &mut E,
 ) -> Result<u8, Fault<'n>>
     ensures list { IfSome (F.remaining list.old) (λ bytes. IfSome (T.files tree.old) (λ files.
-        ListTaken (ChecksList is_summed files kind name.entry.now bytes) name.entry.now bytes result
+        ListTaken (CheckRuns is_summed files kind name.entry.now (Some bytes)) name.entry.now bytes result
         (W.shown out.old) (W.shown out.new) (E.shown err.old) (E.shown err.new)
         (T.failure_count tree.old) (T.failure_count tree.new))) }
     ensures counted { IfSome (F.remaining list.old) (λ bytes. F.failure_count list.new

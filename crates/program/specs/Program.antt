@@ -7,10 +7,10 @@ use Rattle.task.specs.Tasks.{Asked, asked, checks, compares, cuts, derives, hash
 use Rattle.command.specs.Checking.{CheckRuns}
 use Rattle.command.specs.Run.{Counted, Run, Runs, Tells, no_failures, refused_by}
 use Rattle.command.specs.Cutting.{PartRuns}
-use Rattle.command.specs.Hashing.{HashesAll, HashesFrom}
+use Rattle.command.specs.Hashing.{HashesAll, HashesListed}
 use Rattle.command.specs.Joining.{JoinRuns}
 use Rattle.command.specs.Keying.{KdfRuns, LineRuns, MacRuns}
-use Rattle.command.specs.Lines.{digest_line}
+use Rattle.command.specs.Lines.{content_of, digest_line}
 use Rattle.command.specs.Troubles.{cannot_write, out_of_memory, told, usage}
 
 -- the run of a task; in how many parts a file is hashed makes no difference
@@ -18,14 +18,15 @@ abbrev pub TaskRuns : Asked → Files → List ℕ → Run → Type 0
 TaskRuns (hashes wanted parts (these names)) files input run =
     HashesAll (digest_line wanted) files input names run
 TaskRuns (hashes wanted parts (in_file list)) files input run =
-    HashesFrom (digest_line wanted) list files input run
+    HashesListed (digest_line wanted) files list (content_of list input files) run
 TaskRuns (compares wanted parts digest name) files input run =
     LineRuns (Some digest) (digest_line wanted) name input files run
 TaskRuns (cuts first chunks name) files input run = PartRuns first chunks name files input run
 TaskRuns (joins stretch bytes name lists) files input run = JoinRuns stretch bytes name lists files input run
 TaskRuns (tags mac key wanted name) files input run = MacRuns mac key wanted name files input run
 TaskRuns (derives derived is_raw name) files input run = KdfRuns derived is_raw name files run
-TaskRuns (checks kind is_summed name) files input run = CheckRuns kind is_summed name files input run
+TaskRuns (checks kind is_summed list) files input run =
+    CheckRuns is_summed files kind list (content_of list input files) run
 
 -- the run of a request: its task's, or the first fault of its settings, or want of memory before either
 abbrev pub RequestRuns : Given → Files → List ℕ → Run → Type 0

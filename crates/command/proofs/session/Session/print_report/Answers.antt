@@ -1,19 +1,19 @@
 use Rattle.std.proofs.Common.{refl, sym, ◌∙◌}
-use Rattle.command.specs.Checking.{ChecksContent}
+use Rattle.command.specs.Checking.{CheckRuns}
 use Rattle.command.proofs.Listing.{refused_list, report_file, report_input, report_refused}
 use Rattle.command.proofs.session.Session.print_report.Goals as goal
 
 pub returns-then-eq-clause-run : goal.returns-then-eq-clause-run
 returns-then-eq-clause-run g c =
     let name = c.args.name.now in
-    report_input name (λ files content run. ChecksContent c.args.is_summed files c.args.kind name content run)
+    report_input name (λ files content run. CheckRuns c.args.is_summed files c.args.kind name content run)
     _ _ _ _ _ _ _ _ _ _ _ (sym c.eq.ensures ∙ c.if-eq.true) c.check_list.ensures.list c.check_list.ensures.counted
 
 pub returns-in_err-list-clause-run : goal.returns-in_err-list-clause-run
 returns-in_err-list-clause-run g c =
     let name = c.args.name.now in
     let is = sym c.eq.ensures ∙ c.if-eq.false in
-    report_refused name (λ files content run. ChecksContent c.args.is_summed files c.args.kind name content run)
+    report_refused name (λ files content run. CheckRuns c.args.is_summed files c.args.kind name content run)
     (g.E.Sink.shown c.args.err.now) (g.E.Sink.shown c.args.err.now) g.T.F.Feed.remaining _ _ _ _ _ _ _ _ is
     (λ files content t may other. refused_list c.args.is_summed files c.args.kind name content t may other is)
     c.from_residual.ensures.1 c.in_err-list.ensures.opened c.in_err-list.ensures.counted refl
@@ -21,7 +21,7 @@ returns-in_err-list-clause-run g c =
 pub returns-clause-run : goal.returns-clause-run
 returns-clause-run g c =
     let name = c.args.name.now in
-    report_file name (λ files content run. ChecksContent c.args.is_summed files c.args.kind name content run)
+    report_file name (λ files content run. CheckRuns c.args.is_summed files c.args.kind name content run)
     _ _ g.T.F.Feed.remaining c.in_ok-list.list _ _ _ _ _ _ _ _ _ _ _ _ _
     (sym c.eq.ensures ∙ c.if-eq.false) c.in_ok-list.ensures.opened c.open_file.ensures.kept
     c.in_ok-list.ensures.counted c.check_list-answer.ensures.list c.in_ok-list.ensures.fresh
