@@ -65,15 +65,15 @@ _sums() {
         hash:-*)
             _sums_words '-a -l --seek --parts --salt --personal --verify --tag --raw --progress --files0-from -h --help' "$word" ;;
         mac:-*)
-            _sums_words '-a -l --key --key-file --verify -h --help' "$word" ;;
+            _sums_words '-a -l --key --key-file --verify --progress -h --help' "$word" ;;
         kdf:-* | kdf:)
             _sums_words '-a -l --ikm-file --salt --info --context --raw -h --help' "$word" ;;
         check:-*)
             _sums_words '-a --summary --progress -h --help' "$word" ;;
         part:-*)
-            _sums_words '-a --first --chunks -h --help' "$word" ;;
+            _sums_words '-a --first --chunks --progress -h --help' "$word" ;;
         join:-*)
-            _sums_words '-a --name --bytes -l --seek -h --help' "$word" ;;
+            _sums_words '-a --name --bytes -l --seek --progress -h --help' "$word" ;;
         help:*)
             if ((COMP_CWORD == 2)); then _sums_words 'hash mac kdf check part join help' "$word"; fi ;;
         hash:* | mac:* | check:* | part:* | join:*) _sums_files ;;

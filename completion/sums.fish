@@ -44,6 +44,7 @@ complete -c sums -n '__sums_command_is mac' -s l -x -d 'the tag'\''s length in b
 complete -c sums -n '__sums_command_is mac' -l key -x -d 'the key in hexadecimal digits, which other users may see'
 complete -c sums -n '__sums_command_is mac' -l key-file -r -F -d 'the file whose bytes are the key'
 complete -c sums -n '__sums_command_is mac' -l verify -x -d 'tell whether the tag is the one of these hexadecimal digits'
+complete -c sums -n '__sums_command_is mac' -l progress -d 'show how much of a file was read'
 complete -c sums -n '__sums_command_is mac' -s h -l help -d 'print help'
 complete -c sums -n '__sums_command_is mac' -F
 complete -c sums -n '__sums_command_is kdf' -s a -x -a 'sha256 sha512 blake2b blake2s blake3' -d 'the hash'
@@ -62,6 +63,7 @@ complete -c sums -n '__sums_command_is check' -F
 complete -c sums -n '__sums_command_is part' -s a -x -a 'blake3' -d 'the hash'
 complete -c sums -n '__sums_command_is part' -l first -x -d 'the number of the part'\''s first chunk of 1024 bytes'
 complete -c sums -n '__sums_command_is part' -l chunks -x -d 'at most so many chunks'
+complete -c sums -n '__sums_command_is part' -l progress -d 'show how much of a file was read'
 complete -c sums -n '__sums_command_is part' -s h -l help -d 'print help'
 complete -c sums -n '__sums_command_is part' -F
 complete -c sums -n '__sums_command_is join' -s a -x -a 'blake3' -d 'the hash'
@@ -69,6 +71,7 @@ complete -c sums -n '__sums_command_is join' -l name -x -d 'the name on the line
 complete -c sums -n '__sums_command_is join' -l bytes -x -d 'how many bytes the parts have to have in all'
 complete -c sums -n '__sums_command_is join' -s l -x -d 'the digest'\''s length in bytes'
 complete -c sums -n '__sums_command_is join' -l seek -x -d 'the first byte of the output that is printed'
+complete -c sums -n '__sums_command_is join' -l progress -d 'show how much of a file was read'
 complete -c sums -n '__sums_command_is join' -s h -l help -d 'print help'
 complete -c sums -n '__sums_command_is join' -F
 complete -c sums -n '__sums_is_behind help' -a 'hash mac kdf check part join help'

@@ -85,10 +85,11 @@ hash_app names = with_rules (new_app (codes "hash"))
     ∷ text_rule (codes "salt") ∷ text_rule (codes "personal") ∷ text_rule (codes "verify") ∷ flag_rule (codes "tag")
     ∷ flag_rule (codes "raw") ∷ flag_rule (codes "progress") ∷ text_rule (codes "files0-from") ∷ files_rule ∷ [])
 
--- `mac -a MAC [--key HEX] [--key-file F] [-l N] [--verify HEX] [FILE]`
+-- `mac -a MAC [--key HEX] [--key-file F] [-l N] [--verify HEX] [--progress] [FILE]`
 abbrev pub mac_app : NameList → App
 mac_app names = with_rules (new_app (codes "mac")) (algorithm_rule names ∷ text_rule (codes "key")
-    ∷ text_rule (codes "key-file") ∷ length_rule ∷ text_rule (codes "verify") ∷ file_rule ∷ [])
+    ∷ text_rule (codes "key-file") ∷ length_rule ∷ text_rule (codes "verify") ∷ flag_rule (codes "progress")
+    ∷ file_rule ∷ [])
 
 -- `kdf -a ALG --ikm-file F [--salt HEX] [--info HEX] [--context TEXT] -l N [--raw]`
 abbrev pub kdf_app : NameList → App
@@ -102,15 +103,16 @@ abbrev pub check_app : NameList → App
 check_app names = with_rules (new_app (codes "check")) (algorithm_rule names ∷ flag_rule (codes "summary")
     ∷ flag_rule (codes "progress") ∷ required_rule file_rule ∷ [])
 
--- `part -a ALG [--first C] [--chunks N] [FILE]`
+-- `part -a ALG [--first C] [--chunks N] [--progress] [FILE]`
 abbrev pub part_app : NameList → App
 part_app names = with_rules (new_app (codes "part")) (algorithm_rule names ∷ number_rule (codes "first")
-    ∷ number_rule (codes "chunks") ∷ file_rule ∷ [])
+    ∷ number_rule (codes "chunks") ∷ flag_rule (codes "progress") ∷ file_rule ∷ [])
 
--- `join -a ALG [--name NAME] [--bytes N] [-l N] [--seek N] [PARTS]..`
+-- `join -a ALG [--name NAME] [--bytes N] [-l N] [--seek N] [--progress] [PARTS]..`
 abbrev pub join_app : NameList → App
 join_app names = with_rules (new_app (codes "join")) (algorithm_rule names ∷ text_rule (codes "name")
-    ∷ number_rule (codes "bytes") ∷ length_rule ∷ number_rule (codes "seek") ∷ files_rule ∷ [])
+    ∷ number_rule (codes "bytes") ∷ length_rule ∷ number_rule (codes "seek") ∷ flag_rule (codes "progress")
+    ∷ files_rule ∷ [])
 
 -- the program's command alone
 abbrev pub program_app : App

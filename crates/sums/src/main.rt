@@ -89,7 +89,7 @@ fn run_words<W: Sink, E: Sink>(
         Ok(texts) => {
             let read = line(alloc, texts.as_slice());
             if asks_for_progress(&read) {
-                progress.begin();
+                progress.begin(most_read(&read));
             }
             let mut input = Watched::new(Device::new(rt.stdin()), progress.watch_input());
             let mut tree = WatchedTree::new(FileTree::new(rt), progress);
@@ -107,6 +107,12 @@ fn asks_for_progress(read: &Result<Request<'_>, WordsFault>) -> bool
         Ok(request) => request.has("progress"),
         Err(_) => false,
     }
+}
+
+// How many bytes of its file a part has at most, where that was said.
+fn most_read(read: &Result<Request<'_>, WordsFault>) -> Option<u64> {
+    let chunks: u64 = read.as_ref().ok()?.text("chunks")?.parse().ok()?;
+    chunks.checked_mul(1024)
 }
 
 fn words_of(rt: &HostRuntime) -> io::Result<Vec<String>> {
