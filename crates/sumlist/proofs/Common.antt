@@ -24,8 +24,8 @@ pub use Rattle.std.proofs.lemmas.Slice.Eq.{bytes_eq-Decides}
 pub use Rattle.std.specs.Io.KnownBytes.{Consumes}
 pub use Rattle.std.specs.List.{All}
 pub use Rattle.sumlist.specs.Checked.{ListChecked}
-pub use Rattle.sumlist.specs.Entry.{Fits, IsEntry, Listing, written, written_len}
-pub use Rattle.sumlist.specs.Escape.{SpellsByte, SpellsName, escape_of, escaped, is_special, needs_escape}
+pub use Rattle.sumlist.specs.Entry.{Fits, IsEntry, Listing, written}
+pub use Rattle.sumlist.specs.Escape.{SpellsByte, SpellsName, escape_of, escaped, is_special, lead, needs_escape}
 pub use Rattle.sumlist.specs.Line.{HasForm, IsBlank, IsLine, IsMalformed, IsMark, Parts, Spells, Says, core}
 pub use Rattle.sumlist.specs.Lines.{lines}
 pub use Rattle.sumlist.specs.Report.{AllAllowed, Allowed, Files, IsAllowed, Outcome, is_told, malformed, skipped, text}
