@@ -30,7 +30,7 @@ pub use Rattle.sumlist.specs.Line.{HasForm, IsBlank, IsLine, IsMalformed, IsMark
 pub use Rattle.sumlist.specs.Lines.{lines}
 pub use Rattle.sumlist.specs.Report.{AllAllowed, Allowed, Files, IsAllowed, Outcome, is_told, malformed, skipped, text}
 pub use Rattle.sumlist.specs.Report.{told, unreadable_count}
-pub use Rattle.sumlist.specs.Tagged.{IsLabel, Labelled, closing, label_of, tagged, tagged_len}
+pub use Rattle.sumlist.specs.Tagged.{IsLabel, Labelled, label_of, tagged, tagged_len}
 pub use Rattle.sumlist.specs.declared.checking.CheckFault.{CheckFault}
 pub use Rattle.sumlist.specs.declared.kind.Kind.{Kind}
 pub use Rattle.sumlist.specs.declared.summary.Mark.{Mark}
@@ -39,6 +39,6 @@ pub use Rattle.sumlist.specs.declared.verdict.Verdict.{Verdict}
 pub use Rattle.sumlist.specs.declared.verdict.Verdict.TheVariants.{Differs, Matches, Missing, TooLong, Unreadable}
 pub use Rattle.sumlist.specs.inside.Body.{IsName, escape_value, name_of, onto}
 pub use Rattle.sumlist.specs.inside.Cut.{IsCut}
-pub use Rattle.sumlist.specs.inside.Labels.{Ended}
+pub use Rattle.sumlist.specs.inside.Labels.{Ended, closing}
 pub use Rattle.sumlist.specs.inside.Marks.{IsCounted, lines_of, no_lines, unreadable_by}
 pub use Rattle.sumlist.specs.inside.Stepped.{LineChecked}

@@ -14,9 +14,8 @@ use Rattle.source.specs.declared.alg.TheConstants.{BLAKE2B_LEN, BLAKE2S_LEN}
 use Rattle.sumlist.specs.declared.kind.Kind.{Kind}
 use Rattle.sumlist.specs.declared.labels.TheConstants.{WHOLE}
 use Rattle.sumlist.specs.Entry.{Listing, Fits}
-use Rattle.sumlist.specs.Tagged.{closing}
 use Rattle.sumlist.specs.inside.Body.{name_of}
-use Rattle.sumlist.specs.inside.Labels.{alg_of, front_of}
+use Rattle.sumlist.specs.inside.Labels.{alg_of, closing, front_of}
 
 -- what stands before the first space, and what stands behind it
 abbrev pub cut : List ℕ → Option (List ℕ × List ℕ)
