@@ -28,8 +28,8 @@ pub use Rattle.sumlist.specs.Entry.{Fits, IsEntry, Listing, written}
 pub use Rattle.sumlist.specs.Escape.{SpellsByte, SpellsName, escape_of, escaped, is_special, lead}
 pub use Rattle.sumlist.specs.Line.{HasForm, IsLine, IsMalformed, Parts, Spells, Says, core}
 pub use Rattle.sumlist.specs.Lines.{lines}
-pub use Rattle.sumlist.specs.Report.{AllAllowed, Allowed, Files, IsAllowed, Outcome, is_told, malformed, skipped, text}
-pub use Rattle.sumlist.specs.Report.{told, unreadable_count}
+pub use Rattle.sumlist.specs.Report.{AllAllowed, Allowed, Files, IsAllowed, Outcome, malformed, no_lines, skipped, text}
+pub use Rattle.sumlist.specs.Report.{told, unreadable_count, with_line}
 pub use Rattle.sumlist.specs.Tagged.{IsLabel, Labelled, label_of, tagged, tagged_len}
 pub use Rattle.sumlist.specs.declared.checking.CheckFault.{CheckFault}
 pub use Rattle.sumlist.specs.declared.kind.Kind.{Kind}
@@ -40,6 +40,6 @@ pub use Rattle.sumlist.specs.declared.verdict.Verdict.TheVariants.{Differs, Matc
 pub use Rattle.sumlist.specs.inside.Body.{IsName, escape_value, name_of, needs_escape, onto}
 pub use Rattle.sumlist.specs.inside.Cut.{IsCut}
 pub use Rattle.sumlist.specs.inside.Labels.{Ended, closing}
-pub use Rattle.sumlist.specs.inside.Marks.{IsCounted, lines_of, no_lines, unreadable_by}
+pub use Rattle.sumlist.specs.inside.Marks.{IsCounted, lines_of, unreadable_by, unreadable_in}
 pub use Rattle.sumlist.specs.inside.Reading.{IsBlank, IsMark}
 pub use Rattle.sumlist.specs.inside.Stepped.{LineChecked}
