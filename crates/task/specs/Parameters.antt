@@ -92,12 +92,9 @@ abbrev pub sized : Setting → ℕ → Option (List ℕ) → Result (List ℕ) U
 sized setting n None = Ok (replicate n 0)
 sized setting n (Some bytes) = if length bytes == n then Ok bytes else Err (WrongLength setting)
 
--- bytes to compare with have as many
-abbrev pub of_length : ℕ → List ℕ → Result (List ℕ) UsageFault
-of_length n bytes = if length bytes == n then Ok bytes else Err (WrongLength Verify)
-
+-- so many bytes to compare with
 abbrev pub wanted_bytes : ℕ → Text → Result (List ℕ) UsageFault
-wanted_bytes n t = hexadecimal Verify t >>= of_length n
+wanted_bytes n t = hexadecimal Verify t >>= (λ bytes. sized Verify n (Some bytes))
 
 -- what stands beside a name
 abbrev pub named : {A : Type 0} → Setting → List (Text × A) → Text → Result A UsageFault
