@@ -13,7 +13,7 @@ use Rattle.sumlist.specs.declared.kind.Kind.{Kind}
 use Rattle.sumlist.specs.declared.kind.Kind.TheVariants as kind
 use Rattle.task.specs.Deriving.{Derived, derivation, derivation_of, hkdf}
 use Rattle.task.specs.Deriving as deriving_of
-use Rattle.task.specs.Hashing.{blake2_length, blake2_parameters, blake3_output, part_size, parts}
+use Rattle.task.specs.Hashing.{blake2, blake2_length, blake3_output, part_size, parts}
 use Rattle.task.specs.Hashing as hashing
 use Rattle.task.specs.Hashing.{names_several, requested, requested_of, sha, stretch_of, tagged_blake3}
 use Rattle.task.specs.Parameters.{◌>>=◌, IsAsDefined, absent, files, given_bytes, given_number, hmac_len, kind_of, named}
@@ -29,6 +29,9 @@ use Rattle.task.specs.declared.fault.Setting.TheVariants.{List as ListSetting}
 use Rattle.task.specs.declared.fault.TaskFault.{TaskFault}
 use Rattle.task.specs.declared.fault.UsageFault.{UsageFault}
 use Rattle.task.specs.declared.fault.UsageFault.TheVariants.{NotForAlgorithm, NotWithTag, OneFile, OutOfRange}
+use Rattle.task.specs.Requested.{alg_of}
+use Rattle.task.specs.declared.hashing.Hash.{Hash}
+use Rattle.task.specs.declared.hashing.Hash.TheVariants as hash_of
 use Rattle.task.specs.declared.hashing.Requested.{Requested}
 use Rattle.task.specs.declared.hashing.Stretch.{Stretch}
 use Rattle.task.specs.declared.parameters.HmacHash.{HmacHash}
@@ -58,15 +61,16 @@ blake2_between : (most : ℕ) (g : Given) → 1 ≤ most → IfOk (blake2_length
 blake2_between most g low =
     let range = default_of most (text Verify g) low in number_in_range Length _ 1 most g range.0 range.1
 
-length_between : (most n : ℕ) (g : Given) → 1 ≤ most
-    → IfOk (blake2_parameters most n g) (λ p. IsBetween 1 most p.0)
-length_between most n g low =
-    let Q : ℕ × List ℕ × List ℕ → Type 0 = λ p. IsBetween 1 most p.0 in
-    by_second Q (absent (Seek ∷ Parts ∷ []) g) _ (λ _.
-    by_second Q (unset (NotForAlgorithm Raw) (has_flag (codes "raw") g)) _ (λ _.
-    by_first (IsBetween 1 most) Q (blake2_length most g) _ (blake2_between most g low) (λ length range.
-    by_second Q (given_bytes Salt g) _ (λ salt. by_second Q (given_bytes Personal g) _ (λ personal.
-    by_second Q (sized Salt n salt) _ (λ s. by_second Q (sized Personal n personal) _ (λ p. range)))))))
+blake2_possible : (hash : ℕ → List ℕ → List ℕ → Hash) (most n : ℕ) (g : Given) → 1 ≤ most
+    → ((l : ℕ) (s p : List ℕ) → IsBetween 1 most l → IsInRange (alg_of (hash l s p)))
+    → IfOk (blake2 hash most n g) HasDigest
+blake2_possible hash most n g low has =
+    by_second HasDigest (absent (Seek ∷ Parts ∷ []) g) _ (λ _.
+    by_second HasDigest (unset (NotForAlgorithm Raw) (has_flag (codes "raw") g)) _ (λ _.
+    by_first (IsBetween 1 most) HasDigest (blake2_length most g) _ (blake2_between most g low) (λ length range.
+    by_second HasDigest (given_bytes Salt g) _ (λ salt. by_second HasDigest (given_bytes Personal g) _ (λ personal.
+    by_second HasDigest (sized Salt n salt) _ (λ s. by_second HasDigest (sized Personal n personal) _ (λ p.
+    has length s p range)))))))
 
 stretch_within : (g : Given) (is_raw : Bool) → IfOk (stretch_of g is_raw) (λ s. IsWithin s × (s.is_raw ≡ is_raw))
 stretch_within g is_raw =
@@ -96,12 +100,8 @@ output_possible g =
 of_kind : (g : Given) (k : Kind) → IfOk (requested_of g k) HasDigest
 of_kind g kind.Sha256 = sha_possible alg.Sha256 g tt
 of_kind g kind.Sha512 = sha_possible alg.Sha512 g tt
-of_kind g kind.Blake2b =
-    by_first (λ p. IsBetween 1 64 p.0) HasDigest (blake2_parameters 64 16 g) _ (length_between 64 16 g (omega arith))
-    (λ p range. range)
-of_kind g kind.Blake2s =
-    by_first (λ p. IsBetween 1 32 p.0) HasDigest (blake2_parameters 32 8 g) _ (length_between 32 8 g (omega arith))
-    (λ p range. range)
+of_kind g kind.Blake2b = blake2_possible hash_of.Blake2b 64 16 g (omega arith) (λ l s p range. range)
+of_kind g kind.Blake2s = blake2_possible hash_of.Blake2s 32 8 g (omega arith) (λ l s p range. range)
 of_kind g kind.Blake3 =
     in_both HasDigest (has_flag (codes "tag") g) (tagged_blake3 g) (blake3_output g) (tagged_possible g)
     (output_possible g)

@@ -1,6 +1,6 @@
 -- What a request of `hash` has printed, or the first fault of its settings.
-use Rattle.std.specs.Prelude.{ℕ, ◌-◌, ◌/◌, ◌^◌, ◌==◌, ◌&&◌, ◌||◌, Bool, true, List, [], ◌∷◌, length, Option, Result, Ok, Err}
-use Rattle.std.specs.Prelude.{codes, count_ones, is_some, max, min, nat_lt, if◌then◌else◌}
+use Rattle.std.specs.Prelude.{ℕ, ◌-◌, ◌/◌, ◌^◌, ◌==◌, ◌&&◌, ◌||◌, Bool, true, List, [], ◌∷◌, length, Option, Result, Ok}
+use Rattle.std.specs.Prelude.{Err, codes, count_ones, is_some, max, min, nat_lt, if◌then◌else◌}
 use Rattle.std.specs.Option.{option_map_or}
 use Rattle.source.specs.Digest.{tag_len}
 use Rattle.source.specs.declared.alg.Alg.{Alg}
@@ -35,12 +35,13 @@ sha a g = do
 
 -- without `-l` a digest has as many bytes as the digits of `--verify` spell, within its range, or else the most
 abbrev pub blake2_length : ℕ → Given → Result ℕ UsageFault
-blake2_length most g = number Length (option_map_or (λ t. min most (max 1 (length t / 2))) (text Verify g) most) 1 most g
+blake2_length most g =
+    number Length (option_map_or (λ t. min most (max 1 (length t / 2))) (text Verify g) most) 1 most g
 
--- the length of a digest of `most` bytes at most, salt and personalization of n bytes each: the digits of both are
--- judged before the length of either
-abbrev pub blake2_parameters : ℕ → ℕ → Given → Result (ℕ × List ℕ × List ℕ) UsageFault
-blake2_parameters most n g = do
+-- a digest of `most` bytes at most, salt and personalization of n bytes each: the digits of both are judged before the
+-- length of either
+abbrev pub blake2 : (ℕ → List ℕ → List ℕ → Hash) → ℕ → ℕ → Given → Result Requested UsageFault
+blake2 hash most n g = do
   absent (Seek ∷ Parts ∷ []) g
   unset (NotForAlgorithm Raw) (has_flag (codes "raw") g)
   length ← blake2_length most g
@@ -48,15 +49,7 @@ blake2_parameters most n g = do
   personal ← given_bytes Personal g
   salt ← sized Salt n salt
   personal ← sized Personal n personal
-  Ok (length, salt, personal)
-
-abbrev pub blake2b_digest : Given → Result Requested UsageFault
-blake2b_digest g =
-    blake2_parameters BLAKE2B_LEN 16 g >>= (λ p. Ok (whole (Blake2b p.0 p.1 p.2) (has_flag (codes "tag") g)))
-
-abbrev pub blake2s_digest : Given → Result Requested UsageFault
-blake2s_digest g =
-    blake2_parameters BLAKE2S_LEN 8 g >>= (λ p. Ok (whole (Blake2s p.0 p.1 p.2) (has_flag (codes "tag") g)))
+  Ok (whole (hash length salt personal) (has_flag (codes "tag") g))
 
 -- the label of BLAKE3 stands for the first bytes of its output, its digest
 abbrev pub tagged_blake3 : Given → Result Requested UsageFault
@@ -97,8 +90,8 @@ parts g = where_given (λ t. number_in Parts 1 1024 t >>= part_size) (text Parts
 abbrev pub requested_of : Given → Kind → Result Requested UsageFault
 requested_of g kind.Sha256 = sha alg.Sha256 g
 requested_of g kind.Sha512 = sha alg.Sha512 g
-requested_of g kind.Blake2b = blake2b_digest g
-requested_of g kind.Blake2s = blake2s_digest g
+requested_of g kind.Blake2b = blake2 Blake2b BLAKE2B_LEN 16 g
+requested_of g kind.Blake2s = blake2 Blake2s BLAKE2S_LEN 8 g
 requested_of g kind.Blake3 = if has_flag (codes "tag") g then tagged_blake3 g else blake3_output g
 
 abbrev pub requested : Given → Result Requested UsageFault

@@ -7,6 +7,9 @@ ghost use Rattle.task.specs.Hashing as spec;
 ghost use Rattle.task.specs.Parameters.{IsAsDefined, text};
 ghost use Rattle.task.specs.Requested.{alg_of};
 ghost use Rattle.task.specs.declared.fault.Setting.TheVariants.{Verify};
+ghost use Rattle.task.specs.declared.hashing.Hash.TheVariants.{Blake2b, Blake2s};
+ghost use Rattle.task.specs.inside.Salted.{blake2_parameters as blake2_parameters_of};
+ghost use Rattle.source.specs.declared.alg.TheConstants.{BLAKE2B_LEN, BLAKE2S_LEN};
 
 use crate::fault::{Setting, TaskFault, UsageFault};
 use crate::parameters::{
@@ -139,14 +142,14 @@ fn sha(request: &Request<'_>, alg: Alg) -> Result<Requested, UsageFault>
 }
 
 fn with_blake2b(alloc: Global, request: &Request<'_>) -> Result<Requested, TaskFault>
-    ensures { IsAsDefined (λ r. r) (spec.blake2b_digest (given_of request.now)) result }
+    ensures { IsAsDefined (λ r. r) (spec.blake2 Blake2b BLAKE2B_LEN 16 (given_of request.now)) result }
 {
     let (length, salt, personal) = blake2_parameters(alloc, request, BLAKE2B_LEN)?;
     Ok(whole(Hash::Blake2b(length, salt, personal), request.has("tag")))
 }
 
 fn with_blake2s(alloc: Global, request: &Request<'_>) -> Result<Requested, TaskFault>
-    ensures { IsAsDefined (λ r. r) (spec.blake2s_digest (given_of request.now)) result }
+    ensures { IsAsDefined (λ r. r) (spec.blake2 Blake2s BLAKE2S_LEN 8 (given_of request.now)) result }
 {
     let (length, salt, personal) = blake2_parameters(alloc, request, BLAKE2S_LEN)?;
     Ok(whole(Hash::Blake2s(length, salt, personal), request.has("tag")))
@@ -159,7 +162,7 @@ fn blake2_parameters<const N: usize>(
     request: &Request<'_>,
     most: usize,
 ) -> Result<(usize, [u8; N], [u8; N]), TaskFault>
-    ensures { IsAsDefined (λ p. p) (spec.blake2_parameters most N (given_of request.now)) result }
+    ensures { IsAsDefined (λ p. p) (blake2_parameters_of most N (given_of request.now)) result }
 {
     refused(request, &[Setting::Seek, Setting::Parts])?;
     refused_flag(

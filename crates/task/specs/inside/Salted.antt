@@ -1,0 +1,20 @@
+-- What the code reads of a request for a digest of BLAKE2.
+use Rattle.std.specs.Prelude.{ℕ, List, [], ◌∷◌, Result, Ok, codes}
+use Rattle.request.specs.CommandLine.{Given, has_flag}
+use Rattle.task.specs.Hashing.{blake2_length}
+use Rattle.task.specs.Parameters.{◌>>=◌, ◌>>◌, absent, given_bytes, sized, unset}
+use Rattle.task.specs.declared.fault.Setting.TheVariants.{Parts, Personal, Raw, Salt, Seek}
+use Rattle.task.specs.declared.fault.UsageFault.{UsageFault}
+use Rattle.task.specs.declared.fault.UsageFault.TheVariants.{NotForAlgorithm}
+
+-- the length of the digest, the salt and the personalization
+abbrev pub blake2_parameters : ℕ → ℕ → Given → Result (ℕ × List ℕ × List ℕ) UsageFault
+blake2_parameters most n g = do
+  absent (Seek ∷ Parts ∷ []) g
+  unset (NotForAlgorithm Raw) (has_flag (codes "raw") g)
+  length ← blake2_length most g
+  salt ← given_bytes Salt g
+  personal ← given_bytes Personal g
+  salt ← sized Salt n salt
+  personal ← sized Personal n personal
+  Ok (length, salt, personal)
