@@ -1,7 +1,7 @@
 -- What a request asks for, there is.
 use Rattle.std.proofs.Common.{◌≡◌, ℕ, ◌-◌, ◌/◌, ◌%◌, ◌^◌, ◌≤◌, ◌*◌, Bool, true, false, List, Option, Some, None}
 use Rattle.std.proofs.Common.{Result, Ok, Err, IfSome, IfOk, refl, subst, arith}
-use Rattle.std.specs.Prelude.{◌==◌, ◌&&◌, [], ◌∷◌, codes, count_ones, if◌then◌else◌, length, max, min}
+use Rattle.std.specs.Prelude.{◌==◌, ◌&&◌, [], ◌∷◌, codes, count_ones, if◌then◌else◌, length, max, min, nat_lt}
 use Rattle.std.proofs.Math.Nat.{le-max_left, le-min, min-le_left}
 use Rattle.std.proofs.lemmas.Bool.Decides.{nat_tests}
 use Rattle.request.specs.CommandLine.{Given, Text, has_flag, text_of}
@@ -16,9 +16,9 @@ use Rattle.task.specs.Deriving as deriving_of
 use Rattle.task.specs.Hashing.{blake2, blake2_length, blake3_output, part_size, parts}
 use Rattle.task.specs.Hashing as hashing
 use Rattle.task.specs.Hashing.{names_several, requested, requested_of, sha, stretch_of, tagged_blake3}
-use Rattle.task.specs.Parameters.{◌>>=◌, IsAsDefined, absent, files, given_bytes, given_number, hmac_len, kind_of, named}
-use Rattle.task.specs.Parameters.{needed, number, number_in, sized, text, unset}
-use Rattle.task.specs.Parting.{joined, least_power, names_blake3, place, place_at}
+use Rattle.task.specs.Parameters.{◌>>=◌, IsAsDefined, absent, files, given_bytes, given_number, hmac_len, kind_of}
+use Rattle.task.specs.Parameters.{named, needed, number, number_in, sized, text, unset}
+use Rattle.task.specs.Parting.{joined, least_power, names_blake3, place}
 use Rattle.task.specs.Tagging.{macs, with_length}
 use Rattle.task.specs.Tagging as tagging
 use Rattle.task.specs.Tasks.{Asked, NameTexts, asked, check, commands, compares, file_or_input, hash}
@@ -127,10 +127,12 @@ either_possible r m names (Some d) file digest size = (digest, size)
 
 hash_possible : (g : Given) → IfOk (hash g) IsPossible
 hash_possible g =
-    by_first HasDigest IsPossible (requested g) _ (by_second HasDigest (kind_of g) (requested_of g) (of_kind g)) (λ r digest.
+    by_first HasDigest IsPossible (requested g) _ (by_second HasDigest (kind_of g) (requested_of g) (of_kind g))
+    (λ r digest.
     by_first (λ m. IfSome m IsPartSize) IsPossible (parts g) _ (parts_possible g) (λ m size.
     by_second IsPossible (one_source (text_of (codes "files0-from") g) (files g)) _ (λ names.
-    by_second IsPossible (hashing.wanted r g) _ (λ wanted. either_possible r m names wanted (file_or_input g) digest size))))
+    by_second IsPossible (hashing.wanted r g) _ (λ wanted.
+    either_possible r m names wanted (file_or_input g) digest size))))
 
 -- ---- mac
 
@@ -212,16 +214,18 @@ kdf_possible g =
 check_possible : (g : Given) → IfOk (check g) IsPossible
 check_possible g = by_second IsPossible (kind_of g) _ (λ k. by_second IsPossible (needed ListSetting g) _ (λ list. tt))
 
-room : (place : ℕ × Option ℕ) (fault : UsageFault) (b : Bool) → (b ≡ true → IsPlace place.0 place.1)
-    → IfOk (if b then Ok place else Err fault) (λ p. IsPlace p.0 p.1)
-room place fault true h = h refl
-room place fault false h = tt
+room : (place : ℕ × Option ℕ) (fault : UsageFault) (b : Bool) → (b ≡ false → IsPlace place.0 place.1)
+    → IfOk (unset fault b >>= (λ _. Ok place)) (λ p. IsPlace p.0 p.1)
+room place fault true h = tt
+room place fault false h = h refl
 
 at_place : (first : ℕ) (chunks : Option ℕ) → first ≤ 2 ^ 54 - 1 → IfSome chunks (IsBetween 1 (2 ^ 54))
-    → IfOk (place_at first chunks) (λ p. IsPlace p.0 p.1)
+    → IfOk {T = ℕ × Option ℕ} (unset (OutOfRange First)
+    (option_map_or (λ n. nat_lt 0 (first % least_power n)) chunks false) >>= (λ _. Ok (first, chunks)))
+    (λ p. IsPlace p.0 p.1)
 at_place first None low range = (omega arith, tt)
 at_place first (Some n) low range =
-    room (first, Some n) (OutOfRange First) (first % least_power n == 0) (λ e.
+    room (first, Some n) (OutOfRange First) (nat_lt 0 (first % least_power n)) (λ e.
     let multiple : first % least_power n ≡ 0 = grind (arith, nat_tests) in
     (omega arith, room_at first n range.0 range.1 multiple))
 
@@ -231,7 +235,7 @@ place_possible g =
     by_second Q (names_blake3 g) _ (λ _.
     by_first (IsBetween 0 (2 ^ 54 - 1)) Q (number First 0 0 (2 ^ 54 - 1) g) _
     (number_in_range First 0 0 (2 ^ 54 - 1) g (omega arith) (omega arith)) (λ first low.
-    by_first (λ m. IfSome m (IsBetween 1 (2 ^ 54))) Q (given_number Chunks 1 (2 ^ 54) g) (place_at first)
+    by_first (λ m. IfSome m (IsBetween 1 (2 ^ 54))) Q (given_number Chunks 1 (2 ^ 54) g) _
     (given_in_range Chunks 1 (2 ^ 54) g) (λ chunks range. at_place first chunks low.1 range)))
 
 part_possible : (g : Given) → IfOk (part g) IsPossible
