@@ -4,7 +4,7 @@ ghost use Rattle.std.specs.Prelude.{◌≡◌, ◌+◌, ◌-◌, ◌<◌, ◌≤
 ghost use Rattle.std.specs.Prelude.{length, IfOk, IfSome, IsErr, IsErrOf, MatchResult, OnOk};
 ghost use Rattle.std.specs.Io.KnownBytes.{Consumes, IsAtEnd};
 ghost use Rattle.source.specs.Counts.{count_after};
-ghost use Rattle.sumlist.specs.Checked.{ListChecked, ListCounts, WriteCounts};
+ghost use Rattle.sumlist.specs.Checked.{CountsOnly, ListChecked};
 ghost use Rattle.sumlist.specs.Lines.{IsKept};
 ghost use Rattle.sumlist.specs.inside.Ahead.{Checks};
 ghost use Rattle.sumlist.specs.inside.Stepped.{LineChecked, StepCounts, fault_of};
@@ -93,8 +93,8 @@ pub fn check<L: Feed, T: Tree, W: Sink>(
     ensures end { OnOk result (IsAtEnd (L.remaining list.new)) }
 
     // When each fault comes.
-    ensures reads { ListCounts result (L.failure_count list.old) (L.failure_count list.new) }
-    ensures writes { WriteCounts result (W.shown out.old).failures (W.shown out.new).failures }
+    ensures reads { CountsOnly CheckFault.ListRead result (L.failure_count list.old) (L.failure_count list.new) }
+    ensures writes { CountsOnly CheckFault.Write result (W.shown out.old).failures (W.shown out.new).failures }
     ensures gave { IfSome (L.remaining list.old) (λ _. (given : List ℕ)
         × Consumes (L.remaining list.old) (L.remaining list.new) given
         × (IsErrOf result CheckFault.ListTooLong ↔ (2 ^ 64 - 1 < length given))) }
@@ -155,8 +155,8 @@ impl Checker {
         ensures forth { IfOk result (λ more. more ≡ true
             → self.old.reader.total + length self.new.reader.ahead
             < self.new.reader.total + length self.old.reader.ahead) }
-        ensures reads { ListCounts result (L.failure_count list.old) (L.failure_count list.new) }
-        ensures writes { WriteCounts result (W.shown out.old).failures (W.shown out.new).failures }
+        ensures reads { CountsOnly CheckFault.ListRead result (L.failure_count list.old) (L.failure_count list.new) }
+        ensures writes { CountsOnly CheckFault.Write result (W.shown out.old).failures (W.shown out.new).failures }
         ensures gave { (given : List ℕ) × Consumes (L.remaining list.old) (L.remaining list.new) given
             × (IsErrOf result CheckFault.ListTooLong ↔ (2 ^ 64 - 1 < self.old.reader.total + length given))
             × OnOk result (self.new.reader.total ≡ self.old.reader.total + length given) }
