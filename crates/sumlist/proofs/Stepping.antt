@@ -1,5 +1,6 @@
 -- A list that is checked line by line: a line's outcome comes before those of the lines that are left.
-use Rattle.sumlist.proofs.Common.{◌≡◌, ◌+◌, ◌++◌, List, [], ◌∷◌, subst, sym, refl, Option, None, Some, IfSome}
+use Rattle.sumlist.proofs.Common.{◌≡◌, ◌≤◌, ◌+◌, ◌++◌, List, [], ◌∷◌, length, lines, subst, sym, refl, Option, None}
+use Rattle.sumlist.proofs.Common.{Some, IfSome}
 use Rattle.sumlist.proofs.Common.{IfSome_then, IsErr, Result, Err, Ok, arith, Appends-nil}
 use Rattle.sumlist.proofs.Common.{Appends-trans, AppendsPrefix, Kind, Mark, Summary, CheckFault, Files, ListChecked}
 use Rattle.sumlist.proofs.Common.{IsCounted, LineChecked, Outcome, lines_of, no_lines, text, true, ℕ}
@@ -8,7 +9,7 @@ use Rattle.std.proofs.lemmas.Result.{MatchResult-weaker}
 use Rattle.source.proofs.Writing.{AppendsPrefix-after, AppendsPrefix-more, AppendsPrefix-none}
 use Rattle.sumlist.specs.Lines.{IsKept}
 use Rattle.sumlist.specs.Report.{number_of, report_from}
-use Rattle.sumlist.specs.inside.Ahead.{Checks, Counts, RestChecked}
+use Rattle.sumlist.specs.inside.Ahead.{Checks, Counts, OpensEach, RestChecked}
 use Rattle.sumlist.specs.inside.Marks.{mark_of}
 use Rattle.sumlist.specs.inside.Stepped.{Stepped}
 use Rattle.sumlist.specs.inside.Taking.{IsNextPiece}
@@ -114,4 +115,23 @@ module _ (kept rest : Option (List ℕ)) (ahead : List ℕ) (rest' : Option (Lis
     of = IfSome_then rest next (λ _ t. IfSome-two {r = known} refl checked
         (subst (λ x. Checks x known kind ahead' u r o p d e) t.1 later).of (λ _ line q.
         rw t.2.2 (rest-line (line t.2.0 t.2.1) counted q)));
+  }
+
+-- ---- what is opened
+
+pub opens-none : (rest : Option (List ℕ)) (ahead : List ℕ) (n : ℕ) → OpensEach rest ahead n n
+opens-none rest ahead n = record { of = IfSome-all rest (λ _. omega arith) }
+
+module _ (kept rest : Option (List ℕ)) (ahead : List ℕ) (rest' : Option (List ℕ)) (ahead' : List ℕ)
+    (next : NextTaken kept rest ahead rest' ahead') {m n : ℕ} (once : n ≤ m + 1) where
+  pub opens-stopped : OpensEach rest ahead m n
+  opens-stopped = record {
+    of = IfSome_then rest next (λ _ t. rw t.2.2 (omega (arith, once)));
+  }
+
+  pub opens-line : (o : ℕ) → OpensEach rest' ahead' n o → OpensEach rest ahead m o
+  opens-line o later = record {
+    of = IfSome_then rest next (λ _ t.
+        let most : o ≤ n + length (lines (ahead' ++ t.0)) = (subst (λ x. OpensEach x ahead' n o) t.1 later).of in
+        rw t.2.2 (omega (arith, once, most)));
   }

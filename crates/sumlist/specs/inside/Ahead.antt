@@ -1,5 +1,5 @@
 -- What a check of the lines that are left does.
-use Rattle.std.specs.Prelude.{◌≡◌, ℕ, ◌+◌, List, ◌++◌, Option, IfSome, Result, MatchResult}
+use Rattle.std.specs.Prelude.{◌≡◌, ℕ, ◌+◌, ◌≤◌, List, ◌++◌, length, Option, IfSome, Result, MatchResult}
 use Rattle.std.specs.Io.KnownBytes.{Appends}
 use Rattle.source.specs.Counts.{count_after}
 use Rattle.source.specs.Written.{AppendsPrefix}
@@ -37,3 +37,7 @@ pub record Checks (rest : Option (List ℕ)) (known : Option Files) (kind : Kind
     (r : Result Summary CheckFault) (count_old count_new : ℕ) (old new : Option (List ℕ)) : Type 0 where
   pub of : IfSome rest (λ bytes. IfSome known (λ files.
       RestChecked files kind (lines (ahead ++ bytes)) s r count_old count_new old new))
+
+-- for each of these lines one file was opened at most
+pub record OpensEach (rest : Option (List ℕ)) (ahead : List ℕ) (old new : ℕ) : Type 0 where
+  pub of : IfSome rest (λ bytes. new ≤ old + length (lines (ahead ++ bytes)))
