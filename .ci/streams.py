@@ -32,6 +32,8 @@ FULL = [
     ("a verdict", "mac -a blake2s --key 00 -l 1 --verify 00"),
     ("a raw key", "kdf -a sha256 --ikm-file abc.txt -l 1 --raw"),
     ("raw bytes", "hash -a blake3 -l 200000 --raw"),
+    ("a raw digest", "hash -a sha256 --raw"),
+    ("a raw tag", "mac -a blake2b --key 00 --raw"),
     ("a part", "part -a blake3"),
     ("a joined line", "join -a blake3 chunk.0 chunk.1"),
     ("names from a file", "hash -a blake3 --files0-from mixed-names"),

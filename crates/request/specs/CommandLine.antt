@@ -85,10 +85,11 @@ hash_app names = with_rules (new_app (codes "hash"))
     ∷ text_rule (codes "salt") ∷ text_rule (codes "personal") ∷ text_rule (codes "verify") ∷ flag_rule (codes "tag")
     ∷ flag_rule (codes "raw") ∷ flag_rule (codes "progress") ∷ text_rule (codes "files0-from") ∷ files_rule ∷ [])
 
--- `mac -a MAC [--key HEX] [--key-file F] [-l N] [--verify HEX] [FILE]`
+-- `mac -a MAC [--key HEX] [--key-file F] [-l N] [--verify HEX] [--raw] [FILE]`
 abbrev pub mac_app : NameList → App
 mac_app names = with_rules (new_app (codes "mac")) (algorithm_rule names ∷ text_rule (codes "key")
-    ∷ text_rule (codes "key-file") ∷ length_rule ∷ text_rule (codes "verify") ∷ file_rule ∷ [])
+    ∷ text_rule (codes "key-file") ∷ length_rule ∷ text_rule (codes "verify") ∷ flag_rule (codes "raw")
+    ∷ file_rule ∷ [])
 
 -- `kdf -a ALG --ikm-file F [--salt HEX] [--info HEX] [--context TEXT] -l N [--raw]`
 abbrev pub kdf_app : NameList → App

@@ -1,7 +1,7 @@
 -- What a request asks for, there is.
 use Rattle.std.proofs.Common.{◌≡◌, ℕ, ◌-◌, ◌/◌, ◌%◌, ◌^◌, ◌≤◌, ◌*◌, Bool, true, false, List, Option, Some, None}
 use Rattle.std.proofs.Common.{Result, Ok, Err, IfSome, IfOk, refl, subst, arith}
-use Rattle.std.specs.Prelude.{◌==◌, ◌&&◌, [], ◌∷◌, codes, count_ones, if◌then◌else◌, length, max, min}
+use Rattle.std.specs.Prelude.{◌==◌, [], ◌∷◌, codes, count_ones, if◌then◌else◌, length, max, min}
 use Rattle.std.proofs.Math.Nat.{le-max_left, le-min, min-le_left}
 use Rattle.std.proofs.lemmas.Bool.Decides.{nat_tests}
 use Rattle.request.specs.CommandLine.{Given, Text, has_flag, text_of}
@@ -15,20 +15,20 @@ use Rattle.task.specs.Deriving.{Derived, derivation, derivation_of, hkdf}
 use Rattle.task.specs.Deriving as deriving_of
 use Rattle.task.specs.Hashing.{blake2_length, blake2_parameters, blake3_output, part_size, parts}
 use Rattle.task.specs.Hashing as hashing
-use Rattle.task.specs.Hashing.{names_several, requested, requested_of, sha, stretch_of, tagged_blake3}
+use Rattle.task.specs.Hashing.{may_be_raw, requested, requested_of, sha, stretch_of, tagged_blake3}
 use Rattle.task.specs.Parameters.{◌>>=◌, IsAsDefined, absent, files, given_bytes, given_number, hmac_len, kind_of, named}
-use Rattle.task.specs.Parameters.{needed, number, number_in, sized, text, unset}
+use Rattle.task.specs.Parameters.{needed, number, number_in, sized, text}
 use Rattle.task.specs.Parting.{joined, least_power, names_blake3, place, place_at}
 use Rattle.task.specs.Tagging.{macs, with_length}
 use Rattle.task.specs.Tagging as tagging
 use Rattle.task.specs.Tasks.{Asked, NameTexts, asked, check, commands, compares, file_or_input, hash}
 use Rattle.task.specs.Tasks.{hashes, join, kdf, mac, one_source, part}
 use Rattle.task.specs.declared.fault.Setting.TheVariants.{Algorithm, Bytes, Chunks, Command, Context, First, IkmFile}
-use Rattle.task.specs.declared.fault.Setting.TheVariants.{Info, Length, Parts, Personal, Raw, Salt, Seek, Verify}
+use Rattle.task.specs.declared.fault.Setting.TheVariants.{Info, Length, Parts, Personal, Salt, Seek, Verify}
 use Rattle.task.specs.declared.fault.Setting.TheVariants.{List as ListSetting}
 use Rattle.task.specs.declared.fault.TaskFault.{TaskFault}
 use Rattle.task.specs.declared.fault.UsageFault.{UsageFault}
-use Rattle.task.specs.declared.fault.UsageFault.TheVariants.{NotForAlgorithm, NotWithTag, OneFile, OutOfRange}
+use Rattle.task.specs.declared.fault.UsageFault.TheVariants.{OutOfRange}
 use Rattle.task.specs.declared.hashing.Requested.{Requested}
 use Rattle.task.specs.declared.hashing.Stretch.{Stretch}
 use Rattle.task.specs.declared.parameters.HmacHash.{HmacHash}
@@ -47,7 +47,7 @@ use Rattle.task.proofs.Steps.{by_first, by_second, in_both, of_named, where_read
 sha_possible : (a : Alg) (g : Given) → IsInRange a → IfOk (sha a g) HasDigest
 sha_possible a g range =
     by_second HasDigest (absent (Length ∷ Seek ∷ Salt ∷ Personal ∷ Parts ∷ []) g) _ (λ _.
-    by_second HasDigest (unset (NotForAlgorithm Raw) (has_flag (codes "raw") g)) _ (λ _. range))
+    by_second HasDigest (may_be_raw g) _ (λ _. range))
 
 default_of : (most : ℕ) (digits : Option (List ℕ)) → 1 ≤ most
     → IsBetween 1 most (option_map_or (λ t. min most (max 1 (length t / 2))) digits most)
@@ -63,7 +63,7 @@ length_between : (most n : ℕ) (g : Given) → 1 ≤ most
 length_between most n g low =
     let Q : ℕ × List ℕ × List ℕ → Type 0 = λ p. IsBetween 1 most p.0 in
     by_second Q (absent (Seek ∷ Parts ∷ []) g) _ (λ _.
-    by_second Q (unset (NotForAlgorithm Raw) (has_flag (codes "raw") g)) _ (λ _.
+    by_second Q (may_be_raw g) _ (λ _.
     by_first (IsBetween 1 most) Q (blake2_length most g) _ (blake2_between most g low) (λ length range.
     by_second Q (given_bytes Salt g) _ (λ salt. by_second Q (given_bytes Personal g) _ (λ personal.
     by_second Q (sized Salt n salt) _ (λ s. by_second Q (sized Personal n personal) _ (λ p. range)))))))
@@ -82,14 +82,14 @@ stretch_within g is_raw =
 tagged_possible : (g : Given) → IfOk (tagged_blake3 g) HasDigest
 tagged_possible g =
     by_second HasDigest (absent (Salt ∷ Personal ∷ []) g) _ (λ _.
-    by_second HasDigest (unset (NotWithTag Raw) (has_flag (codes "raw") g)) _ (λ _.
+    by_second HasDigest (may_be_raw g) _ (λ _.
     by_second HasDigest (number Length 32 32 32 g) _ (λ _. by_second HasDigest (number Seek 0 0 0 g) _ (λ _. tt))))
 
 output_possible : (g : Given) → IfOk (blake3_output g) HasDigest
 output_possible g =
     let is_raw = has_flag (codes "raw") g in
     by_second HasDigest (absent (Salt ∷ Personal ∷ []) g) _ (λ _.
-    by_second HasDigest (unset (OneFile Raw) (is_raw && names_several g)) _ (λ _.
+    by_second HasDigest (may_be_raw g) _ (λ _.
     by_first (λ (s : Stretch). IsWithin s × (s.is_raw ≡ is_raw)) HasDigest (stretch_of g is_raw) _
     (stretch_within g is_raw) (λ s h. h.0)))
 
