@@ -1,14 +1,16 @@
 #!/usr/bin/env python3
 """Runs the program where its streams and files are more than a text: devices that take nothing, inputs and outputs
-that are longer than a buffer, a pipe that comes in two pieces, the names that `find` prints, files that are pipes, and
-files of another user.
+that are longer than a buffer, a pipe that comes in two pieces, the names that `find` prints, files that are pipes,
+files of another user, and many files of which few may be open at a time.
 usage: .ci/streams.py PROGRAM
 """
 
 import contextlib
+import functools
 import hashlib
 import hmac
 import os
+import resource
 import shutil
 import subprocess
 import threading
@@ -32,6 +34,8 @@ FULL = [
     ("a verdict", "mac -a blake2s --key 00 -l 1 --verify 00"),
     ("a raw key", "kdf -a sha256 --ikm-file abc.txt -l 1 --raw"),
     ("raw bytes", "hash -a blake3 -l 200000 --raw"),
+    ("a raw digest", "hash -a sha256 --raw"),
+    ("a raw tag", "mac -a blake2b --key 00 --raw"),
     ("a part", "part -a blake3"),
     ("a joined line", "join -a blake3 chunk.0 chunk.1"),
     ("names from a file", "hash -a blake3 --files0-from mixed-names"),
@@ -41,6 +45,16 @@ UNTOLD = [
     ("a full standard error", "hash -a sha256 abc.txt", 0, ABC + b"  abc.txt\n"),
     ("a summary told to a full standard error", "check -a sha256 --summary good-list", 0, b"abc.txt: OK\n"),
     ("a fault told to a full standard error", "hash -a sha256 none abc.txt", 1, ABC + b"  abc.txt\n"),
+]
+# How many files a run needs open at a time, the three streams among them: a list stays open over the files that it
+# names.
+FEW = [
+    ("files", 4, "hash -a sha256" + 50 * " abc.txt"),
+    ("files in parts", 4, "hash -a blake3 --parts 1" + 50 * " abc.txt"),
+    ("files of a list of names", 5, "hash -a sha256 --files0-from many-names"),
+    ("files of a list", 5, "check -a sha256 many-lines"),
+    ("a file under a key", 4, "mac -a hmac-sha256 --key-file key20 abc.txt"),
+    ("lists of parts", 4, "join -a blake3 --name zeros part.1 part.2 part.3"),
 ]
 LONG = b"x" * 300_000
 # How many seconds a run has whose files are pipes, and the number of the user that has no files.
@@ -171,6 +185,18 @@ def files_of_another_user():
         os.remove("this")
 
 
+def few_open_files():
+    """Each file is closed before the next one is opened."""
+    with open("many-names", "wb") as file:
+        file.write(50 * b"abc.txt\0")
+    with open("many-lines", "wb") as file:
+        file.write(50 * (ABC + b"  abc.txt\n"))
+    for name, most, words in FEW:
+        few = functools.partial(resource.setrlimit, resource.RLIMIT_NOFILE, (most, most))
+        got = harness.run(program, words.split(), preexec_fn=few)
+        same(f"{name}, of which few are open at a time", (got, got.status), (run(words), 0))
+
+
 program = harness.program()
 os.umask(0o022)
 with harness.folder():
@@ -182,4 +208,5 @@ with harness.folder():
     rest_of_input()
     named_pipes()
     files_of_another_user()
+    few_open_files()
 harness.finish()

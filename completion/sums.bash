@@ -65,7 +65,7 @@ _sums() {
         hash:-*)
             _sums_words '-a -l --seek --parts --salt --personal --verify --tag --raw --progress --files0-from -h --help' "$word" ;;
         mac:-*)
-            _sums_words '-a -l --key --key-file --verify --progress -h --help' "$word" ;;
+            _sums_words '-a -l --key --key-file --verify --raw --progress -h --help' "$word" ;;
         kdf:-* | kdf:)
             _sums_words '-a -l --ikm-file --salt --info --context --raw -h --help' "$word" ;;
         check:-*)

@@ -34,7 +34,7 @@ complete -c sums -n '__sums_command_is hash' -l salt -x -d 'the salt in hexadeci
 complete -c sums -n '__sums_command_is hash' -l personal -x -d 'the personalization in hexadecimal digits'
 complete -c sums -n '__sums_command_is hash' -l verify -x -d 'tell whether the digest is the one of these hexadecimal digits'
 complete -c sums -n '__sums_command_is hash' -l tag -d 'print lines that name their algorithm'
-complete -c sums -n '__sums_command_is hash' -l raw -d 'print the bytes of the output as they are'
+complete -c sums -n '__sums_command_is hash' -l raw -d 'print the bytes of the digest as they are'
 complete -c sums -n '__sums_command_is hash' -l progress -d 'show how much of a file was read'
 complete -c sums -n '__sums_command_is hash' -l files0-from -r -F -d 'the file that has the names of the files'
 complete -c sums -n '__sums_command_is hash' -s h -l help -d 'print help'
@@ -44,6 +44,7 @@ complete -c sums -n '__sums_command_is mac' -s l -x -d 'the tag'\''s length in b
 complete -c sums -n '__sums_command_is mac' -l key -x -d 'the key in hexadecimal digits, which other users may see'
 complete -c sums -n '__sums_command_is mac' -l key-file -r -F -d 'the file whose bytes are the key'
 complete -c sums -n '__sums_command_is mac' -l verify -x -d 'tell whether the tag is the one of these hexadecimal digits'
+complete -c sums -n '__sums_command_is mac' -l raw -d 'print the bytes of the tag as they are'
 complete -c sums -n '__sums_command_is mac' -l progress -d 'show how much of a file was read'
 complete -c sums -n '__sums_command_is mac' -s h -l help -d 'print help'
 complete -c sums -n '__sums_command_is mac' -F

@@ -1,4 +1,4 @@
--- Blocks of eight chunks that lie one after the other.
+-- Blocks of chunks that lie one after the other, taken side by side.
 use Rattle.std.proofs.Common.{◌≡◌, ℕ, zero, suc, ◌+◌, ◌-◌, ◌*◌, ◌<◌, ◌≤◌, List, [], ◌++◌, length, take, drop, refl}
 use Rattle.std.proofs.Common.{sym, ap, ◌∙◌, arith, append-nil, length-drop, length-take-le, add-one}
 use Rattle.std.proofs.lemmas.List.{take-take, drop-take, drop-drop}
@@ -6,7 +6,8 @@ use Rattle.words.specs.Blake3.{compress3}
 use Rattle.words.specs.Words.{words}
 use Rattle.b3.specs.Node.{cv}
 use Rattle.b3.specs.Chunk.{chunk, value_before, block, block_words, last_block, start_flag}
-use Rattle.b3.specs.inside.Runs.{chunk_cv, value_before_last}
+use Rattle.b3.specs.inside.Runs.{run_cv, value_before_last}
+use Rattle.b3.proofs.Folding.{run_chunk}
 
 -- a chunk that is whole
 pub chunk_full : (x : List ℕ) (k : ℕ) → 1024 * k + 1024 ≤ length x → length (take 1024 (drop (1024 * k) x)) ≡ 1024
@@ -68,7 +69,7 @@ value_last key flags c d x len e =
     rw (last, size, e, none) refl
 
 -- one block more of chunk k, which is read at `at`
-pub block_more : (key : List ℕ) (flags c d : ℕ) (x : List ℕ) (k j t at : ℕ) (value read next : List ℕ)
+block_more : (key : List ℕ) (flags c d : ℕ) (x : List ℕ) (k j t at : ℕ) (value read next : List ℕ)
     → 1024 * k + 1024 ≤ length x → j < 16
     → value ≡ value_before key flags (c + k) (take 1024 (drop (1024 * k) x)) j
     → read ≡ words 4 16 (take 64 (drop at x)) → at ≡ 1024 * k + 64 * j → t ≡ c + k
@@ -76,7 +77,7 @@ pub block_more : (key : List ℕ) (flags c d : ℕ) (x : List ℕ) (k j t at : �
     → (j ≡ 0 → d ≡ flags + 1) → (0 < j → j < 15 → d ≡ flags) → (j ≡ 15 → d ≡ flags + 2)
     → (j + 1 < 16 → next ≡ value_before key flags (c + k) (take 1024 (drop (1024 * k) x)) (j + 1))
     × (j + 1 ≡ 16 → value ≡ value_before_last key flags c x k)
-    × (j + 1 ≡ 16 → next ≡ chunk_cv key flags c x k)
+    × (j + 1 ≡ 16 → next ≡ run_cv key flags c x 0 k)
 block_more key flags c d x k j t at value read next w h here words_at place number made first later last =
     let whole = words_at ∙ lane_block x (take 64 (drop at x)) k j w h (ap (λ (a : ℕ). take 64 (drop a x)) place) in (
       λ more. made ∙ rw (here, whole, number)
@@ -88,5 +89,33 @@ block_more key flags c d x k j t at value read next w h here words_at place numb
       λ done.
           let end : j ≡ 15 = omega arith in
           made ∙ rw (here, whole, number, end)
-          (value_last key flags (c + k) d (take 1024 (drop (1024 * k) x)) (chunk_full x k w) (last end)),
+          (value_last key flags (c + k) d (take 1024 (drop (1024 * k) x)) (chunk_full x k w) (last end))
+          ∙ sym (run_chunk key flags c x k (omega arith)),
     )
+
+-- n chunks before block j: the values so far, and at the end those before the last block
+abbrev pub AreAtBlock : List ℕ → ℕ → ℕ → List ℕ → ℕ → (ℕ → List ℕ) → (ℕ → List ℕ) → ℕ → Type 0
+AreAtBlock key flags c x n values before j = (k : ℕ) → k < n → 1024 * k + 1024 ≤ length x
+    → (j < 16 → values k ≡ value_before key flags (c + k) (take 1024 (drop (1024 * k) x)) j)
+    × (j ≡ 16 → before k ≡ value_before_last key flags c x k)
+    × (j ≡ 16 → values k ≡ run_cv key flags c x 0 k)
+
+-- the chunks before their first blocks
+pub blocks_begun : (key : List ℕ) (flags c : ℕ) (x : List ℕ) (n : ℕ) (values before : ℕ → List ℕ)
+    → ((k : ℕ) → k < n → values k ≡ key) → AreAtBlock key flags c x n values before 0
+unfolding value_before
+blocks_begun key flags c x n values before same = λ k h w.
+    (λ more. same k h, λ done. absurd (omega arith), λ done. absurd (omega arith))
+
+-- one block more of each
+pub blocks_more : (key : List ℕ) (flags c d : ℕ) (x : List ℕ) (n j : ℕ) (number at : ℕ → ℕ)
+    (values before read next : ℕ → List ℕ) → AreAtBlock key flags c x n values before j → j < 16
+    → ((k : ℕ) → k < n → read k ≡ words 4 16 (take 64 (drop (at k) x)))
+    → ((k : ℕ) → k < n → 1024 * k + 1024 ≤ length x → at k ≡ 1024 * k + 64 * j)
+    → ((k : ℕ) → k < n → number k ≡ c + k)
+    → ((k : ℕ) → k < n → next k ≡ take 8 (compress3 (values k) (read k) (number k) 64 d))
+    → (j ≡ 0 → d ≡ flags + 1) → (0 < j → j < 15 → d ≡ flags) → (j ≡ 15 → d ≡ flags + 2)
+    → AreAtBlock key flags c x n next values (j + 1)
+blocks_more key flags c d x n j number at values before read next here more reads place counted made start later end =
+    λ k h w. block_more key flags c d x k j (number k) (at k) (values k) (read k) (next k) w more ((here k h w).0 more)
+    (reads k h) (place k h w) (counted k h) (made k h) start later end

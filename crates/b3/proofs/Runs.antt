@@ -5,7 +5,7 @@ use Rattle.std.proofs.Math.ListN.{set}
 use Rattle.std.proofs.lemmas.Bool.{cases_lt}
 use Rattle.std.proofs.lemmas.List.{drop-drop, take-append-drop, take_rest, take_all, get_or-set_same}
 use Rattle.std.proofs.lemmas.List.{get_or-set_other, length-set}
-use Rattle.std.proofs.Math.Nat.{pow-succ'}
+use Rattle.std.proofs.Math.Nat.{mul-le-mul_left, pow-succ'}
 use Rattle.b3.specs.Node.{cv}
 use Rattle.b3.specs.Chunk.{value_before}
 use Rattle.b3.specs.Tree.{tree}
@@ -77,45 +77,33 @@ module _ (key : List ℕ) (flags c : ℕ) (m : List ℕ) (l level half middle : 
 
   module _ (outl : (i : ℕ) → i < 4 → out i ≡ joined_cv key flags (left (2 * i)) (left (2 * i + 1)))
       (outr : (i : ℕ) → i < 4 → out (4 + i) ≡ joined_cv key flags (right (2 * i)) (right (2 * i + 1))) where
+    -- lane i is over two neighbours that begin at chunk a
+    over : (i a b : ℕ) (x y : List ℕ) → out i ≡ joined_cv key flags x y → x ≡ run_cv key flags c m l a
+        → y ≡ run_cv key flags c m l b → i < 8 → a ≡ 2 ^ l * (2 * i) → b ≡ a + 2 ^ l
+        → out i ≡ run_cv key flags c m level (2 ^ level * i)
+    over i a b x y joined first second below at next =
+        let two : 2 ^ suc l ≡ 2 * 2 ^ l = pow-succ' 2 l in
+        let most : 2 ^ l * i ≤ 2 ^ l * 7 = mul-le-mul_left (2 ^ l) (omega arith) in
+        let place : a ≡ 2 ^ level * i = rw double (omega arith) in
+        joined ∙ neighbours key flags c m l a b x y first second next (omega (arith, double, len, two, most))
+        ∙ ap₂ (λ (k j : ℕ). run_cv key flags c m k j) (sym up) place
+
+    lower : (i : ℕ) → i < 4 → out i ≡ run_cv key flags c m level (2 ^ level * i)
+    lower i h =
+        over i (2 ^ l * (2 * i)) (2 ^ l * (2 * i + 1)) _ _ (outl i h) (low (2 * i) (omega arith))
+        (low (2 * i + 1) (omega arith)) (omega arith) refl (omega arith)
+
+    upper : (i : ℕ) → i < 4 → out (4 + i) ≡ run_cv key flags c m level (2 ^ level * (4 + i))
+    upper i h =
+        over (4 + i) (8 * 2 ^ l + 2 ^ l * (2 * i)) (8 * 2 ^ l + 2 ^ l * (2 * i + 1)) _ _ (outr i h)
+        (high (2 * i) (omega arith)) (high (2 * i + 1) (omega arith)) (omega arith) (omega arith) (omega arith)
+
     pub parent_values : (i : ℕ) → i < 8 → out i ≡ run_cv key flags c m level (2 ^ level * i)
     parent_values =
-        let p : ℕ = 2 ^ l in
-        let two : 2 ^ suc l ≡ 2 * p = pow-succ' 2 l in
-        let S = λ (n : ℕ). run_cv key flags c m l n in
-        let whole = λ (a n : ℕ) (e : a ≡ n). ap₂ (λ (k j : ℕ). run_cv key flags c m k j) (sym up) e in
-        below_eight (λ i. out i ≡ run_cv key flags c m level (2 ^ level * i))
-        (outl 0 (omega arith)
-        ∙ neighbours key flags c m l (p * 0) (p * 1) _ _ (low 0 (omega arith)) (low 1 (omega arith)) (omega arith)
-        (omega (arith, double, len, two))
-        ∙ whole (p * 0) (2 ^ level * 0) (omega (arith, double)))
-        (outl 1 (omega arith)
-        ∙ neighbours key flags c m l (p * 2) (p * 3) _ _ (low 2 (omega arith)) (low 3 (omega arith)) (omega arith)
-        (omega (arith, double, len, two))
-        ∙ whole (p * 2) (2 ^ level * 1) (omega (arith, double)))
-        (outl 2 (omega arith)
-        ∙ neighbours key flags c m l (p * 4) (p * 5) _ _ (low 4 (omega arith)) (low 5 (omega arith)) (omega arith)
-        (omega (arith, double, len, two))
-        ∙ whole (p * 4) (2 ^ level * 2) (omega (arith, double)))
-        (outl 3 (omega arith)
-        ∙ neighbours key flags c m l (p * 6) (p * 7) _ _ (low 6 (omega arith)) (low 7 (omega arith)) (omega arith)
-        (omega (arith, double, len, two))
-        ∙ whole (p * 6) (2 ^ level * 3) (omega (arith, double)))
-        (outr 0 (omega arith)
-        ∙ neighbours key flags c m l (8 * p + p * 0) (8 * p + p * 1) _ _ (high 0 (omega arith)) (high 1 (omega arith))
-        (omega arith) (omega (arith, double, len, two))
-        ∙ whole (8 * p + p * 0) (2 ^ level * 4) (omega (arith, double)))
-        (outr 1 (omega arith)
-        ∙ neighbours key flags c m l (8 * p + p * 2) (8 * p + p * 3) _ _ (high 2 (omega arith)) (high 3 (omega arith))
-        (omega arith) (omega (arith, double, len, two))
-        ∙ whole (8 * p + p * 2) (2 ^ level * 5) (omega (arith, double)))
-        (outr 2 (omega arith)
-        ∙ neighbours key flags c m l (8 * p + p * 4) (8 * p + p * 5) _ _ (high 4 (omega arith)) (high 5 (omega arith))
-        (omega arith) (omega (arith, double, len, two))
-        ∙ whole (8 * p + p * 4) (2 ^ level * 6) (omega (arith, double)))
-        (outr 3 (omega arith)
-        ∙ neighbours key flags c m l (8 * p + p * 6) (8 * p + p * 7) _ _ (high 6 (omega arith)) (high 7 (omega arith))
-        (omega arith) (omega (arith, double, len, two))
-        ∙ whole (8 * p + p * 6) (2 ^ level * 7) (omega (arith, double)))
+        below_eight (λ i. out i ≡ run_cv key flags c m level (2 ^ level * i)) (lower 0 (omega arith))
+        (lower 1 (omega arith))
+        (lower 2 (omega arith)) (lower 3 (omega arith)) (upper 0 (omega arith)) (upper 1 (omega arith))
+        (upper 2 (omega arith)) (upper 3 (omega arith))
 
 -- eight of them are joined
 pub joined_eight : (key : List ℕ) (flags c : ℕ) (m : List ℕ) (l : ℕ) (v : List (List ℕ)) → length m ≡ 8192 * 2 ^ l

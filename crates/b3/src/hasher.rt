@@ -175,7 +175,8 @@ impl Blake3 {
         ensures closed { self.new.stack.closed ≡ self.old.stack.closed + 2 ^ level }
         ensures chunk { self.new.chunk.len ≡ 0 }
         ensures split { (m y : List ℕ) → IsSplit self.old m → length y ≡ 1024 * 2 ^ level
-            → value ≡ cv (tree self.old.stack.parameters.key self.old.stack.parameters.flags self.old.stack.closed y) → IsSplit self.new (m ++ y) }
+            → value ≡ cv (tree self.old.stack.parameters.key self.old.stack.parameters.flags self.old.stack.closed y)
+            → IsSplit self.new (m ++ y) }
     {
         self.stack.push(subtree_chunks(level), value);
     }
@@ -221,7 +222,8 @@ impl Blake3 {
         ensures chunk { self.new.chunk.len ≡ 0 }
         ensures split { (m y : List ℕ) → IsSplit self.old m → length y ≡ 1024 * n
             → ((i : ℕ) → i < n
-            → slice_index_or values.now i [] ≡ run_cv self.old.stack.parameters.key self.old.stack.parameters.flags self.old.stack.closed y 0 i)
+            → slice_index_or values.now i []
+            ≡ run_cv self.old.stack.parameters.key self.old.stack.parameters.flags self.old.stack.closed y 0 i)
             → IsSplit self.new (m ++ y) }
     {
         'chunks: for i in 0..n {
@@ -238,7 +240,8 @@ impl Blake3 {
         ensures closed { self.new.stack.closed ≡ self.old.stack.closed }
         ensures chunk { self.new.chunk.len ≡ 1024 }
         ensures split { (m : List ℕ) → IsSplit self.old m
-            → before ≡ value_before self.old.stack.parameters.key self.old.stack.parameters.flags self.old.stack.closed bytes.now 15
+            → before ≡ value_before self.old.stack.parameters.key self.old.stack.parameters.flags self.old.stack.closed
+            bytes.now 15
             → IsSplit self.new (m ++ bytes.now) }
     {
         self.chunk = Chunk::full(before, &bytes[CHUNK_LEN - BLOCK_LEN..]);

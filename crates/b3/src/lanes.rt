@@ -95,7 +95,8 @@ fn two_chunk_values(
 ) -> ([[u32; 8]; 8], [[u32; 8]; 8])
     requires length { length bytes.now ≡ 2048 }
     requires numbers { first + 2 < 2 ^ 64 }
-    ensures values { (i : ℕ) → i < 2 → slice_index_or result.0 i [] ≡ run_cv parameters.now.key parameters.now.flags first bytes.now 0 i }
+    ensures values { (i : ℕ) → i < 2 → slice_index_or result.0 i []
+        ≡ run_cv parameters.now.key parameters.now.flags first bytes.now 0 i }
     ensures before { (i : ℕ) → i < 2
         → slice_index_or result.1 i [] ≡ value_before_last parameters.now.key parameters.now.flags first bytes.now i }
 {
@@ -179,7 +180,8 @@ fn join(parameters: &Parameters, left: &[u32; 8], right: &[u32; 8]) -> [u32; 8]
 // The chaining values over the neighbours among eight.
 fn parents(parameters: &Parameters, values: &[[u32; 8]; 8]) -> [[u32; 8]; 4]
     ensures { (i : ℕ) → i < 4 → slice_index_or result i []
-        ≡ joined_cv parameters.now.key parameters.now.flags (slice_index_or values.now (2 * i) []) (slice_index_or values.now (2 * i + 1) []) }
+        ≡ joined_cv parameters.now.key parameters.now.flags (slice_index_or values.now (2 * i) [])
+        (slice_index_or values.now (2 * i + 1) []) }
 {
     let blocks = [
         pair(&values[0], &values[1]),
@@ -205,9 +207,11 @@ fn parents(parameters: &Parameters, values: &[[u32; 8]; 8]) -> [[u32; 8]; 4]
 // The chaining values over the neighbours in two times eight lanes.
 fn parent_lanes(parameters: &Parameters, left: [u32x8; 8], right: [u32x8; 8]) -> [u32x8; 8]
     ensures left { (i : ℕ) → i < 4
-        → lane8 i result ≡ joined_cv parameters.now.key parameters.now.flags (lane8 (2 * i) left) (lane8 (2 * i + 1) left) }
+        → lane8 i result ≡ joined_cv parameters.now.key parameters.now.flags (lane8 (2 * i) left)
+        (lane8 (2 * i + 1) left) }
     ensures right { (i : ℕ) → i < 4
-        → lane8 (4 + i) result ≡ joined_cv parameters.now.key parameters.now.flags (lane8 (2 * i) right) (lane8 (2 * i + 1) right) }
+        → lane8 (4 + i) result
+        ≡ joined_cv parameters.now.key parameters.now.flags (lane8 (2 * i) right) (lane8 (2 * i + 1) right) }
 {
     let d = u32::from(parameters.flags) + u32::from(PARENT);
     next_lanes::<1>(
@@ -224,7 +228,8 @@ fn parent_lanes(parameters: &Parameters, left: [u32x8; 8], right: [u32x8; 8]) ->
 fn subtree_lanes(parameters: &Parameters, first: u64, level: u32, bytes: &[u8]) -> [u32x8; 8]
     requires length { length bytes.now ≡ 8192 * 2 ^ level }
     requires numbers { first + 8 * 2 ^ level < 2 ^ 64 }
-    ensures { (i : ℕ) → i < 8 → lane8 i result ≡ run_cv parameters.now.key parameters.now.flags first bytes.now level (2 ^ level * i) }
+    ensures { (i : ℕ) → i < 8 → lane8 i result
+        ≡ run_cv parameters.now.key parameters.now.flags first bytes.now level (2 ^ level * i) }
 {
     if level == 0 {
         let mut before = same_lanes(&parameters.key);
@@ -267,8 +272,10 @@ fn open_lanes(
     ensures values { (i : ℕ) → i < 8
         → lane8 i result ≡ run_cv parameters.now.key parameters.now.flags first bytes.now level (2 ^ level * i) }
     ensures lefts { (j : ℕ) → j < level
-        → slice_index_or lefts.new j [] ≡ run_cv parameters.now.key parameters.now.flags first bytes.now j (8 * 2 ^ level - 2 * 2 ^ j) }
-    ensures before { lane8 7 before.new ≡ value_before_last parameters.now.key parameters.now.flags first bytes.now (8 * 2 ^ level - 1) }
+        → slice_index_or lefts.new j []
+        ≡ run_cv parameters.now.key parameters.now.flags first bytes.now j (8 * 2 ^ level - 2 * 2 ^ j) }
+    ensures before { lane8 7 before.new
+        ≡ value_before_last parameters.now.key parameters.now.flags first bytes.now (8 * 2 ^ level - 1) }
 {
     if level == 0 {
         return chunk_lanes(parameters, first, bytes, before);
@@ -293,8 +300,10 @@ pub(crate) fn open_lefts(
     requires numbers { first + 8 * 2 ^ level < 2 ^ 64 }
     requires bound { level ≤ 7 }
     ensures lefts { (j : ℕ) → j < level + 3
-        → slice_index_or result.0 j [] ≡ run_cv parameters.now.key parameters.now.flags first bytes.now j (8 * 2 ^ level - 2 * 2 ^ j) }
-    ensures before { result.1 ≡ value_before_last parameters.now.key parameters.now.flags first bytes.now (8 * 2 ^ level - 1) }
+        → slice_index_or result.0 j []
+        ≡ run_cv parameters.now.key parameters.now.flags first bytes.now j (8 * 2 ^ level - 2 * 2 ^ j) }
+    ensures before { result.1
+        ≡ value_before_last parameters.now.key parameters.now.flags first bytes.now (8 * 2 ^ level - 1) }
 {
     let mut lefts = [[0; 8]; 10];
     let mut before = same_lanes(&parameters.key);

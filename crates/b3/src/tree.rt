@@ -48,7 +48,8 @@ fn chunk_over(parameters: &Parameters, number: u64, bytes: &[u8]) -> Node
 fn joined_value(parameters: &Parameters, values: &[[u32; 8]]) -> [u32; 8]
     requires { 0 < length values.now }
     ensures { (c : ℕ) (m : List ℕ) → chunk_count m ≡ length values.now
-        → ((i : ℕ) → i < length values.now → slice_index_or values.now i [] ≡ run_cv parameters.now.key parameters.now.flags c m 0 i)
+        → ((i : ℕ) → i < length values.now → slice_index_or values.now i []
+        ≡ run_cv parameters.now.key parameters.now.flags c m 0 i)
         → result ≡ cv (tree parameters.now.key parameters.now.flags c m) }
 {
     if values.len() == 1 {

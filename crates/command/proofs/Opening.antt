@@ -6,7 +6,6 @@ use Rattle.std.specs.Borrow.{Bor}
 use Rattle.std.specs.List.{sum_by}
 use Rattle.request.specs.CommandLine.{Text}
 use Rattle.source.specs.Written.{Shown}
-use Rattle.sumlist.specs.Naming.{names}
 use Rattle.sumlist.specs.Report.{Files}
 use Rattle.command.specs.Lines.{LineForm, content_of, is_input}
 use Rattle.command.specs.Streams.{OpensAtMost, Seen, opens_from, opens_of}
@@ -65,34 +64,36 @@ opens_at l n (Some name) r old new err_old err_new printed =
     let once = opens_once name.now in
     omega (arith, most, once)
 
--- what was opened of a list, where its bytes and the files are told
-abbrev pub OpensListed : Text → Option (List ℕ) → Option Files → (i j : ℕ) → Type 0
-OpensListed list first tree i j = IfSome first (λ bytes. IfSome tree (λ files.
-    j ≤ i + (opens_of list + opens_from (content_of list bytes files))))
+-- what was opened of a list of such pieces, where its bytes and the files are told
+abbrev pub OpensListed : (List ℕ → List (List ℕ)) → Text → Option (List ℕ) → Option Files → (i j : ℕ) → Type 0
+OpensListed pieces list first tree i j = IfSome first (λ bytes. IfSome tree (λ files.
+    j ≤ i + (opens_of list + opens_from pieces (content_of list bytes files))))
 
--- the list is standard input
-pub opens_of_input : (list : Text) (first : Option (List ℕ)) (tree : Option Files) (i j : ℕ) → is_input list ≡ true
-    → IfSome first (λ bytes. IfSome tree (λ files. j ≤ i + length (names bytes))) → OpensListed list first tree i j
-opens_of_input list None tree i j is most = tt
-opens_of_input list (Some bytes) None i j is most = tt
-opens_of_input list (Some bytes) (Some files) i j is most = rw is (omega (arith, most))
+module _ (pieces : List ℕ → List (List ℕ)) where
+  -- the list is standard input
+  pub opens_of_input : (list : Text) (first : Option (List ℕ)) (tree : Option Files) (i j : ℕ) → is_input list ≡ true
+      → IfSome first (λ bytes. IfSome tree (λ files. j ≤ i + length (pieces bytes)))
+      → OpensListed pieces list first tree i j
+  opens_of_input list None tree i j is most = tt
+  opens_of_input list (Some bytes) None i j is most = tt
+  opens_of_input list (Some bytes) (Some files) i j is most = rw is (omega (arith, most))
 
--- it is a file that does not open
-pub opens_of_none : (list : Text) (first : Option (List ℕ)) (tree : Option Files) (i j : ℕ) → is_input list ≡ false
-    → j ≤ i + 1 → OpensListed list first tree i j
-opens_of_none list None tree i j is most = tt
-opens_of_none list (Some bytes) None i j is most = tt
-opens_of_none list (Some bytes) (Some files) i j is most = rw is (omega (arith, most))
+  -- it is a file that does not open
+  pub opens_of_none : (list : Text) (first : Option (List ℕ)) (tree : Option Files) (i j : ℕ) → is_input list ≡ false
+      → j ≤ i + 1 → OpensListed pieces list first tree i j
+  opens_of_none list None tree i j is most = tt
+  opens_of_none list (Some bytes) None i j is most = tt
+  opens_of_none list (Some bytes) (Some files) i j is most = rw is (omega (arith, most))
 
--- it is a file that was opened, and closed
-pub opens_of_file : {F : Type 0} (list : Text) (remaining : F → Option (List ℕ)) (feed : F) (first : Option (List ℕ))
-    (tree then_tree : Option Files) (i j k l : ℕ) → is_input list ≡ false
-    → IfSome tree (λ files. (bytes : List ℕ) × (files list ≡ Some bytes) × (remaining feed ≡ Some bytes))
-    → then_tree ≡ tree → j ≤ i + 1
-    → IfSome (remaining feed) (λ bytes. IfSome then_tree (λ files. k ≤ j + length (names bytes))) → l ≤ k
-    → OpensListed list first tree i l
-opens_of_file list remaining feed None tree then_tree i j k l is opened same one more last = tt
-opens_of_file list remaining feed (Some input) None then_tree i j k l is opened same one more last = tt
-opens_of_file list remaining feed (Some input) (Some files) then_tree i j k l is opened same one more last =
-    let most : k ≤ j + length (names opened.0) = rw (opened.2, same) at more in
-    rw (is, opened.1) (omega (arith, one, most, last))
+  -- it is a file that was opened, and closed
+  pub opens_of_file : {F : Type 0} (list : Text) (remaining : F → Option (List ℕ)) (feed : F) (first : Option (List ℕ))
+      (tree then_tree : Option Files) (i j k l : ℕ) → is_input list ≡ false
+      → IfSome tree (λ files. (bytes : List ℕ) × (files list ≡ Some bytes) × (remaining feed ≡ Some bytes))
+      → then_tree ≡ tree → j ≤ i + 1
+      → IfSome (remaining feed) (λ bytes. IfSome then_tree (λ files. k ≤ j + length (pieces bytes))) → l ≤ k
+      → OpensListed pieces list first tree i l
+  opens_of_file list remaining feed None tree then_tree i j k l is opened same one more last = tt
+  opens_of_file list remaining feed (Some input) None then_tree i j k l is opened same one more last = tt
+  opens_of_file list remaining feed (Some input) (Some files) then_tree i j k l is opened same one more last =
+      let most : k ≤ j + length (pieces opened.0) = rw (opened.2, same) at more in
+      rw (is, opened.1) (omega (arith, one, most, last))

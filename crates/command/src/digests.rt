@@ -11,7 +11,7 @@ ghost use Rattle.task.specs.Requested.{alg_of};
 ghost use Rattle.task.specs.inside.Possible.{HasDigest, IsPartSize, IsWithin};
 ghost use Rattle.command.specs.Run.{TellsAll};
 ghost use Rattle.command.specs.Hashing.{HashesAll};
-ghost use Rattle.command.specs.Lines.{IsListable, digest_line, hash_of, line_text};
+ghost use Rattle.command.specs.Lines.{IsListable, digest_line, form_text, hash_of};
 ghost use Rattle.command.specs.inside.Hashed.{PrintsName, Settles};
 ghost use Rattle.command.specs.inside.Printing.{PrintsLine, PrintsListed};
 ghost use Rattle.command.specs.inside.Reading.{Leaves, Reads, failed};
@@ -24,7 +24,7 @@ use crate::output::{named, write_line, write_output_beside};
 use crate::session::{Session, Streams, absorb_feed, open_file};
 use b3::{Blake3, Mode, Output};
 use blake2::{Blake2b, Blake2s};
-use source::{Alg, AnyHash, BLAKE3_LEN, Feed, Sink, digest_of, output_in_parts};
+use source::{Alg, AnyHash, BLAKE3_LEN, Feed, Sink, digest_of, output_in_parts, write_all};
 use std::alloc::{AllocError, Global};
 use sumlist::{Entry, TaggedFault, Tree, fits, tagged_fits, write_tagged};
 use task::{Form, Hash, Requested, Stretch};
@@ -371,7 +371,8 @@ fn plain_digest<'n, F: Feed>(alg: Alg, name: &'n str, feed: &mut F) -> Result<Ta
     }
 }
 
-// Writes the line of a digest and a name. Memory is taken for a tagged line alone, before its first byte.
+// Writes a digest as it is, or its line with a name. Memory is taken for a tagged line alone, before
+// its first byte.
 fn write_listed<'n, W: Sink>(
     alloc: Global,
     form: Form,
@@ -382,9 +383,12 @@ fn write_listed<'n, W: Sink>(
     requires range { IsInRange (alg_of form.hash) }
     requires length { length tag ≡ tag_len (alg_of form.hash) }
     requires listable { IsListable form.is_tagged (alg_of form.hash) name.now }
-    ensures { PrintsListed result (W.shown out.old) (W.shown out.new) (line_text form.is_tagged
-        (record { name = name.entry.now; alg = alg_of form.hash; tag = tag })) }
+    ensures { PrintsListed result (W.shown out.old) (W.shown out.new)
+        (form_text form (record { name = name.entry.now; alg = alg_of form.hash; tag = tag })) }
 {
+    if form.is_raw {
+        return Ok(write_all(out, tag.bytes())?);
+    }
     if !form.is_tagged {
         return Ok(write_line(tag.bytes(), name, out)?);
     }

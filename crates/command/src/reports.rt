@@ -1,8 +1,9 @@
 // The command `check`: the report on a list.
 
-ghost use Rattle.std.specs.Prelude.{◌≡◌, ◌++◌, [], IfSome, Some, codes, true};
+ghost use Rattle.std.specs.Prelude.{◌≡◌, ◌≤◌, ◌+◌, ◌++◌, [], IfSome, Some, codes, true};
 ghost use Rattle.source.specs.Counts.{count_after};
 ghost use Rattle.source.specs.Written.{Writes};
+ghost use Rattle.sumlist.specs.Lines.{lines};
 ghost use Rattle.sumlist.specs.Tally.{summary_text};
 ghost use Rattle.command.specs.Checking.{CheckRuns};
 ghost use Rattle.command.specs.Lines.{content_of};
@@ -10,7 +11,7 @@ ghost use Rattle.command.specs.Run.{TellsAll};
 ghost use Rattle.command.specs.inside.Faults.{noted_of, of_check};
 ghost use Rattle.command.specs.inside.Listing.{ListTaken};
 ghost use Rattle.command.specs.inside.Reading.{failed};
-ghost use Rattle.command.specs.Streams.{DoesRun};
+ghost use Rattle.command.specs.Streams.{IfTold, OpensAtMost, DoesRun, opens_from, opens_of};
 ghost use Rattle.command.specs.inside.Streams.{SameStreams};
 
 use crate::fault::Fault;
@@ -35,6 +36,9 @@ impl<'i, 't, 'o, L: Feed, T: Tree, W: Sink> Session<'i, 't, 'o, L, T, W> {
             CheckRuns is_summed files kind name.entry.now (content_of name.entry.now bytes files))
             (λ notes. TellsAll (E.shown err.old) (E.shown err.new) notes)
             result (⟦<Self as Streams>⟧.seen self.old) (⟦<Self as Streams>⟧.seen self.new) }
+        ensures opens { IfTold (⟦<Self as Streams>⟧.seen self.old) (λ bytes files. OpensAtMost
+            (opens_of name.entry.now + opens_from lines (content_of name.entry.now bytes files))
+            (⟦<Self as Streams>⟧.seen self.old) (⟦<Self as Streams>⟧.seen self.new)) }
         ensures same { SameStreams self.old self.new }
     {
         if name == "-" {
@@ -68,6 +72,8 @@ fn check_list<'n, F: Feed, T: Tree, W: Sink, E: Sink>(
         (T.failure_count tree.old) (T.failure_count tree.new))) }
     ensures counted { IfSome (F.remaining list.old) (λ bytes. F.failure_count list.new
         ≡ count_after (F.failure_count list.old) (failed true (Some bytes) result).input) }
+    ensures opens { IfSome (F.remaining list.old) (λ bytes. IfSome (T.files tree.old) (λ _.
+        T.opens tree.new ≤ T.opens tree.old + opens_from lines (Some bytes))) }
 {
     let answer = check(alloc, list, kind, tree, out);
     note(is_summed, &answer, err);

@@ -1,5 +1,6 @@
 -- Lines of parts one behind the other, and what stands in the way of joining them.
 use Rattle.std.specs.Prelude.{◌≡◌, ℕ, ◌+◌, ◌*◌, ◌^◌, ◌<◌, ⊤, List, [], ◌∷◌, ◌++◌, length, Option, IfSome}
+use Rattle.std.specs.List.{AllZip}
 use Rattle.b3.specs.Modes.{hash_parameters}
 use Rattle.b3.specs.declared.row.PartValue.{PartValue}
 use Rattle.b3.specs.Values.{IsValueOf, value_first, value_len, value_words}
@@ -18,9 +19,7 @@ TellsPart line part = (value : List ℕ) × Tells line (value_first part) (value
 
 -- each line tells its part
 abbrev pub AllTell : List (List ℕ) → List PartValue → Type 0
-AllTell [] [] = ⊤
-AllTell (line ∷ lines) (part ∷ parts) = TellsPart line part × AllTell lines parts
-AllTell _ _ = ⊥
+AllTell lines parts = AllZip TellsPart lines parts
 
 -- how many bytes parts have
 abbrev pub bytes_of : List PartValue → ℕ

@@ -23,7 +23,7 @@ TaskRuns (compares wanted parts digest name) files input run =
     LineRuns (Some digest) (digest_line wanted) name input files run
 TaskRuns (cuts first chunks name) files input run = PartRuns first chunks name files input run
 TaskRuns (joins stretch bytes name lists) files input run = JoinRuns stretch bytes name lists files input run
-TaskRuns (tags mac key wanted name) files input run = MacRuns mac key wanted name files input run
+TaskRuns (tags mac is_raw key wanted name) files input run = MacRuns mac is_raw key wanted name files input run
 TaskRuns (derives derived is_raw name) files input run = KdfRuns derived is_raw name files run
 TaskRuns (checks kind is_summed list) files input run =
     CheckRuns is_summed files kind list (content_of list input files) run

@@ -117,10 +117,11 @@ fn run_request<'n, 'i, 't, 'o, L: Feed, T: Tree, W: Sink, E: Sink>(
         } => session.print_joined(stretch, bytes, name, lists.as_slice()),
         Task::Mac {
             mac,
+            is_raw,
             key,
             wanted,
             file,
-        } => session.print_tag(mac, key, wanted, file),
+        } => session.print_tag(mac, is_raw, key, wanted, file),
         Task::Kdf {
             derivation,
             is_raw,

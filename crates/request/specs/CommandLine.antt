@@ -3,9 +3,9 @@ use Rattle.std.specs.Prelude.{◌≡◌, ◌≢◌, ℕ, Bool, true, false, List
 use Rattle.std.specs.Borrow.{Bor}
 use Rattle.std.specs.Option.{option_map_or}
 use Rattle.std.specs.Str.{bytes_eq}
-pub use Rattle.clap.specs.Words.{IsAmong, Text, fault_of, kind_of}
+pub use Rattle.clap.specs.Words.{IsAmong, Text, all_of, fault_of, kind_of}
 pub use Rattle.clap.specs.declared.error.ErrorKind.{ErrorKind}
-use Rattle.clap.specs.Words.{App, Row, Rule, first_of, all_of, found_of, new_app, new_rule, rows_of, subcommand_of}
+use Rattle.clap.specs.Words.{App, Row, Rule, first_of, found_of, new_app, new_rule, rows_of, subcommand_of}
 use Rattle.clap.specs.Words.{with_rule, with_subcommand}
 use Rattle.request.specs.declared.request.Request.{Request}
 use Rattle.clap.specs.declared.builder.value_parser.ValueParser.TheVariants as vp
@@ -73,10 +73,6 @@ files_rule = record file_rule { action = Some Append }
 abbrev pub with_rules : App → List Rule → App
 with_rules = fold with_rule
 
--- a command with these below it
-abbrev pub with_commands : App → List App → App
-with_commands = fold (λ whole below. with_subcommand whole below.top)
-
 -- `hash -a ALG [-l N] [--seek N] [--parts N] [--salt HEX] [--personal HEX] [--verify HEX] [--tag] [--raw]
 --     [--progress] [--files0-from F] [FILE]..`
 abbrev pub hash_app : NameList → App
@@ -85,18 +81,18 @@ hash_app names = with_rules (new_app (codes "hash"))
     ∷ text_rule (codes "salt") ∷ text_rule (codes "personal") ∷ text_rule (codes "verify") ∷ flag_rule (codes "tag")
     ∷ flag_rule (codes "raw") ∷ flag_rule (codes "progress") ∷ text_rule (codes "files0-from") ∷ files_rule ∷ [])
 
--- `mac -a MAC [--key HEX] [--key-file F] [-l N] [--verify HEX] [--progress] [FILE]`
+-- `mac -a MAC [--key HEX] [--key-file F] [-l N] [--verify HEX] [--raw] [--progress] [FILE]`
 abbrev pub mac_app : NameList → App
 mac_app names = with_rules (new_app (codes "mac")) (algorithm_rule names ∷ text_rule (codes "key")
-    ∷ text_rule (codes "key-file") ∷ length_rule ∷ text_rule (codes "verify") ∷ flag_rule (codes "progress")
+    ∷ text_rule (codes "key-file") ∷ length_rule ∷ text_rule (codes "verify") ∷ flag_rule (codes "raw")
+    ∷ flag_rule (codes "progress")
     ∷ file_rule ∷ [])
 
 -- `kdf -a ALG --ikm-file F [--salt HEX] [--info HEX] [--context TEXT] -l N [--raw]`
 abbrev pub kdf_app : NameList → App
 kdf_app names = with_rules (new_app (codes "kdf")) (algorithm_rule names
-    ∷ required_rule (text_rule (codes "ikm-file")) ∷ text_rule (codes "salt")
-    ∷ text_rule (codes "info") ∷ text_rule (codes "context") ∷ required_rule length_rule
-    ∷ flag_rule (codes "raw") ∷ [])
+    ∷ required_rule (text_rule (codes "ikm-file")) ∷ text_rule (codes "salt") ∷ text_rule (codes "info")
+    ∷ text_rule (codes "context") ∷ required_rule length_rule ∷ flag_rule (codes "raw") ∷ [])
 
 -- `check -a ALG [--summary] [--progress] LIST`
 abbrev pub check_app : NameList → App
@@ -122,7 +118,7 @@ program_app = record (new_app (codes "sums")) {
 
 -- the same with the six below it; `names` are those of ALG and `macs` those of MAC
 unfoldable pub sums_app : NameList → NameList → App
-sums_app names macs = with_commands program_app
+sums_app names macs = fold (λ whole below. with_subcommand whole below.top) program_app
     (hash_app names ∷ mac_app macs ∷ kdf_app names ∷ check_app names ∷ part_app names ∷ join_app names ∷ [])
 
 -- what the words give: the name of a command, and the values of its options and arguments, each under its id
@@ -132,12 +128,9 @@ Given = Text × List Row
 abbrev pub given_of : Request → Given
 given_of r = (r.command.now, rows_of (found_of r.matches))
 
--- the first value of an option or argument, and all of them
+-- the first value of an option or argument; `clap`'s `all_of` has all of them
 abbrev pub text_of : Text → Given → Option Text
 text_of id given = first_of id given.1
-
-abbrev pub texts_of : Text → Given → Option (List Text)
-texts_of id given = all_of id given.1
 
 -- a flag was given: its value is then the word `true`
 abbrev pub has_flag : Text → Given → Bool

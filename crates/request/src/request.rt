@@ -3,7 +3,7 @@
 ghost use Rattle.std.specs.Prelude.{◌≡◌, ◌≢◌, [], Err, IfOk, OnOk, Some, map, option_map, true};
 ghost use Rattle.clap.specs.Words.{IsAmong, fault_of, has_subcommand, kind_of};
 ghost use Rattle.clap.specs.Words.{subcommand_of, subcommand_rows_of};
-ghost use Rattle.request.specs.CommandLine.{OfProgram, Reads, given_of, has_flag, sums_app, text_of, texts_of};
+ghost use Rattle.request.specs.CommandLine.{OfProgram, Reads, all_of, given_of, has_flag, sums_app, text_of};
 ghost use Rattle.request.specs.declared.request.WordsFault.TheVariants.{OutOfMemory, Words};
 
 use crate::commands::sums_command;
@@ -62,7 +62,7 @@ impl<'a> Request<'a> {
 
     /// All texts of an option or argument, in their order, where it was given.
     pub fn texts<'m>(&'m self, id: &str) -> Option<&'m [&'a str]>
-        ensures { option_map (λ s. map (λ t. t.now) s.now) result ≡ texts_of id.now (given_of self.now) }
+        ensures { option_map (λ s. map (λ t. t.now) s.now) result ≡ all_of id.now (given_of self.now).1 }
     {
         self.matches.get_raw(id)
     }

@@ -30,29 +30,30 @@ filled_more run buf n k count within few =
     ∙ ap (λ (l : List ℕ). take (n + count) l) whole
     ∙ rw front at (take-append-add (take n run) buf count)
 
--- bytes after which nothing is left are all that was to come
-pub all_taken : (a b c : Option (List ℕ)) (xs zs bytes : List ℕ) (P : List ℕ → Type 0) → Consumes a b xs
-    → Consumes (prepend_known xs b) (prepend_known zs c) bytes → zs ≡ [] → IsAtEnd c → P bytes → IfSome a P
-all_taken None b c xs zs bytes P first rest none end holds = tt
-all_taken (Some x) None c xs zs bytes P first rest none end holds = absurd first
-all_taken (Some x) (Some y) None xs zs bytes P first rest none end holds = absurd rest
-all_taken (Some x) (Some y) (Some z) xs zs bytes P first rest none end holds =
-    let left : zs ++ z ≡ [] = ap (λ (l : List ℕ). l ++ z) none ∙ end in
+-- bytes behind which nothing was read into a buffer are all that was to come
+pub all_taken : (a b c : Option (List ℕ)) (xs run bytes : List ℕ) (n : ℕ) (P : List ℕ → Type 0) → Consumes a b xs
+    → Consumes (prepend_known xs b) (prepend_known (take n run) c) bytes → n ≡ 0 → (n < length run → IsAtEnd c)
+    → 0 < length run → P bytes → IfSome a P
+all_taken None b c xs run bytes n P first rest none end some holds = tt
+all_taken (Some x) None c xs run bytes n P first rest none end some holds = absurd first
+all_taken (Some x) (Some y) None xs run bytes n P first rest none end some holds = absurd rest
+all_taken (Some x) (Some y) (Some z) xs run bytes n P first rest none end some holds =
+    let read : take n run ≡ [] = rw none refl in
+    let left : take n run ++ z ≡ [] = ap (λ (l : List ℕ). l ++ z) read ∙ end (omega arith) in
     subst P (sym (first ∙ rest ∙ ap (λ (l : List ℕ). bytes ++ l) left ∙ append-nil bytes)) holds
 
--- a power of two of chunks that are more than a run is twice such a power, which a run fits in
-pub halved : (chunks len : ℕ) → (k : ℕ) × (len ≡ 1024 * 2 ^ k) → (e : ℕ) × (chunks ≡ 2 ^ e) → len / 1024 < chunks
-    → (d : ℕ) × (chunks / 2 ≡ 2 ^ d) × (chunks ≡ 2 * 2 ^ d) × (len ≤ 1024 * 2 ^ d)
-halved chunks len (k, run) (zero, power) more =
-    absurd (omega (arith, run, power, more, pow_pos k))
-halved chunks len (k, run) (suc d, power) more =
-    let double : 2 ^ suc d ≡ 2 * 2 ^ d = pow-succ' 2 d in
-    let less : k < suc d = less_power k (suc d) (omega (arith, run, power, more)) in
-    let up : 2 ^ k ≤ 2 ^ d = pow_mono (omega (arith, less)) in
-    (d, omega (arith, power, double), omega (arith, power, double), omega (arith, run, up))
+-- chunks from the chunk `first` on in two halves, each of which a run of `len` bytes fits in
+pub record IsHalved (first chunks len : ℕ) : Type 0 where
+  pub power : ℕ
+  pub half : chunks / 2 ≡ 2 ^ power
+  pub double : chunks ≡ 2 * 2 ^ power
+  pub less : chunks / 2 < chunks
+  pub room : len ≤ 1024 * (chunks / 2)
+  pub left : first % (chunks / 2) ≡ 0
+  pub right : (first + chunks / 2) % (chunks / 2) ≡ 0
 
 -- what begins at a multiple of the double begins at one of the half, and so does what comes behind the half
-pub at_half : (first half : ℕ) → first % (2 * half) ≡ 0 → (first % half ≡ 0) × ((first + half) % half ≡ 0)
+at_half : (first half : ℕ) → first % (2 * half) ≡ 0 → (first % half ≡ 0) × ((first + half) % half ≡ 0)
 at_half first half aligned =
     let a : ℕ = first / (2 * half) in
     let start : a * (2 * half) ≡ first = run_start (2 * half) first aligned in
@@ -60,6 +61,28 @@ at_half first half aligned =
     = sym start ∙ mul_comm a (2 * half) ∙ ap (λ (x : ℕ). x * a) (mul_comm 2 half) ∙ mul_assoc half 2 a in
     let next : first + half ≡ half * (2 * a + 1) = omega (arith, is, mul-add half (2 * a) 1) in
     (rw is (mul-mod_right half (2 * a)), rw next (mul-mod_right half (2 * a + 1)))
+
+-- a power of two of chunks that are more than a run
+pub halved : (first chunks len : ℕ) → (k : ℕ) × (len ≡ 1024 * 2 ^ k) → (e : ℕ) × (chunks ≡ 2 ^ e)
+    → len / 1024 < chunks → first % chunks ≡ 0 → IsHalved first chunks len
+halved first chunks len (k, run) (zero, power) more aligned =
+    absurd (omega (arith, run, power, more, pow_pos k))
+halved first chunks len (k, run) (suc d, power) more aligned =
+    let two : 2 ^ suc d ≡ 2 * 2 ^ d = pow-succ' 2 d in
+    let smaller : k < suc d = less_power k (suc d) (omega (arith, run, power, more)) in
+    let up : 2 ^ k ≤ 2 ^ d = pow_mono (omega (arith, smaller)) in
+    let half : chunks / 2 ≡ 2 ^ d = omega (arith, power, two) in
+    let double : chunks ≡ 2 * (chunks / 2) = omega (arith, power, two) in
+    let places = at_half first (chunks / 2) (rw double at aligned) in
+    record {
+      power = d;
+      half = half;
+      double = omega (arith, power, two);
+      less = omega (arith, power, two, pow_pos d);
+      room = omega (arith, run, up, half);
+      left = places.0;
+      right = places.1;
+    }
 
 -- a part that is refused would end after the limit
 pub over_limit : (e first n : ℕ) → first % 2 ^ e ≡ 0 → (n ≡ 0 → first ≡ 0) → n ≤ 1024 * 2 ^ e

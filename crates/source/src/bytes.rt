@@ -1,6 +1,7 @@
 // A slice as a feed.
 
-ghost use Rattle.std.specs.Prelude.{◌≡◌, ◌≤◌, ◌<◌, ◌↔◌, ◌-◌, Some, None, length, option_map, IsErr, IsTrue, IfOk, OnErr};
+ghost use Rattle.std.specs.Prelude.{◌≡◌, ◌≤◌, ◌<◌, ◌↔◌, ◌-◌, Some, None, length, option_map};
+ghost use Rattle.std.specs.Prelude.{IsErr, IsTrue, IfOk, OnErr};
 ghost use Rattle.source.specs.Read.{IsRead};
 
 use crate::{Feed, ReadFailed};
@@ -85,7 +86,8 @@ impl<'a> Feed for Bytes<'a> {
         // Where it fails, how much it reads, and what stays.
         ensures fails { IsErr result ↔ ((bytes_place self.old ≡ Some 0) × (0 < length buf.old)) }
         ensures reads { IfOk result (λ n. n ≡ bytes_next self.old (length buf.old)) }
-        ensures place { IfOk result (λ n. bytes_place self.new ≡ option_map (λ place. place - n) (bytes_place self.old)) }
+        ensures place { IfOk result
+            (λ n. bytes_place self.new ≡ option_map (λ place. place - n) (bytes_place self.old)) }
         ensures refused { OnErr result (bytes_place self.new ≡ bytes_place self.old) }
         ensures kept { bytes_most self.new ≡ bytes_most self.old }
     {

@@ -11,8 +11,9 @@ use crate::{Feed, ReadFailed, Sink, WriteFailed};
 use std::io;
 use std::io::{Read, Write};
 
-/// A reader or a writer, as a file or a standard stream. It tells neither what is still to come nor
-/// what was written; what its reader or writer itself tells, each read and write keeps to. A read is
+/// A reader or a writer, as a file or a standard stream. It shows neither what is still to come nor
+/// what was written. If the reader or writer itself shows its bytes, each read and write agrees with
+/// them. A read is
 /// one read of the reader, and a fault of any kind is a failure: an interrupted one is not repeated.
 #[derive(Drop)]
 pub struct Device<R> {

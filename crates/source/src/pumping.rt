@@ -23,8 +23,8 @@ pub enum SourceFault {
 // For a file that ends within so many bytes the larger buffer is not made.
 const SHORT: usize = 4096;
 
-// From 16 KiB on, longer reads of a file were measured to be no faster by the byte. BLAKE3 has the
-// more chunks to take together the longer a piece is.
+// A read of 16 KiB is as fast by the byte as a longer one; BLAKE3 takes the more chunks together the
+// longer a piece is.
 const PIECE: usize = 65536;
 
 /// Feeds the hasher all that is still to come. `Read` comes exactly where a read failed; where none

@@ -6,8 +6,9 @@ use Rattle.std.proofs.lemmas.List.{take_all, append-nil, take-append-drop}
 use Rattle.std.proofs.lemmas.List.{length-take-le, take_more, take-replicate}
 use Rattle.std.proofs.lemmas.List.Folds.{concat-append}
 use Rattle.std.proofs.lemmas.Nat.{div-mul-add, mod-mul-add}
-use Rattle.std.proofs.Math.Nat.{div-mul-le_self, div-add-mod, mod-lt}
+use Rattle.std.proofs.Math.Nat.{div-mul-le_self, div-add-mod, mod-lt, mod-eq_of_lt}
 use Rattle.std.proofs.Math.Seq.{drop-append_seam}
+use Rattle.std.specs.Int.{Width, to_be_bytes}
 use Rattle.std.specs.List.{concat}
 use Rattle.std.specs.Simd.{first_chunks}
 use Rattle.blake2.proofs.Blocks.{concat_chunks}
@@ -139,3 +140,10 @@ pub padding_front : (n z : ℕ) → z < n
     → take {A = ℕ} (z + 1) (slice_set (replicate {A = ℕ} n 0) 0 0x80) ≡ 0x80 ∷ replicate z 0
 padding_front zero z lt = absurd (omega arith)
 padding_front (suc n) z lt = rw add-one (ap (λ (xs : List ℕ). 0x80 ∷ xs) (take-replicate z n 0 (omega arith)))
+
+-- the end of a padding: the count of the bits of n bytes
+pub bits_counted : (w : Width) (most taken n : ℕ) (count : List ℕ) → taken ≡ n → n * 8 < most
+    → count ≡ to_be_bytes w (8 * taken) → count ≡ to_be_bytes w (n * 8 % most)
+bits_counted w most taken n count same fits is =
+    let bits : 8 * taken ≡ n * 8 % most = omega (arith, mod-eq_of_lt fits) in
+    is ∙ ap (to_be_bytes w) bits

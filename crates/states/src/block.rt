@@ -62,6 +62,34 @@ macro_rules! added {
     };
 }
 
+// The words of the schedule that are the block's, and room for the others.
+macro_rules! first_words {
+    ($word:ident, $block:ident, $count:literal) => {{
+        let mut words = [0; $count];
+        'first: for t in 0..16 {
+            words[t] = $word($block, t);
+        }
+        words
+    }};
+}
+
+// A block whose first words are given, taken into a hash value. A word is made sixteen rounds before its own, so
+// that the processor works on both side by side.
+macro_rules! compressed {
+    ($h:ident, $words:ident, $next_word:ident, $round:ident, $k:ident, $middle:literal, $end:literal) => {{
+        let mut words = $words;
+        let mut v = *$h;
+        'rounds: for t in 0..$middle {
+            words[t + 16] = $next_word(&words, t + 16);
+            v = $round(v, $k[t], words[t]);
+        }
+        'last: for t in $middle..$end {
+            v = $round(v, $k[t], words[t]);
+        }
+        *$h = added!($h, v);
+    }};
+}
+
 #[inline(always)]
 fn word256(block: &[u8; 64], t: usize) -> u32
     requires { t < 16 }
@@ -86,17 +114,12 @@ fn round256(v: [u32; 8], k: u32, w: u32) -> [u32; 8]
     next_variables!(v, k, w, [2, 13, 22], [6, 11, 25])
 }
 
-// The words of the schedule that are the block's, and room for the others.
 #[inline(always)]
 fn first_words256(block: &[u8; 64]) -> [u32; 64]
     ensures { (t : ℕ) → t < 16
         → slice_index result t ≡ slice_index (Sha256.schedule block.now 48) t }
 {
-    let mut words = [0; 64];
-    'first: for t in 0..16 {
-        words[t] = word256(block, t);
-    }
-    words
+    first_words!(word256, block, 64)
 }
 
 /// Takes a block into the hash value of SHA-256 (FIPS 180-4, section 6.2.2).
@@ -104,17 +127,8 @@ fn first_words256(block: &[u8; 64]) -> [u32; 64]
 pub(crate) fn compress256(h: &mut [u32; 8], block: &[u8; 64])
     ensures { h.new ≡ Sha256.compress h.old block.now }
 {
-    let mut words = first_words256(block);
-    let mut v = *h;
-    // A word is made sixteen rounds before its own, so that the processor works on both side by side.
-    'rounds: for t in 0..48 {
-        words[t + 16] = next_word256(&words, t + 16);
-        v = round256(v, K256[t], words[t]);
-    }
-    'last: for t in 48..64 {
-        v = round256(v, K256[t], words[t]);
-    }
-    *h = added!(h, v);
+    let words = first_words256(block);
+    compressed!(h, words, next_word256, round256, K256, 48, 64);
 }
 
 #[inline(always)]
@@ -150,17 +164,12 @@ fn round512(v: [u64; 8], k: u64, w: u64) -> [u64; 8]
     next_variables!(v, k, w, [28, 34, 39], [14, 18, 41])
 }
 
-// The words of the schedule that are the block's, and room for the others.
 #[inline(always)]
 fn first_words512(block: &[u8; 128]) -> [u64; 80]
     ensures { (t : ℕ) → t < 16
         → slice_index result t ≡ slice_index (Sha512.schedule block.now 64) t }
 {
-    let mut words = [0; 80];
-    'first: for t in 0..16 {
-        words[t] = word512(block, t);
-    }
-    words
+    first_words!(word512, block, 80)
 }
 
 /// Takes a block into the hash value of SHA-512 (FIPS 180-4, section 6.4.2).
@@ -168,15 +177,6 @@ fn first_words512(block: &[u8; 128]) -> [u64; 80]
 pub(crate) fn compress512(h: &mut [u64; 8], block: &[u8; 128])
     ensures { h.new ≡ Sha512.compress h.old block.now }
 {
-    let mut words = first_words512(block);
-    let mut v = *h;
-    // A word is made sixteen rounds before its own, so that the processor works on both side by side.
-    'rounds: for t in 0..64 {
-        words[t + 16] = next_word512(&words, t + 16);
-        v = round512(v, K512[t], words[t]);
-    }
-    'last: for t in 64..80 {
-        v = round512(v, K512[t], words[t]);
-    }
-    *h = added!(h, v);
+    let words = first_words512(block);
+    compressed!(h, words, next_word512, round512, K512, 64, 80);
 }

@@ -8,7 +8,8 @@ ghost use Rattle.sha2.proofs.Absorbing256;
 ghost use Rattle.sha2.proofs.Absorbing512;
 
 use crate::block::{compress256, compress512};
-use words::{IV32, IV64, Tag, write_at};
+use byteorder::{BigEndian, ByteOrder};
+use words::{IV32, IV64, Tag};
 
 /// A hash value, with the compression function that takes a block of `N` bytes into it.
 pub(crate) trait HashValue<const N: usize>: Copy {
@@ -54,9 +55,7 @@ impl Value256 {
         ensures length { length result ≡ 32 }
     {
         let mut bytes = [0; 32];
-        'words: for i in 0..8 {
-            write_at(&mut bytes, 4 * i, &self.h[i].to_be_bytes());
-        }
+        BigEndian::write_u32_into(&self.h, &mut bytes);
         Tag::of(&bytes).unwrap()
     }
 }
@@ -100,9 +99,7 @@ impl Value512 {
         ensures length { length result ≡ 64 }
     {
         let mut bytes = [0; 64];
-        'words: for i in 0..8 {
-            write_at(&mut bytes, 8 * i, &self.h[i].to_be_bytes());
-        }
+        BigEndian::write_u64_into(&self.h, &mut bytes);
         Tag::of(&bytes).unwrap()
     }
 }

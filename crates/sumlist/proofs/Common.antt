@@ -24,21 +24,22 @@ pub use Rattle.std.proofs.lemmas.Slice.Eq.{bytes_eq-Decides}
 pub use Rattle.std.specs.Io.KnownBytes.{Consumes}
 pub use Rattle.std.specs.List.{All}
 pub use Rattle.sumlist.specs.Checked.{ListChecked}
-pub use Rattle.sumlist.specs.Entry.{Fits, IsEntry, Listing, written, written_len}
-pub use Rattle.sumlist.specs.Escape.{SpellsByte, SpellsName, escape_of, escaped, is_special, needs_escape}
-pub use Rattle.sumlist.specs.Line.{HasForm, IsBlank, IsLine, IsMalformed, IsMark, Parts, Spells, Says, core}
+pub use Rattle.sumlist.specs.Entry.{Fits, IsEntry, Listing, written}
+pub use Rattle.sumlist.specs.Escape.{SpellsByte, SpellsName, escape_of, escaped, is_special, lead}
+pub use Rattle.sumlist.specs.Line.{HasForm, IsLine, IsMalformed, Parts, Spells, Says, core}
 pub use Rattle.sumlist.specs.Lines.{lines}
-pub use Rattle.sumlist.specs.Report.{AllAllowed, Allowed, Files, IsAllowed, Outcome, is_told, malformed, skipped, text}
-pub use Rattle.sumlist.specs.Report.{told, unreadable_count}
-pub use Rattle.sumlist.specs.Tagged.{IsLabel, Labelled, closing, label_of, tagged, tagged_len}
+pub use Rattle.sumlist.specs.Report.{AllAllowed, Allowed, Files, IsAllowed, Outcome, malformed, no_lines, skipped, text}
+pub use Rattle.sumlist.specs.Report.{told, unreadable_count, with_line}
+pub use Rattle.sumlist.specs.Tagged.{IsLabel, Labelled, label_of, tagged, tagged_len}
 pub use Rattle.sumlist.specs.declared.checking.CheckFault.{CheckFault}
 pub use Rattle.sumlist.specs.declared.kind.Kind.{Kind}
 pub use Rattle.sumlist.specs.declared.summary.Mark.{Mark}
 pub use Rattle.sumlist.specs.declared.summary.Summary.{Summary}
 pub use Rattle.sumlist.specs.declared.verdict.Verdict.{Verdict}
 pub use Rattle.sumlist.specs.declared.verdict.Verdict.TheVariants.{Differs, Matches, Missing, TooLong, Unreadable}
-pub use Rattle.sumlist.specs.inside.Body.{IsName, escape_value, name_of, onto}
+pub use Rattle.sumlist.specs.inside.Body.{IsName, escape_value, name_of, needs_escape, onto}
 pub use Rattle.sumlist.specs.inside.Cut.{IsCut}
-pub use Rattle.sumlist.specs.inside.Labels.{Ended}
-pub use Rattle.sumlist.specs.inside.Marks.{IsCounted, lines_of, no_lines, unreadable_by}
+pub use Rattle.sumlist.specs.inside.Labels.{Ended, closing}
+pub use Rattle.sumlist.specs.inside.Marks.{IsCounted, lines_of, unreadable_by, unreadable_in}
+pub use Rattle.sumlist.specs.inside.Reading.{IsBlank, IsMark}
 pub use Rattle.sumlist.specs.inside.Stepped.{LineChecked}

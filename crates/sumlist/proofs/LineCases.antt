@@ -1,9 +1,9 @@
 -- Each line is skipped, spells one entry, or is malformed: every part of the meaning of a line can be decided.
-use Rattle.sumlist.proofs.Common.{◌*◌, ◌∙◌, ◌≡◌, ◌⊎◌, Fits, IsBlank, IsEntry, IsLine, IsMalformed, IsUtf8, Kind}
-use Rattle.sumlist.proofs.Common.{List, Listing}
+use Rattle.sumlist.proofs.Common.{◌*◌, ◌+◌, ◌∙◌, ◌≡◌, ◌⊎◌, Fits, IsBlank, IsEntry, IsLine, IsMalformed, IsUtf8, Kind}
+use Rattle.sumlist.proofs.Common.{List, Listing, escaped}
 use Rattle.sumlist.proofs.Common.{None, Option, Some, Spells, [], ap, arith, bytes_eq-Decides, core, false}
 use Rattle.sumlist.proofs.Common.{false≢true, inl, inr}
-use Rattle.sumlist.proofs.Common.{length, refl, slice_index, subst, sym, true, written_len, ℕ}
+use Rattle.sumlist.proofs.Common.{length, refl, lead, slice_index, subst, sym, true, ℕ}
 use Rattle.std.proofs.lemmas.Bool.Decides.{Decides-and, Decides-eqb, Decides-like, Decides-ltb, Decides-not, Decides-or}
 use Rattle.std.proofs.lemmas.Map.Made.{is_member-Decides}
 use Rattle.std.proofs.lemmas.Option.{none-some, same_Some}
@@ -20,7 +20,7 @@ name_cases digits name = either_by _ (Decides-like _
     (Decides-and _ _ (IsUtf8-from_is_utf8 name, is_utf8-from_IsUtf8 name)
     (Decides-and _ _ (Decides-not _ (bytes_eq-Decides name []))
     (Decides-and _ _ (Decides-not _ (is_member-Decides Decides-eqb name 0))
-    (Decides-ltb (written_len digits name) 65537)))))
+    (Decides-ltb (length (lead name) + digits + 2 + length (escaped name)) 65537)))))
 
 line_is : (line : List ℕ) → Either (IsLine line)
 line_is line = either_by _ (Decides-like _ (λ p. record { one = p.0; within = omega (arith, p.1) })
@@ -48,7 +48,7 @@ module _ (line : List ℕ) (kind : Kind) where
     spells_if l e s =
         let form = stated-some kind k e s.0 in
         let f = stated_fit k kind e form in
-        let i : IsEntry e = record { text = s.1; fits = s.2; range = f.0; sized = f.1; bytes = f.2 } in
+        let i : IsEntry e = record { text = s.1; fits = s.2; sized = (f.0, f.1); bytes = f.2 } in
         record { is_line = l; not_skipped = unskipped; is_entry = i; form = rw is at form }
 
     stated_if : (e : Listing) → Spells line kind e → IsStated kind k e

@@ -78,11 +78,11 @@ written_spells e i =
     let digits = encode_lower e.tag in
     let value = decode_of-encode_lower e.tag i.bytes in
     let word = digits_word digits e.tag value in
-    let sized = length-encode_with lower_digits e.tag ∙ ap (λ n. 2 * n) i.sized in
+    let sized = length-encode_with lower_digits e.tag ∙ ap (λ n. 2 * n) i.sized.1 in
     spells_by e (kind_of e.alg) digits (λ body. 32 ∷ body)
-    (λ body. inl (plain_form _ digits 32 e.alg e.tag body (inl refl) refl i.range sized value))
+    (λ body. inl (plain_form _ digits 32 e.alg e.tag body (inl refl) refl i.sized.0 sized value))
     (needs_escape e.name) refl i word (simp (list_all-append, word_inner digits word, escaped_inner e.name))
-    (omega (arith, length-append {A = ℕ}, sized, i.sized, i.fits.within))
+    (omega (arith, length-append {A = ℕ}, sized, i.sized.1, i.fits.within))
 
 -- ---- the tagged line, whatever the kind of its list
 
@@ -95,11 +95,11 @@ pub tagged_spells : (e : Listing) (kind : Kind) → IsEntry e → tagged_len e.a
 tagged_spells e kind i fits =
     let digits = encode_lower e.tag in
     let value = decode_of-encode_lower e.tag i.bytes in
-    let label = label_word (label_of e.alg) e.alg i.range (label_named e.alg) in
-    let sized = length-encode_with lower_digits e.tag ∙ ap (λ n. 2 * n) i.sized in
+    let label = label_word (label_of e.alg) e.alg i.sized.0 (label_named e.alg) in
+    let sized = length-encode_with lower_digits e.tag ∙ ap (λ n. 2 * n) i.sized.1 in
     let word = digits_word digits e.tag value in
     spells_by e kind (label_of e.alg) (λ body. 40 ∷ (body ++ closing digits))
-    (λ body. inr (labelled_form _ digits e.alg e.tag body i.range (label_named e.alg) sized value))
+    (λ body. inr (labelled_form _ digits e.alg e.tag body i.sized.0 (label_named e.alg) sized value))
     (needs_escape e.name) refl i label
     (simp (list_all-append, word_inner (label_of e.alg) label, escaped_inner e.name, word_inner digits word))
     (omega (arith, length-append {A = ℕ}, sized, fits))

@@ -1,30 +1,30 @@
 -- A list that is checked line by line: a line's outcome comes before those of the lines that are left.
-use Rattle.sumlist.proofs.Common.{◌≡◌, ◌+◌, ◌++◌, List, [], ◌∷◌, subst, sym, refl, Option, None, Some, IfSome}
-use Rattle.sumlist.proofs.Common.{IfSome_then, IsErr, Result, Err, Ok, arith, Appends-nil}
+use Rattle.sumlist.proofs.Common.{◌≡◌, ◌≤◌, ◌+◌, ◌++◌, List, [], ◌∷◌, length, lines, subst, sym, Option, None, Some}
+use Rattle.sumlist.proofs.Common.{◌∙◌, IfSome, ap, refl, IfSome_then, IsErr, Result, Err, Ok, arith, Appends-nil}
 use Rattle.sumlist.proofs.Common.{Appends-trans, AppendsPrefix, Kind, Mark, Summary, CheckFault, Files, ListChecked}
-use Rattle.sumlist.proofs.Common.{IsCounted, LineChecked, Outcome, lines_of, no_lines, text, true, ℕ}
+use Rattle.sumlist.proofs.Common.{IsCounted, LineChecked, Outcome, lines_of, no_lines, text, true, with_line, ℕ}
 use Rattle.std.specs.Io.KnownBytes.{IsAtEnd}
 use Rattle.std.proofs.lemmas.Result.{MatchResult-weaker}
 use Rattle.source.proofs.Writing.{AppendsPrefix-after, AppendsPrefix-more, AppendsPrefix-none}
 use Rattle.sumlist.specs.Lines.{IsKept}
-use Rattle.sumlist.specs.Report.{number_of, report_from}
-use Rattle.sumlist.specs.inside.Ahead.{Checks, Counts, RestChecked}
-use Rattle.sumlist.specs.inside.Marks.{mark_of}
+use Rattle.std.specs.Prelude.{fold}
+use Rattle.sumlist.specs.Report.{report_from, summary_of}
+use Rattle.sumlist.specs.inside.Ahead.{Checks, OpensEach, RestChecked}
+use Rattle.sumlist.specs.inside.Marks.{mark_of, outcome_of}
 use Rattle.sumlist.specs.inside.Stepped.{Stepped}
 use Rattle.sumlist.specs.inside.Taking.{IsNextPiece}
-use Rattle.sumlist.proofs.Deciding.{all_settled}
+use Rattle.sumlist.proofs.Deciding.{all_settled, unreadable-cons}
 
 -- ---- lines
 
-counts_line : (o : Outcome) (os : List Outcome) (s u t : Summary) → IsCounted (mark_of o) s u → Counts u os t
-    → Counts s (o ∷ os) t
-unfolding number_of
-counts_line o os s u t c h = grind arith
+-- a name is not counted
+same_line : (s : Summary) (o : Outcome) → with_line s (outcome_of (mark_of o)) ≡ with_line s o
+same_line s o = grind arith
 
 module _ {files : Files} {kind : Kind} {s : Summary} {m : ℕ} {b : Option (List ℕ)} where
   rest-none : RestChecked files kind [] s (Ok s) m m b b
-  unfolding report_from number_of
-  rest-none = record { outcomes = []; allowed = tt; counted = omega arith; told = (grind arith, Appends-nil b) }
+  unfolding report_from summary_of
+  rest-none = record { outcomes = []; allowed = tt; counted = omega arith; told = (refl, Appends-nil b) }
 
   -- a fault before any
   rest-halted : {ls : List (List ℕ)} {r : Result Summary CheckFault} → IsErr r → RestChecked files kind ls s r m m b b
@@ -36,26 +36,30 @@ module _ {files : Files} {kind : Kind} {s : Summary} {m : ℕ} {b : Option (List
     rest-stopped : IsErr r
         → (o : Outcome) × Stepped files kind line o m n × AppendsPrefix b c (text (lines_of s + 1) o)
         → RestChecked files kind (line ∷ ls) s r m n b c
-    unfolding report_from number_of
+    unfolding report_from
     rest-stopped stopped l =
         let os = all_settled files kind ls in
         let told = AppendsPrefix-more b c _ (report_from (lines_of s + 2) os.0) l.2 in
+        let one = unreadable-cons l.0 os.0 in
         record { outcomes = l.0 ∷ os.0; allowed = (l.1.allowed, os.1); counted = omega arith; told = grind arith }
 
     -- the first was checked, and then the rest
     rest-line : {mark : Mark} {u : Summary} {p : ℕ} {d : Option (List ℕ)}
         → LineChecked {E = CheckFault} files kind line (lines_of s + 1) (Ok mark) m n b c → IsCounted mark s u
         → RestChecked files kind ls u r n p c d → RestChecked files kind (line ∷ ls) s r m p b d
-    unfolding report_from number_of
+    unfolding report_from
     rest-line {u} {d} l counted q =
         let grown = subst (λ x. IsCounted x s u) (sym l.2.0) counted in
         let up : lines_of u ≡ lines_of s + 1 = grind arith in
         record {
           outcomes = l.0 ∷ q.outcomes;
           allowed = (l.1.allowed, q.allowed);
-          counted = omega arith;
+          counted = omega (arith, unreadable-cons l.0 q.outcomes);
           told = MatchResult-weaker r q.told
-              (λ t h. (counts_line l.0 q.outcomes s u t grown h.0, Appends-trans b c d _ _ l.2.1 (rw up at h.1)))
+              (λ t h. (
+                h.0 ∙ ap (λ x. fold with_line x q.outcomes) (grown.whole ∙ same_line s l.0),
+                Appends-trans b c d _ _ l.2.1 (rw up at h.1),
+              ))
               (λ _ h. AppendsPrefix-after b c d _ _ l.2.1 (rw up at h));
         }
 
@@ -74,8 +78,9 @@ module _ {rest : Option (List ℕ)} {known : Option Files} {kind : Kind} {r : Re
   -- no line came before
   pub checks-all : {m : ℕ} {b : Option (List ℕ)} → Checks rest known kind [] no_lines r m n b c
       → IfSome rest (λ list. IfSome known (λ files. ListChecked files kind list r m n b c))
+  unfolding summary_of
   checks-all h = IfSome_then rest h.of (λ list k. IfSome_then known k (λ files q.
-      (q.outcomes, q.allowed, q.counted, let told = q.told in grind (arith, told))))
+      (q.outcomes, q.allowed, q.counted, q.told)))
 
   pub checks-halted : {ahead : List ℕ} {s : Summary} → IsErr r → Checks rest known kind ahead s r n n c c
   checks-halted stopped = record { of = IfSome-all rest (λ _. IfSome-all known (λ _. rest-halted stopped)) }
@@ -114,4 +119,23 @@ module _ (kept rest : Option (List ℕ)) (ahead : List ℕ) (rest' : Option (Lis
     of = IfSome_then rest next (λ _ t. IfSome-two {r = known} refl checked
         (subst (λ x. Checks x known kind ahead' u r o p d e) t.1 later).of (λ _ line q.
         rw t.2.2 (rest-line (line t.2.0 t.2.1) counted q)));
+  }
+
+-- ---- what is opened
+
+pub opens-none : (rest : Option (List ℕ)) (ahead : List ℕ) (n : ℕ) → OpensEach rest ahead n n
+opens-none rest ahead n = record { of = IfSome-all rest (λ _. omega arith) }
+
+module _ (kept rest : Option (List ℕ)) (ahead : List ℕ) (rest' : Option (List ℕ)) (ahead' : List ℕ)
+    (next : NextTaken kept rest ahead rest' ahead') {m n : ℕ} (once : n ≤ m + 1) where
+  pub opens-stopped : OpensEach rest ahead m n
+  opens-stopped = record {
+    of = IfSome_then rest next (λ _ t. rw t.2.2 (omega (arith, once)));
+  }
+
+  pub opens-line : (o : ℕ) → OpensEach rest' ahead' n o → OpensEach rest ahead m o
+  opens-line o later = record {
+    of = IfSome_then rest next (λ _ t.
+        let most : o ≤ n + length (lines (ahead' ++ t.0)) = (subst (λ x. OpensEach x ahead' n o) t.1 later).of in
+        rw t.2.2 (omega (arith, once, most)));
   }

@@ -20,17 +20,9 @@ pub record IsLine (line : List ℕ) : Type 0 where
 abbrev pub core : List ℕ → List ℕ
 core line = if slice_index line (length line - 1) == 13 then take (length line - 1) line else line
 
--- nothing, or a comment, which begins with `#`
-abbrev pub IsBlank : List ℕ → Type 0
-IsBlank core = (core ≡ []) ⊎ (slice_index core 0 ≡ 35)
-
--- a line that says nothing
+-- a line that says nothing: it is empty or a comment, which begins with `#`
 abbrev pub IsSkipped : List ℕ → Type 0
-IsSkipped line = IsLine line × IsBlank (core line)
-
--- a space or `*`
-abbrev pub IsMark : ℕ → Type 0
-IsMark mark = (mark ≡ 32) ⊎ (mark ≡ 42)
+IsSkipped line = IsLine line × ((core line ≡ []) ⊎ (slice_index (core line) 0 ≡ 35))
 
 -- digits, a space, a space or `*`, and a body: the digits are the tag's, in either case, and their number tells
 -- which algorithm of the kind it is
@@ -38,7 +30,7 @@ pub record Parts (text : List ℕ) (kind : Kind) (alg : Alg) (tag body : List �
   pub digits : List ℕ
   pub mark : ℕ
   pub whole : text ≡ digits ++ 32 ∷ mark ∷ body
-  pub marked : IsMark mark
+  pub marked : (mark ≡ 32) ⊎ (mark ≡ 42)
   pub kind_is : kind_of alg ≡ kind
   pub range : IsInRange alg
   pub sized : length digits ≡ 2 * tag_len alg

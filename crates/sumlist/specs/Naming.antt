@@ -1,5 +1,5 @@
 -- Names that are separated by NUL.
-use Rattle.std.specs.Prelude.{◌≡◌, ℕ, Bool, true, false, List, [], ◌∷◌, Option, None, Some}
+use Rattle.std.specs.Prelude.{◌≡◌, ℕ, Bool, true, false, List, [], ◌∷◌, Option}
 use Rattle.source.specs.declared.pumping.SourceFault.{SourceFault}
 use Rattle.sumlist.specs.Lines.{IsKept, pieces}
 
@@ -13,9 +13,6 @@ pub record Reading : Type 0 where
   pub ahead : List ℕ
   pub name : Option (List ℕ)
   pub fault : Option SourceFault
-
-abbrev pub fresh : Reading
-fresh = record { ahead = []; name = Some []; fault = None }
 
 -- the first name of some bytes was taken and these are left, or they had none
 abbrev pub IsNext : Bool → Option (List ℕ) → List ℕ → List ℕ → Type 0

@@ -8,15 +8,10 @@ use Rattle.sumlist.specs.declared.kind.Kind.{Kind}
 abbrev pub AllSettled : Files → Kind → List (List ℕ) → List Outcome → Type 0
 AllSettled files kind lines outcomes = AllAllowed files kind lines outcomes × (unreadable_count outcomes ≡ 0)
 
--- any lines have such outcomes
-abbrev pub SomeSettled : Type 0
-SomeSettled = (files : Files) (kind : Kind) (lines : List (List ℕ))
-    → (os : List Outcome) × AllSettled files kind lines os
-
--- and no others
+-- any lines have such outcomes, and no others
 abbrev pub OneSettled : Type 0
-OneSettled = (files : Files) (kind : Kind) (lines : List (List ℕ)) (os ps : List Outcome)
-    → AllSettled files kind lines os → AllSettled files kind lines ps → os ≡ ps
+OneSettled = (files : Files) (kind : Kind) (lines : List (List ℕ)) → (os : List Outcome)
+    × AllSettled files kind lines os × ((ps : List Outcome) → AllSettled files kind lines ps → os ≡ ps)
 
 -- a tree that counted no failure tells of no unreadable file
 abbrev pub NoneCounted : Type 0

@@ -23,19 +23,11 @@ IsLabel label (Blake2b n) = (label ≡ label_of (Blake2b n)) ⊎ (label ≡ code
 IsLabel label (Blake2s n) = (label ≡ label_of (Blake2s n)) ⊎ (label ≡ codes "BLAKE2s-" ++ decimal (8 * n))
 IsLabel label alg = label ≡ label_of alg
 
--- what stands before the name
-abbrev pub opening : List ℕ → List ℕ
-opening rest = 32 ∷ 40 ∷ rest
-
--- what stands after the name, before the digits
-abbrev pub closing : List ℕ → List ℕ
-closing digits = 41 ∷ 32 ∷ 61 ∷ 32 ∷ digits
-
 -- a label, a body in brackets, and digits
 pub record Labelled (text : List ℕ) (alg : Alg) (tag body : List ℕ) : Type 0 where
   pub label : List ℕ
   pub digits : List ℕ
-  pub whole : text ≡ label ++ opening (body ++ closing digits)
+  pub whole : text ≡ label ++ (codes " (" ++ (body ++ (codes ") = " ++ digits)))
   pub range : IsInRange alg
   pub names : IsLabel label alg
   pub sized : length digits ≡ 2 * tag_len alg
@@ -43,7 +35,8 @@ pub record Labelled (text : List ℕ) (alg : Alg) (tag body : List ℕ) : Type 0
 
 -- the tagged line of an entry, without its LF
 abbrev pub tagged_line : Listing → List ℕ
-tagged_line e = lead e.name ++ (label_of e.alg ++ opening (escaped e.name ++ closing (encode_lower e.tag)))
+tagged_line e =
+    lead e.name ++ (label_of e.alg ++ (codes " (" ++ (escaped e.name ++ (codes ") = " ++ encode_lower e.tag))))
 
 -- the tagged line with its LF
 abbrev pub tagged : Listing → List ℕ

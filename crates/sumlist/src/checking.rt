@@ -4,9 +4,9 @@ ghost use Rattle.std.specs.Prelude.{◌≡◌, ◌+◌, ◌-◌, ◌<◌, ◌≤
 ghost use Rattle.std.specs.Prelude.{length, IfOk, IfSome, IsErr, IsErrOf, MatchResult, OnOk};
 ghost use Rattle.std.specs.Io.KnownBytes.{Consumes, IsAtEnd};
 ghost use Rattle.source.specs.Counts.{count_after};
-ghost use Rattle.sumlist.specs.Checked.{ListChecked, ListCounts, WriteCounts};
-ghost use Rattle.sumlist.specs.Lines.{IsKept};
-ghost use Rattle.sumlist.specs.inside.Ahead.{Checks};
+ghost use Rattle.sumlist.specs.Checked.{CountsOnly, ListChecked};
+ghost use Rattle.sumlist.specs.Lines.{IsKept, lines};
+ghost use Rattle.sumlist.specs.inside.Ahead.{Checks, OpensEach};
 ghost use Rattle.sumlist.specs.inside.Stepped.{LineChecked, StepCounts, fault_of};
 ghost use Rattle.sumlist.specs.Tally.{entries_of};
 ghost use Rattle.sumlist.specs.inside.Marks.{entry_by, lines_of, part};
@@ -72,8 +72,9 @@ impl From<AllocError> for CheckFault {
 /// of 4,096 bytes and one line of at most 65,536; a longer line is malformed.
 ///
 /// `name: OK` is written only where the digest of the file's content is the tag, and `name:
-/// UNREADABLE` exactly as often as opening or reading a file failed, which ends nothing. Where no fault
-/// ends the check, the file of each entry is opened once at most.
+/// UNREADABLE` exactly as often as opening or reading a file failed, which ends nothing. No more files
+/// are opened than the list has lines, whatever ends the check, and where no fault does, no more than it
+/// has entries.
 pub fn check<L: Feed, T: Tree, W: Sink>(
     alloc: Global,
     list: &mut L,
@@ -88,13 +89,15 @@ pub fn check<L: Feed, T: Tree, W: Sink>(
     ensures unreadable { IfOk result (λ s. T.failure_count tree.new
         ≡ count_after (T.failure_count tree.old) s.unreadable) }
     ensures opens { IfOk result (λ s. T.opens tree.new ≤ T.opens tree.old + entries_of s) }
+    ensures once { IfSome (L.remaining list.old) (λ bytes.
+        T.opens tree.new ≤ T.opens tree.old + length (lines bytes)) }
     ensures kept { T.files tree.new ≡ T.files tree.old }
 
     ensures end { OnOk result (IsAtEnd (L.remaining list.new)) }
 
     // When each fault comes.
-    ensures reads { ListCounts result (L.failure_count list.old) (L.failure_count list.new) }
-    ensures writes { WriteCounts result (W.shown out.old).failures (W.shown out.new).failures }
+    ensures reads { CountsOnly CheckFault.ListRead result (L.failure_count list.old) (L.failure_count list.new) }
+    ensures writes { CountsOnly CheckFault.Write result (W.shown out.old).failures (W.shown out.new).failures }
     ensures gave { IfSome (L.remaining list.old) (λ _. (given : List ℕ)
         × Consumes (L.remaining list.old) (L.remaining list.new) given
         × (IsErrOf result CheckFault.ListTooLong ↔ (2 ^ 64 - 1 < length given))) }
@@ -149,14 +152,18 @@ impl Checker {
         ensures opens { OnOk result
             ((k : ℕ) → T.opens tree.old ≤ k + entries_of self.old.summary
             → T.opens tree.new ≤ k + entries_of self.new.summary) }
+        ensures once { MatchResult result
+            (λ _. (n : ℕ) → OpensEach (L.remaining list.new) self.new.reader.ahead (T.opens tree.new) n
+            → OpensEach (L.remaining list.old) self.old.reader.ahead (T.opens tree.old) n)
+            (λ _. OpensEach (L.remaining list.old) self.old.reader.ahead (T.opens tree.old) (T.opens tree.new)) }
         ensures kept { (T.files tree.new ≡ T.files tree.old) × (self.new.kind ≡ self.old.kind) }
         ensures end { IfOk result (λ more. more ≡ false
             → (self.new.reader.ahead ≡ []) × IsAtEnd (L.remaining list.new)) }
         ensures forth { IfOk result (λ more. more ≡ true
             → self.old.reader.total + length self.new.reader.ahead
             < self.new.reader.total + length self.old.reader.ahead) }
-        ensures reads { ListCounts result (L.failure_count list.old) (L.failure_count list.new) }
-        ensures writes { WriteCounts result (W.shown out.old).failures (W.shown out.new).failures }
+        ensures reads { CountsOnly CheckFault.ListRead result (L.failure_count list.old) (L.failure_count list.new) }
+        ensures writes { CountsOnly CheckFault.Write result (W.shown out.old).failures (W.shown out.new).failures }
         ensures gave { (given : List ℕ) × Consumes (L.remaining list.old) (L.remaining list.new) given
             × (IsErrOf result CheckFault.ListTooLong ↔ (2 ^ 64 - 1 < self.old.reader.total + length given))
             × OnOk result (self.new.reader.total ≡ self.old.reader.total + length given) }
@@ -180,6 +187,7 @@ impl Checker {
         ensures unreadable { IfOk result (λ mark. T.failure_count tree.new
             ≡ count_after (T.failure_count tree.old) (part (Mark.Told Verdict.Unreadable) mark)) }
         ensures opens { IfOk result (λ mark. T.opens tree.new ≤ T.opens tree.old + entry_by mark) }
+        ensures once { T.opens tree.new ≤ T.opens tree.old + 1 }
         ensures kept { T.files tree.new ≡ T.files tree.old }
         ensures writes { StepCounts result (W.shown out.old).failures (W.shown out.new).failures }
     {
@@ -205,6 +213,7 @@ impl Checker {
         ensures unreadable { IfOk result (λ mark. T.failure_count tree.new
             ≡ count_after (T.failure_count tree.old) (part (Mark.Told Verdict.Unreadable) mark)) }
         ensures opens { IfOk result (λ mark. T.opens tree.new ≤ T.opens tree.old + entry_by mark) }
+        ensures once { T.opens tree.new ≤ T.opens tree.old + 1 }
         ensures kept { T.files tree.new ≡ T.files tree.old }
         ensures writes { StepCounts result (W.shown out.old).failures (W.shown out.new).failures }
     {

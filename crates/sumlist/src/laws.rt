@@ -1,22 +1,19 @@
 // What holds of lines and of reports.
 
-ghost use Rattle.sumlist.specs.Meanings.{MalformedSpellsNone, OneEntry, OneMeaning, SkippedSpellsNone};
-ghost use Rattle.sumlist.specs.Settled.{NoneCounted, OneSettled, SomeSettled};
+ghost use Rattle.sumlist.specs.Meanings.{NoOtherMeaning, OneMeaning};
+ghost use Rattle.sumlist.specs.Settled.{NoneCounted, OneSettled};
 
 /// Does nothing. Its contract says what the lines of lists mean: each is skipped, or spells an entry, or is
 /// malformed; no line spells two entries, and one that is skipped or malformed spells none.
 pub fn line_laws()
     ensures some { OneMeaning }
-    ensures one { OneEntry }
-    ensures skipped { SkippedSpellsNone }
-    ensures malformed { MalformedSpellsNone }
+    ensures no_other { NoOtherMeaning }
 {}
 
 /// Does nothing. Its contract says what the report of `check` is where nothing failed: the lines of a
 /// list have outcomes of which none is unreadable, and no others; and a tree whose count of failures
 /// stayed the same tells of no unreadable file.
 pub fn report_laws()
-    ensures some { SomeSettled }
     ensures one { OneSettled }
     ensures none { NoneCounted }
 {}

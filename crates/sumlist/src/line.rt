@@ -3,8 +3,8 @@
 ghost use Rattle.std.specs.Prelude.{◌≡◌, ◌≤◌, ◌↔◌, ℕ, List, Some, length, IsTrue, MatchOption};
 ghost use Rattle.sumlist.specs.Entry.{Listing};
 ghost use Rattle.sumlist.specs.inside.Body.{name_of};
-ghost use Rattle.sumlist.specs.inside.Reading.{IsStated, is_slashed, unslashed};
-ghost use Rattle.sumlist.specs.Line.{IsLine, IsBlank, core as core_of};
+ghost use Rattle.sumlist.specs.inside.Reading.{IsBlank, IsStated, is_slashed, unslashed};
+ghost use Rattle.sumlist.specs.Line.{IsLine, core as core_of};
 ghost use Rattle.sumlist.specs.Parsed.{Answers};
 ghost use Rattle.sumlist.specs.declared.line.LineFault.TheVariants.{OutOfMemory};
 

@@ -1,11 +1,11 @@
 // Names that are separated by NUL, one after another.
 
 ghost use Rattle.std.specs.Io.KnownBytes.{Consumes};
-ghost use Rattle.std.specs.Prelude.{◌≡◌, ◌≢◌, ◌≤◌, ◌<◌, ◌↔◌, ◌++◌, ◌-◌, ◌^◌, List, ℕ, [], length, IfOk, IfSome, IsErrOf};
-ghost use Rattle.std.specs.Prelude.{Err, IsUtf8, MatchOption, None, Some};
+ghost use Rattle.std.specs.Prelude.{◌≡◌, ◌≢◌, ◌≤◌, ◌<◌, ◌↔◌, ◌++◌, ◌-◌, ◌^◌, List, ℕ, [], length, IfOk, IfSome};
+ghost use Rattle.std.specs.Prelude.{Err, IsErrOf, IsUtf8, MatchOption, None, Some};
 ghost use Rattle.std.specs.Result.{result_err};
 ghost use Rattle.source.specs.Faults.{PumpCounts};
-ghost use Rattle.sumlist.specs.Naming.{IsNext, fresh};
+ghost use Rattle.sumlist.specs.Naming.{IsNext};
 
 use crate::piece_reader::PieceReader;
 use source::{Feed, SourceFault};
@@ -33,7 +33,7 @@ impl Model for NameReader {
 impl NameReader {
     /// No name yet, and nothing read. This is the only growth.
     pub fn new(alloc: Global) -> Result<NameReader, AllocError>
-        ensures { IfOk result (λ reader. reader ≡ fresh) }
+        ensures { IfOk result (λ reader. reader ≡ record { ahead = []; name = Some []; fault = None }) }
     {
         Ok(NameReader {
             pieces: PieceReader::new(alloc)?,

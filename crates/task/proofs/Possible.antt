@@ -1,7 +1,7 @@
 -- What a request asks for, there is.
 use Rattle.std.proofs.Common.{◌≡◌, ℕ, ◌-◌, ◌/◌, ◌%◌, ◌^◌, ◌≤◌, ◌*◌, Bool, true, false, List, Option, Some, None}
 use Rattle.std.proofs.Common.{Result, Ok, Err, IfSome, IfOk, refl, subst, arith}
-use Rattle.std.specs.Prelude.{◌==◌, ◌&&◌, [], ◌∷◌, codes, count_ones, if◌then◌else◌, length, max, min}
+use Rattle.std.specs.Prelude.{◌==◌, [], ◌∷◌, codes, count_ones, if◌then◌else◌, length, max, min, nat_lt}
 use Rattle.std.proofs.Math.Nat.{le-max_left, le-min, min-le_left}
 use Rattle.std.proofs.lemmas.Bool.Decides.{nat_tests}
 use Rattle.request.specs.CommandLine.{Given, Text, has_flag, text_of}
@@ -13,22 +13,25 @@ use Rattle.sumlist.specs.declared.kind.Kind.{Kind}
 use Rattle.sumlist.specs.declared.kind.Kind.TheVariants as kind
 use Rattle.task.specs.Deriving.{Derived, derivation, derivation_of, hkdf}
 use Rattle.task.specs.Deriving as deriving_of
-use Rattle.task.specs.Hashing.{blake2_length, blake2_parameters, blake3_output, part_size, parts}
+use Rattle.task.specs.Hashing.{blake2, blake2_length, blake3_output, part_size, parts}
 use Rattle.task.specs.Hashing as hashing
-use Rattle.task.specs.Hashing.{names_several, requested, requested_of, sha, stretch_of, tagged_blake3}
-use Rattle.task.specs.Parameters.{◌>>=◌, IsAsDefined, absent, files, given_bytes, given_number, hmac_len, kind_of, named}
-use Rattle.task.specs.Parameters.{needed, number, number_in, sized, text, unset}
-use Rattle.task.specs.Parting.{joined, least_power, names_blake3, place, place_at}
+use Rattle.task.specs.Hashing.{may_be_raw, requested, requested_of, sha, stretch_of, tagged_blake3}
+use Rattle.task.specs.Parameters.{◌>>=◌, IsAsDefined, absent, files, given_bytes, given_number, hmac_len, kind_of}
+use Rattle.task.specs.Parameters.{named, needed, number, number_in, sized, text, unset}
+use Rattle.task.specs.Parting.{joined, least_power, names_blake3, place}
 use Rattle.task.specs.Tagging.{macs, with_length}
 use Rattle.task.specs.Tagging as tagging
 use Rattle.task.specs.Tasks.{Asked, NameTexts, asked, check, commands, compares, file_or_input, hash}
 use Rattle.task.specs.Tasks.{hashes, join, kdf, mac, one_source, part}
 use Rattle.task.specs.declared.fault.Setting.TheVariants.{Algorithm, Bytes, Chunks, Command, Context, First, IkmFile}
-use Rattle.task.specs.declared.fault.Setting.TheVariants.{Info, Length, Parts, Personal, Raw, Salt, Seek, Verify}
+use Rattle.task.specs.declared.fault.Setting.TheVariants.{Info, Length, Parts, Personal, Salt, Seek, Verify}
 use Rattle.task.specs.declared.fault.Setting.TheVariants.{List as ListSetting}
 use Rattle.task.specs.declared.fault.TaskFault.{TaskFault}
 use Rattle.task.specs.declared.fault.UsageFault.{UsageFault}
-use Rattle.task.specs.declared.fault.UsageFault.TheVariants.{NotForAlgorithm, NotWithTag, OneFile, OutOfRange}
+use Rattle.task.specs.declared.fault.UsageFault.TheVariants.{OutOfRange}
+use Rattle.task.specs.Requested.{alg_of}
+use Rattle.task.specs.declared.hashing.Hash.{Hash}
+use Rattle.task.specs.declared.hashing.Hash.TheVariants as hash_of
 use Rattle.task.specs.declared.hashing.Requested.{Requested}
 use Rattle.task.specs.declared.hashing.Stretch.{Stretch}
 use Rattle.task.specs.declared.parameters.HmacHash.{HmacHash}
@@ -47,7 +50,7 @@ use Rattle.task.proofs.Steps.{by_first, by_second, in_both, of_named, where_read
 sha_possible : (a : Alg) (g : Given) → IsInRange a → IfOk (sha a g) HasDigest
 sha_possible a g range =
     by_second HasDigest (absent (Length ∷ Seek ∷ Salt ∷ Personal ∷ Parts ∷ []) g) _ (λ _.
-    by_second HasDigest (unset (NotForAlgorithm Raw) (has_flag (codes "raw") g)) _ (λ _. range))
+    by_second HasDigest (may_be_raw g) _ (λ _. range))
 
 default_of : (most : ℕ) (digits : Option (List ℕ)) → 1 ≤ most
     → IsBetween 1 most (option_map_or (λ t. min most (max 1 (length t / 2))) digits most)
@@ -58,15 +61,16 @@ blake2_between : (most : ℕ) (g : Given) → 1 ≤ most → IfOk (blake2_length
 blake2_between most g low =
     let range = default_of most (text Verify g) low in number_in_range Length _ 1 most g range.0 range.1
 
-length_between : (most n : ℕ) (g : Given) → 1 ≤ most
-    → IfOk (blake2_parameters most n g) (λ p. IsBetween 1 most p.0)
-length_between most n g low =
-    let Q : ℕ × List ℕ × List ℕ → Type 0 = λ p. IsBetween 1 most p.0 in
-    by_second Q (absent (Seek ∷ Parts ∷ []) g) _ (λ _.
-    by_second Q (unset (NotForAlgorithm Raw) (has_flag (codes "raw") g)) _ (λ _.
-    by_first (IsBetween 1 most) Q (blake2_length most g) _ (blake2_between most g low) (λ length range.
-    by_second Q (given_bytes Salt g) _ (λ salt. by_second Q (given_bytes Personal g) _ (λ personal.
-    by_second Q (sized Salt n salt) _ (λ s. by_second Q (sized Personal n personal) _ (λ p. range)))))))
+blake2_possible : (hash : ℕ → List ℕ → List ℕ → Hash) (most n : ℕ) (g : Given) → 1 ≤ most
+    → ((l : ℕ) (s p : List ℕ) → IsBetween 1 most l → IsInRange (alg_of (hash l s p)))
+    → IfOk (blake2 hash most n g) HasDigest
+blake2_possible hash most n g low has =
+    by_second HasDigest (absent (Seek ∷ Parts ∷ []) g) _ (λ _.
+    by_second HasDigest (may_be_raw g) _ (λ _.
+    by_first (IsBetween 1 most) HasDigest (blake2_length most g) _ (blake2_between most g low) (λ length range.
+    by_second HasDigest (given_bytes Salt g) _ (λ salt. by_second HasDigest (given_bytes Personal g) _ (λ personal.
+    by_second HasDigest (sized Salt n salt) _ (λ s. by_second HasDigest (sized Personal n personal) _ (λ p.
+    has length s p range)))))))
 
 stretch_within : (g : Given) (is_raw : Bool) → IfOk (stretch_of g is_raw) (λ s. IsWithin s × (s.is_raw ≡ is_raw))
 stretch_within g is_raw =
@@ -82,26 +86,22 @@ stretch_within g is_raw =
 tagged_possible : (g : Given) → IfOk (tagged_blake3 g) HasDigest
 tagged_possible g =
     by_second HasDigest (absent (Salt ∷ Personal ∷ []) g) _ (λ _.
-    by_second HasDigest (unset (NotWithTag Raw) (has_flag (codes "raw") g)) _ (λ _.
+    by_second HasDigest (may_be_raw g) _ (λ _.
     by_second HasDigest (number Length 32 32 32 g) _ (λ _. by_second HasDigest (number Seek 0 0 0 g) _ (λ _. tt))))
 
 output_possible : (g : Given) → IfOk (blake3_output g) HasDigest
 output_possible g =
     let is_raw = has_flag (codes "raw") g in
     by_second HasDigest (absent (Salt ∷ Personal ∷ []) g) _ (λ _.
-    by_second HasDigest (unset (OneFile Raw) (is_raw && names_several g)) _ (λ _.
+    by_second HasDigest (may_be_raw g) _ (λ _.
     by_first (λ (s : Stretch). IsWithin s × (s.is_raw ≡ is_raw)) HasDigest (stretch_of g is_raw) _
     (stretch_within g is_raw) (λ s h. h.0)))
 
 of_kind : (g : Given) (k : Kind) → IfOk (requested_of g k) HasDigest
 of_kind g kind.Sha256 = sha_possible alg.Sha256 g tt
 of_kind g kind.Sha512 = sha_possible alg.Sha512 g tt
-of_kind g kind.Blake2b =
-    by_first (λ p. IsBetween 1 64 p.0) HasDigest (blake2_parameters 64 16 g) _ (length_between 64 16 g (omega arith))
-    (λ p range. range)
-of_kind g kind.Blake2s =
-    by_first (λ p. IsBetween 1 32 p.0) HasDigest (blake2_parameters 32 8 g) _ (length_between 32 8 g (omega arith))
-    (λ p range. range)
+of_kind g kind.Blake2b = blake2_possible hash_of.Blake2b 64 16 g (omega arith) (λ l s p range. range)
+of_kind g kind.Blake2s = blake2_possible hash_of.Blake2s 32 8 g (omega arith) (λ l s p range. range)
 of_kind g kind.Blake3 =
     in_both HasDigest (has_flag (codes "tag") g) (tagged_blake3 g) (blake3_output g) (tagged_possible g)
     (output_possible g)
@@ -127,10 +127,12 @@ either_possible r m names (Some d) file digest size = (digest, size)
 
 hash_possible : (g : Given) → IfOk (hash g) IsPossible
 hash_possible g =
-    by_first HasDigest IsPossible (requested g) _ (by_second HasDigest (kind_of g) (requested_of g) (of_kind g)) (λ r digest.
+    by_first HasDigest IsPossible (requested g) _ (by_second HasDigest (kind_of g) (requested_of g) (of_kind g))
+    (λ r digest.
     by_first (λ m. IfSome m IsPartSize) IsPossible (parts g) _ (parts_possible g) (λ m size.
     by_second IsPossible (one_source (text_of (codes "files0-from") g) (files g)) _ (λ names.
-    by_second IsPossible (hashing.wanted r g) _ (λ wanted. either_possible r m names wanted (file_or_input g) digest size))))
+    by_second IsPossible (hashing.wanted r g) _ (λ wanted.
+    either_possible r m names wanted (file_or_input g) digest size))))
 
 -- ---- mac
 
@@ -212,16 +214,18 @@ kdf_possible g =
 check_possible : (g : Given) → IfOk (check g) IsPossible
 check_possible g = by_second IsPossible (kind_of g) _ (λ k. by_second IsPossible (needed ListSetting g) _ (λ list. tt))
 
-room : (place : ℕ × Option ℕ) (fault : UsageFault) (b : Bool) → (b ≡ true → IsPlace place.0 place.1)
-    → IfOk (if b then Ok place else Err fault) (λ p. IsPlace p.0 p.1)
-room place fault true h = h refl
-room place fault false h = tt
+room : (place : ℕ × Option ℕ) (fault : UsageFault) (b : Bool) → (b ≡ false → IsPlace place.0 place.1)
+    → IfOk (unset fault b >>= (λ _. Ok place)) (λ p. IsPlace p.0 p.1)
+room place fault true h = tt
+room place fault false h = h refl
 
 at_place : (first : ℕ) (chunks : Option ℕ) → first ≤ 2 ^ 54 - 1 → IfSome chunks (IsBetween 1 (2 ^ 54))
-    → IfOk (place_at first chunks) (λ p. IsPlace p.0 p.1)
+    → IfOk {T = ℕ × Option ℕ} (unset (OutOfRange First)
+    (option_map_or (λ n. nat_lt 0 (first % least_power n)) chunks false) >>= (λ _. Ok (first, chunks)))
+    (λ p. IsPlace p.0 p.1)
 at_place first None low range = (omega arith, tt)
 at_place first (Some n) low range =
-    room (first, Some n) (OutOfRange First) (first % least_power n == 0) (λ e.
+    room (first, Some n) (OutOfRange First) (nat_lt 0 (first % least_power n)) (λ e.
     let multiple : first % least_power n ≡ 0 = grind (arith, nat_tests) in
     (omega arith, room_at first n range.0 range.1 multiple))
 
@@ -231,7 +235,7 @@ place_possible g =
     by_second Q (names_blake3 g) _ (λ _.
     by_first (IsBetween 0 (2 ^ 54 - 1)) Q (number First 0 0 (2 ^ 54 - 1) g) _
     (number_in_range First 0 0 (2 ^ 54 - 1) g (omega arith) (omega arith)) (λ first low.
-    by_first (λ m. IfSome m (IsBetween 1 (2 ^ 54))) Q (given_number Chunks 1 (2 ^ 54) g) (place_at first)
+    by_first (λ m. IfSome m (IsBetween 1 (2 ^ 54))) Q (given_number Chunks 1 (2 ^ 54) g) _
     (given_in_range Chunks 1 (2 ^ 54) g) (λ chunks range. at_place first chunks low.1 range)))
 
 part_possible : (g : Given) → IfOk (part g) IsPossible

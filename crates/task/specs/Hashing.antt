@@ -1,5 +1,5 @@
 -- What a request of `hash` has printed, or the first fault of its settings.
-use Rattle.std.specs.Prelude.{ℕ, ◌-◌, ◌/◌, ◌^◌, ◌==◌, ◌&&◌, ◌||◌, Bool, true, List, [], ◌∷◌, length, Option, Result, Ok, Err}
+use Rattle.std.specs.Prelude.{ℕ, ◌-◌, ◌/◌, ◌^◌, ◌==◌, ◌&&◌, ◌||◌, Bool, List, [], ◌∷◌, length, Option, Result, Ok, Err}
 use Rattle.std.specs.Prelude.{codes, count_ones, is_some, max, min, nat_lt, if◌then◌else◌}
 use Rattle.std.specs.Option.{option_map_or}
 use Rattle.source.specs.Digest.{tag_len}
@@ -14,7 +14,7 @@ use Rattle.task.specs.Parameters.{unset, wanted_bytes, where_given}
 use Rattle.task.specs.Requested.{alg_of}
 use Rattle.task.specs.declared.fault.Setting.TheVariants.{Length, Parts, Personal, Raw, Salt, Seek, Verify}
 use Rattle.task.specs.declared.fault.UsageFault.{UsageFault}
-use Rattle.task.specs.declared.fault.UsageFault.TheVariants.{NotForAlgorithm, NotWithRaw, NotWithTag, OneFile}
+use Rattle.task.specs.declared.fault.UsageFault.TheVariants.{NotWithRaw, NotWithTag, OneFile}
 use Rattle.task.specs.declared.fault.UsageFault.TheVariants.{OutOfRange}
 use Rattle.task.specs.declared.hashing.Hash.{Hash}
 use Rattle.task.specs.declared.hashing.Hash.TheVariants.{Plain, Blake2b, Blake2s}
@@ -22,50 +22,53 @@ use Rattle.task.specs.declared.hashing.Requested.{Requested}
 use Rattle.task.specs.declared.hashing.Requested.TheVariants.{Digest, Output}
 use Rattle.task.specs.declared.hashing.Stretch.{Stretch}
 
--- a digest, on lines that name their algorithm or do not
-abbrev pub whole : Hash → Bool → Requested
-whole hash tagged = Digest (record { hash = hash; is_tagged = tagged })
+-- a digest, on lines that name their algorithm or do not, or as its bytes
+abbrev pub whole : Hash → Given → Requested
+whole hash g = Digest (record { hash = hash; is_tagged = has_flag (codes "tag") g; is_raw = has_flag (codes "raw") g })
+
+-- it may name more than one file
+abbrev pub names_several : Given → Bool
+names_several g = nat_lt 1 (length (files g)) || is_some (text_of (codes "files0-from") g)
+
+-- the bytes themselves stand on no line, and are those of one file
+abbrev pub may_be_raw : Given → Result (Unit {0}) UsageFault
+may_be_raw g = do
+  unset (NotWithTag Raw) (has_flag (codes "raw") g && has_flag (codes "tag") g)
+  unset (OneFile Raw) (has_flag (codes "raw") g && names_several g)
 
 -- SHA-2 has no parameters
 abbrev pub sha : Alg → Given → Result Requested UsageFault
 sha a g = do
   absent (Length ∷ Seek ∷ Salt ∷ Personal ∷ Parts ∷ []) g
-  unset (NotForAlgorithm Raw) (has_flag (codes "raw") g)
-  Ok (whole (Plain a) (has_flag (codes "tag") g))
+  may_be_raw g
+  Ok (whole (Plain a) g)
 
 -- without `-l` a digest has as many bytes as the digits of `--verify` spell, within its range, or else the most
 abbrev pub blake2_length : ℕ → Given → Result ℕ UsageFault
-blake2_length most g = number Length (option_map_or (λ t. min most (max 1 (length t / 2))) (text Verify g) most) 1 most g
+blake2_length most g =
+    number Length (option_map_or (λ t. min most (max 1 (length t / 2))) (text Verify g) most) 1 most g
 
--- the length of a digest of `most` bytes at most, salt and personalization of n bytes each: the digits of both are
--- judged before the length of either
-abbrev pub blake2_parameters : ℕ → ℕ → Given → Result (ℕ × List ℕ × List ℕ) UsageFault
-blake2_parameters most n g = do
+-- a digest of `most` bytes at most, salt and personalization of n bytes each: the digits of both are judged before the
+-- length of either
+abbrev pub blake2 : (ℕ → List ℕ → List ℕ → Hash) → ℕ → ℕ → Given → Result Requested UsageFault
+blake2 hash most n g = do
   absent (Seek ∷ Parts ∷ []) g
-  unset (NotForAlgorithm Raw) (has_flag (codes "raw") g)
+  may_be_raw g
   length ← blake2_length most g
   salt ← given_bytes Salt g
   personal ← given_bytes Personal g
   salt ← sized Salt n salt
   personal ← sized Personal n personal
-  Ok (length, salt, personal)
-
-abbrev pub blake2b_digest : Given → Result Requested UsageFault
-blake2b_digest g =
-    blake2_parameters BLAKE2B_LEN 16 g >>= (λ p. Ok (whole (Blake2b p.0 p.1 p.2) (has_flag (codes "tag") g)))
-
-abbrev pub blake2s_digest : Given → Result Requested UsageFault
-blake2s_digest g =
-    blake2_parameters BLAKE2S_LEN 8 g >>= (λ p. Ok (whole (Blake2s p.0 p.1 p.2) (has_flag (codes "tag") g)))
+  Ok (whole (hash length salt personal) g)
 
 -- the label of BLAKE3 stands for the first bytes of its output, its digest
 abbrev pub tagged_blake3 : Given → Result Requested UsageFault
 tagged_blake3 g = do
   absent (Salt ∷ Personal ∷ []) g
-  unset (NotWithTag Raw) (has_flag (codes "raw") g)
+  may_be_raw g
   number Length BLAKE3_LEN BLAKE3_LEN BLAKE3_LEN g
   number Seek 0 0 0 g
-  Ok (whole (Plain alg.Blake3) true)
+  Ok (whole (Plain alg.Blake3) g)
 
 -- the bytes that `-l` and `--seek` say, before the end of the output
 abbrev pub stretch_of : Given → Bool → Result Stretch UsageFault
@@ -74,15 +77,10 @@ stretch_of g is_raw = do
   position ← number Seek 0 0 (2 ^ 64 - 1 - n) g
   Ok (record { position = position; length = n; is_raw = is_raw })
 
--- it may name more than one file
-abbrev pub names_several : Given → Bool
-names_several g = nat_lt 1 (length (files g)) || is_some (text_of (codes "files0-from") g)
-
--- the bytes themselves are those of one file
 abbrev pub blake3_output : Given → Result Requested UsageFault
 blake3_output g = do
   absent (Salt ∷ Personal ∷ []) g
-  unset (OneFile Raw) (has_flag (codes "raw") g && names_several g)
+  may_be_raw g
   stretch ← stretch_of g (has_flag (codes "raw") g)
   Ok (Output stretch)
 
@@ -97,8 +95,8 @@ parts g = where_given (λ t. number_in Parts 1 1024 t >>= part_size) (text Parts
 abbrev pub requested_of : Given → Kind → Result Requested UsageFault
 requested_of g kind.Sha256 = sha alg.Sha256 g
 requested_of g kind.Sha512 = sha alg.Sha512 g
-requested_of g kind.Blake2b = blake2b_digest g
-requested_of g kind.Blake2s = blake2s_digest g
+requested_of g kind.Blake2b = blake2 Blake2b BLAKE2B_LEN 16 g
+requested_of g kind.Blake2s = blake2 Blake2s BLAKE2S_LEN 8 g
 requested_of g kind.Blake3 = if has_flag (codes "tag") g then tagged_blake3 g else blake3_output g
 
 abbrev pub requested : Given → Result Requested UsageFault

@@ -4,7 +4,7 @@ use Rattle.std.specs.Prelude.{Option, Some, None, Result, Ok, Err, codes, is_som
 use Rattle.std.specs.Result.{result_map_both}
 use Rattle.std.specs.Str.{all_ascii_digits, bytes_eq}
 use Rattle.std.specs.Str.Parse.{digits_value, without_leading_plus}
-use Rattle.request.specs.CommandLine.{Given, Text, text_of, texts_of}
+use Rattle.request.specs.CommandLine.{Given, Text, all_of, text_of}
 use Rattle.hex.specs.Hex.{decode_of}
 use Rattle.source.specs.Digest.{tag_len}
 use Rattle.source.specs.declared.alg.Alg.{Alg}
@@ -45,7 +45,7 @@ text setting g = text_of (setting_id setting) g
 
 -- the files or lists that were named
 abbrev pub files : Given → List Text
-files g = unwrap_or (texts_of (codes "file") g) []
+files g = unwrap_or (all_of (codes "file") g.1) []
 
 -- settings that the algorithm does not have
 abbrev pub absent : List Setting → Given → Result (Unit {0}) UsageFault
@@ -92,12 +92,9 @@ abbrev pub sized : Setting → ℕ → Option (List ℕ) → Result (List ℕ) U
 sized setting n None = Ok (replicate n 0)
 sized setting n (Some bytes) = if length bytes == n then Ok bytes else Err (WrongLength setting)
 
--- bytes to compare with have as many
-abbrev pub of_length : ℕ → List ℕ → Result (List ℕ) UsageFault
-of_length n bytes = if length bytes == n then Ok bytes else Err (WrongLength Verify)
-
+-- so many bytes to compare with
 abbrev pub wanted_bytes : ℕ → Text → Result (List ℕ) UsageFault
-wanted_bytes n t = hexadecimal Verify t >>= of_length n
+wanted_bytes n t = hexadecimal Verify t >>= (λ bytes. sized Verify n (Some bytes))
 
 -- what stands beside a name
 abbrev pub named : {A : Type 0} → Setting → List (Text × A) → Text → Result A UsageFault

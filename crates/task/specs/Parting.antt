@@ -1,12 +1,12 @@
 -- What requests of `part` and `join` ask for, or the first fault of their settings.
-use Rattle.std.specs.Prelude.{ℕ, ◌-◌, ◌%◌, ◌^◌, ◌==◌, false, Option, None, Some, Result, Ok, Err}
-use Rattle.std.specs.Prelude.{if◌then◌else◌}
+use Rattle.std.specs.Prelude.{ℕ, ◌-◌, ◌%◌, ◌^◌, nat_lt, false, Option, Result, Ok, Err}
 use Rattle.std.specs.Int.{leading_zeros, w64}
+use Rattle.std.specs.Option.{option_map_or}
 use Rattle.sumlist.specs.declared.kind.Kind.{Kind}
 use Rattle.sumlist.specs.declared.kind.Kind.TheVariants as kind
 use Rattle.request.specs.CommandLine.{Given}
 use Rattle.task.specs.Hashing.{stretch_of}
-use Rattle.task.specs.Parameters.{◌>>=◌, ◌>>◌, given_number, kind_of, number}
+use Rattle.task.specs.Parameters.{◌>>=◌, ◌>>◌, given_number, kind_of, number, unset}
 use Rattle.task.specs.declared.fault.Setting.TheVariants.{Algorithm, Bytes, Chunks, First}
 use Rattle.task.specs.declared.fault.UsageFault.{UsageFault}
 use Rattle.task.specs.declared.fault.UsageFault.TheVariants.{NotForCommand, OutOfRange}
@@ -24,17 +24,14 @@ names_blake3 g = kind_of g >>= has_parts
 unfoldable pub least_power : ℕ → ℕ
 least_power n = 2 ^ (64 - leading_zeros w64 (n - 1))
 
--- the first chunk of a part, and how many chunks it has at most
-abbrev pub place_at : ℕ → Option ℕ → Result (ℕ × Option ℕ) UsageFault
-place_at first None = Ok (first, None)
-place_at first (Some n) = if first % least_power n == 0 then Ok (first, Some n) else Err (OutOfRange First)
-
+-- the first chunk of a part, and how many chunks it has at most: where that is given, such a power divides the first
 abbrev pub place : Given → Result (ℕ × Option ℕ) UsageFault
 place g = do
   names_blake3 g
   first ← number First 0 0 (2 ^ 54 - 1) g
   chunks ← given_number Chunks 1 (2 ^ 54) g
-  place_at first chunks
+  unset (OutOfRange First) (option_map_or (λ n. nat_lt 0 (first % least_power n)) chunks false)
+  Ok (first, chunks)
 
 -- which bytes of the joined output are printed, and how many bytes the parts have to have
 abbrev pub joined : Given → Result (Stretch × Option ℕ) UsageFault

@@ -1,11 +1,12 @@
 -- What a request of `mac` has printed, or the first fault of its settings.
 use Rattle.std.specs.Prelude.{ℕ, ◌-◌, ◌/◌, ◌^◌, List, [], ◌∷◌, Option, Some, None, Result, Ok, Err, codes}
-use Rattle.request.specs.CommandLine.{Given, Text, text_of}
+use Rattle.request.specs.CommandLine.{Given, Text, has_flag, text_of}
 use Rattle.source.specs.declared.alg.TheConstants.{BLAKE2B_LEN, BLAKE2S_LEN, BLAKE3_LEN}
-use Rattle.task.specs.Parameters.{◌>>=◌, given_bytes, hmac_len, named, needed, number, text, wanted_bytes, where_given}
+use Rattle.task.specs.Parameters.{◌>>=◌, ◌>>◌, given_bytes, hmac_len, named, needed, number, text, unset}
+use Rattle.task.specs.Parameters.{wanted_bytes, where_given}
 use Rattle.task.specs.declared.fault.Setting.TheVariants as setting
 use Rattle.task.specs.declared.fault.UsageFault.{UsageFault}
-use Rattle.task.specs.declared.fault.UsageFault.TheVariants.{OneKey}
+use Rattle.task.specs.declared.fault.UsageFault.TheVariants.{NotWithRaw, OneKey}
 use Rattle.task.specs.declared.parameters.HmacHash.{HmacHash}
 use Rattle.task.specs.declared.parameters.HmacHash.TheVariants as hash
 use Rattle.task.specs.declared.tagging.Mac.{Mac}
@@ -37,9 +38,10 @@ mac_len (Blake2b n) = n
 mac_len (Blake2s n) = n
 mac_len (Blake3 n) = n
 
--- a tag to compare with has as many
+-- a tag to compare with has as many, and stands for digits
 abbrev pub wanted : Mac → Given → Result (Option (List ℕ)) UsageFault
-wanted mac g = where_given (wanted_bytes (mac_len mac)) (text setting.Verify g)
+wanted mac g = where_given (λ t. unset (NotWithRaw setting.Verify) (has_flag (codes "raw") g)
+    >> wanted_bytes (mac_len mac) t) (text setting.Verify g)
 
 -- a key: its bytes, or the name of the file that has them
 pub data KeyText : Type 0 where

@@ -29,7 +29,7 @@ pub data Asked : Type 0 where
   compares : Requested → Option ℕ → List ℕ → Text → Asked
   cuts : ℕ → Option ℕ → Text → Asked
   joins : Stretch → Option ℕ → Text → List Text → Asked
-  tags : Mac → KeyText → Option (List ℕ) → Text → Asked
+  tags : Mac → Bool → KeyText → Option (List ℕ) → Text → Asked
   derives : Derived → Bool → Text → Asked
   checks : Kind → Bool → Text → Asked
 
@@ -60,7 +60,7 @@ mac g = do
   function ← tagging.mac g
   key ← key g
   wanted ← tagging.wanted function g
-  Ok (tags function key wanted (file_or_input g))
+  Ok (tags function (has_flag (codes "raw") g) key wanted (file_or_input g))
 
 abbrev pub kdf : Given → Result Asked UsageFault
 kdf g = do

@@ -2,3 +2,4 @@
 pub mod Seen
 pub mod Possible
 pub mod Views
+pub mod Salted

@@ -60,7 +60,7 @@ pub enum UsageFault {
     NotWithRaw(Setting),
     /// It says nothing of several files.
     OneFile(Setting),
-    /// It is outside its range, or none of its names.
+    /// It is outside its range, or no name that the option takes.
     OutOfRange(Setting),
     /// It is not made of pairs of hexadecimal digits.
     NotHexadecimal(Setting),

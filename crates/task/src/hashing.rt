@@ -7,6 +7,9 @@ ghost use Rattle.task.specs.Hashing as spec;
 ghost use Rattle.task.specs.Parameters.{IsAsDefined, text};
 ghost use Rattle.task.specs.Requested.{alg_of};
 ghost use Rattle.task.specs.declared.fault.Setting.TheVariants.{Verify};
+ghost use Rattle.task.specs.declared.hashing.Hash.TheVariants.{Blake2b, Blake2s};
+ghost use Rattle.task.specs.inside.Salted.{blake2_parameters as blake2_parameters_of};
+ghost use Rattle.source.specs.declared.alg.TheConstants.{BLAKE2B_LEN, BLAKE2S_LEN};
 
 use crate::fault::{Setting, TaskFault, UsageFault};
 use crate::parameters::{
@@ -25,11 +28,13 @@ pub enum Requested {
     Output(Stretch),
 }
 
-/// The form of a line: whose digest it has, and whether it names that algorithm.
+/// The form of a line: whose digest it has, and whether it names that algorithm; or that the digest's
+/// bytes are printed as they are.
 #[derive(Clone, Copy, Debug, PartialEq, Eq)]
 pub struct Form {
     pub hash: Hash,
     pub is_tagged: bool,
+    pub is_raw: bool,
 }
 
 /// The hash of a digest: BLAKE2 with the digest's length, a salt and a personalization.
@@ -114,10 +119,25 @@ fn of_digits(request: &Request<'_>) -> Result<(), UsageFault>
     refused_flag(UsageFault::OneFile(Setting::Verify), names_several(request))
 }
 
-fn whole(hash: Hash, is_tagged: bool) -> Requested
-    ensures { result ≡ spec.whole hash is_tagged }
+fn whole(hash: Hash, request: &Request<'_>) -> Requested
+    ensures { result ≡ spec.whole hash (given_of request.now) }
 {
-    Requested::Digest(Form { hash, is_tagged })
+    Requested::Digest(Form {
+        hash,
+        is_tagged: request.has("tag"),
+        is_raw: request.has("raw"),
+    })
+}
+
+// Refuses `--raw` beside `--tag` and of several files.
+fn may_be_raw(request: &Request<'_>) -> Result<(), UsageFault>
+    ensures { result ≡ spec.may_be_raw (given_of request.now) }
+{
+    let is_raw = request.has("raw");
+    let is_tagged = is_raw && request.has("tag");
+    refused_flag(UsageFault::NotWithTag(Setting::Raw), is_tagged)?;
+    let several = is_raw && names_several(request);
+    refused_flag(UsageFault::OneFile(Setting::Raw), several)
 }
 
 fn sha(request: &Request<'_>, alg: Alg) -> Result<Requested, UsageFault>
@@ -131,25 +151,22 @@ fn sha(request: &Request<'_>, alg: Alg) -> Result<Requested, UsageFault>
         Setting::Parts,
     ];
     refused(request, &others)?;
-    refused_flag(
-        UsageFault::NotForAlgorithm(Setting::Raw),
-        request.has("raw"),
-    )?;
-    Ok(whole(Hash::Plain(alg), request.has("tag")))
+    may_be_raw(request)?;
+    Ok(whole(Hash::Plain(alg), request))
 }
 
 fn with_blake2b(alloc: Global, request: &Request<'_>) -> Result<Requested, TaskFault>
-    ensures { IsAsDefined (λ r. r) (spec.blake2b_digest (given_of request.now)) result }
+    ensures { IsAsDefined (λ r. r) (spec.blake2 Blake2b BLAKE2B_LEN 16 (given_of request.now)) result }
 {
     let (length, salt, personal) = blake2_parameters(alloc, request, BLAKE2B_LEN)?;
-    Ok(whole(Hash::Blake2b(length, salt, personal), request.has("tag")))
+    Ok(whole(Hash::Blake2b(length, salt, personal), request))
 }
 
 fn with_blake2s(alloc: Global, request: &Request<'_>) -> Result<Requested, TaskFault>
-    ensures { IsAsDefined (λ r. r) (spec.blake2s_digest (given_of request.now)) result }
+    ensures { IsAsDefined (λ r. r) (spec.blake2 Blake2s BLAKE2S_LEN 8 (given_of request.now)) result }
 {
     let (length, salt, personal) = blake2_parameters(alloc, request, BLAKE2S_LEN)?;
-    Ok(whole(Hash::Blake2s(length, salt, personal), request.has("tag")))
+    Ok(whole(Hash::Blake2s(length, salt, personal), request))
 }
 
 // The length of the digest, which has `most` bytes at most, the salt and the personalization. The
@@ -159,13 +176,10 @@ fn blake2_parameters<const N: usize>(
     request: &Request<'_>,
     most: usize,
 ) -> Result<(usize, [u8; N], [u8; N]), TaskFault>
-    ensures { IsAsDefined (λ p. p) (spec.blake2_parameters most N (given_of request.now)) result }
+    ensures { IsAsDefined (λ p. p) (blake2_parameters_of most N (given_of request.now)) result }
 {
     refused(request, &[Setting::Seek, Setting::Parts])?;
-    refused_flag(
-        UsageFault::NotForAlgorithm(Setting::Raw),
-        request.has("raw"),
-    )?;
+    may_be_raw(request)?;
     let length = blake2_length(request, most)? as usize;
     let salt = given_bytes(alloc, request, Setting::Salt)?;
     let personal = given_bytes(alloc, request, Setting::Personal)?;
@@ -198,21 +212,19 @@ fn tagged_blake3(request: &Request<'_>) -> Result<Requested, UsageFault>
     ensures { result ≡ spec.tagged_blake3 (given_of request.now) }
 {
     refused(request, &[Setting::Salt, Setting::Personal])?;
-    refused_flag(UsageFault::NotWithTag(Setting::Raw), request.has("raw"))?;
+    may_be_raw(request)?;
     let whole_len = BLAKE3_LEN as u64;
     number(request, Setting::Length, whole_len, whole_len, whole_len)?;
     number(request, Setting::Seek, 0, 0, 0)?;
-    Ok(whole(Hash::Plain(Alg::Blake3), true))
+    Ok(whole(Hash::Plain(Alg::Blake3), request))
 }
 
 fn blake3_output(request: &Request<'_>) -> Result<Requested, UsageFault>
     ensures { result ≡ spec.blake3_output (given_of request.now) }
 {
     refused(request, &[Setting::Salt, Setting::Personal])?;
-    let is_raw = request.has("raw");
-    let several = is_raw && names_several(request);
-    refused_flag(UsageFault::OneFile(Setting::Raw), several)?;
-    Ok(Requested::Output(stretch_of(request, is_raw)?))
+    may_be_raw(request)?;
+    Ok(Requested::Output(stretch_of(request, request.has("raw"))?))
 }
 
 // Whether more than one file may be named.

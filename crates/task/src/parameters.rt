@@ -1,12 +1,12 @@
 // The texts of settings as names, numbers and bytes, and which fault each can be.
 
 ghost use Rattle.std.specs.Prelude.{◌≡◌, ◌≢◌, ◌&&◌, Err, IsSomeAnd, MatchResult, Ok, if◌then◌else◌, length, nat_le};
-ghost use Rattle.std.specs.Prelude.{option_map, replicate, unwrap_or};
+ghost use Rattle.std.specs.Prelude.{Some, option_map, replicate, unwrap_or};
 ghost use Rattle.request.specs.CommandLine.{given_of};
 ghost use Rattle.task.specs.Parameters as spec;
 ghost use Rattle.task.specs.Parameters.{IsAsDefined};
 ghost use Rattle.task.specs.inside.Seen.{seen};
-ghost use Rattle.task.specs.declared.fault.Setting.TheVariants.{Algorithm};
+ghost use Rattle.task.specs.declared.fault.Setting.TheVariants.{Algorithm, Verify};
 ghost use Rattle.task.specs.declared.fault.UsageFault.TheVariants.{OutOfRange, WrongLength};
 
 use crate::fault::{Setting, TaskFault, UsageFault};
@@ -199,7 +199,7 @@ pub(crate) fn wanted_bytes(alloc: Global, count: u64, text: &str) -> Result<Vec<
 }
 
 fn of_length(count: u64, bytes: Vec<u8>) -> Result<Vec<u8>, UsageFault>
-    ensures { seen (λ v. v.items) result ≡ spec.of_length count bytes.items }
+    ensures { seen (λ v. v.items) result ≡ spec.sized Verify count (Some bytes.items) }
 {
     if bytes.len() as u64 == count {
         Ok(bytes)

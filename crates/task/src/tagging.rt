@@ -7,7 +7,9 @@ ghost use Rattle.task.specs.Tagging as spec;
 ghost use Rattle.task.specs.inside.Views.{key_shown};
 
 use crate::fault::{Setting, TaskFault, UsageFault};
-use crate::parameters::{HmacHash, given_bytes, needed, number, text_of, wanted_bytes};
+use crate::parameters::{
+    HmacHash, given_bytes, needed, number, refused_flag, text_of, wanted_bytes,
+};
 use request::Request;
 use source::{BLAKE2B_LEN, BLAKE2S_LEN, BLAKE3_LEN};
 use std::alloc::Global;
@@ -66,7 +68,10 @@ impl Mac {
         ensures { IsAsDefined (option_map (λ v. v.items)) (spec.wanted self (given_of request.now)) result }
     {
         match text_of(request, Setting::Verify) {
-            Some(text) => Ok(Some(wanted_bytes(alloc, self.tag_len(), text)?)),
+            Some(text) => {
+                refused_flag(UsageFault::NotWithRaw(Setting::Verify), request.has("raw"))?;
+                Ok(Some(wanted_bytes(alloc, self.tag_len(), text)?))
+            }
             None => Ok(None),
         }
     }

@@ -57,9 +57,11 @@ pub enum Task<'a> {
         name: &'a str,
         lists: Vec<&'a str>,
     },
-    /// Print the tag of a file under a key, or whether it is the one that is wanted, of as many bytes.
+    /// Print the tag of a file under a key, in digits or as it is, or whether it is the one that is
+    /// wanted, of as many bytes.
     Mac {
         mac: Mac,
+        is_raw: bool,
         key: Key<'a>,
         wanted: Option<Vec<u8>>,
         file: &'a str,
@@ -158,6 +160,7 @@ fn mac<'a>(alloc: Global, request: &Request<'a>) -> Result<Task<'a>, TaskFault>
     let wanted = mac.wanted(alloc, request)?;
     Ok(Task::Mac {
         mac,
+        is_raw: request.has("raw"),
         key,
         wanted,
         file: file_or_input(request),

@@ -3,6 +3,7 @@ use Rattle.std.proofs.Common.{◌≡◌, ℕ, ◌<◌, ◌+◌, ◌*◌, ◌/◌
 use Rattle.std.proofs.Common.{sym}
 use Rattle.std.proofs.lemmas.Nat.{or_shifted, or_comm}
 use Rattle.std.specs.Int.{w32, rotate_right}
+use Rattle.std.specs.Simd.Lanes.{number_l, chunk}
 
 pub turned_16 : (x : ℕ) → x < 2 ^ 32
     → x / 256 ^ 2 % 256 + 256 * (x / 256 ^ 3 % 256 + 256 * (x / 256 ^ 0 % 256 + 256 * (x / 256 ^ 1 % 256 + 256 * 0)))
@@ -28,33 +29,24 @@ turned_8 x h =
     = omega arith in
     bytes ∙ sym joined ∙ or_comm (x % 256 * 16777216) (x / 256) ∙ ap (λ (n : ℕ). bit_or (x / 256) n) (sym high)
 
--- in n lanes: z has the bytes of the words w, which are those of x xor y
-module _ (n : ℕ) (x y w z : List ℕ)
-    (bytes : (i j : ℕ) → i < n → j < 4 → slice_index z (4 * i + j) ≡ slice_index w i / 256 ^ j % 256)
-    (fit : (i : ℕ) → i < n → slice_index w i < 2 ^ 32)
-    (lanes : (i : ℕ) → i < n → slice_index w i ≡ bit_xor (slice_index x i) (slice_index y i)) where
-  pub word_turned_16 : (i : ℕ) → i < n
-      → slice_index z (4 * i + 2) + 256 * (slice_index z (4 * i + 3) + 256 *
-      (slice_index z (4 * i + 0) + 256 * (slice_index z (4 * i + 1) + 256 * 0)))
-      ≡ rotate_right w32 (bit_xor (slice_index x i) (slice_index y i)) 16
-  word_turned_16 i h =
-      rw (
-        bytes i 2 h (omega arith),
-        bytes i 3 h (omega arith),
-        bytes i 0 h (omega arith),
-        bytes i 1 h (omega arith),
-      )
-      (turned_16 (slice_index w i) (fit i h) ∙ ap (λ (k : ℕ). rotate_right w32 k 16) (lanes i h))
+-- four bytes of word i of z as a word
+abbrev pub picked : List ℕ → ℕ → ℕ → ℕ → ℕ → ℕ → ℕ
+picked z i a b c d = slice_index z (4 * i + a) + 256 * (slice_index z (4 * i + b) + 256 *
+    (slice_index z (4 * i + c) + 256 * (slice_index z (4 * i + d) + 256 * 0)))
 
-  pub word_turned_8 : (i : ℕ) → i < n
-      → slice_index z (4 * i + 1) + 256 * (slice_index z (4 * i + 2) + 256 *
-      (slice_index z (4 * i + 3) + 256 * (slice_index z (4 * i + 0) + 256 * 0)))
-      ≡ rotate_right w32 (bit_xor (slice_index x i) (slice_index y i)) 8
-  word_turned_8 i h =
-      rw (
-        bytes i 1 h (omega arith),
-        bytes i 2 h (omega arith),
-        bytes i 3 h (omega arith),
-        bytes i 0 h (omega arith),
-      )
-      (turned_8 (slice_index w i) (fit i h) ∙ ap (λ (k : ℕ). rotate_right w32 k 8) (lanes i h))
+-- in n lanes: r has the words of the bytes u, which are those of z in an order in which words turn by k, and z has
+-- the bytes of the words w, which are those of x xor y
+pub words_turned : (n a b c d k : ℕ) (x y w z u r : List ℕ)
+    → ((v : ℕ) → v < 2 ^ 32 → v / 256 ^ a % 256 + 256 * (v / 256 ^ b % 256 + 256 *
+    (v / 256 ^ c % 256 + 256 * (v / 256 ^ d % 256 + 256 * 0))) ≡ rotate_right w32 v k)
+    → (a < 4) × (b < 4) × (c < 4) × (d < 4)
+    → ((i j : ℕ) → i < n → j < 4 → slice_index z (4 * i + j) ≡ slice_index w i / 256 ^ j % 256)
+    → ((i : ℕ) → i < n → slice_index w i < 2 ^ 32)
+    → ((i : ℕ) → i < n → slice_index w i ≡ bit_xor (slice_index x i) (slice_index y i))
+    → ((i : ℕ) → i < n → number_l 256 (chunk (4 * i) 4 u) ≡ picked z i a b c d)
+    → ((i : ℕ) → i < n → slice_index r i ≡ number_l 256 (chunk (4 * i) 4 u))
+    → (i : ℕ) → i < n → slice_index r i ≡ rotate_right w32 (bit_xor (slice_index x i) (slice_index y i)) k
+words_turned n a b c d k x y w z u r turns within bytes fit lanes moved words i h =
+    words i h ∙ moved i h
+    ∙ rw (bytes i a h within.0, bytes i b h within.1, bytes i c h within.2, bytes i d h within.3)
+    (turns (slice_index w i) (fit i h) ∙ ap (λ (v : ℕ). rotate_right w32 v k) (lanes i h))

@@ -1,10 +1,12 @@
 use Rattle.std.proofs.Common.{◌≡◌, ℕ, zero, suc, ◌<◌, ◌+◌, ◌-◌, ◌*◌, ◌/◌, ◌%◌, ◌^◌, List, [], ◌∷◌, length, slice_index}
-use Rattle.std.proofs.Common.{slice_index_or, bit_or, bit_xor, arith, refl, ap}
+use Rattle.std.proofs.Common.{slice_index_or, bit_or, bit_xor, arith, refl, ap, map, sym, ◌∙◌, replicate}
 use Rattle.std.specs.Simd.Lanes.{zip2, Each1}
-use Rattle.std.proofs.lemmas.List.{get_or-drop}
-use Rattle.std.proofs.lemmas.Simd.{Each1-get_or, get_or-zip2}
+use Rattle.std.specs.List.{range_with_len}
+use Rattle.std.proofs.lemmas.List.{ext_get_or, get_or-drop, get_or-map}
+use Rattle.std.proofs.lemmas.List.FromFn.{get_or-map-range_with_len, length-map-range_with_len}
+use Rattle.std.proofs.lemmas.Simd.{Each1-get_or, get_or-zip2, length-zip2, zip2-map, zip2_splat}
 use Rattle.std.proofs.lemmas.Nat.{xor_lt}
-use Rattle.std.specs.Int.{w32, rotate_right}
+use Rattle.std.specs.Int.{Width, rotate_right}
 use Rattle.words.specs.inside.Lanes.{word_at, lane8, transposed8}
 use Rattle.words.specs.Words.{words}
 
@@ -20,65 +22,31 @@ below_eight P p0 p1 p2 p3 p4 p5 p6 p7 (suc (suc (suc (suc (suc (suc zero)))))) h
 below_eight P p0 p1 p2 p3 p4 p5 p6 p7 (suc (suc (suc (suc (suc (suc (suc zero))))))) h = p7
 below_eight P p0 p1 p2 p3 p4 p5 p6 p7 (suc (suc (suc (suc (suc (suc (suc (suc n)))))))) h = absurd (omega arith)
 
--- what holds of each list of eight elements
-pub eight_lanes : (P : List ℕ → Type 0) → ((a b c d e f g h : ℕ) → P (a ∷ b ∷ c ∷ d ∷ e ∷ f ∷ g ∷ h ∷ []))
-    → (xs : List ℕ) → length xs ≡ 8 → P xs
-eight_lanes P p (a ∷ b ∷ c ∷ d ∷ e ∷ f ∷ g ∷ h ∷ []) l = p a b c d e f g h
-eight_lanes P p [] l = absurd (omega arith)
-eight_lanes P p (a ∷ []) l = absurd (omega arith)
-eight_lanes P p (a ∷ b ∷ []) l = absurd (omega arith)
-eight_lanes P p (a ∷ b ∷ c ∷ []) l = absurd (omega arith)
-eight_lanes P p (a ∷ b ∷ c ∷ d ∷ []) l = absurd (omega arith)
-eight_lanes P p (a ∷ b ∷ c ∷ d ∷ e ∷ []) l = absurd (omega arith)
-eight_lanes P p (a ∷ b ∷ c ∷ d ∷ e ∷ f ∷ []) l = absurd (omega arith)
-eight_lanes P p (a ∷ b ∷ c ∷ d ∷ e ∷ f ∷ g ∷ []) l = absurd (omega arith)
-eight_lanes P p (a ∷ b ∷ c ∷ d ∷ e ∷ f ∷ g ∷ h ∷ x ∷ xs) l = absurd (omega arith)
+-- a list, word by word
+pub listed : (n : ℕ) (xs : List ℕ) → length xs ≡ n → xs ≡ map (slice_index xs) (range_with_len 0 n)
+listed n xs h = ext_get_or 0 xs (map (slice_index xs) (range_with_len 0 n))
+    (h ∙ sym (length-map-range_with_len (slice_index xs) 0 n))
+    (λ i l. sym (get_or-map-range_with_len (slice_index xs) 0 n i i 0 (omega arith) (omega arith)))
 
--- two shifts of each lane and an or are a rotation
-abbrev Rotates : ℕ → List ℕ → List ℕ → Type 0
-Rotates k a b = (i : ℕ) → i < 8
-    → slice_index (zip2 bit_or
-    (zip2 (λ x n. x / 2 ^ n) (zip2 bit_xor a b) (k ∷ k ∷ k ∷ k ∷ k ∷ k ∷ k ∷ k ∷ []))
-    (zip2 (λ x n. x * 2 ^ n % 2 ^ 32) (zip2 bit_xor a b)
-    ((32 - k) ∷ (32 - k) ∷ (32 - k) ∷ (32 - k) ∷ (32 - k) ∷ (32 - k) ∷ (32 - k) ∷ (32 - k) ∷ []))) i
-    ≡ rotate_right w32 (bit_xor (slice_index a i) (slice_index b i)) k
-
-pub shifts_rotate : (k : ℕ) → 0 < k → k < 32 → (a : List ℕ) → length a ≡ 8 → (b : List ℕ) → length b ≡ 8 → Rotates k a b
-shifts_rotate k low high =
-    let at : k % 32 ≡ k = omega arith in
-    let left : (32 - k) % 32 ≡ 32 - k = omega arith in
-    eight_lanes (λ a. (b : List ℕ) → length b ≡ 8 → Rotates k a b) (λ a0 a1 a2 a3 a4 a5 a6 a7.
-    eight_lanes (Rotates k (a0 ∷ a1 ∷ a2 ∷ a3 ∷ a4 ∷ a5 ∷ a6 ∷ a7 ∷ [])) (λ b0 b1 b2 b3 b4 b5 b6 b7.
-    below_eight _ (rw (at, left) refl) (rw (at, left) refl) (rw (at, left) refl) (rw (at, left) refl)
-    (rw (at, left) refl) (rw (at, left) refl) (rw (at, left) refl) (rw (at, left) refl)))
-
-abbrev pub listed8 : List ℕ → List ℕ
-listed8 x = slice_index x 0 ∷ slice_index x 1 ∷ slice_index x 2 ∷ slice_index x 3 ∷ slice_index x 4 ∷ slice_index x 5
-    ∷ slice_index x 6 ∷ slice_index x 7 ∷ []
-
-pub listed8_is : (xs : List ℕ) → length xs ≡ 8 → listed8 xs ≡ xs
-listed8_is = eight_lanes (λ xs. listed8 xs ≡ xs) (λ a b c d e f g h. refl)
-
-pub transposed_lane : (x : List (List ℕ)) (i : ℕ) → i < 8 → lane8 i (transposed8 x) ≡ listed8 (slice_index_or x i [])
-transposed_lane x = below_eight _ refl refl refl refl refl refl refl refl
-
-abbrev pub listed16 : List ℕ → List ℕ
-listed16 x = slice_index x 0 ∷ slice_index x 1 ∷ slice_index x 2 ∷ slice_index x 3 ∷ slice_index x 4 ∷ slice_index x 5
-    ∷ slice_index x 6 ∷ slice_index x 7
-    ∷ slice_index x 8 ∷ slice_index x 9 ∷ slice_index x 10 ∷ slice_index x 11 ∷ slice_index x 12 ∷ slice_index x 13
-    ∷ slice_index x 14 ∷ slice_index x 15 ∷ []
-
-pub listed16_is : (xs : List ℕ) → length xs ≡ 16 → listed16 xs ≡ xs
-listed16_is (a ∷ b ∷ c ∷ d ∷ e ∷ f ∷ g ∷ h ∷ rest) l
-    = ap (λ r. a ∷ b ∷ c ∷ d ∷ e ∷ f ∷ g ∷ h ∷ r) (listed8_is rest (omega arith))
-listed16_is [] l = absurd (omega arith)
-listed16_is (a ∷ []) l = absurd (omega arith)
-listed16_is (a ∷ b ∷ []) l = absurd (omega arith)
-listed16_is (a ∷ b ∷ c ∷ []) l = absurd (omega arith)
-listed16_is (a ∷ b ∷ c ∷ d ∷ []) l = absurd (omega arith)
-listed16_is (a ∷ b ∷ c ∷ d ∷ e ∷ []) l = absurd (omega arith)
-listed16_is (a ∷ b ∷ c ∷ d ∷ e ∷ f ∷ []) l = absurd (omega arith)
-listed16_is (a ∷ b ∷ c ∷ d ∷ e ∷ f ∷ g ∷ []) l = absurd (omega arith)
+-- two shifts joined turn each word of n lanes, where they turn one word of so many bits
+pub shifts_rotate : (w : Width) (bits r n : ℕ)
+    → ((z : ℕ) → bit_or (z / 2 ^ r) (z * 2 ^ (bits - r) % 2 ^ bits) ≡ rotate_right w z r)
+    → (x : List ℕ) → length x ≡ n → (y : List ℕ) → length y ≡ n → (j : ℕ) → j < n
+    → slice_index (zip2 bit_or (zip2 (λ z k. z / 2 ^ k) (zip2 bit_xor x y) (replicate n r))
+    (zip2 (λ z k. z * 2 ^ k % 2 ^ bits) (zip2 bit_xor x y) (replicate n (bits - r)))) j
+    ≡ rotate_right w (bit_xor (slice_index x j) (slice_index y j)) r
+shifts_rotate w bits r n turns x lx y ly j h =
+    let z : List ℕ = zip2 bit_xor x y in
+    let same : length x ≡ length y = omega arith in
+    let size : length z ≡ length x = length-zip2 bit_xor x y same in
+    rw (
+      zip2_splat (λ (v k : ℕ). v / 2 ^ k) z n r (omega arith),
+      zip2_splat (λ (v k : ℕ). v * 2 ^ k % 2 ^ bits) z n (bits - r) (omega arith),
+      zip2-map bit_or (λ (v : ℕ). v / 2 ^ r) (λ (v : ℕ). v * 2 ^ (bits - r) % 2 ^ bits) z,
+      get_or-map (λ (v : ℕ). bit_or (v / 2 ^ r) (v * 2 ^ (bits - r) % 2 ^ bits)) z j 0 0 (omega arith),
+      get_or-zip2 bit_xor x y j 0 0 0 (omega arith) (omega arith),
+    )
+    (turns (bit_xor (slice_index x j) (slice_index y j)))
 
 pub row_of : (r x : List (List ℕ)) → r ≡ transposed8 x → (i : ℕ) → i < 8
     → slice_index_or (slice_index_or r 0 [] ∷ slice_index_or r 1 [] ∷ slice_index_or r 2 [] ∷ slice_index_or r 3 []

@@ -1,5 +1,5 @@
 -- What a check of the lines that are left does.
-use Rattle.std.specs.Prelude.{◌≡◌, ℕ, ◌+◌, List, ◌++◌, Option, IfSome, Result, MatchResult}
+use Rattle.std.specs.Prelude.{◌≡◌, ℕ, ◌+◌, ◌≤◌, List, ◌++◌, fold, length, Option, IfSome, Result, MatchResult}
 use Rattle.std.specs.Io.KnownBytes.{Appends}
 use Rattle.source.specs.Counts.{count_after}
 use Rattle.source.specs.Written.{AppendsPrefix}
@@ -7,20 +7,8 @@ use Rattle.sumlist.specs.declared.kind.Kind.{Kind}
 use Rattle.sumlist.specs.declared.checking.CheckFault.{CheckFault}
 use Rattle.sumlist.specs.declared.summary.Summary.{Summary}
 use Rattle.sumlist.specs.Lines.{lines}
-use Rattle.sumlist.specs.Report.{Files, Outcome, AllAllowed, report_from, unreadable_count, number_of, is_told}
-use Rattle.sumlist.specs.Report.{is_malformed, is_skipped}
-use Rattle.sumlist.specs.declared.verdict.Verdict.TheVariants.{Matches, Differs, Missing, Unreadable, TooLong}
+use Rattle.sumlist.specs.Report.{Files, Outcome, AllAllowed, report_from, unreadable_count, with_line}
 use Rattle.sumlist.specs.inside.Marks.{lines_of}
-
--- the numbers of a summary grew by those of outcomes
-pub record Counts (old : Summary) (outcomes : List Outcome) (new : Summary) : Type 0 where
-  pub ok : new.ok ≡ old.ok + number_of (is_told Matches) outcomes
-  pub failed : new.failed ≡ old.failed + number_of (is_told Differs) outcomes
-  pub missing : new.missing ≡ old.missing + number_of (is_told Missing) outcomes
-  pub unreadable : new.unreadable ≡ old.unreadable + number_of (is_told Unreadable) outcomes
-  pub too_long : new.too_long ≡ old.too_long + number_of (is_told TooLong) outcomes
-  pub malformed : new.malformed ≡ old.malformed + number_of is_malformed outcomes
-  pub skipped : new.skipped ≡ old.skipped + number_of is_skipped outcomes
 
 -- these lines, after those of a summary, have outcomes, which the tree counted; they were counted too, and their report
 -- was appended, or after a fault a beginning of it
@@ -29,7 +17,8 @@ pub record RestChecked (files : Files) (kind : Kind) (rest : List (List ℕ)) (s
   pub outcomes : List Outcome
   pub allowed : AllAllowed files kind rest outcomes
   pub counted : count_new ≡ count_after count_old (unreadable_count outcomes)
-  pub told : MatchResult r (λ t. Counts s outcomes t × Appends old new (report_from (lines_of s + 1) outcomes))
+  pub told : MatchResult r
+      (λ t. (t ≡ fold with_line s outcomes) × Appends old new (report_from (lines_of s + 1) outcomes))
       (λ _. AppendsPrefix old new (report_from (lines_of s + 1) outcomes))
 
 -- the lines of the bytes that are ahead and of those to come
@@ -37,3 +26,7 @@ pub record Checks (rest : Option (List ℕ)) (known : Option Files) (kind : Kind
     (r : Result Summary CheckFault) (count_old count_new : ℕ) (old new : Option (List ℕ)) : Type 0 where
   pub of : IfSome rest (λ bytes. IfSome known (λ files.
       RestChecked files kind (lines (ahead ++ bytes)) s r count_old count_new old new))
+
+-- for each of these lines one file was opened at most
+pub record OpensEach (rest : Option (List ℕ)) (ahead : List ℕ) (old new : ℕ) : Type 0 where
+  pub of : IfSome rest (λ bytes. new ≤ old + length (lines (ahead ++ bytes)))

@@ -1,12 +1,12 @@
 -- What the steps of reading a label, a body and digits find.
-use Rattle.std.specs.Prelude.{◌≡◌, ◌==◌, ◌&&◌, ℕ, ◌*◌, ◌/◌, ◌<◌, ◌≤◌, nat_le, Bool, true, List, ◌++◌, length}
+use Rattle.std.specs.Prelude.{◌≡◌, ◌==◌, ◌&&◌, ℕ, ◌*◌, ◌/◌, ◌<◌, ◌≤◌, nat_le, Bool, true, List, ◌∷◌, ◌++◌, length}
 use Rattle.std.specs.Prelude.{if◌then◌else◌, Option, None, Some, codes}
 use Rattle.std.specs.Fmt.{decimal}
 use Rattle.source.specs.declared.alg.Alg.{Alg}
 use Rattle.source.specs.declared.alg.Alg.TheVariants.{Sha256, Sha512, Blake2b, Blake2s, Blake3}
 use Rattle.source.specs.declared.alg.TheConstants.{BLAKE2B_LEN, BLAKE2S_LEN}
 use Rattle.source.specs.Digest.{IsInRange, tag_len}
-use Rattle.sumlist.specs.Tagged.{IsLabel, closing}
+use Rattle.sumlist.specs.Tagged.{IsLabel}
 use Rattle.sumlist.specs.declared.kind.Kind.{Kind}
 use Rattle.sumlist.specs.declared.kind.Kind.TheVariants as kinds
 
@@ -50,6 +50,10 @@ IsNumbered label front most n = (0 < n) × (n ≤ most) × (label ≡ front ++ d
 
 abbrev pub NotNumbered : List ℕ → List ℕ → ℕ → Type 0
 NotNumbered label front most = (n : ℕ) → 0 < n → n ≤ most → label ≡ front ++ decimal (8 * n) → ⊥
+
+-- what stands after a name's body: a bracket, and the digits
+abbrev pub closing : List ℕ → List ℕ
+closing digits = 41 ∷ 32 ∷ 61 ∷ 32 ∷ digits
 
 -- a name's body, and so many digits
 abbrev pub Ended : List ℕ → ℕ → List ℕ → List ℕ → Type 0

@@ -1,17 +1,32 @@
 -- How the lines of a list are counted, one by one.
-use Rattle.std.specs.Prelude.{◌≡◌, ℕ, ◌+◌}
+use Rattle.std.specs.Prelude.{◌≡◌, ℕ, ◌+◌, []}
 use Rattle.sumlist.specs.declared.verdict.Verdict.{Verdict}
 use Rattle.sumlist.specs.declared.verdict.Verdict.TheVariants.{Matches, Differs, Missing, Unreadable, TooLong}
 use Rattle.sumlist.specs.declared.summary.Mark.{Mark}
 use Rattle.sumlist.specs.declared.summary.Mark.TheVariants.{Skipped, Malformed, Told}
 use Rattle.sumlist.specs.declared.summary.Summary.{Summary}
-use Rattle.sumlist.specs.Report.{Outcome, skipped, malformed, told, same}
+use Rattle.sumlist.specs.Report.{Outcome, skipped, malformed, told, with_line}
 
 -- an outcome without its name
 abbrev pub mark_of : Outcome → Mark
 mark_of skipped = Skipped
 mark_of malformed = Malformed
 mark_of (told name v) = Told v
+
+-- an outcome of this mark
+abbrev pub outcome_of : Mark → Outcome
+outcome_of Skipped = skipped
+outcome_of Malformed = malformed
+outcome_of (Told v) = told [] v
+
+-- one for the same verdict, else none
+abbrev pub same : Verdict → Verdict → ℕ
+same Matches Matches = 1
+same Differs Differs = 1
+same Missing Missing = 1
+same Unreadable Unreadable = 1
+same TooLong TooLong = 1
+same v w = 0
 
 -- one for the same mark, else none
 abbrev pub part : Mark → Mark → ℕ
@@ -24,9 +39,10 @@ part m n = 0
 abbrev pub unreadable_by : Verdict → ℕ
 unreadable_by v = same Unreadable v
 
--- the counts of no line
-abbrev pub no_lines : Summary
-no_lines = record { ok = 0; failed = 0; missing = 0; unreadable = 0; too_long = 0; malformed = 0; skipped = 0 }
+-- the same of an outcome
+abbrev pub unreadable_in : Outcome → ℕ
+unreadable_in (told name v) = unreadable_by v
+unreadable_in o = 0
 
 -- how many lines were counted
 abbrev pub lines_of : Summary → ℕ
@@ -39,6 +55,7 @@ entry_by m = 0
 
 -- one more line, of this mark
 pub record IsCounted (mark : Mark) (old new : Summary) : Type 0 where
+  pub whole : new ≡ with_line old (outcome_of mark)
   pub ok : new.ok ≡ old.ok + part (Told Matches) mark
   pub failed : new.failed ≡ old.failed + part (Told Differs) mark
   pub missing : new.missing ≡ old.missing + part (Told Missing) mark

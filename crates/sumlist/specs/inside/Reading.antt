@@ -1,6 +1,7 @@
 -- A core read from its left: the entry that it states, if it states one.
-use Rattle.std.specs.Prelude.{◌≡◌, IsUtf8, ℕ, zero, suc, ◌+◌, ◌-◌, ◌*◌, Bool, false, List, [], ◌∷◌, ◌++◌}
+use Rattle.std.specs.Prelude.{◌⊎◌, ◌≡◌, IsUtf8, ℕ, zero, suc, ◌+◌, ◌-◌, ◌*◌, Bool, false, List, [], ◌∷◌, ◌++◌}
 use Rattle.std.specs.Prelude.{length, take, drop, if◌then◌else◌, ◌==◌, ◌&&◌, ◌||◌, Option, Some, None, codes}
+use Rattle.std.specs.Prelude.{slice_index}
 use Rattle.std.specs.Fmt.{decimal}
 use Rattle.std.specs.List.{find}
 use Rattle.std.specs.Option.{option_and_then, option_or}
@@ -14,9 +15,12 @@ use Rattle.source.specs.declared.alg.TheConstants.{BLAKE2B_LEN, BLAKE2S_LEN}
 use Rattle.sumlist.specs.declared.kind.Kind.{Kind}
 use Rattle.sumlist.specs.declared.labels.TheConstants.{WHOLE}
 use Rattle.sumlist.specs.Entry.{Listing, Fits}
-use Rattle.sumlist.specs.Tagged.{closing}
 use Rattle.sumlist.specs.inside.Body.{name_of}
-use Rattle.sumlist.specs.inside.Labels.{alg_of, front_of}
+use Rattle.sumlist.specs.inside.Labels.{alg_of, closing, front_of}
+
+-- a core that says nothing: there is none, or a comment
+abbrev pub IsBlank : List ℕ → Type 0
+IsBlank core = (core ≡ []) ⊎ (slice_index core 0 ≡ 35)
 
 -- what stands before the first space, and what stands behind it
 abbrev pub cut : List ℕ → Option (List ℕ × List ℕ)
@@ -60,6 +64,10 @@ Form = Alg × List ℕ × List ℕ
 
 abbrev pub with_tag : Alg → List ℕ → List ℕ → Option Form
 with_tag alg digits body = option_and_then (λ (tag : List ℕ). Some (alg, tag, body)) (result_ok (decode_of digits))
+
+-- a space or `*`
+abbrev pub IsMark : ℕ → Type 0
+IsMark mark = (mark ≡ 32) ⊎ (mark ≡ 42)
 
 abbrev pub is_mark : ℕ → Bool
 is_mark byte = (byte == 32) || (byte == 42)

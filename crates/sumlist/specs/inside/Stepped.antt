@@ -5,19 +5,18 @@ use Rattle.source.specs.Counts.{count_after, next_count}
 use Rattle.source.specs.Written.{AppendsPrefix}
 use Rattle.source.specs.declared.pumping.SourceFault.{SourceFault}
 use Rattle.source.specs.declared.pumping.SourceFault.TheVariants.{Read, TooLong}
-use Rattle.sumlist.specs.Report.{Files, Outcome, Allowed, text, is_told}
-use Rattle.sumlist.specs.inside.Marks.{mark_of}
+use Rattle.sumlist.specs.Report.{Files, Outcome, Allowed, text}
+use Rattle.sumlist.specs.inside.Marks.{mark_of, unreadable_in}
 use Rattle.sumlist.specs.declared.checking.CheckFault.{CheckFault}
 use Rattle.sumlist.specs.declared.checking.CheckFault.TheVariants.{ListRead, Write, OutOfMemory, ListTooLong}
 use Rattle.sumlist.specs.declared.kind.Kind.{Kind}
-use Rattle.sumlist.specs.declared.verdict.Verdict.TheVariants.{Unreadable}
 use Rattle.sumlist.specs.declared.summary.Mark.{Mark}
 
 -- an outcome that may stand for the line, and which the tree counted
 pub record Stepped (files : Files) (kind : Kind) (line : List ℕ) (outcome : Outcome) (count_old count_new : ℕ)
     : Type 0 where
   pub allowed : Allowed files kind line outcome
-  pub counted : count_new ≡ count_after count_old (is_told Unreadable outcome)
+  pub counted : count_new ≡ count_after count_old (unreadable_in outcome)
 
 -- the line of this number has an outcome, and its text was appended, or after a fault a beginning of it
 abbrev pub LineChecked : {E : Type 0} → Files → Kind → List ℕ → ℕ → Result Mark E → ℕ → ℕ → Option (List ℕ)

@@ -56,6 +56,6 @@ IsPossible (hashes wanted parts names) = HasDigest wanted × IfSome parts IsPart
 IsPossible (compares wanted parts digest file) = HasDigest wanted × IfSome parts IsPartSize
 IsPossible (cuts first chunks file) = IsPlace first chunks
 IsPossible (joins stretch bytes name lists) = IsOfJoin stretch
-IsPossible (tags mac key wanted file) = HasTag mac
+IsPossible (tags mac is_raw key wanted file) = HasTag mac
 IsPossible (derives derived is_raw material) = HasKey derived
 IsPossible (checks kind is_summed list) = ⊤

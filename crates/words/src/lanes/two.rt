@@ -11,6 +11,22 @@ use crate::reading::words32;
 use crate::rows::round32;
 use crate::tables::PERMUTED;
 
+// The first eight words of output.
+macro_rules! halves_xored {
+    ($v:ident) => {
+        [
+            $v[0] ^ $v[8],
+            $v[1] ^ $v[9],
+            $v[2] ^ $v[10],
+            $v[3] ^ $v[11],
+            $v[4] ^ $v[12],
+            $v[5] ^ $v[13],
+            $v[6] ^ $v[14],
+            $v[7] ^ $v[15],
+        ]
+    };
+}
+
 /// The words of the block at `at`.
 #[inline(always)]
 pub fn block_words(bytes: &[u8], at: usize) -> [u32; 16]
@@ -54,26 +70,5 @@ pub fn next_two(
     round32(&mut w, &m[1], &PERMUTED[5]);
     round32(&mut v, &m[0], &PERMUTED[6]);
     round32(&mut w, &m[1], &PERMUTED[6]);
-    [
-        [
-            v[0] ^ v[8],
-            v[1] ^ v[9],
-            v[2] ^ v[10],
-            v[3] ^ v[11],
-            v[4] ^ v[12],
-            v[5] ^ v[13],
-            v[6] ^ v[14],
-            v[7] ^ v[15],
-        ],
-        [
-            w[0] ^ w[8],
-            w[1] ^ w[9],
-            w[2] ^ w[10],
-            w[3] ^ w[11],
-            w[4] ^ w[12],
-            w[5] ^ w[13],
-            w[6] ^ w[14],
-            w[7] ^ w[15],
-        ],
-    ]
+    [halves_xored!(v), halves_xored!(w)]
 }

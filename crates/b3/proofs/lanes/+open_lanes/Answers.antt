@@ -9,7 +9,7 @@ returns-then-level-eq0-clause-values t c = λ i h.
     let none : c.args.level ≡ 0 = omega arith in
     let len : length c.args.bytes.now ≡ 8192 = rw none at c.requires.length in
     c.chunk_lanes.ensures.values i h (omega arith)
-    ∙ sym (level_zero c.args.parameters.now.key c.args.parameters.now.flags c.args.first c.args.bytes.now c.args.level i none)
+    ∙ sym (level_zero _ _ _ _ _ i none)
 
 pub returns-then-level-eq0-clause-before : goal.returns-then-level-eq0-clause-before
 returns-then-level-eq0-clause-before t c =
@@ -60,6 +60,5 @@ returns-clause-before t c =
     let p : ℕ = 2 ^ (c.args.level - 1) in
     let double = doubled c.args.level (omega arith) in
     c.open_lanes-right.ensures.before
-    ∙ last_second c.args.parameters.now.key c.args.parameters.now.flags c.args.first c.args.bytes.now p (length c.args.bytes.now / 2) _
-    (2 ^ c.args.level)
+    ∙ last_second _ _ _ _ p (length c.args.bytes.now / 2) _ (2 ^ c.args.level)
     (omega (arith, double)) refl (pow_pos (c.args.level - 1)) double

@@ -9,7 +9,7 @@ returns-then-level-eq0 t c = λ i h.
     let none : c.args.level ≡ 0 = omega arith in
     let len : length c.args.bytes.now ≡ 8192 = rw none at c.requires.length in
     c.chunk_lanes.ensures.values i h (omega arith)
-    ∙ sym (level_zero c.args.parameters.now.key c.args.parameters.now.flags c.args.first c.args.bytes.now c.args.level i none)
+    ∙ sym (level_zero _ _ _ _ _ i none)
 
 pub subtree_lanes-left-requires : goal.subtree_lanes-left-requires
 subtree_lanes-left-requires t c =

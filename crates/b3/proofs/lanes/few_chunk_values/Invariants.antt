@@ -1,11 +1,7 @@
-use Rattle.std.proofs.Common.{◌≡◌, ℕ, ◌<◌, ◌≤◌, ◌+◌, ◌*◌, take, drop, length}
 use Rattle.words.specs.inside.Lanes.{lane8}
-use Rattle.b3.specs.Chunk.{value_before}
-use Rattle.b3.specs.inside.Runs.{chunk_cv, value_before_last}
+use Rattle.b3.proofs.Lanes8.{AreAtBlock}
 use Rattle.b3.proofs.lanes.few_chunk_values.Given as goal
 
 abbrev pub invariant-each_block : goal.invariant-each_block
-invariant-each_block l = (k : ℕ) → k < 4 → 1024 * k + 1024 ≤ length l.bytes
-    → (l.j < 16 → lane8 k l.values ≡ value_before l.parameters.key l.parameters.flags (l.first + k) (take 1024 (drop (1024 * k) l.bytes)) l.j)
-    × (l.j ≡ 16 → lane8 k l.before ≡ value_before_last l.parameters.key l.parameters.flags l.first l.bytes k)
-    × (l.j ≡ 16 → lane8 k l.values ≡ chunk_cv l.parameters.key l.parameters.flags l.first l.bytes k)
+invariant-each_block l =
+    AreAtBlock l.parameters.key l.parameters.flags l.first l.bytes 4 (λ k. lane8 k l.values) (λ k. lane8 k l.before) l.j

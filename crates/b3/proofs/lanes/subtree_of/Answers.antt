@@ -13,5 +13,6 @@ returns c =
       c.parents-over.ensures 2 (omega arith),
       c.parents-over.ensures 3 (omega arith),
     )
-    (joined_eight c.args.parameters.now.key c.args.parameters.now.flags c.args.first c.args.bytes.now c.args.level _ c.requires.length
+    (joined_eight c.args.parameters.now.key c.args.parameters.now.flags c.args.first c.args.bytes.now c.args.level _
+    c.requires.length
     (λ i h. c.lane_rows-values.ensures i h ∙ c.subtree_lanes.ensures i h))

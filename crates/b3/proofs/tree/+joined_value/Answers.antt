@@ -8,7 +8,8 @@ use Rattle.b3.proofs.tree.+joined_value.Goals as goal
 
 pub returns-then-values-eq1 : goal.returns-then-values-eq1
 returns-then-values-eq1 t c = λ first m counted held.
-    held 0 (omega arith) ∙ one_value c.args.parameters.now.key c.args.parameters.now.flags first m (omega (arith, counted))
+    held 0 (omega arith) ∙ one_value c.args.parameters.now.key c.args.parameters.now.flags first m
+    (omega (arith, counted))
 
 pub returns : goal.returns
 returns t c = λ first m counted held.

@@ -7,5 +7,6 @@ pub returns : goal.returns
 returns c =
     let one : chunk_count c.args.bytes.now ≡ 1 = omega arith in
     c.node.ensures c.args.parameters.now.key c.args.bytes.now
-    (c.update.ensures.holds c.args.parameters.now.key [] (c.new-chunk.ensures.holds c.args.parameters.now.flags c.args.number))
+    (c.update.ensures.holds c.args.parameters.now.key []
+    (c.new-chunk.ensures.holds c.args.parameters.now.flags c.args.number))
     ∙ sym (tree_one c.args.parameters.now.key c.args.parameters.now.flags c.args.number c.args.bytes.now one)

@@ -1,4 +1,4 @@
-use Rattle.std.proofs.Common.{◌≡◌, ℕ, ◌*◌, ◌≤◌, [], length, take, refl, subst, ◌∙◌, arith, pow_pos}
+use Rattle.std.proofs.Common.{◌*◌, ◌≤◌, length, subst, ◌∙◌, arith, pow_pos}
 use Rattle.b3.specs.Parts.{mode_parameters}
 use Rattle.b3.specs.Values.{IsValueOf}
 use Rattle.source.proofs.Fronting.{Passes-trans}
@@ -14,16 +14,11 @@ returns-then-ahead-gt0-clause-passed g c = Passes-trans _ _ _ _ c.fill.ensures.p
 pub returns-clause-part : goal.returns-clause-part
 returns-clause-part g c =
     let taken = c.in_ok-part.ensures.taken in
-    let left : ℕ = c.in_ok-part.ahead in
-    let none : left ≡ 0 = omega (arith, c.if-ahead-gt0.false) in
-    let over : take left c.take_part.new.run ≡ [] = rw none refl in
-    let some = pow_pos c.requires.run.0 in
-    let same = c.fill.ensures.length in
-    let end = taken.end (omega (arith, none, some, same, c.requires.run.1, c.take_part.ensures.length)) in
     let told = c.told.ensures in (
       told.first ∙ taken.first,
-      all_taken _ _ _ _ _ taken.bytes (IsValueOf (mode_parameters c.args.mode) c.told.result)
-          c.in_ok-ahead.ensures.filled.given taken.given over end
+      all_taken _ _ _ _ _ taken.bytes _ (IsValueOf (mode_parameters c.args.mode) c.told.result)
+          c.in_ok-ahead.ensures.filled.given taken.given (omega arith) taken.end
+          (omega (arith, pow_pos c.requires.run.0, c.fill.ensures.length, c.take_part.ensures.length, c.requires.run.1))
           (subst (λ m. IsValueOf (mode_parameters m) c.told.result taken.bytes) taken.mode
           (told.value taken.bytes taken.part)),
     )
@@ -31,14 +26,10 @@ returns-clause-part g c =
 pub returns-clause-fits : goal.returns-clause-fits
 returns-clause-fits g c =
     let taken = c.in_ok-part.ensures.taken in
-    let left : ℕ = c.in_ok-part.ahead in
-    let none : left ≡ 0 = omega (arith, c.if-ahead-gt0.false) in
-    let over : take left c.take_part.new.run ≡ [] = rw none refl in
-    let some = pow_pos c.requires.run.0 in
-    let same = c.fill.ensures.length in
-    let end = taken.end (omega (arith, none, some, same, c.requires.run.1, c.take_part.ensures.length)) in
-    all_taken _ _ _ _ _ taken.bytes (λ xs. length xs ≤ 1024 * c.args.chunks) c.in_ok-ahead.ensures.filled.given
-    taken.given over end (omega (arith, taken.most, taken.part.len))
+    all_taken _ _ _ _ _ taken.bytes _ (λ xs. length xs ≤ 1024 * c.args.chunks) c.in_ok-ahead.ensures.filled.given
+    taken.given (omega arith) taken.end
+    (omega (arith, pow_pos c.requires.run.0, c.fill.ensures.length, c.take_part.ensures.length, c.requires.run.1))
+    (omega (arith, taken.most, taken.part.len))
 
 pub returns-clause-passed : goal.returns-clause-passed
 returns-clause-passed g c = Passes-trans _ _ _ _ c.fill.ensures.passed c.take_part.ensures.passed

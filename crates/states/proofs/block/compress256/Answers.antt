@@ -1,54 +1,25 @@
-use Rattle.std.proofs.Common.{◌≡◌, ◌∙◌, ◌+◌, ◌-◌, ap, arith, refl, sym}
-use Rattle.std.proofs.lemmas.List.{length-set}
-use Rattle.sha2.specs.Sha256.{add_state, compress, next_word, rounds, schedule}
+use Rattle.std.proofs.Common.{◌+◌, ap, arith}
+use Rattle.sha2.specs.Sha256.{add32, add_state, compress, round, round_constants, rounds, schedule, small_sigma0}
+use Rattle.sha2.specs.Sha256.{small_sigma1}
 use Rattle.sha2.proofs.Schedule256.{rounds_next, slice_index-schedule_next}
-use Rattle.states.proofs.Schedules.{written_next}
+use Rattle.states.proofs.Schedules.{round_more, rounds_at, rounds_more}
 use Rattle.states.proofs.block.compress256.Goals as goal
 
 pub rounds-preserved : goal.rounds-preserved
 rounds-preserved c =
-    let ws = schedule c.args.block.now 48 in
-    let t = c.rounds.t + 16 in
-    let at = c.rounds.invariant.written in
-    let word : next_word c.rounds.words t ≡ next_word ws t =
-    rw (
-      at (t - 2) (omega arith),
-      at (t - 7) (omega arith),
-      at (t - 15) (omega arith),
-      at (t - 16) (omega arith),
-    )
-    refl in
-    let written = written_next c.rounds.words ws t _ (omega arith) at
-    (c.next_word256.ensures ∙ word
-    ∙ sym (slice_index-schedule_next c.args.block.now 48 t (omega arith) (omega arith))) in
-    record {
-      whole = rw length-set c.rounds.invariant.whole;
-      written = λ i h. written i (omega arith);
-      variables = rw (
-        rounds_next _ _ c.rounds.t,
-        ← c.rounds.invariant.variables,
-        ← written c.rounds.t (omega arith),
-      )
-          c.round256-v.ensures;
-    }
+    rounds_more rounds round round_constants rounds_next
+    (λ x y z w. add32 (add32 (add32 (small_sigma1 x) y) (small_sigma0 z)) w)
+    64 _ (schedule c.args.block.now 48) _ _ _ c.rounds.t _ c.rounds.invariant (omega arith) c.next_word256.ensures
+    (slice_index-schedule_next c.args.block.now 48 (c.rounds.t + 16) (omega arith) (omega arith)) c.round256-v.ensures
 
 pub last-init : goal.last-init
-last-init c =
-    let half : c.rounds.t ≡ 48 = omega arith in
-    rw half at c.rounds.invariant.variables
+last-init c = rounds_at rounds _ _ _ c.rounds.t _ c.rounds.invariant.variables (omega arith)
 
 pub last-preserved : goal.last-preserved
 last-preserved c =
-    rw (
-      rounds_next _ _ c.last.t,
-      ← c.last.invariant,
-      ← c.rounds.invariant.written c.last.t (omega arith),
-    )
-    c.round256-v-in-last.ensures
+    round_more rounds round round_constants rounds_next _ _ c.rounds.words _ _ c.last.t c.last.invariant
+    (c.rounds.invariant.written c.last.t (omega arith)) c.round256-v-in-last.ensures
 
 pub returns : goal.returns
 unfolding compress
-returns c =
-    let end : c.last.t ≡ 64 = omega arith in
-    let all : c.last.v ≡ rounds c.args.h.now (schedule c.args.block.now 48) 64 = rw end at c.last.invariant in
-    ap (add_state c.args.h.now) all
+returns c = ap (add_state c.args.h.now) (rounds_at rounds _ _ _ c.last.t 64 c.last.invariant (omega arith))

@@ -1,4 +1,20 @@
-use Rattle.std.proofs.Common.{◌≡◌, ◌++◌, ◌∷◌, ◌*◌, ◌+◌, ◌-◌, ◌%◌, ℕ, List, refl, length, append_assoc, arith, replicate, take}
+use Rattle.std.proofs.Common.{
+  ◌≡◌,
+  ◌++◌,
+  ◌∷◌,
+  ◌*◌,
+  ◌+◌,
+  ◌-◌,
+  ◌%◌,
+  ℕ,
+  List,
+  refl,
+  length,
+  append_assoc,
+  arith,
+  replicate,
+  take,
+}
 use Rattle.std.proofs.Common.{slice_set, length-append}
 use Rattle.std.proofs.Math.Nat.{mod-lt}
 use Rattle.std.proofs.lemmas.List.{length-replicate}

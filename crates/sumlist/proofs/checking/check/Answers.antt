@@ -2,7 +2,7 @@ use Rattle.sumlist.proofs.Common.{◌++◌, ◌+◌, ◌-◌, ◌<◌, ◌^◌, 
 use Rattle.sumlist.proofs.Common.{err_from_is_err_and, length, length-append, rules, ℕ}
 use Rattle.std.specs.Prelude.{◌↔◌}
 use Rattle.std.proofs.KnownBytes.{Consumes-nil, Consumes-trans}
-use Rattle.sumlist.proofs.Stepping.{IfSome-all, checks-all, checks-halted, checks-none}
+use Rattle.sumlist.proofs.Stepping.{IfSome-all, checks-all, checks-halted, checks-none, opens-none}
 use Rattle.sumlist.proofs.checking.check.Goals as goal
 
 -- what was read before, and then
@@ -21,6 +21,7 @@ loop-checker-init g c = record {
   read = [];
   consumed = Consumes-nil (g.L.Feed.remaining c.args.list.now);
   opens = omega arith;
+  once = rw c.in_ok-new.ensures (λ n h. h);
   counts = rw (c.in_ok-new.ensures, c.new-2.ensures) (search rules);
 }
 
@@ -42,6 +43,7 @@ loop-checker-preserved g c =
       read = i.read ++ gave.0;
       consumed = Consumes-trans _ _ _ _ _ i.consumed gave.1;
       opens = c.in_ok-step.ensures.opens _ i.opens;
+      once = λ n later. i.once n (c.in_ok-step.ensures.once n later);
       counts = grind (arith, length-append {A = ℕ});
     }
 
@@ -60,3 +62,10 @@ returns-clause-gave g c =
 
 pub returns-clause-opens : goal.returns-clause-opens
 returns-clause-opens g c = c.in_ok-step.ensures.opens _ c.loop-checker.invariant.opens
+
+pub returns-in_err-step-clause-once : goal.returns-in_err-step-clause-once
+returns-in_err-step-clause-once g c = (c.loop-checker.invariant.once _ c.in_err-step.ensures.once).of
+
+pub returns-clause-once : goal.returns-clause-once
+returns-clause-once g c =
+    (c.loop-checker.invariant.once _ (c.in_ok-step.ensures.once _ (opens-none _ _ _))).of

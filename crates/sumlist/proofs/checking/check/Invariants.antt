@@ -1,7 +1,7 @@
 use Rattle.sumlist.proofs.Common.{◌≡◌, ◌+◌, ◌-◌, ◌^◌, ◌≤◌, CheckFault, List, Option, Result, Summary, [], length}
 use Rattle.sumlist.proofs.Common.{Consumes, count_after, lines_of, no_lines, ℕ}
 use Rattle.sumlist.specs.Tally.{entries_of}
-use Rattle.sumlist.specs.inside.Ahead.{Checks}
+use Rattle.sumlist.specs.inside.Ahead.{Checks, OpensEach}
 use Rattle.sumlist.proofs.checking.check.Given as goal
 
 abbrev pub invariant-loop-checker : goal.invariant-loop-checker
@@ -14,6 +14,8 @@ invariant-loop-checker g l = record {
   read : List ℕ;
   consumed : Consumes (g.L.Feed.remaining l.initial.list) (g.L.Feed.remaining l.list) read;
   opens : g.T.Tree.opens l.tree ≤ g.T.Tree.opens l.initial.tree + entries_of l.checker.summary;
+  once : (n : ℕ) → OpensEach (g.L.Feed.remaining l.list) l.checker.reader.ahead (g.T.Tree.opens l.tree) n
+      → OpensEach (g.L.Feed.remaining l.initial.list) [] (g.T.Tree.opens l.initial.tree) n;
   counts : record {
     kind : l.checker.kind ≡ l.fn.kind;
     total : l.checker.reader.total ≡ length read;

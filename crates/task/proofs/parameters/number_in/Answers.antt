@@ -8,4 +8,5 @@ returns-in-Ok c =
 
 pub returns-in-Err : goal.returns-in-Err
 returns-in-Err c =
-    number-refused _ c.args.least _ c.args.text.now c.parse.result _ c.parse.ensures.value.0 (omega (arith, c.ranges.most)) c.in-Err.is
+    number-refused _ c.args.least _ c.args.text.now c.parse.result _ c.parse.ensures.value.0
+    (omega (arith, c.ranges.most)) c.in-Err.is

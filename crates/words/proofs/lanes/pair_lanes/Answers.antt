@@ -3,9 +3,9 @@ use Rattle.words.specs.inside.Lanes.{lane}
 use Rattle.words.proofs.LaneLemmas.{below_four}
 use Rattle.words.proofs.lanes.pair_lanes.Goals as goal
 
-pub returns-clause-left : goal.returns-clause-left
+pub returns : goal.returns
 unfolding lane
-returns-clause-left c =
+returns c =
     rw (
       c.even.ensures,
       c.even-2.ensures,
@@ -15,36 +15,17 @@ returns-clause-left c =
       c.even-6.ensures,
       c.even-7.ensures,
       c.even-8.ensures,
+    )
+    (rw (
       c.odd.ensures,
       c.odd-2.ensures,
       c.odd-3.ensures,
       c.odd-4.ensures,
+    )
+    (rw (
       c.odd-5.ensures,
       c.odd-6.ensures,
       c.odd-7.ensures,
       c.odd-8.ensures,
     )
-    (below_four _ refl refl refl refl)
-
-pub returns-clause-right : goal.returns-clause-right
-unfolding lane
-returns-clause-right c =
-    rw (
-      c.even.ensures,
-      c.even-2.ensures,
-      c.even-3.ensures,
-      c.even-4.ensures,
-      c.even-5.ensures,
-      c.even-6.ensures,
-      c.even-7.ensures,
-      c.even-8.ensures,
-      c.odd.ensures,
-      c.odd-2.ensures,
-      c.odd-3.ensures,
-      c.odd-4.ensures,
-      c.odd-5.ensures,
-      c.odd-6.ensures,
-      c.odd-7.ensures,
-      c.odd-8.ensures,
-    )
-    (below_four _ refl refl refl refl)
+    (record { left = below_four _ refl refl refl refl; right = below_four _ refl refl refl refl })))

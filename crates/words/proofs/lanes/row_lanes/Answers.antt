@@ -1,5 +1,6 @@
+use Rattle.std.proofs.Common.{sym}
 use Rattle.words.specs.inside.Lanes.{lane}
-use Rattle.words.proofs.LaneLemmas.{below_eight, listed16_is}
+use Rattle.words.proofs.LaneLemmas.{below_eight, listed}
 use Rattle.words.proofs.lanes.row_lanes.Goals as goal
 
 pub returns : goal.returns
@@ -7,18 +8,18 @@ unfolding lane
 returns c =
     below_eight _
     (rw (c.transpose.ensures, c.transpose-2.ensures, c.first_half.ensures.words, c.second_half.ensures)
-    (listed16_is _ c.first_half.ensures.whole))
+    (sym (listed 16 _ c.first_half.ensures.whole)))
     (rw (c.transpose.ensures, c.transpose-2.ensures, c.first_half-2.ensures.words, c.second_half-2.ensures)
-    (listed16_is _ c.first_half-2.ensures.whole))
+    (sym (listed 16 _ c.first_half-2.ensures.whole)))
     (rw (c.transpose.ensures, c.transpose-2.ensures, c.first_half-3.ensures.words, c.second_half-3.ensures)
-    (listed16_is _ c.first_half-3.ensures.whole))
+    (sym (listed 16 _ c.first_half-3.ensures.whole)))
     (rw (c.transpose.ensures, c.transpose-2.ensures, c.first_half-4.ensures.words, c.second_half-4.ensures)
-    (listed16_is _ c.first_half-4.ensures.whole))
+    (sym (listed 16 _ c.first_half-4.ensures.whole)))
     (rw (c.transpose.ensures, c.transpose-2.ensures, c.first_half-5.ensures.words, c.second_half-5.ensures)
-    (listed16_is _ c.first_half-5.ensures.whole))
+    (sym (listed 16 _ c.first_half-5.ensures.whole)))
     (rw (c.transpose.ensures, c.transpose-2.ensures, c.first_half-6.ensures.words, c.second_half-6.ensures)
-    (listed16_is _ c.first_half-6.ensures.whole))
+    (sym (listed 16 _ c.first_half-6.ensures.whole)))
     (rw (c.transpose.ensures, c.transpose-2.ensures, c.first_half-7.ensures.words, c.second_half-7.ensures)
-    (listed16_is _ c.first_half-7.ensures.whole))
+    (sym (listed 16 _ c.first_half-7.ensures.whole)))
     (rw (c.transpose.ensures, c.transpose-2.ensures, c.first_half-8.ensures.words, c.second_half-8.ensures)
-    (listed16_is _ c.first_half-8.ensures.whole))
+    (sym (listed 16 _ c.first_half-8.ensures.whole)))

@@ -1,17 +1,10 @@
-use Rattle.std.proofs.Common.{arith}
-use Rattle.words.proofs.ByteTurns.{word_turned_8}
+use Rattle.std.proofs.Common.{arith, refl}
+use Rattle.words.proofs.ByteTurns.{turned_8, words_turned}
 use Rattle.words.proofs.LaneLemmas.{below_eight}
 use Rattle.words.proofs.lanes.turn8.Goals as goal
 
 pub returns : goal.returns
 returns c =
-    let word = word_turned_8 8 c.args.x c.args.y _ _ c.bytes.ensures c.xor.ensures.fit c.xor.ensures.lanes in
-    below_eight _
-    (rw (c.words_of.ensures 0 (omega arith), c.move8.ensures) (word 0 (omega arith)))
-    (rw (c.words_of.ensures 1 (omega arith), c.move8.ensures) (word 1 (omega arith)))
-    (rw (c.words_of.ensures 2 (omega arith), c.move8.ensures) (word 2 (omega arith)))
-    (rw (c.words_of.ensures 3 (omega arith), c.move8.ensures) (word 3 (omega arith)))
-    (rw (c.words_of.ensures 4 (omega arith), c.move8.ensures) (word 4 (omega arith)))
-    (rw (c.words_of.ensures 5 (omega arith), c.move8.ensures) (word 5 (omega arith)))
-    (rw (c.words_of.ensures 6 (omega arith), c.move8.ensures) (word 6 (omega arith)))
-    (rw (c.words_of.ensures 7 (omega arith), c.move8.ensures) (word 7 (omega arith)))
+    words_turned 8 1 2 3 0 8 _ _ _ _ _ _ turned_8 (omega arith, omega arith, omega arith, omega arith)
+    c.bytes.ensures c.xor.ensures.fit c.xor.ensures.lanes
+    (rw c.move8.ensures (below_eight _ refl refl refl refl refl refl refl refl)) c.words_of.ensures

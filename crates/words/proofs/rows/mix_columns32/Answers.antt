@@ -1,19 +1,10 @@
-use Rattle.std.proofs.Common.{refl}
-use Rattle.words.specs.Mix.{g}
+use Rattle.words.specs.Blake2.{blake2s}
+use Rattle.words.proofs.FourWords.{g_by_steps}
 use Rattle.words.proofs.rows.mix_columns32.Goals as goal
 
 pub returns : goal.returns
-unfolding g
 returns c j h =
-    rw (
-      c.rotated_xor32-b2.ensures j h,
-      c.sum32-c2.ensures j h,
-      c.rotated_xor32-d2.ensures j h,
-      c.sum32-a2.ensures j h,
-      c.sum32-2.ensures j h,
-      c.rotated_xor32-b1.ensures j h,
-      c.sum32-c1.ensures j h,
-      c.rotated_xor32-d1.ensures j h,
-      c.sum32-a1.ensures j h,
-      c.sum32.ensures j h,
-    ) refl
+    g_by_steps blake2s _ _ _ _ _ _ (c.sum32.ensures j h) (c.sum32-a1.ensures j h)
+    (c.rotated_xor32-d1.ensures j h) (c.sum32-c1.ensures j h) (c.rotated_xor32-b1.ensures j h)
+    (c.sum32-2.ensures j h) (c.sum32-a2.ensures j h) (c.rotated_xor32-d2.ensures j h)
+    (c.sum32-c2.ensures j h) (c.rotated_xor32-b2.ensures j h)

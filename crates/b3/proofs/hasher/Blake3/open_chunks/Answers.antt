@@ -21,7 +21,8 @@ returns c =
           let before = c.push_values.ensures.split m most
           (IsSplit_alike c.args.self.now _ m refl refl held) size
           (λ i h. c.chunk_values.ensures.values i (omega arith) (omega arith)
-          ∙ sym (run_part c.args.self.now.stack.parameters.key c.args.self.now.stack.parameters.flags c.args.self.now.stack.closed n bytes 0 i (omega arith)
+          ∙ sym (run_part c.args.self.now.stack.parameters.key c.args.self.now.stack.parameters.flags
+          c.args.self.now.stack.closed n bytes 0 i (omega arith)
           (omega arith))) in
           let one : length bytes - 1024 * n ≡ 1024 = omega arith in
           let last : take (length bytes - 1024 * n) rest ≡ take 1024 rest = ap (λ (k : ℕ). take k rest) one in

@@ -24,7 +24,8 @@ lefts-init c =
 pub push_value-requires-clause-aligned : goal.push_value-requires-clause-aligned
 push_value-requires-clause-aligned c =
     let half = doubled c.lefts.left (omega arith) in
-    spine_aligned c.args.self.now.stack.closed c.args.level (c.lefts.left - 1) c.lefts.self.stack.closed c.requires.aligned
+    spine_aligned c.args.self.now.stack.closed c.args.level (c.lefts.left - 1) c.lefts.self.stack.closed
+    c.requires.aligned
     (omega (arith, c.lefts.invariant.below)) (omega (arith, half, c.lefts.invariant.closed))
 
 pub lefts-preserved : goal.lefts-preserved
@@ -42,9 +43,11 @@ lefts-preserved c =
     = length-take-le n (drop (1024 * at) bytes) (omega (arith, length-drop (1024 * at) bytes, c.requires.length)) in
     let before : 1024 * (v - 2 ^ c.lefts.left) ≡ 1024 * at = omega (arith, half) in
     let after : 1024 * (v - 2 ^ j) ≡ 1024 * at + n = omega arith in
-    let place : c.lefts.self.stack.closed ≡ c.args.self.now.stack.closed + at = omega (arith, half, c.lefts.invariant.closed) in
+    let place : c.lefts.self.stack.closed ≡ c.args.self.now.stack.closed + at
+    = omega (arith, half, c.lefts.invariant.closed) in
     let value = c.open_lefts.ensures.lefts j below
-    ∙ run_at c.args.self.now.stack.parameters.key c.args.self.now.stack.parameters.flags c.args.self.now.stack.closed bytes j at c.lefts.self.stack.closed place in
+    ∙ run_at c.args.self.now.stack.parameters.key c.args.self.now.stack.parameters.flags c.args.self.now.stack.closed
+    bytes j at c.lefts.self.stack.closed place in
     record {
       below = omega (arith, c.lefts.invariant.below);
       parameters = c.push_value.ensures.parameters ∙ c.lefts.invariant.parameters;
@@ -75,7 +78,8 @@ returns c =
           let closed : c.lefts.self.stack.closed ≡ c.args.self.now.stack.closed + n
           = omega (arith, one, some, c.lefts.invariant.closed) in
           let all : m ++ bytes ≡ (m ++ most) ++ take 1024 (drop (1024 * n) bytes)
-          = ap (λ (ys : List ℕ). m ++ ys) (sym (take_all (1024 * n + 1024) bytes (omega (arith, some, c.requires.length))))
+          = ap (λ (ys : List ℕ). m ++ ys)
+          (sym (take_all (1024 * n + 1024) bytes (omega (arith, some, c.requires.length))))
           ∙ take_further m bytes (1024 * n) 1024 in
           let start : length bytes - 1024 ≡ 1024 * n = omega (arith, some, c.requires.length) in
           let size : length bytes - (length bytes - 1024) ≡ 1024 = omega (arith, some, c.requires.length) in

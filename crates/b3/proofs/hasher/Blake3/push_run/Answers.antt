@@ -22,5 +22,6 @@ returns c =
       split = λ m held.
           c.push_value.ensures.split m c.args.bytes.now (IsSplit_alike c.args.self.now _ m refl refl held) size
           (c.subtree_of-value.ensures
-          ∙ run_whole stack.parameters.key stack.parameters.flags stack.closed c.args.bytes.now (c.args.level + 3) size);
+          ∙ run_whole stack.parameters.key stack.parameters.flags stack.closed c.args.bytes.now (c.args.level + 3)
+          size);
     }

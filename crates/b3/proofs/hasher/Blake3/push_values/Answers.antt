@@ -17,7 +17,8 @@ chunks-preserved c =
           let whole : length chunk ≡ 1024
           = length-take-le 1024 (drop (1024 * i) y) (omega (arith, length-drop (1024 * i) y)) in
           let value = values i (omega arith)
-          ∙ run_at c.args.self.now.stack.parameters.key c.args.self.now.stack.parameters.flags c.args.self.now.stack.closed y 0 i c.chunks.self.stack.closed
+          ∙ run_at c.args.self.now.stack.parameters.key c.args.self.now.stack.parameters.flags
+          c.args.self.now.stack.closed y 0 i c.chunks.self.stack.closed
           c.chunks.invariant.closed in
           rw (step, take_further m y (1024 * i) 1024)
           (c.push_value.ensures.split (m ++ take (1024 * i) y) chunk

@@ -10,6 +10,7 @@ invariant-chunks l = record {
   empty : l.self.chunk.len ≡ 0;
   split : (m y : List ℕ) → IsSplit l.fn.self m → length y ≡ 1024 * l.n
       → ((i : ℕ) → i < l.n
-      → slice_index_or l.values i [] ≡ run_cv l.fn.self.stack.parameters.key l.fn.self.stack.parameters.flags l.fn.self.stack.closed y 0 i)
+      → slice_index_or l.values i []
+      ≡ run_cv l.fn.self.stack.parameters.key l.fn.self.stack.parameters.flags l.fn.self.stack.closed y 0 i)
       → IsSplit l.self (m ++ take (1024 * l.i) y);
 }

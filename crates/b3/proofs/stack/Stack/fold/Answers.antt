@@ -61,7 +61,8 @@ loop-left-preserved c =
       root = λ first m held placed last.
           let next : left ≡ left - 1 + 1 = omega arith in
           rw (c.parent-node-in-loop-left.ensures, c.chaining_value.ensures)
-          (root_over_more self.parameters.key self.parameters.flags items (left - 1) _ [] c.loop-left.node _ (omega arith)
+          (root_over_more self.parameters.key self.parameters.flags items (left - 1) _ [] c.loop-left.node _
+          (omega arith)
           refl (rw next at (c.loop-left.invariant.root first m held placed last)));
     }
 

@@ -1,7 +1,7 @@
 use Rattle.std.proofs.Common.{sym, ap, ◌∙◌}
 use Rattle.words.specs.Blake2.{blake2s}
 use Rattle.blake2.specs.Blake2.{Parameters, blake2}
-use Rattle.blake2.specs.inside.Hashers.{Holds2s, hasher_parameters, parameters_2s}
+use Rattle.blake2.specs.inside.Hashers.{Holds2s, parameters_2s}
 use Rattle.blake2.specs.inside.Listed.{read_back}
 use Rattle.blake2.proofs.blake2s.Blake2s.finish.Goals as goal
 
@@ -9,6 +9,5 @@ pub returns-clause-digest : goal.returns-clause-digest
 unfolding Holds2s parameters_2s
 returns-clause-digest c = λ m held.
     let h = c.args.self.hasher in
-    let p : Parameters = hasher_parameters h in
     c.finish.ensures.digest m held
-    ∙ ap (λ (q : Parameters). blake2 blake2s q m) (sym (read_back blake2s p h.salt_whole h.personal_whole))
+    ∙ ap (λ (q : Parameters). blake2 blake2s q m) (sym (read_back blake2s _ h.salt_whole h.personal_whole))

@@ -1,6 +1,8 @@
 use Rattle.std.proofs.Common.{refl, sym, ◌∙◌}
+use Rattle.sumlist.specs.Lines.{lines}
 use Rattle.command.specs.Checking.{CheckRuns}
 use Rattle.command.proofs.Listing.{refused_list, report_file, report_input, report_refused}
+use Rattle.command.proofs.Opening.{opens_of_file, opens_of_input, opens_of_none}
 use Rattle.command.proofs.session.Session.print_report.Goals as goal
 
 pub returns-then-eq-clause-run : goal.returns-then-eq-clause-run
@@ -26,3 +28,17 @@ returns-clause-run g c =
     (sym c.eq.ensures ∙ c.if-eq.false) c.in_ok-list.ensures.opened c.open_file.ensures.kept
     c.in_ok-list.ensures.counted c.check_list-answer.ensures.list c.in_ok-list.ensures.fresh
     c.check_list-answer.ensures.counted c.close.ensures.counted
+
+pub returns-then-eq-clause-opens : goal.returns-then-eq-clause-opens
+returns-then-eq-clause-opens g c =
+    opens_of_input lines c.args.name.now _ _ _ _ (sym c.eq.ensures ∙ c.if-eq.true) c.check_list.ensures.opens
+
+pub returns-in_err-list-clause-opens : goal.returns-in_err-list-clause-opens
+returns-in_err-list-clause-opens g c =
+    opens_of_none lines c.args.name.now _ _ _ _ (sym c.eq.ensures ∙ c.if-eq.false) c.open_file.ensures.opens
+
+pub returns-clause-opens : goal.returns-clause-opens
+returns-clause-opens g c =
+    opens_of_file lines c.args.name.now g.T.F.Feed.remaining c.in_ok-list.list _ _ _ _ _ _ _
+    (sym c.eq.ensures ∙ c.if-eq.false) c.in_ok-list.ensures.opened c.open_file.ensures.kept c.open_file.ensures.opens
+    c.check_list-answer.ensures.opens c.close.ensures.opened

@@ -1,10 +1,18 @@
-use Rattle.std.proofs.Common.{◌≡◌, ℕ, ◌-◌, ◌≤◌, ◌++◌, List, Option, length, refl, length-append, length-take-le}
-use Rattle.std.proofs.Common.{take, drop, arith, sym, ◌∙◌, subst}
+use Rattle.std.proofs.Common.{◌≡◌, ℕ, ◌-◌, ◌≤◌, ◌++◌, List, Option, Some, length, refl, length-append}
+use Rattle.std.proofs.Common.{take, drop, arith, sym, ◌∙◌, subst, length-take-le}
 use Rattle.std.proofs.lemmas.List.{take-append-le}
 use Rattle.std.specs.Io.KnownBytes.{Consumes}
 use Rattle.source.specs.Pumped.{up_to}
 use Rattle.source.proofs.Fronting.{front-consumes, front-end, front_of}
 use Rattle.source.proofs.front.Front.read.Goals as goal
+
+-- what the feed gave is the front's
+fronted : (limit : Option ℕ) (old new : Option (List ℕ)) (bytes : List ℕ) (left count : ℕ) → limit ≡ Some left
+    → count ≤ length bytes → length bytes ≤ left → Consumes old new (take count bytes)
+    → Consumes (up_to limit old) (front_of (left - count) new) (take count bytes)
+fronted limit old new bytes left count is few room given =
+    subst (λ (o : Option ℕ). Consumes (up_to o old) (front_of (left - count) new) (take count bytes)) (sym is)
+    (front-consumes old new (take count bytes) left count (length-take-le count bytes few) (omega arith) given)
 
 pub returns-clause-read : goal.returns-clause-read
 returns-clause-read g c =
@@ -13,22 +21,17 @@ returns-clause-read g c =
     let left : ℕ = c.in-Some.left in
     let bytes : List ℕ = c.read-2.new.buf in
     let rest : List ℕ = drop c.min-room.result c.args.buf.now in
-    let old : Option (List ℕ) = g.F.Feed.remaining c.args.self.now.inner.now in
-    let new : Option (List ℕ) = g.F.Feed.remaining c.read-2.new.self in
     let room = c.min-room.ensures in
     let size = c.read-2.auto.buf in
     let whole : take count (bytes ++ rest) ≡ take count bytes = take-append-le count bytes rest read.bound in
-    let taken : length (take count bytes) ≡ count = length-take-le count bytes read.bound in
     let all = length-append bytes rest in
     let within : c.min-room.result ≤ length c.args.buf.now = omega (arith, room) in
     let filled : length bytes ≡ c.min-room.result = size ∙ length-take-le c.min-room.result c.args.buf.now within in
     record {
       bound = omega (arith, all, read.bound);
-      given = subst (λ (o : Option ℕ). Consumes (up_to o old) (front_of (left - count) new) (take count (bytes ++ rest)))
-          (sym c.in-Some.is) (subst (λ l. Consumes (front_of left old) (front_of (left - count) new) l) (sym whole)
-          (front-consumes old new (take count bytes) left count taken (omega (arith, room, filled, read.bound))
-          read.given));
-      end = λ none some. front-end new _ (read.end none
+      given = rw whole
+          (fronted _ _ _ bytes left count c.in-Some.is read.bound (omega (arith, room, filled)) read.given);
+      end = λ none some. front-end (g.F.Feed.remaining c.read-2.new.self) _ (read.end none
           (omega (arith, all, size, filled, room, some, c.if-left-eq0.false)));
       refused = tt;
       counted = read.counted;
@@ -37,22 +40,16 @@ returns-clause-read g c =
 pub returns-clause-passed : goal.returns-clause-passed
 returns-clause-passed g c =
     let read = c.in_ok-count.ensures in
-    let count : ℕ = c.in_ok-count.count in
-    let left : ℕ = c.in-Some.left in
     let bytes : List ℕ = c.read-2.new.buf in
-    let old : Option (List ℕ) = g.F.Feed.remaining c.args.self.now.inner.now in
-    let new : Option (List ℕ) = g.F.Feed.remaining c.read-2.new.self in
     let room = c.min-room.ensures in
     let within : c.min-room.result ≤ length c.args.buf.now = omega (arith, room) in
     let filled : length bytes ≡ c.min-room.result
     = c.read-2.auto.buf ∙ length-take-le c.min-room.result c.args.buf.now within in
-    let taken : length (take count bytes) ≡ count = length-take-le count bytes read.bound in
     record {
       lent = refl;
       whole = λ none. absurd (cc (none, c.in-Some.is));
-      given = take count bytes;
+      given = take c.in_ok-count.count bytes;
       inner = read.given;
-      front = subst (λ (o : Option ℕ). Consumes (up_to o old) (front_of (left - count) new) (take count bytes))
-          (sym c.in-Some.is)
-          (front-consumes old new (take count bytes) left count taken (omega (arith, room, filled, read.bound)) read.given);
+      front = fronted _ _ _ bytes c.in-Some.left c.in_ok-count.count c.in-Some.is read.bound
+          (omega (arith, room, filled)) read.given;
     }

@@ -1,13 +1,10 @@
-use Rattle.std.proofs.Common.{◌≡◌, ◌+◌, ◌*◌, arith, refl, add-one}
+use Rattle.std.proofs.Common.{refl, arith, ◌∙◌}
 use Rattle.sha2.specs.Sha256.{digest_bytes}
+use Rattle.words.proofs.LaneLemmas.{listed}
 use Rattle.states.proofs.value.Value256.tag.Goals as goal
 
-pub words-init : goal.words-init
+pub returns-clause-value : goal.returns-clause-value
 unfolding digest_bytes
-words-init c = refl
-
-pub words-preserved : goal.words-preserved
-unfolding digest_bytes
-words-preserved c =
-    let next : 4 * (c.words.i + 1) ≡ 4 * c.words.i + 4 = omega arith in
-    rw (next, add-one, ← c.words.invariant) (rw c.to_be_bytes.ensures at c.write_at.ensures.front)
+returns-clause-value c =
+    (rw c.unwrap.ensures at c.of.ensures).0 ∙ c.write_u32_into.ensures
+    ∙ rw (listed 8 c.args.self.now.h (omega arith)) refl

@@ -1,5 +1,5 @@
 use Rattle.sumlist.proofs.Common.{MatchResult-from_err}
-use Rattle.sumlist.proofs.Stepping.{checks-halted, checks-line, checks-stopped}
+use Rattle.sumlist.proofs.Stepping.{checks-halted, checks-line, checks-stopped, opens-line, opens-none, opens-stopped}
 use Rattle.sumlist.proofs.checking.Checker.step.Goals as goal
 
 pub returns-in_err-next-clause-checked : goal.returns-in_err-next-clause-checked
@@ -16,3 +16,18 @@ pub returns-clause-checked : goal.returns-clause-checked
 returns-clause-checked g c =
     let next = rw c.if-not-branch.false at c.in_ok-next.ensures.piece in
     λ r n d later. checks-line _ _ _ _ _ _ next _ c.count.ensures c.in_ok-mark.ensures.checked later
+
+pub returns-in_err-next-clause-once : goal.returns-in_err-next-clause-once
+returns-in_err-next-clause-once g c =
+    MatchResult-from_err _ _ _ c.from_residual.ensures.0 (λ _. opens-none _ _ _)
+
+pub returns-in_err-mark-clause-once : goal.returns-in_err-mark-clause-once
+returns-in_err-mark-clause-once g c =
+    let next = rw c.if-not-branch.false at c.in_ok-next.ensures.piece in
+    MatchResult-from_err _ _ _ c.from_residual-in_err-mark.ensures.0 (λ _.
+    opens-stopped _ _ _ _ c.next.new.self.ahead next c.in_err-mark.ensures.once)
+
+pub returns-clause-once : goal.returns-clause-once
+returns-clause-once g c =
+    let next = rw c.if-not-branch.false at c.in_ok-next.ensures.piece in
+    λ n later. opens-line _ _ _ _ _ next c.in_ok-mark.ensures.once n later

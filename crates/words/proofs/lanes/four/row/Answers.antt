@@ -1,10 +1,10 @@
-use Rattle.std.proofs.Common.{arith, sym}
-use Rattle.words.proofs.LaneLemmas.{below_four, listed16_is, words_loaded}
+use Rattle.std.proofs.Common.{arith}
+use Rattle.words.proofs.LaneLemmas.{below_four, listed, words_loaded}
 use Rattle.words.proofs.lanes.four.row.Goals as goal
 
 pub returns : goal.returns
 returns c =
-    let whole = sym (listed16_is c.load.result c.load.ensures.whole) in
+    let whole = listed 16 c.load.result c.load.ensures.whole in
     let word = words_loaded c.args.block.now c.load.result c.args.at c.load.ensures.bytes in
     below_four _
     (rw (c.words_of.ensures 0 (omega arith), whole) (word 0 (omega arith)))

@@ -1,13 +1,10 @@
-use Rattle.std.proofs.Common.{arith}
-use Rattle.words.proofs.ByteTurns.{word_turned_16}
+use Rattle.std.proofs.Common.{arith, refl}
+use Rattle.words.proofs.ByteTurns.{turned_16, words_turned}
 use Rattle.words.proofs.LaneLemmas.{below_four}
 use Rattle.words.proofs.lanes.four.turn16.Goals as goal
 
 pub returns : goal.returns
 returns c =
-    let word = word_turned_16 4 c.args.x c.args.y _ _ c.bytes.ensures c.xor.ensures.fit c.xor.ensures.lanes in
-    below_four _
-    (rw (c.words_of.ensures 0 (omega arith), c.move16.ensures) (word 0 (omega arith)))
-    (rw (c.words_of.ensures 1 (omega arith), c.move16.ensures) (word 1 (omega arith)))
-    (rw (c.words_of.ensures 2 (omega arith), c.move16.ensures) (word 2 (omega arith)))
-    (rw (c.words_of.ensures 3 (omega arith), c.move16.ensures) (word 3 (omega arith)))
+    words_turned 4 2 3 0 1 16 _ _ _ _ _ _ turned_16 (omega arith, omega arith, omega arith, omega arith)
+    c.bytes.ensures c.xor.ensures.fit c.xor.ensures.lanes (rw c.move16.ensures (below_four _ refl refl refl refl))
+    c.words_of.ensures
