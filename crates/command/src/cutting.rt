@@ -77,41 +77,53 @@ impl<'i, 't, 'o, L: Feed, T: Tree, W: Sink> Session<'i, 't, 'o, L, T, W> {
         ensures same { SameStreams self.old self.new }
     {
         let room = room_from(first, chunks);
+        let place = Place {
+            first,
+            chunks,
+            room,
+        };
         let mut run = part_buffer(self.alloc, room.min(RUN))?;
         if name == "-" {
-            return part_of_feed(first, chunks, room, run.as_mut_slice(), name, self.input);
+            return part_of_feed(place, run.as_mut_slice(), name, self.input);
         }
         let mut feed = open_file(name, 1024 * first, self.tree)?;
-        let answer = part_of_feed(first, chunks, room, run.as_mut_slice(), name, &mut feed);
+        let answer = part_of_feed(place, run.as_mut_slice(), name, &mut feed);
         self.tree.close(feed);
         answer
     }
 }
 
-// The part of what a feed gives, in so many chunks of it or in all.
-fn part_of_feed<'n, F: Feed>(
+// Where a part begins, how many chunks it has at most, if that was said, and in how many it has room.
+#[derive(Clone, Copy)]
+struct Place {
     first: u64,
     chunks: Option<u64>,
     room: u64,
+}
+
+// The part of what a feed gives, in so many chunks of it or in all.
+fn part_of_feed<'n, F: Feed>(
+    place: Place,
     run: &mut [u8],
     name: &'n str,
     feed: &mut F,
 ) -> Result<PartValue, Fault<'n>>
-    requires room { IsRoom first chunks room }
+    requires room { IsRoom place.first place.chunks place.room }
     requires run { (e : ℕ) × (length run.old ≡ 1024 * 2 ^ e) }
-    requires within { length run.old ≤ 1024 * room }
+    requires within { length run.old ≤ 1024 * place.room }
     ensures part { IfSome (F.remaining feed.old) (λ bytes.
-        MakesPart first name.entry.now (Some (first_chunks chunks bytes)) result) }
+        MakesPart place.first name.entry.now (Some (first_chunks place.chunks bytes)) result) }
     ensures counted { F.failure_count feed.new
         ≡ count_after (F.failure_count feed.old) (failed true (Some []) result).input }
     ensures left { OnOk result (IfSome (F.remaining feed.old)
-        (λ bytes. F.remaining feed.new ≡ Some (behind_chunks chunks bytes))) }
+        (λ bytes. F.remaining feed.new ≡ Some (behind_chunks place.chunks bytes))) }
     ensures memory { IsErrOf result Fault.OutOfMemory → ⊥ }
 {
-    match part_of(Mode::Hash, first, room, bytes_of(chunks), feed, run) {
+    let bytes = bytes_of(place.chunks);
+    match part_of(Mode::Hash, place.first, place.room, bytes, feed, run) {
         Ok(Some(part)) => Ok(part),
         Ok(None) => Err(Fault::NoBytes(name)),
-        Err(fault) => Err(unmade(fault, first.saturating_add(room), name)),
+        Err(fault) => Err(unmade(fault, place.first.saturating_add(place.room), name)),
     }
 }
 

@@ -17,7 +17,6 @@ ghost use Rattle.command.specs.inside.Streams.{SameStreams};
 use crate::fault::Fault;
 use crate::session::{Session, Streams, open_file};
 use source::{Feed, Sink, WriteFailed, write_all};
-use std::alloc::Global;
 use sumlist::{CheckFault, Kind, Summary, Tree, check, write_summary};
 
 impl<'i, 't, 'o, L: Feed, T: Tree, W: Sink> Session<'i, 't, 'o, L, T, W> {
@@ -42,42 +41,42 @@ impl<'i, 't, 'o, L: Feed, T: Tree, W: Sink> Session<'i, 't, 'o, L, T, W> {
         ensures same { SameStreams self.old self.new }
     {
         if name == "-" {
-            return check_list(
-                self.alloc, kind, is_summed, name, self.input, self.tree, self.out, err,
-            );
+            return self.check_input(kind, is_summed, name, err);
         }
         let mut list = open_file(name, 0, self.tree)?;
-        let answer = check_list(
-            self.alloc, kind, is_summed, name, &mut list, self.tree, self.out, err,
-        );
+        let mut listed = Session {
+            alloc: self.alloc,
+            input: &mut list,
+            tree: self.tree,
+            out: self.out,
+        };
+        let answer = listed.check_input(kind, is_summed, name, err);
         self.tree.close(list);
         answer
     }
-}
 
-// Checks the list of this name.
-fn check_list<'n, F: Feed, T: Tree, W: Sink, E: Sink>(
-    alloc: Global,
-    kind: Kind,
-    is_summed: bool,
-    name: &'n str,
-    list: &mut F,
-    tree: &mut T,
-    out: &mut W,
-    err: &mut E,
-) -> Result<u8, Fault<'n>>
-    ensures list { IfSome (F.remaining list.old) (λ bytes. IfSome (T.files tree.old) (λ files.
-        ListTaken (CheckRuns is_summed files kind name.entry.now (Some bytes)) name.entry.now bytes result
-        (W.shown out.old) (W.shown out.new) (E.shown err.old) (E.shown err.new)
-        (T.failure_count tree.old) (T.failure_count tree.new))) }
-    ensures counted { IfSome (F.remaining list.old) (λ bytes. F.failure_count list.new
-        ≡ count_after (F.failure_count list.old) (failed true (Some bytes) result).input) }
-    ensures opens { IfSome (F.remaining list.old) (λ bytes. IfSome (T.files tree.old) (λ _.
-        T.opens tree.new ≤ T.opens tree.old + opens_from lines (Some bytes))) }
-{
-    let answer = check(alloc, list, kind, tree, out);
-    note(is_summed, &answer, err);
-    status_of(answer, name)
+    // Checks the list of this name, which is the session's input.
+    fn check_input<'n, E: Sink>(
+        &mut self,
+        kind: Kind,
+        is_summed: bool,
+        name: &'n str,
+        err: &mut E,
+    ) -> Result<u8, Fault<'n>>
+        ensures list { IfTold (⟦<Self as Streams>⟧.seen self.old) (λ bytes files. ListTaken
+            (CheckRuns is_summed files kind name.entry.now (Some bytes)) name.entry.now bytes result
+            (W.shown self.old.out.now) (W.shown self.new.out.now) (E.shown err.old) (E.shown err.new)
+            (T.failure_count self.old.tree.now) (T.failure_count self.new.tree.now)) }
+        ensures counted { IfSome (L.remaining self.old.input.now) (λ bytes. L.failure_count self.new.input.now
+            ≡ count_after (L.failure_count self.old.input.now) (failed true (Some bytes) result).input) }
+        ensures opens { IfTold (⟦<Self as Streams>⟧.seen self.old) (λ bytes _. OpensAtMost
+            (opens_from lines (Some bytes)) (⟦<Self as Streams>⟧.seen self.old) (⟦<Self as Streams>⟧.seen self.new)) }
+        ensures same { SameStreams self.old self.new }
+    {
+        let answer = check(self.alloc, self.input, kind, self.tree, self.out);
+        note(is_summed, &answer, err);
+        status_of(answer, name)
+    }
 }
 
 // Tells the numbers of a list on standard error, in one text: what is not taken of it is dropped.

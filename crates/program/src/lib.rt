@@ -116,12 +116,11 @@ fn run_request<'n, 'i, 't, 'o, L: Feed, T: Tree, W: Sink, E: Sink>(
             lists,
         } => session.print_joined(stretch, bytes, name, lists.as_slice()),
         Task::Mac {
-            mac,
-            is_raw,
+            form,
             key,
             wanted,
             file,
-        } => session.print_tag(mac, is_raw, key, wanted, file),
+        } => session.print_tag(form, key, wanted, file),
         Task::Kdf {
             derivation,
             is_raw,

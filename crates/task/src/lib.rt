@@ -5,7 +5,7 @@ pub use derivation::{Derivation, Hkdf};
 pub use fault::{Setting, TaskFault, UsageFault};
 pub use hashing::{Form, Hash, Requested, Stretch};
 pub use parameters::HmacHash;
-pub use tagging::{Key, Mac};
+pub use tagging::{Key, Mac, TagForm};
 pub use tasks::{Names, Task};
 
 mod derivation;

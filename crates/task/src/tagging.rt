@@ -27,6 +27,15 @@ pub enum Mac {
     Blake3(u64),
 }
 
+/// What is printed of a tag.
+#[derive(Clone, Copy, Debug, PartialEq, Eq)]
+pub struct TagForm {
+    /// The function, with the length.
+    pub mac: Mac,
+    /// The bytes of the tag alone are printed, and no line.
+    pub is_raw: bool,
+}
+
 /// A key.
 #[derive(Debug, Drop)]
 pub enum Key<'a> {

@@ -14,7 +14,7 @@ use crate::fault::{Setting, TaskFault, UsageFault};
 use crate::hashing::{Requested, Stretch, parts_of};
 use crate::parameters::{file_count, kind_of, needed};
 use crate::parting::{joined_of, place_of};
-use crate::tagging::{Key, Mac};
+use crate::tagging::{Key, Mac, TagForm};
 use request::Request;
 use std::alloc::{AllocError, Global};
 use sumlist::Kind;
@@ -60,8 +60,7 @@ pub enum Task<'a> {
     /// Print the tag of a file under a key, in digits or as it is, or whether it is the one that is
     /// wanted, of as many bytes.
     Mac {
-        mac: Mac,
-        is_raw: bool,
+        form: TagForm,
         key: Key<'a>,
         wanted: Option<Vec<u8>>,
         file: &'a str,
@@ -158,9 +157,9 @@ fn mac<'a>(alloc: Global, request: &Request<'a>) -> Result<Task<'a>, TaskFault>
     let mac = Mac::of(request)?;
     let key = Key::of(alloc, request)?;
     let wanted = mac.wanted(alloc, request)?;
+    let is_raw = request.has("raw");
     Ok(Task::Mac {
-        mac,
-        is_raw: request.has("raw"),
+        form: TagForm { mac, is_raw },
         key,
         wanted,
         file: file_or_input(request),

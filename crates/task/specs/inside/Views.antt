@@ -36,7 +36,7 @@ task_shown (code.Hash wanted parts names) = hashes wanted parts (names_shown nam
 task_shown (code.Compare wanted parts digest name) = compares wanted parts digest.items name.now
 task_shown (code.Part first chunks name) = cuts first chunks name.now
 task_shown (code.Join stretch count name lists) = joins stretch count name.now (texts_of lists)
-task_shown (code.Mac mac is_raw key wanted name) =
-    tags mac is_raw (key_shown key) (option_map (λ v. v.items) wanted) name.now
+task_shown (code.Mac form key wanted name) =
+    tags form.mac form.is_raw (key_shown key) (option_map (λ v. v.items) wanted) name.now
 task_shown (code.Kdf derivation is_raw material) = derives (derivation_shown derivation) is_raw material.now
 task_shown (code.Check kind is_summed list) = checks kind is_summed list.now

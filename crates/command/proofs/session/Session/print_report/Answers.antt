@@ -9,7 +9,7 @@ pub returns-then-eq-clause-run : goal.returns-then-eq-clause-run
 returns-then-eq-clause-run g c =
     let name = c.args.name.now in
     report_input name (λ files content run. CheckRuns c.args.is_summed files c.args.kind name content run)
-    _ _ _ _ _ _ _ _ _ _ _ (sym c.eq.ensures ∙ c.if-eq.true) c.check_list.ensures.list c.check_list.ensures.counted
+    _ _ _ _ _ _ _ _ _ _ _ (sym c.eq.ensures ∙ c.if-eq.true) c.check_input.ensures.list c.check_input.ensures.counted
 
 pub returns-in_err-list-clause-run : goal.returns-in_err-list-clause-run
 returns-in_err-list-clause-run g c =
@@ -26,12 +26,12 @@ returns-clause-run g c =
     report_file name (λ files content run. CheckRuns c.args.is_summed files c.args.kind name content run)
     _ _ g.T.F.Feed.remaining c.in_ok-list.list _ _ _ _ _ _ _ _ _ _ _ _ _
     (sym c.eq.ensures ∙ c.if-eq.false) c.in_ok-list.ensures.opened c.open_file.ensures.kept
-    c.in_ok-list.ensures.counted c.check_list-answer.ensures.list c.in_ok-list.ensures.fresh
-    c.check_list-answer.ensures.counted c.close.ensures.counted
+    c.in_ok-list.ensures.counted c.check_input-answer.ensures.list c.in_ok-list.ensures.fresh
+    c.check_input-answer.ensures.counted (rw (c.list-3-1.given.1 (sym c.check_input-answer.ensures.same.input)) at c.close.ensures.counted)
 
 pub returns-then-eq-clause-opens : goal.returns-then-eq-clause-opens
 returns-then-eq-clause-opens g c =
-    opens_of_input lines c.args.name.now _ _ _ _ (sym c.eq.ensures ∙ c.if-eq.true) c.check_list.ensures.opens
+    opens_of_input lines c.args.name.now _ _ _ _ (sym c.eq.ensures ∙ c.if-eq.true) c.check_input.ensures.opens
 
 pub returns-in_err-list-clause-opens : goal.returns-in_err-list-clause-opens
 returns-in_err-list-clause-opens g c =
@@ -41,4 +41,4 @@ pub returns-clause-opens : goal.returns-clause-opens
 returns-clause-opens g c =
     opens_of_file lines c.args.name.now g.T.F.Feed.remaining c.in_ok-list.list _ _ _ _ _ _ _
     (sym c.eq.ensures ∙ c.if-eq.false) c.in_ok-list.ensures.opened c.open_file.ensures.kept c.open_file.ensures.opens
-    c.check_list-answer.ensures.opens c.close.ensures.opened
+    c.check_input-answer.ensures.opens c.close.ensures.opened

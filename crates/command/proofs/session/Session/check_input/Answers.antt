@@ -1,5 +1,5 @@
 use Rattle.command.proofs.Listing.{list_taken}
-use Rattle.command.proofs.reports.check_list.Goals as goal
+use Rattle.command.proofs.session.Session.check_input.Goals as goal
 
 pub returns-clause-list : goal.returns-clause-list
 returns-clause-list g c =
