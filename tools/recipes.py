@@ -868,13 +868,10 @@ def readme_package(bench):
     if not os.path.isdir(packages()):
         bench.missing("there is no folder dist: no package was installed")
         return
-    python = os.path.join(bench.folder(), "python")
-    subprocess.run(["python3", "-m", "venv", python], check=True)
-    path = os.path.join(python, "bin") + ":" + bench.environment["PATH"]
-    works(bench, "README.md", "package", packages(), PATH=path)
+    works(bench, "README.md", "package", packages())
     works(bench, "README.md", "package, used", bench.folder(), f"printf abc | /usr/bin/sums hash -a blake2s - && "
-          f"{python}/bin/python -c 'import sums_hash; sums_hash.sha256(b\"abc\").hexdigest()'")
-    works(bench, "README.md", "package, taken away", packages(), "sudo apt-get remove -qq -y sums && rm -r sums-*-x86_64")
+          f"{packages()}/env/bin/python -c 'import sums_hash; sums_hash.sha256(b\"abc\").hexdigest()'")
+    works(bench, "README.md", "package, taken away", packages(), "sudo apt-get remove -qq -y sums && rm -r env sums-*-x86_64")
 
 
 def second_builder(bench):
