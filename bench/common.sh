@@ -10,9 +10,9 @@ kept() {
 
 # ---- programs that are timed
 
-# data_of_1_gib: random bytes in the file data, of the folder
-data_of_1_gib() {
-    if [ ! -f data ] || [ "$(wc -c < data)" != 1073741824 ]; then head -c 1073741824 /dev/urandom > data; fi
+# data_of_mib COUNT: so many MiB of random bytes in the file data, of the folder
+data_of_mib() {
+    if [ ! -f data ] || [ "$(wc -c < data)" != $(($1 << 20)) ]; then head -c $(($1 << 20)) /dev/urandom > data; fi
 }
 
 # takes NAME COMMAND..: one run, whose output goes to answer, as a line of milliseconds in the file times.txt
@@ -26,10 +26,10 @@ takes() {
     echo "$row $(((end - start) / 1000000))" >> times.txt
 }
 
-# rounds DO: does it as often as ROUNDS says, five times where it does not
+# rounds DO: does it as often as ROUNDS says, 15 times where it does not
 rounds() {
-    for round in $(seq "${ROUNDS:-5}"); do
-        echo "$0: round $round of ${ROUNDS:-5}" >&2
+    for round in $(seq "${ROUNDS:-15}"); do
+        echo "$0: round $round of ${ROUNDS:-15}" >&2
         "$1"
     done
 }
