@@ -74,12 +74,13 @@ abbrev pub with_rules : App → List Rule → App
 with_rules = fold with_rule
 
 -- `hash -a ALG [-l N] [--seek N] [--parts N] [--salt HEX] [--personal HEX] [--verify HEX] [--tag] [--raw]
---     [--progress] [--files0-from F] [FILE]..`
+--     [--progress] [--files0-from F] [--name NAME] [FILE]..`
 abbrev pub hash_app : NameList → App
 hash_app names = with_rules (new_app (codes "hash"))
     (algorithm_rule names ∷ length_rule ∷ number_rule (codes "seek") ∷ number_rule (codes "parts")
     ∷ text_rule (codes "salt") ∷ text_rule (codes "personal") ∷ text_rule (codes "verify") ∷ flag_rule (codes "tag")
-    ∷ flag_rule (codes "raw") ∷ flag_rule (codes "progress") ∷ text_rule (codes "files0-from") ∷ files_rule ∷ [])
+    ∷ flag_rule (codes "raw") ∷ flag_rule (codes "progress") ∷ text_rule (codes "files0-from")
+    ∷ text_rule (codes "name") ∷ files_rule ∷ [])
 
 -- `mac -a MAC [--key HEX] [--key-file F] [-l N] [--verify HEX] [--raw] [--progress] [FILE]`
 abbrev pub mac_app : NameList → App

@@ -1,7 +1,8 @@
 -- What a request asks for, there is.
 use Rattle.std.proofs.Common.{◌≡◌, ℕ, ◌-◌, ◌/◌, ◌%◌, ◌^◌, ◌≤◌, ◌*◌, Bool, true, false, List, Option, Some, None}
 use Rattle.std.proofs.Common.{Result, Ok, Err, IfSome, IfOk, refl, subst, arith}
-use Rattle.std.specs.Prelude.{◌==◌, [], ◌∷◌, codes, count_ones, if◌then◌else◌, length, max, min, nat_lt}
+use Rattle.std.specs.Prelude.{◌==◌, ◌||◌, [], ◌∷◌, codes, count_ones, if◌then◌else◌, is_some, length, max, min}
+use Rattle.std.specs.Prelude.{nat_lt, unwrap_or}
 use Rattle.std.proofs.Math.Nat.{le-max_left, le-min, min-le_left}
 use Rattle.std.proofs.lemmas.Bool.Decides.{nat_tests}
 use Rattle.request.specs.CommandLine.{Given, Text, has_flag, text_of}
@@ -21,8 +22,8 @@ use Rattle.task.specs.Parameters.{named, needed, number, number_in, sized, text,
 use Rattle.task.specs.Parting.{joined, least_power, names_blake3, place}
 use Rattle.task.specs.Tagging.{macs, with_length}
 use Rattle.task.specs.Tagging as tagging
-use Rattle.task.specs.Tasks.{Asked, NameTexts, asked, check, commands, compares, file_or_input, hash}
-use Rattle.task.specs.Tasks.{hashes, join, kdf, mac, one_source, part}
+use Rattle.task.specs.Tasks.{Asked, NameTexts, asked, check, commands, file_or_input, hash}
+use Rattle.task.specs.Tasks.{hashes, input_name, join, kdf, mac, one_source, part, prints}
 use Rattle.task.specs.declared.fault.Setting.TheVariants.{Algorithm, Bytes, Chunks, Command, Context, First, IkmFile}
 use Rattle.task.specs.declared.fault.Setting.TheVariants.{Info, Length, Parts, Personal, Salt, Seek, Verify}
 use Rattle.task.specs.declared.fault.Setting.TheVariants.{List as ListSetting}
@@ -119,11 +120,11 @@ parts_possible g =
     let one : count_ones n ≡ 1 = grind (arith, nat_tests) in
     (one, range.1))))
 
-either_possible : (r : Requested) (m : Option ℕ) (names : NameTexts) (wanted : Option (List ℕ)) (file : Text)
-    → HasDigest r → IfSome m IsPartSize
-    → IsPossible (option_map_or (λ d. compares r m d file) wanted (hashes r m names))
-either_possible r m names None file digest size = (digest, size)
-either_possible r m names (Some d) file digest size = (digest, size)
+either_possible : (one : Bool) (r : Requested) (m : Option ℕ) (names : NameTexts) (wanted : Option (List ℕ))
+    (name file : Text) → HasDigest r → IfSome m IsPartSize
+    → IsPossible (if one then prints r m wanted name file else hashes r m names)
+either_possible true r m names wanted name file digest size = (digest, size)
+either_possible false r m names wanted name file digest size = (digest, size)
 
 hash_possible : (g : Given) → IfOk (hash g) IsPossible
 hash_possible g =
@@ -131,8 +132,9 @@ hash_possible g =
     (λ r digest.
     by_first (λ m. IfSome m IsPartSize) IsPossible (parts g) _ (parts_possible g) (λ m size.
     by_second IsPossible (one_source (text_of (codes "files0-from") g) (files g)) _ (λ names.
-    by_second IsPossible (hashing.wanted r g) _ (λ wanted.
-    either_possible r m names wanted (file_or_input g) digest size))))
+    by_second IsPossible (input_name g) _ (λ name.
+    by_second IsPossible (hashing.wanted r g) _ (λ wanted. either_possible (is_some name || is_some wanted) r m names
+    wanted (unwrap_or name (file_or_input g)) (file_or_input g) digest size)))))
 
 -- ---- mac
 

@@ -1,19 +1,19 @@
 -- What a request asks for, or the first fault of its settings.
-use Rattle.std.specs.Prelude.{ℕ, ◌==◌, Bool, List, [], ◌∷◌, Option, Some, None, Result, Ok, Err, codes}
-use Rattle.std.specs.Prelude.{length, unwrap_or, if◌then◌else◌}
-use Rattle.std.specs.Option.{option_map_or}
+use Rattle.std.specs.Prelude.{ℕ, ◌==◌, ◌||◌, Bool, List, [], ◌∷◌, Option, Some, None, Result, Ok, Err, codes}
+use Rattle.std.specs.Prelude.{is_some, length, not, unwrap_or, if◌then◌else◌}
+use Rattle.std.specs.Str.{bytes_eq}
 use Rattle.request.specs.CommandLine.{Given, Text, has_flag, text_of}
 use Rattle.sumlist.specs.declared.kind.Kind.{Kind}
 use Rattle.task.specs.Deriving.{Derived, derivation}
-use Rattle.task.specs.Hashing.{parts, requested}
+use Rattle.task.specs.Hashing.{names_several, parts, requested}
 use Rattle.task.specs.Hashing as hashing
-use Rattle.task.specs.Parameters.{◌>>=◌, files, kind_of, named, needed}
+use Rattle.task.specs.Parameters.{◌>>=◌, ◌>>◌, files, kind_of, named, needed, unset, where_given}
 use Rattle.task.specs.Parting.{joined, place}
 use Rattle.task.specs.Tagging.{KeyText, key}
 use Rattle.task.specs.Tagging as tagging
-use Rattle.task.specs.declared.fault.Setting.TheVariants.{Command, IkmFile, List as ListSetting}
+use Rattle.task.specs.declared.fault.Setting.TheVariants.{Command, IkmFile, List as ListSetting, Name}
 use Rattle.task.specs.declared.fault.UsageFault.{UsageFault}
-use Rattle.task.specs.declared.fault.UsageFault.TheVariants.{OneSource}
+use Rattle.task.specs.declared.fault.UsageFault.TheVariants.{InputOnly, OneSource}
 use Rattle.task.specs.declared.hashing.Requested.{Requested}
 use Rattle.task.specs.declared.hashing.Stretch.{Stretch}
 use Rattle.task.specs.declared.tagging.Mac.{Mac}
@@ -26,7 +26,7 @@ pub data NameTexts : Type 0 where
 -- what a run is to do
 pub data Asked : Type 0 where
   hashes : Requested → Option ℕ → NameTexts → Asked
-  compares : Requested → Option ℕ → List ℕ → Text → Asked
+  prints : Requested → Option ℕ → Option (List ℕ) → Text → Text → Asked
   cuts : ℕ → Option ℕ → Text → Asked
   joins : Stretch → Option ℕ → Text → List Text → Asked
   tags : Mac → Bool → KeyText → Option (List ℕ) → Text → Asked
@@ -47,13 +47,22 @@ one_source (Some file) names = if length names == 0 then Ok (in_file file) else 
 abbrev pub file_or_input : Given → Text
 file_or_input g = unwrap_or (text_of (codes "file") g) (codes "-")
 
+-- the name of standard input, where it alone is read
+abbrev pub input_name : Given → Result (Option Text) UsageFault
+input_name g = where_given (λ t. unset (InputOnly Name)
+    (names_several g || not (bytes_eq (file_or_input g) (codes "-"))) >> Ok t) (text_of (codes "name") g)
+
+-- a file whose digest is compared, or that has a name, is the only one
 abbrev pub hash : Given → Result Asked UsageFault
 hash g = do
   wanted ← requested g
   parts ← parts g
   names ← one_source (text_of (codes "files0-from") g) (files g)
+  name ← input_name g
   digest ← hashing.wanted wanted g
-  Ok (option_map_or (λ d. compares wanted parts d (file_or_input g)) digest (hashes wanted parts names))
+  Ok (if is_some name || is_some digest
+      then prints wanted parts digest (unwrap_or name (file_or_input g)) (file_or_input g)
+      else hashes wanted parts names)
 
 abbrev pub mac : Given → Result Asked UsageFault
 mac g = do

@@ -41,6 +41,8 @@ pub enum Setting {
     Chunks,
     /// `--bytes`.
     Bytes,
+    /// `--name`.
+    Name,
     /// The list.
     List,
 }
@@ -60,6 +62,8 @@ pub enum UsageFault {
     NotWithRaw(Setting),
     /// It says nothing of several files.
     OneFile(Setting),
+    /// It says nothing but of standard input alone.
+    InputOnly(Setting),
     /// It is outside its range, or no name that the option takes.
     OutOfRange(Setting),
     /// It is not made of pairs of hexadecimal digits.
@@ -119,6 +123,7 @@ impl Setting {
             Setting::First => "--first",
             Setting::Chunks => "--chunks",
             Setting::Bytes => "--bytes",
+            Setting::Name => "--name",
             Setting::List => "LIST",
         }
     }
@@ -144,6 +149,7 @@ impl Setting {
             Setting::First => "first",
             Setting::Chunks => "chunks",
             Setting::Bytes => "bytes",
+            Setting::Name => "name",
             Setting::List => "file",
         }
     }
@@ -165,6 +171,7 @@ impl UsageFault {
             UsageFault::NotWithTag(setting) => (setting.text(), ": not with --tag\n"),
             UsageFault::NotWithRaw(setting) => (setting.text(), ": not with --raw\n"),
             UsageFault::OneFile(setting) => (setting.text(), ": one file only\n"),
+            UsageFault::InputOnly(setting) => (setting.text(), ": standard input only\n"),
             UsageFault::OutOfRange(setting) => (setting.text(), ": out of range\n"),
             UsageFault::NotHexadecimal(setting) => (setting.text(), ": not hexadecimal\n"),
             UsageFault::WrongLength(setting) => (setting.text(), ": wrong length\n"),

@@ -1,6 +1,6 @@
 // What a run is to do.
 
-ghost use Rattle.std.specs.Prelude.{◌≡◌, IfOk, codes};
+ghost use Rattle.std.specs.Prelude.{◌≡◌, IfOk, codes, option_map};
 ghost use Rattle.request.specs.CommandLine.{given_of, text_of};
 ghost use Rattle.task.specs.Parameters.{IsAsDefined, files};
 ghost use Rattle.task.specs.Tasks as spec;
@@ -11,8 +11,8 @@ ghost use Rattle.task.specs.inside.Views.{names_shown, task_shown, texts_of};
 
 use crate::derivation::Derivation;
 use crate::fault::{Setting, TaskFault, UsageFault};
-use crate::hashing::{Requested, Stretch, parts_of};
-use crate::parameters::{file_count, kind_of, needed};
+use crate::hashing::{Requested, Stretch, names_several, parts_of};
+use crate::parameters::{file_count, kind_of, needed, refused_flag};
 use crate::parting::{joined_of, place_of};
 use crate::tagging::{Key, Mac, TagForm};
 use request::Request;
@@ -36,11 +36,13 @@ pub enum Task<'a> {
         parts: Option<u64>,
         names: Names<'a>,
     },
-    /// Print whether this is the digest of a file, of as many bytes, hashed in such parts.
-    Compare {
+    /// Print this of one file under this name, or whether it is the digest that is wanted, of as many
+    /// bytes; the file is hashed in such parts.
+    Line {
         requested: Requested,
         parts: Option<u64>,
-        digest: Vec<u8>,
+        wanted: Option<Vec<u8>>,
+        name: &'a str,
         file: &'a str,
     },
     /// Print the part of a file's bytes from that chunk on, to their end or so many chunks of them.
@@ -110,19 +112,35 @@ fn hash<'a>(alloc: Global, request: &Request<'a>) -> Result<Task<'a>, TaskFault>
     let requested = Requested::of(alloc, request)?;
     let parts = parts_of(request)?;
     let names = one_source(alloc, request)?;
-    match requested.wanted(alloc, request)? {
-        Some(digest) => Ok(Task::Compare {
+    let name = input_name(request)?;
+    let wanted = requested.wanted(alloc, request)?;
+    if name.is_some() || wanted.is_some() {
+        let file = file_or_input(request);
+        return Ok(Task::Line {
             requested,
             parts,
-            digest,
-            file: file_or_input(request),
-        }),
-        None => Ok(Task::Hash {
-            requested,
-            parts,
-            names,
-        }),
+            wanted,
+            name: name.unwrap_or(file),
+            file,
+        });
     }
+    Ok(Task::Hash {
+        requested,
+        parts,
+        names,
+    })
+}
+
+// The name of standard input, where it alone is read.
+fn input_name<'a>(request: &Request<'a>) -> Result<Option<&'a str>, UsageFault>
+    ensures { seen (option_map (λ t. t.now)) result ≡ spec.input_name (given_of request.now) }
+{
+    let Some(name) = request.text("name") else {
+        return Ok(None);
+    };
+    let others = names_several(request) || file_or_input(request) != "-";
+    refused_flag(UsageFault::InputOnly(Setting::Name), others)?;
+    Ok(Some(name))
 }
 
 // Files are named by words, or in a file.

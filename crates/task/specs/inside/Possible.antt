@@ -7,7 +7,7 @@ use Rattle.source.specs.declared.alg.Alg.TheVariants as alg
 use Rattle.task.specs.Deriving.{Derived, by_blake3, by_hkdf}
 use Rattle.task.specs.Parameters.{hmac_len}
 use Rattle.task.specs.Requested.{alg_of}
-use Rattle.task.specs.Tasks.{Asked, checks, compares, cuts, derives, hashes, joins, tags}
+use Rattle.task.specs.Tasks.{Asked, checks, cuts, derives, hashes, joins, prints, tags}
 use Rattle.task.specs.declared.hashing.Requested.{Requested}
 use Rattle.task.specs.declared.hashing.Requested.TheVariants.{Digest, Output}
 use Rattle.task.specs.declared.hashing.Stretch.{Stretch}
@@ -53,7 +53,7 @@ HasDigest (Output stretch) = IsWithin stretch
 -- there are digests, tags and keys of the lengths that are asked for, and parts of such a place
 abbrev pub IsPossible : Asked → Type 0
 IsPossible (hashes wanted parts names) = HasDigest wanted × IfSome parts IsPartSize
-IsPossible (compares wanted parts digest file) = HasDigest wanted × IfSome parts IsPartSize
+IsPossible (prints wanted parts digest name file) = HasDigest wanted × IfSome parts IsPartSize
 IsPossible (cuts first chunks file) = IsPlace first chunks
 IsPossible (joins stretch bytes name lists) = IsOfJoin stretch
 IsPossible (tags mac is_raw key wanted file) = HasTag mac
