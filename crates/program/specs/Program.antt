@@ -1,9 +1,9 @@
 -- What a run of the program prints, tells and answers, by its words, standard input and files.
-use Rattle.std.specs.Prelude.{◌⊎◌, ◌≡◌, ℕ, List, [], Some, MatchResult}
+use Rattle.std.specs.Prelude.{◌⊎◌, ◌≡◌, ℕ, List, [], MatchResult}
 use Rattle.source.specs.Written.{Done, Failed, Shown}
 use Rattle.sumlist.specs.Report.{Files}
 use Rattle.request.specs.CommandLine.{ErrorKind, Given, IsAmong, IsWrong, OfProgram, Reads, Text, fault_of}
-use Rattle.task.specs.Tasks.{Asked, asked, checks, compares, cuts, derives, hashes, in_file, joins, tags, these}
+use Rattle.task.specs.Tasks.{Asked, asked, checks, cuts, derives, hashes, in_file, joins, prints, tags, these}
 use Rattle.command.specs.Checking.{CheckRuns}
 use Rattle.command.specs.Run.{Counted, Run, Runs, Tells, no_failures, refused_by}
 use Rattle.command.specs.Cutting.{PartRuns}
@@ -19,8 +19,8 @@ TaskRuns (hashes wanted parts (these names)) files input run =
     HashesAll (digest_line wanted) files input names run
 TaskRuns (hashes wanted parts (in_file list)) files input run =
     HashesListed (digest_line wanted) files list (content_of list input files) run
-TaskRuns (compares wanted parts digest name) files input run =
-    LineRuns (Some digest) (digest_line wanted) name input files run
+TaskRuns (prints requested parts wanted name file) files input run =
+    LineRuns wanted (digest_line requested) name file input files run
 TaskRuns (cuts first chunks name) files input run = PartRuns first chunks name files input run
 TaskRuns (joins stretch bytes name lists) files input run = JoinRuns stretch bytes name lists files input run
 TaskRuns (tags mac is_raw key wanted name) files input run = MacRuns mac is_raw key wanted name files input run

@@ -98,12 +98,13 @@ fn run_request<'n, 'i, 't, 'o, L: Feed, T: Tree, W: Sink, E: Sink>(
             Names::Given(files) => session.print_digests(requested, parts, files.as_slice(), err),
             Names::From(list) => session.print_digests_from(requested, parts, list, err),
         },
-        Task::Compare {
+        Task::Line {
             requested,
             parts,
-            digest,
+            wanted,
+            name,
             file,
-        } => session.print_comparison(requested, parts, digest.as_slice(), file),
+        } => session.print_hashed(requested, parts, wanted, name, file),
         Task::Part {
             first,
             chunks,
