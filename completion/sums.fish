@@ -37,6 +37,7 @@ complete -c sums -n '__sums_command_is hash' -l tag -d 'print lines that name th
 complete -c sums -n '__sums_command_is hash' -l raw -d 'print the bytes of the digest as they are'
 complete -c sums -n '__sums_command_is hash' -l progress -d 'show how much of a file was read'
 complete -c sums -n '__sums_command_is hash' -l files0-from -r -F -d 'the file that has the names of the files'
+complete -c sums -n '__sums_command_is hash' -l name -x -d 'the name of standard input on its line'
 complete -c sums -n '__sums_command_is hash' -s h -l help -d 'print help'
 complete -c sums -n '__sums_command_is hash' -F
 complete -c sums -n '__sums_command_is mac' -s a -x -a 'hmac-sha256 hmac-sha512 hmac-blake2b hmac-blake2s blake2b blake2s blake3' -d 'the keyed function'
