@@ -27,7 +27,8 @@ returns-clause-run g c =
     _ _ g.T.F.Feed.remaining c.in_ok-list.list _ _ _ _ _ _ _ _ _ _ _ _ _
     (sym c.eq.ensures ∙ c.if-eq.false) c.in_ok-list.ensures.opened c.open_file.ensures.kept
     c.in_ok-list.ensures.counted c.check_input-answer.ensures.list c.in_ok-list.ensures.fresh
-    c.check_input-answer.ensures.counted (rw (c.list-3-1.given.1 (sym c.check_input-answer.ensures.same.input)) at c.close.ensures.counted)
+    c.check_input-answer.ensures.counted
+    (rw (c.list-3-1.given.1 (sym c.check_input-answer.ensures.same.input)) at c.close.ensures.counted)
 
 pub returns-then-eq-clause-opens : goal.returns-then-eq-clause-opens
 returns-then-eq-clause-opens g c =
