@@ -37,6 +37,7 @@ FULL = [
     ("a raw digest", "hash -a sha256 --raw"),
     ("a raw tag", "mac -a blake2b --key 00 --raw"),
     ("a part", "part -a blake3"),
+    ("first chunks", "part -a blake3 --list --chunks 1 zeros"),
     ("a joined line", "join -a blake3 chunk.0 chunk.1"),
     ("names from a file", "hash -a blake3 --files0-from mixed-names"),
 ]
@@ -54,6 +55,7 @@ FEW = [
     ("files of a list of names", 5, "hash -a sha256 --files0-from many-names"),
     ("files of a list", 5, "check -a sha256 many-lines"),
     ("a file under a key", 4, "mac -a hmac-sha256 --key-file key20 abc.txt"),
+    ("the parts of a file", 4, "part -a blake3 --list --chunks 1 zeros"),
     ("lists of parts", 4, "join -a blake3 --name zeros part.1 part.2 part.3"),
 ]
 LONG = b"x" * 300_000
@@ -150,6 +152,8 @@ def named_pipes():
         same(f"{row.place}: {row.name}, a pipe", of_pipe(content, row.words, row.given), row.answer)
     behind = of_pipe(LONG, ["part", "-a", "blake3", "--first", "2", "this"])
     same("a pipe has no positions", behind, (1, b"", CANNOT_READ))
+    listed = of_pipe(LONG, ["part", "-a", "blake3", "--list", "--chunks", "1", "this"])
+    same("a pipe has no parts to list", listed, (1, b"", CANNOT_READ))
 
 
 def of_pipe(content, words, given=b""):

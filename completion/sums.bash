@@ -71,7 +71,7 @@ _sums() {
         check:-*)
             _sums_words '-a --summary --progress -h --help' "$word" ;;
         part:-*)
-            _sums_words '-a --first --chunks --progress -h --help' "$word" ;;
+            _sums_words '-a --first --chunks --list --progress -h --help' "$word" ;;
         join:-*)
             _sums_words '-a --name --bytes -l --seek --progress -h --help' "$word" ;;
         help:*)

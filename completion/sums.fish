@@ -64,6 +64,7 @@ complete -c sums -n '__sums_command_is check' -F
 complete -c sums -n '__sums_command_is part' -s a -x -a 'blake3' -d 'the hash'
 complete -c sums -n '__sums_command_is part' -l first -x -d 'the number of the part'\''s first chunk of 1024 bytes'
 complete -c sums -n '__sums_command_is part' -l chunks -x -d 'at most so many chunks'
+complete -c sums -n '__sums_command_is part' -l list -d 'print the first chunk of each part of the file'
 complete -c sums -n '__sums_command_is part' -l progress -d 'show how much of a file was read'
 complete -c sums -n '__sums_command_is part' -s h -l help -d 'print help'
 complete -c sums -n '__sums_command_is part' -F

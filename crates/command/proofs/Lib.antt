@@ -12,6 +12,7 @@ pub mod Tagging
 pub mod MacLines
 pub mod Deriving
 pub mod CutParts
+pub mod Starting
 pub mod Clean
 pub mod Listing
 pub mod Names

@@ -3,10 +3,10 @@ use Rattle.std.specs.Prelude.{◌⊎◌, ◌≡◌, ℕ, List, [], Some, MatchRe
 use Rattle.source.specs.Written.{Done, Failed, Shown}
 use Rattle.sumlist.specs.Report.{Files}
 use Rattle.request.specs.CommandLine.{ErrorKind, Given, IsAmong, IsWrong, OfProgram, Reads, Text, fault_of}
-use Rattle.task.specs.Tasks.{Asked, asked, checks, compares, cuts, derives, hashes, in_file, joins, tags, these}
+use Rattle.task.specs.Tasks.{Asked, asked, checks, compares, cuts, derives, divides, hashes, in_file, joins, tags, these}
 use Rattle.command.specs.Checking.{CheckRuns}
 use Rattle.command.specs.Run.{Counted, Run, Runs, Tells, no_failures, refused_by}
-use Rattle.command.specs.Cutting.{PartRuns}
+use Rattle.command.specs.Cutting.{PartRuns, StartsRuns}
 use Rattle.command.specs.Hashing.{HashesAll, HashesListed}
 use Rattle.command.specs.Joining.{JoinRuns}
 use Rattle.command.specs.Keying.{KdfRuns, LineRuns, MacRuns}
@@ -22,6 +22,7 @@ TaskRuns (hashes wanted parts (in_file list)) files input run =
 TaskRuns (compares wanted parts digest name) files input run =
     LineRuns (Some digest) (digest_line wanted) name input files run
 TaskRuns (cuts first chunks name) files input run = PartRuns first chunks name files input run
+TaskRuns (divides chunks name) files input run = StartsRuns chunks name files run
 TaskRuns (joins stretch bytes name lists) files input run = JoinRuns stretch bytes name lists files input run
 TaskRuns (tags mac is_raw key wanted name) files input run = MacRuns mac is_raw key wanted name files input run
 TaskRuns (derives derived is_raw name) files input run = KdfRuns derived is_raw name files run

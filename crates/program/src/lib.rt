@@ -109,6 +109,7 @@ fn run_request<'n, 'i, 't, 'o, L: Feed, T: Tree, W: Sink, E: Sink>(
             chunks,
             file,
         } => session.print_part(first, chunks, file),
+        Task::Starts { chunks, file } => session.print_starts(chunks, file),
         Task::Join {
             stretch,
             bytes,

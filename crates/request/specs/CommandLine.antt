@@ -99,10 +99,10 @@ abbrev pub check_app : NameList → App
 check_app names = with_rules (new_app (codes "check")) (algorithm_rule names ∷ flag_rule (codes "summary")
     ∷ flag_rule (codes "progress") ∷ required_rule file_rule ∷ [])
 
--- `part -a ALG [--first C] [--chunks N] [--progress] [FILE]`
+-- `part -a ALG [--first C] [--chunks N] [--list] [--progress] [FILE]`
 abbrev pub part_app : NameList → App
 part_app names = with_rules (new_app (codes "part")) (algorithm_rule names ∷ number_rule (codes "first")
-    ∷ number_rule (codes "chunks") ∷ flag_rule (codes "progress") ∷ file_rule ∷ [])
+    ∷ number_rule (codes "chunks") ∷ flag_rule (codes "list") ∷ flag_rule (codes "progress") ∷ file_rule ∷ [])
 
 -- `join -a ALG [--name NAME] [--bytes N] [-l N] [--seek N] [--progress] [PARTS]..`
 abbrev pub join_app : NameList → App

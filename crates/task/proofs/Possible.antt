@@ -1,7 +1,8 @@
 -- What a request asks for, there is.
 use Rattle.std.proofs.Common.{◌≡◌, ℕ, ◌-◌, ◌/◌, ◌%◌, ◌^◌, ◌≤◌, ◌*◌, Bool, true, false, List, Option, Some, None}
 use Rattle.std.proofs.Common.{Result, Ok, Err, IfSome, IfOk, refl, subst, arith}
-use Rattle.std.specs.Prelude.{◌==◌, [], ◌∷◌, codes, count_ones, if◌then◌else◌, length, max, min, nat_lt}
+use Rattle.std.specs.Prelude.{◌==◌, [], ◌∷◌, codes, count_ones, if◌then◌else◌, is_some, length, max, min, nat_lt, not}
+use Rattle.std.specs.Str.{bytes_eq}
 use Rattle.std.proofs.Math.Nat.{le-max_left, le-min, min-le_left}
 use Rattle.std.proofs.lemmas.Bool.Decides.{nat_tests}
 use Rattle.request.specs.CommandLine.{Given, Text, has_flag, text_of}
@@ -18,17 +19,17 @@ use Rattle.task.specs.Hashing as hashing
 use Rattle.task.specs.Hashing.{may_be_raw, requested, requested_of, sha, stretch_of, tagged_blake3}
 use Rattle.task.specs.Parameters.{◌>>=◌, IsAsDefined, absent, files, given_bytes, given_number, hmac_len, kind_of}
 use Rattle.task.specs.Parameters.{named, needed, number, number_in, sized, text, unset}
-use Rattle.task.specs.Parting.{joined, least_power, names_blake3, place}
+use Rattle.task.specs.Parting.{joined, least_power, listed_chunks, names_blake3, place}
 use Rattle.task.specs.Tagging.{macs, with_length}
 use Rattle.task.specs.Tagging as tagging
 use Rattle.task.specs.Tasks.{Asked, NameTexts, asked, check, commands, compares, file_or_input, hash}
-use Rattle.task.specs.Tasks.{hashes, join, kdf, mac, one_source, part}
+use Rattle.task.specs.Tasks.{hashes, join, kdf, mac, one_source, part, starts}
 use Rattle.task.specs.declared.fault.Setting.TheVariants.{Algorithm, Bytes, Chunks, Command, Context, First, IkmFile}
-use Rattle.task.specs.declared.fault.Setting.TheVariants.{Info, Length, Parts, Personal, Salt, Seek, Verify}
+use Rattle.task.specs.declared.fault.Setting.TheVariants.{Info, Length, Parts, Personal, Salt, Seek, Starts, Verify}
 use Rattle.task.specs.declared.fault.Setting.TheVariants.{List as ListSetting}
 use Rattle.task.specs.declared.fault.TaskFault.{TaskFault}
 use Rattle.task.specs.declared.fault.UsageFault.{UsageFault}
-use Rattle.task.specs.declared.fault.UsageFault.TheVariants.{OutOfRange}
+use Rattle.task.specs.declared.fault.UsageFault.TheVariants.{FileOnly, NotWithList, OutOfRange}
 use Rattle.task.specs.Requested.{alg_of}
 use Rattle.task.specs.declared.hashing.Hash.{Hash}
 use Rattle.task.specs.declared.hashing.Hash.TheVariants as hash_of
@@ -39,7 +40,8 @@ use Rattle.task.specs.declared.parameters.HmacHash.TheVariants as hmac
 use Rattle.task.specs.declared.tagging.Mac.{Mac}
 use Rattle.task.specs.declared.tagging.Mac.TheVariants as mac_of
 use Rattle.task.specs.declared.tasks.Task.{Task}
-use Rattle.task.specs.inside.Possible.{HasKey, IsOfJoin, IsPlace, HasDigest, IsPartSize, IsWithin, HasTag, IsPossible}
+use Rattle.task.specs.inside.Possible.{HasKey, IsOfJoin, IsPartLength, IsPlace, HasDigest, IsPartSize, IsWithin}
+use Rattle.task.specs.inside.Possible.{HasTag, IsPossible}
 use Rattle.task.specs.inside.Views.{task_shown}
 use Rattle.task.proofs.Powers.{room_at}
 use Rattle.task.proofs.Ranges.{IsBetween, given_in_range, in_range, number_in_range}
@@ -238,8 +240,23 @@ place_possible g =
     by_first (λ m. IfSome m (IsBetween 1 (2 ^ 54))) Q (given_number Chunks 1 (2 ^ 54) g) _
     (given_in_range Chunks 1 (2 ^ 54) g) (λ chunks range. at_place first chunks low.1 range)))
 
+chunks_possible : (g : Given) → IfOk (listed_chunks g) IsPartLength
+chunks_possible g =
+    by_second IsPartLength (names_blake3 g) _ (λ _. by_second IsPartLength (needed Chunks g) _ (λ t.
+    by_first (IsBetween 1 (2 ^ 54)) IsPartLength (number_in Chunks 1 (2 ^ 54) t) _ (in_range Chunks 1 (2 ^ 54) t)
+    (λ n range.
+    by_second IsPartLength (unset (OutOfRange Chunks) (not (count_ones n == 1))) _ (λ _.
+    by_second IsPartLength (unset (NotWithList First) (is_some (text First g))) _ (λ _. range)))))
+
+starts_possible : (g : Given) → IfOk (starts g) IsPossible
+starts_possible g =
+    by_first IsPartLength IsPossible (listed_chunks g) _ (chunks_possible g) (λ n range.
+    by_second IsPossible (unset (FileOnly Starts) (bytes_eq (file_or_input g) (codes "-"))) _ (λ _. range))
+
 part_possible : (g : Given) → IfOk (part g) IsPossible
-part_possible g = by_first (λ p. IsPlace p.0 p.1) IsPossible (place g) _ (place_possible g) (λ p h. h)
+part_possible g =
+    in_both IsPossible (has_flag (codes "list") g) (starts g) _ (starts_possible g)
+    (by_first (λ p. IsPlace p.0 p.1) IsPossible (place g) _ (place_possible g) (λ p h. h))
 
 joined_possible : (g : Given) → IfOk (joined g) (λ j. IsOfJoin j.0)
 joined_possible g =

@@ -2,18 +2,19 @@
 use Rattle.std.specs.Prelude.{ℕ, ◌==◌, Bool, List, [], ◌∷◌, Option, Some, None, Result, Ok, Err, codes}
 use Rattle.std.specs.Prelude.{length, unwrap_or, if◌then◌else◌}
 use Rattle.std.specs.Option.{option_map_or}
+use Rattle.std.specs.Str.{bytes_eq}
 use Rattle.request.specs.CommandLine.{Given, Text, has_flag, text_of}
 use Rattle.sumlist.specs.declared.kind.Kind.{Kind}
 use Rattle.task.specs.Deriving.{Derived, derivation}
 use Rattle.task.specs.Hashing.{parts, requested}
 use Rattle.task.specs.Hashing as hashing
-use Rattle.task.specs.Parameters.{◌>>=◌, files, kind_of, named, needed}
-use Rattle.task.specs.Parting.{joined, place}
+use Rattle.task.specs.Parameters.{◌>>=◌, ◌>>◌, files, kind_of, named, needed, unset}
+use Rattle.task.specs.Parting.{joined, listed_chunks, place}
 use Rattle.task.specs.Tagging.{KeyText, key}
 use Rattle.task.specs.Tagging as tagging
-use Rattle.task.specs.declared.fault.Setting.TheVariants.{Command, IkmFile, List as ListSetting}
+use Rattle.task.specs.declared.fault.Setting.TheVariants.{Command, IkmFile, Starts, List as ListSetting}
 use Rattle.task.specs.declared.fault.UsageFault.{UsageFault}
-use Rattle.task.specs.declared.fault.UsageFault.TheVariants.{OneSource}
+use Rattle.task.specs.declared.fault.UsageFault.TheVariants.{FileOnly, OneSource}
 use Rattle.task.specs.declared.hashing.Requested.{Requested}
 use Rattle.task.specs.declared.hashing.Stretch.{Stretch}
 use Rattle.task.specs.declared.tagging.Mac.{Mac}
@@ -28,6 +29,7 @@ pub data Asked : Type 0 where
   hashes : Requested → Option ℕ → NameTexts → Asked
   compares : Requested → Option ℕ → List ℕ → Text → Asked
   cuts : ℕ → Option ℕ → Text → Asked
+  divides : ℕ → Text → Asked
   joins : Stretch → Option ℕ → Text → List Text → Asked
   tags : Mac → Bool → KeyText → Option (List ℕ) → Text → Asked
   derives : Derived → Bool → Text → Asked
@@ -74,8 +76,16 @@ check g = do
   list ← needed ListSetting g
   Ok (checks kind (has_flag (codes "summary") g) list)
 
+-- where the parts of a file begin; standard input has no positions
+abbrev pub starts : Given → Result Asked UsageFault
+starts g = do
+  chunks ← listed_chunks g
+  unset (FileOnly Starts) (bytes_eq (file_or_input g) (codes "-"))
+  Ok (divides chunks (file_or_input g))
+
 abbrev pub part : Given → Result Asked UsageFault
-part g = place g >>= (λ place. Ok (cuts place.0 place.1 (file_or_input g)))
+part g = if has_flag (codes "list") g then starts g
+    else place g >>= (λ place. Ok (cuts place.0 place.1 (file_or_input g)))
 
 abbrev pub join : Given → Result Asked UsageFault
 join g = joined g >>= (λ wanted.

@@ -4,6 +4,7 @@ use Rattle.request.specs.CommandLine.{Text}
 use Rattle.task.specs.declared.fault.Setting.{Setting}
 use Rattle.task.specs.declared.fault.Setting.TheVariants as setting
 use Rattle.task.specs.declared.fault.UsageFault.{UsageFault}
+use Rattle.task.specs.declared.fault.UsageFault.TheVariants.{FileOnly, NotWithList}
 use Rattle.task.specs.declared.fault.UsageFault.TheVariants.{Needed, NotForAlgorithm, NotForCommand, NotHexadecimal}
 use Rattle.task.specs.declared.fault.UsageFault.TheVariants.{NotWithRaw, NotWithTag, OneFile, OneKey, OneSource}
 use Rattle.task.specs.declared.fault.UsageFault.TheVariants.{OutOfRange, WrongLength}
@@ -26,6 +27,7 @@ setting_text setting.Context = codes "--context"
 setting_text setting.First = codes "--first"
 setting_text setting.Chunks = codes "--chunks"
 setting_text setting.Bytes = codes "--bytes"
+setting_text setting.Starts = codes "--list"
 setting_text setting.List = codes "LIST"
 
 -- its id among the options and arguments of a request: mostly that text without its two dashes
@@ -43,7 +45,9 @@ usage_texts (NotForAlgorithm s) = (setting_text s, codes ": not for this algorit
 usage_texts (NotForCommand s) = (setting_text s, codes ": not for this command\n")
 usage_texts (NotWithTag s) = (setting_text s, codes ": not with --tag\n")
 usage_texts (NotWithRaw s) = (setting_text s, codes ": not with --raw\n")
+usage_texts (NotWithList s) = (setting_text s, codes ": not with --list\n")
 usage_texts (OneFile s) = (setting_text s, codes ": one file only\n")
+usage_texts (FileOnly s) = (setting_text s, codes ": not of standard input\n")
 usage_texts (OutOfRange s) = (setting_text s, codes ": out of range\n")
 usage_texts (NotHexadecimal s) = (setting_text s, codes ": not hexadecimal\n")
 usage_texts (WrongLength s) = (setting_text s, codes ": wrong length\n")

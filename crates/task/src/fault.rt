@@ -41,6 +41,8 @@ pub enum Setting {
     Chunks,
     /// `--bytes`.
     Bytes,
+    /// `--list`.
+    Starts,
     /// The list.
     List,
 }
@@ -58,8 +60,12 @@ pub enum UsageFault {
     NotWithTag(Setting),
     /// It says nothing beside `--raw`.
     NotWithRaw(Setting),
+    /// It says nothing beside `--list`.
+    NotWithList(Setting),
     /// It says nothing of several files.
     OneFile(Setting),
+    /// It says nothing of standard input.
+    FileOnly(Setting),
     /// It is outside its range, or no name that the option takes.
     OutOfRange(Setting),
     /// It is not made of pairs of hexadecimal digits.
@@ -119,6 +125,7 @@ impl Setting {
             Setting::First => "--first",
             Setting::Chunks => "--chunks",
             Setting::Bytes => "--bytes",
+            Setting::Starts => "--list",
             Setting::List => "LIST",
         }
     }
@@ -144,6 +151,7 @@ impl Setting {
             Setting::First => "first",
             Setting::Chunks => "chunks",
             Setting::Bytes => "bytes",
+            Setting::Starts => "list",
             Setting::List => "file",
         }
     }
@@ -164,7 +172,9 @@ impl UsageFault {
             UsageFault::NotForCommand(setting) => (setting.text(), ": not for this command\n"),
             UsageFault::NotWithTag(setting) => (setting.text(), ": not with --tag\n"),
             UsageFault::NotWithRaw(setting) => (setting.text(), ": not with --raw\n"),
+            UsageFault::NotWithList(setting) => (setting.text(), ": not with --list\n"),
             UsageFault::OneFile(setting) => (setting.text(), ": one file only\n"),
+            UsageFault::FileOnly(setting) => (setting.text(), ": not of standard input\n"),
             UsageFault::OutOfRange(setting) => (setting.text(), ": out of range\n"),
             UsageFault::NotHexadecimal(setting) => (setting.text(), ": not hexadecimal\n"),
             UsageFault::WrongLength(setting) => (setting.text(), ": wrong length\n"),

@@ -12,8 +12,8 @@ ghost use Rattle.task.specs.inside.Views.{names_shown, task_shown, texts_of};
 use crate::derivation::Derivation;
 use crate::fault::{Setting, TaskFault, UsageFault};
 use crate::hashing::{Requested, Stretch, parts_of};
-use crate::parameters::{file_count, kind_of, needed};
-use crate::parting::{joined_of, place_of};
+use crate::parameters::{file_count, kind_of, needed, refused_flag};
+use crate::parting::{joined_of, listed_chunks, place_of};
 use crate::tagging::{Key, Mac, TagForm};
 use request::Request;
 use std::alloc::{AllocError, Global};
@@ -47,6 +47,12 @@ pub enum Task<'a> {
     Part {
         first: u64,
         chunks: Option<u64>,
+        file: &'a str,
+    },
+    /// Print the first chunk of each part of a file, where each but the last has so many chunks. It is
+    /// not standard input.
+    Starts {
+        chunks: u64,
         file: &'a str,
     },
     /// Print these bytes of the output of the parts in the lists, one at least, which have so many
@@ -193,12 +199,24 @@ fn check<'a>(request: &Request<'a>) -> Result<Task<'a>, UsageFault>
 fn part<'a>(request: &Request<'a>) -> Result<Task<'a>, UsageFault>
     ensures { seen task_shown result ≡ spec.part (given_of request.now) }
 {
+    if request.has("list") {
+        return starts(request);
+    }
     let (first, chunks) = place_of(request)?;
     Ok(Task::Part {
         first,
         chunks,
         file: file_or_input(request),
     })
+}
+
+fn starts<'a>(request: &Request<'a>) -> Result<Task<'a>, UsageFault>
+    ensures { seen task_shown result ≡ spec.starts (given_of request.now) }
+{
+    let chunks = listed_chunks(request)?;
+    let file = file_or_input(request);
+    refused_flag(UsageFault::FileOnly(Setting::Starts), file == "-")?;
+    Ok(Task::Starts { chunks, file })
 }
 
 fn join<'a>(alloc: Global, request: &Request<'a>) -> Result<Task<'a>, TaskFault>
