@@ -27,6 +27,7 @@ FULL = [
     ("a long output", "hash -a blake3 -l 100000"),
     ("a report", "check -a sha256 good-list"),
     ("a report with a summary", "check -a sha256 --summary good-list"),
+    ("two reports", "check -a sha256 good-list good-list"),
     ("help", "--help"),
     ("a tagged line", "hash -a blake2s --tag"),
     ("a tag", "mac -a hmac-sha256 --key 00"),
@@ -52,7 +53,7 @@ FEW = [
     ("files", 4, "hash -a sha256" + 50 * " abc.txt"),
     ("files in parts", 4, "hash -a blake3 --parts 1" + 50 * " abc.txt"),
     ("files of a list of names", 5, "hash -a sha256 --files0-from many-names"),
-    ("files of a list", 5, "check -a sha256 many-lines"),
+    ("files of lists", 5, "check -a sha256 many-lines many-lines"),
     ("a file under a key", 4, "mac -a hmac-sha256 --key-file key20 abc.txt"),
     ("lists of parts", 4, "join -a blake3 --name zeros part.1 part.2 part.3"),
 ]

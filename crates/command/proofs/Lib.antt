@@ -14,6 +14,7 @@ pub mod Deriving
 pub mod CutParts
 pub mod Clean
 pub mod Listing
+pub mod Reporting
 pub mod Names
 pub mod Opening
 pub mod Gathering

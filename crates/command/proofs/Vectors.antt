@@ -1,8 +1,13 @@
--- Worked values of the visible form of names, computed: a wrong escape, digit or class of characters does not check.
-use Rattle.std.proofs.Common.{◌≡◌, ℕ, List, [], ◌∷◌, ◌++◌, refl, codes}
+-- Worked values of the visible form of names, computed: a wrong escape, digit or class of characters does not check;
+-- and of the run over one list and those behind it.
+use Rattle.std.proofs.Common.{◌≡◌, ℕ, List, [], ◌∷◌, ◌++◌, Some, Ok, true, refl, codes}
 use Rattle.std.specs.Char.{encode_utf8}
+use Rattle.std.specs.Fmt.{digits}
 use Rattle.std.specs.Str.{chars}
 use Rattle.hex.specs.Hex.{encode_with}
+use Rattle.sumlist.specs.Report.{malformed, no_lines, report_from}
+use Rattle.command.specs.Checking.{followed, noted}
+use Rattle.command.specs.Run.{Run, ends, no_failures, refused_by}
 use Rattle.command.specs.Troubles.{cannot_read, told}
 use Rattle.command.specs.Visible.{visible}
 
@@ -29,3 +34,14 @@ told_example : told (cannot_read (120 ∷ 10 ∷ codes "sums: out of memory"))
     ≡ codes "sums: x\\nsums: out of memory: cannot read\n"
 unfolding visible chars encode_utf8
 told_example = refl
+
+-- a list that is not there, and behind it one with a malformed line, of which the numbers are told
+followed_example : (let last : Run = ends [] [] (Ok 0) no_failures in
+    let list : Run = ends (report_from (Some (codes "l")) 1 (malformed ∷ []))
+    (noted true (Some (codes "l")) (record no_lines { malformed = 1 })) (Ok 1) no_failures in
+    followed (refused_by (cannot_read (codes "none")) no_failures) (followed list last))
+    ≡ ends (codes "l: line 1: MALFORMED\n") (codes "sums: none: cannot read\n"
+    ∷ codes "sums: l: 0 OK, 0 failed, 0 missing, 0 unreadable, 0 too long, 1 malformed, 0 skipped\n" ∷ []) (Ok 1)
+    no_failures
+unfolding visible chars digits encode_utf8 report_from
+followed_example = refl

@@ -223,8 +223,8 @@ impl<'i, 't, 'o, L: Feed, T: Tree, W: Sink> Session<'i, 't, 'o, L, T, W> {
     }
 }
 
-// Tells the fault of a file, and answers its status. Two faults end a run, and name no file.
-fn settle<'f, E: Sink>(err: &mut E, fault: Fault<'_>) -> Result<u8, Fault<'f>>
+/// Tells the fault of a file, and answers its status. Two faults end a run, and name no file.
+pub(crate) fn settle<'f, E: Sink>(err: &mut E, fault: Fault<'_>) -> Result<u8, Fault<'f>>
     ensures { Settles fault.entry result (E.shown err.old) (E.shown err.new) }
 {
     match fault {

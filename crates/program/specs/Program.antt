@@ -1,5 +1,5 @@
 -- What a run of the program prints, tells and answers, by its words, standard input and files.
-use Rattle.std.specs.Prelude.{◌⊎◌, ◌≡◌, ℕ, List, [], Some, MatchResult}
+use Rattle.std.specs.Prelude.{◌⊎◌, ◌≡◌, ℕ, nat_lt, List, [], length, Some, MatchResult}
 use Rattle.source.specs.Written.{Done, Failed, Shown}
 use Rattle.sumlist.specs.Report.{Files}
 use Rattle.request.specs.CommandLine.{ErrorKind, Given, IsAmong, IsWrong, OfProgram, Reads, Text, fault_of}
@@ -25,8 +25,8 @@ TaskRuns (cuts first chunks name) files input run = PartRuns first chunks name f
 TaskRuns (joins stretch bytes name lists) files input run = JoinRuns stretch bytes name lists files input run
 TaskRuns (tags mac is_raw key wanted name) files input run = MacRuns mac is_raw key wanted name files input run
 TaskRuns (derives derived is_raw name) files input run = KdfRuns derived is_raw name files run
-TaskRuns (checks kind is_summed list) files input run =
-    CheckRuns is_summed files kind list (content_of list input files) run
+TaskRuns (checks kind is_summed lists) files input run =
+    CheckRuns is_summed files kind (nat_lt 1 (length lists)) lists input run
 
 -- the run of a request: its task's, or the first fault of its settings, or want of memory before either
 abbrev pub RequestRuns : Given → Files → List ℕ → Run → Type 0

@@ -129,8 +129,8 @@ fn run_request<'n, 'i, 't, 'o, L: Feed, T: Tree, W: Sink, E: Sink>(
         Task::Check {
             kind,
             is_summed,
-            list,
-        } => session.print_report(kind, is_summed, list, err),
+            lists,
+        } => session.print_reports(kind, is_summed, lists.as_slice(), err),
     }
 }
 

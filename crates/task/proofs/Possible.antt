@@ -16,8 +16,8 @@ use Rattle.task.specs.Deriving as deriving_of
 use Rattle.task.specs.Hashing.{blake2, blake2_length, blake3_output, part_size, parts}
 use Rattle.task.specs.Hashing as hashing
 use Rattle.task.specs.Hashing.{may_be_raw, requested, requested_of, sha, stretch_of, tagged_blake3}
-use Rattle.task.specs.Parameters.{◌>>=◌, IsAsDefined, absent, files, given_bytes, given_number, hmac_len, kind_of}
-use Rattle.task.specs.Parameters.{named, needed, number, number_in, sized, text, unset}
+use Rattle.task.specs.Parameters.{◌>>=◌, IsAsDefined, absent, files, given_bytes, given_kind, given_number, hmac_len}
+use Rattle.task.specs.Parameters.{kind_of, named, needed, number, number_in, sized, text, unset}
 use Rattle.task.specs.Parting.{joined, least_power, names_blake3, place}
 use Rattle.task.specs.Tagging.{macs, with_length}
 use Rattle.task.specs.Tagging as tagging
@@ -25,7 +25,6 @@ use Rattle.task.specs.Tasks.{Asked, NameTexts, asked, check, commands, compares,
 use Rattle.task.specs.Tasks.{hashes, join, kdf, mac, one_source, part}
 use Rattle.task.specs.declared.fault.Setting.TheVariants.{Algorithm, Bytes, Chunks, Command, Context, First, IkmFile}
 use Rattle.task.specs.declared.fault.Setting.TheVariants.{Info, Length, Parts, Personal, Salt, Seek, Verify}
-use Rattle.task.specs.declared.fault.Setting.TheVariants.{List as ListSetting}
 use Rattle.task.specs.declared.fault.TaskFault.{TaskFault}
 use Rattle.task.specs.declared.fault.UsageFault.{UsageFault}
 use Rattle.task.specs.declared.fault.UsageFault.TheVariants.{OutOfRange}
@@ -212,7 +211,7 @@ kdf_possible g =
 -- ---- check, part, join
 
 check_possible : (g : Given) → IfOk (check g) IsPossible
-check_possible g = by_second IsPossible (kind_of g) _ (λ k. by_second IsPossible (needed ListSetting g) _ (λ list. tt))
+check_possible g = by_second IsPossible (given_kind g) _ (λ k. tt)
 
 room : (place : ℕ × Option ℕ) (fault : UsageFault) (b : Bool) → (b ≡ false → IsPlace place.0 place.1)
     → IfOk (unset fault b >>= (λ _. Ok place)) (λ p. IsPlace p.0 p.1)

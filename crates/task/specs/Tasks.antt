@@ -7,11 +7,11 @@ use Rattle.sumlist.specs.declared.kind.Kind.{Kind}
 use Rattle.task.specs.Deriving.{Derived, derivation}
 use Rattle.task.specs.Hashing.{parts, requested}
 use Rattle.task.specs.Hashing as hashing
-use Rattle.task.specs.Parameters.{◌>>=◌, files, kind_of, named, needed}
+use Rattle.task.specs.Parameters.{◌>>=◌, files, given_kind, named, needed}
 use Rattle.task.specs.Parting.{joined, place}
 use Rattle.task.specs.Tagging.{KeyText, key}
 use Rattle.task.specs.Tagging as tagging
-use Rattle.task.specs.declared.fault.Setting.TheVariants.{Command, IkmFile, List as ListSetting}
+use Rattle.task.specs.declared.fault.Setting.TheVariants.{Command, IkmFile}
 use Rattle.task.specs.declared.fault.UsageFault.{UsageFault}
 use Rattle.task.specs.declared.fault.UsageFault.TheVariants.{OneSource}
 use Rattle.task.specs.declared.hashing.Requested.{Requested}
@@ -31,7 +31,7 @@ pub data Asked : Type 0 where
   joins : Stretch → Option ℕ → Text → List Text → Asked
   tags : Mac → Bool → KeyText → Option (List ℕ) → Text → Asked
   derives : Derived → Bool → Text → Asked
-  checks : Kind → Bool → Text → Asked
+  checks : Option Kind → Bool → List Text → Asked
 
 -- without a file standard input is read
 abbrev pub names_of : List Text → List Text
@@ -69,10 +69,7 @@ kdf g = do
   Ok (derives derived (has_flag (codes "raw") g) material)
 
 abbrev pub check : Given → Result Asked UsageFault
-check g = do
-  kind ← kind_of g
-  list ← needed ListSetting g
-  Ok (checks kind (has_flag (codes "summary") g) list)
+check g = given_kind g >>= (λ kind. Ok (checks kind (has_flag (codes "summary") g) (names_of (files g))))
 
 abbrev pub part : Given → Result Asked UsageFault
 part g = place g >>= (λ place. Ok (cuts place.0 place.1 (file_or_input g)))

@@ -26,14 +26,12 @@ setting_text setting.Context = codes "--context"
 setting_text setting.First = codes "--first"
 setting_text setting.Chunks = codes "--chunks"
 setting_text setting.Bytes = codes "--bytes"
-setting_text setting.List = codes "LIST"
 
 -- its id among the options and arguments of a request: mostly that text without its two dashes
 abbrev pub setting_id : Setting → Text
 setting_id setting.Command = codes "command"
 setting_id setting.Algorithm = codes "algorithm"
 setting_id setting.Length = codes "length"
-setting_id setting.List = codes "file"
 setting_id s = drop 2 (setting_text s)
 
 -- what a fault is told of, a setting or nothing alone, and what is said of it

@@ -41,8 +41,6 @@ pub enum Setting {
     Chunks,
     /// `--bytes`.
     Bytes,
-    /// The list.
-    List,
 }
 
 /// What is wrong with a request.
@@ -119,7 +117,6 @@ impl Setting {
             Setting::First => "--first",
             Setting::Chunks => "--chunks",
             Setting::Bytes => "--bytes",
-            Setting::List => "LIST",
         }
     }
 
@@ -144,7 +141,6 @@ impl Setting {
             Setting::First => "first",
             Setting::Chunks => "chunks",
             Setting::Bytes => "bytes",
-            Setting::List => "file",
         }
     }
 }

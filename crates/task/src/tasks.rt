@@ -12,7 +12,7 @@ ghost use Rattle.task.specs.inside.Views.{names_shown, task_shown, texts_of};
 use crate::derivation::Derivation;
 use crate::fault::{Setting, TaskFault, UsageFault};
 use crate::hashing::{Requested, Stretch, parts_of};
-use crate::parameters::{file_count, kind_of, needed};
+use crate::parameters::{file_count, given_kind, needed};
 use crate::parting::{joined_of, place_of};
 use crate::tagging::{Key, Mac, TagForm};
 use request::Request;
@@ -71,11 +71,12 @@ pub enum Task<'a> {
         is_raw: bool,
         material: &'a str,
     },
-    /// Report on a list, whose untagged lines are of this hash, and tell a summary where it is asked for.
+    /// Report on lists, one at least, whose untagged lines are of this hash, where there is one, and tell
+    /// a summary of each where it is asked for.
     Check {
-        kind: Kind,
+        kind: Option<Kind>,
         is_summed: bool,
-        list: &'a str,
+        lists: Vec<&'a str>,
     },
 }
 
@@ -97,7 +98,7 @@ fn task_of<'a>(alloc: Global, request: &Request<'a>) -> Result<Task<'a>, TaskFau
         "hash" => hash(alloc, request),
         "mac" => mac(alloc, request),
         "kdf" => kdf(alloc, request),
-        "check" => Ok(check(request)?),
+        "check" => check(alloc, request),
         "part" => Ok(part(request)?),
         "join" => join(alloc, request),
         _ => Err(TaskFault::Usage(UsageFault::OutOfRange(Setting::Command))),
@@ -178,15 +179,15 @@ fn kdf<'a>(alloc: Global, request: &Request<'a>) -> Result<Task<'a>, TaskFault>
     })
 }
 
-fn check<'a>(request: &Request<'a>) -> Result<Task<'a>, UsageFault>
-    ensures { seen task_shown result ≡ spec.check (given_of request.now) }
+fn check<'a>(alloc: Global, request: &Request<'a>) -> Result<Task<'a>, TaskFault>
+    ensures { IsAsDefined task_shown (spec.check (given_of request.now)) result }
 {
-    let kind = kind_of(request)?;
-    let list = needed(request, Setting::List)?;
+    let kind = given_kind(request)?;
+    let lists = names_of(alloc, request)?;
     Ok(Task::Check {
         kind,
         is_summed: request.has("summary"),
-        list,
+        lists,
     })
 }
 

@@ -58,4 +58,4 @@ IsPossible (cuts first chunks file) = IsPlace first chunks
 IsPossible (joins stretch bytes name lists) = IsOfJoin stretch
 IsPossible (tags mac is_raw key wanted file) = HasTag mac
 IsPossible (derives derived is_raw material) = HasKey derived
-IsPossible (checks kind is_summed list) = ⊤
+IsPossible (checks kind is_summed lists) = ⊤
