@@ -22,7 +22,7 @@ ERRORS = {
     "lseek": [errno.ESPIPE, errno.EINVAL],
 }
 SIZES = (1, 7, 4096)
-SUMMARY = rb"sums: \d+ OK, \d+ failed, \d+ missing, \d+ unreadable, \d+ too long, \d+ malformed, \d+ skipped"
+SUMMARY = rb"sums: (.+: )?\d+ OK, \d+ failed, \d+ missing, \d+ unreadable, \d+ too long, \d+ malformed, \d+ skipped"
 
 
 def fault(call, error):

@@ -27,6 +27,7 @@ FULL = [
     ("a long output", "hash -a blake3 -l 100000"),
     ("a report", "check -a sha256 good-list"),
     ("a report with a summary", "check -a sha256 --summary good-list"),
+    ("two reports", "check -a sha256 good-list good-list"),
     ("help", "--help"),
     ("a tagged line", "hash -a blake2s --tag"),
     ("a tag", "mac -a hmac-sha256 --key 00"),
@@ -37,6 +38,7 @@ FULL = [
     ("a raw digest", "hash -a sha256 --raw"),
     ("a raw tag", "mac -a blake2b --key 00 --raw"),
     ("a part", "part -a blake3"),
+    ("first chunks", "part -a blake3 --list --chunks 1 zeros"),
     ("a joined line", "join -a blake3 chunk.0 chunk.1"),
     ("names from a file", "hash -a blake3 --files0-from mixed-names"),
 ]
@@ -52,8 +54,9 @@ FEW = [
     ("files", 4, "hash -a sha256" + 50 * " abc.txt"),
     ("files in parts", 4, "hash -a blake3 --parts 1" + 50 * " abc.txt"),
     ("files of a list of names", 5, "hash -a sha256 --files0-from many-names"),
-    ("files of a list", 5, "check -a sha256 many-lines"),
+    ("files of lists", 5, "check -a sha256 many-lines many-lines"),
     ("a file under a key", 4, "mac -a hmac-sha256 --key-file key20 abc.txt"),
+    ("the parts of a file", 4, "part -a blake3 --list --chunks 1 zeros"),
     ("lists of parts", 4, "join -a blake3 --name zeros part.1 part.2 part.3"),
 ]
 LONG = b"x" * 300_000
@@ -150,6 +153,8 @@ def named_pipes():
         same(f"{row.place}: {row.name}, a pipe", of_pipe(content, row.words, row.given), row.answer)
     behind = of_pipe(LONG, ["part", "-a", "blake3", "--first", "2", "this"])
     same("a pipe has no positions", behind, (1, b"", CANNOT_READ))
+    listed = of_pipe(LONG, ["part", "-a", "blake3", "--list", "--chunks", "1", "this"])
+    same("a pipe has no parts to list", listed, (1, b"", CANNOT_READ))
 
 
 def of_pipe(content, words, given=b""):

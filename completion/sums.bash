@@ -38,7 +38,7 @@ _sums() {
             _sums_words '1 2 4 8 16 32 64 128 256 512 1024' "$word"
             return ;;
         hash:--files0-from) _sums_files; return ;;
-        hash:-l | hash:--seek | hash:--salt | hash:--personal | hash:--verify) return ;;
+        hash:-l | hash:--seek | hash:--salt | hash:--personal | hash:--verify | hash:--name) return ;;
         mac:-a)
             _sums_words 'hmac-sha256 hmac-sha512 hmac-blake2b hmac-blake2s blake2b blake2s blake3' "$word"
             return ;;
@@ -63,7 +63,7 @@ _sums() {
     esac
     case $command:$word in
         hash:-*)
-            _sums_words '-a -l --seek --parts --salt --personal --verify --tag --raw --progress --files0-from -h --help' "$word" ;;
+            _sums_words '-a -l --seek --parts --salt --personal --verify --tag --raw --progress --files0-from --name -h --help' "$word" ;;
         mac:-*)
             _sums_words '-a -l --key --key-file --verify --raw --progress -h --help' "$word" ;;
         kdf:-* | kdf:)
@@ -71,7 +71,7 @@ _sums() {
         check:-*)
             _sums_words '-a --summary --progress -h --help' "$word" ;;
         part:-*)
-            _sums_words '-a --first --chunks --progress -h --help' "$word" ;;
+            _sums_words '-a --first --chunks --list --progress -h --help' "$word" ;;
         join:-*)
             _sums_words '-a --name --bytes -l --seek --progress -h --help' "$word" ;;
         help:*)

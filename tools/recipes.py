@@ -233,6 +233,12 @@ def join_page(bench):
     linked(bench, "sums-join(1) parts", text)
 
 
+def part_page(bench):
+    text = bench.text("man/sums-part.1", "list")
+    in_parts(bench, "sums-part(1) list", text)
+    linked(bench, "sums-part(1) list", text)
+
+
 def behind_file(bench, name):
     """A recipe of docs/SCALE.md behind the one that names the file."""
     return bench.text("docs/SCALE.md", "file") + bench.text("docs/SCALE.md", name)
@@ -913,7 +919,7 @@ RUNS = {
     "man/sums-kdf.1": {"lines": lambda bench: lines_of(bench, "man/sums-kdf.1")},
     "man/sums-check.1": {"lines": check_page, "faults": check_page, "one": one_of, "some": check_page,
                          "signed": signed_lists},
-    "man/sums-part.1": {"lines": lambda bench: lines_of(bench, "man/sums-part.1")},
+    "man/sums-part.1": {"lines": lambda bench: lines_of(bench, "man/sums-part.1"), "list": part_page},
     "man/sums-join.1": {"parts": join_page},
 }
 

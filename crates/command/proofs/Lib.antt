@@ -12,8 +12,10 @@ pub mod Tagging
 pub mod MacLines
 pub mod Deriving
 pub mod CutParts
+pub mod Starting
 pub mod Clean
 pub mod Listing
+pub mod Reporting
 pub mod Names
 pub mod Opening
 pub mod Gathering

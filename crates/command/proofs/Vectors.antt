@@ -1,8 +1,14 @@
--- Worked values of the visible form of names, computed: a wrong escape, digit or class of characters does not check.
-use Rattle.std.proofs.Common.{◌≡◌, ℕ, List, [], ◌∷◌, ◌++◌, refl, codes}
+-- Worked values of the visible form of names, of where parts begin, and of the run over one list and those behind it,
+-- computed: a wrong escape, digit or class of characters does not check, nor a part too many or too few.
+use Rattle.std.proofs.Common.{◌≡◌, ℕ, ◌^◌, List, [], ◌∷◌, ◌++◌, Some, Ok, true, refl, codes, replicate}
 use Rattle.std.specs.Char.{encode_utf8}
+use Rattle.std.specs.Fmt.{digits}
 use Rattle.std.specs.Str.{chars}
 use Rattle.hex.specs.Hex.{encode_with}
+use Rattle.command.specs.Cutting.{part_count, start_lines}
+use Rattle.sumlist.specs.Report.{malformed, no_lines, report_from}
+use Rattle.command.specs.Checking.{followed, noted}
+use Rattle.command.specs.Run.{Run, ends, no_failures, refused_by}
 use Rattle.command.specs.Troubles.{cannot_read, told}
 use Rattle.command.specs.Visible.{visible}
 
@@ -29,3 +35,36 @@ told_example : told (cannot_read (120 ∷ 10 ∷ codes "sums: out of memory"))
     ≡ codes "sums: x\\nsums: out of memory: cannot read\n"
 unfolding visible chars encode_utf8
 told_example = refl
+
+-- where parts of two chunks begin: of no byte, of two chunks, and of a byte more
+starts_of_none : start_lines 2 (part_count 2 []) ≡ codes "0\n"
+unfolding digits
+starts_of_none = refl
+
+starts_of_one : start_lines 2 (part_count 2 (replicate 2048 0)) ≡ codes "0\n"
+unfolding digits
+starts_of_one = refl
+
+starts_of_two : start_lines 2 (part_count 2 (replicate 2049 0)) ≡ codes "0\n2\n"
+unfolding digits
+starts_of_two = refl
+
+-- of one chunk each, and of as many as the longest message has
+starts_of_three : start_lines 1 (part_count 1 (replicate 3000 0)) ≡ codes "0\n1\n2\n"
+unfolding digits
+starts_of_three = refl
+
+starts_of_all : start_lines (2 ^ 54) (part_count (2 ^ 54) (replicate 3000 0)) ≡ codes "0\n"
+unfolding digits
+starts_of_all = refl
+
+-- a list that is not there, and behind it one with a malformed line, of which the numbers are told
+followed_example : (let last : Run = ends [] [] (Ok 0) no_failures in
+    let list : Run = ends (report_from (Some (codes "l")) 1 (malformed ∷ []))
+    (noted true (Some (codes "l")) (record no_lines { malformed = 1 })) (Ok 1) no_failures in
+    followed (refused_by (cannot_read (codes "none")) no_failures) (followed list last))
+    ≡ ends (codes "l: line 1: MALFORMED\n") (codes "sums: none: cannot read\n"
+    ∷ codes "sums: l: 0 OK, 0 failed, 0 missing, 0 unreadable, 0 too long, 1 malformed, 0 skipped\n" ∷ []) (Ok 1)
+    no_failures
+unfolding visible chars digits encode_utf8 report_from
+followed_example = refl

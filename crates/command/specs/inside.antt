@@ -8,3 +8,4 @@ pub mod Cutting
 pub mod Listing
 pub mod Joining
 pub mod Hashed
+pub mod Reported

@@ -25,8 +25,8 @@ use sumlist::Tree;
 // A part is read in runs of at most so many chunks.
 const RUN: u64 = 1024;
 
-// Behind the last chunk of the longest message, of 2^64 - 1 bytes.
-const END: u64 = 1 << 54;
+/// Behind the last chunk of the longest message, of 2^64 - 1 bytes.
+pub(crate) const END: u64 = 1 << 54;
 
 impl<'i, 't, 'o, L: Feed, T: Tree, W: Sink> Session<'i, 't, 'o, L, T, W> {
     /// Prints the line of a part of the file: its bytes from the chunk `first` on, in so many chunks

@@ -75,32 +75,33 @@ impl<'i, 't, 'o, L: Feed, T: Tree, W: Sink> Session<'i, 't, 'o, L, T, W> {
             (E.shown err.old) (E.shown err.new) }
         ensures same { SameStreams self.old self.new }
     {
-        match self.hash_file(requested, parts, name) {
+        match self.hash_file(requested, parts, name, name) {
             Ok(()) => Ok(0),
             Err(fault) => settle(err, fault),
         }
     }
 
-    /// The name is judged before the file is opened, and the file read to its end before the first
-    /// byte of its line is written.
+    /// Prints the line of a file under a name, which is judged before the file is opened, and the file
+    /// read to its end before the first byte of its line is written.
     pub(crate) fn hash_file<'n>(
         &mut self,
         requested: Requested,
         parts: Option<u64>,
         name: &'n str,
+        file: &'n str,
     ) -> Result<(), Fault<'n>>
         requires digest { HasDigest requested }
         requires parts { IfSome parts IsPartSize }
-        ensures line { IfContent name.entry.now (⟦<Self as Streams>⟧.seen self.old) (λ content.
-            PrintsLine (digest_line requested) name.entry.now content result
+        ensures line { IfContent file.entry.now (⟦<Self as Streams>⟧.seen self.old) (λ content.
+            PrintsLine (digest_line requested) name.entry.now file.entry.now content result
             (W.shown self.old.out.now) (W.shown self.new.out.now)) }
-        ensures read { AfterReading name.entry.now result (⟦<Self as Streams>⟧.seen self.old)
+        ensures read { AfterReading file.entry.now result (⟦<Self as Streams>⟧.seen self.old)
             (⟦<Self as Streams>⟧.seen self.new) }
         ensures same { SameStreams self.old self.new }
     {
         match requested {
-            Requested::Digest(form) => self.hash_whole(form, parts, name),
-            Requested::Output(stretch) => self.hash_output(stretch, parts, name),
+            Requested::Digest(form) => self.hash_whole(form, parts, name, file),
+            Requested::Output(stretch) => self.hash_output(stretch, parts, name, file),
         }
     }
 
@@ -109,18 +110,19 @@ impl<'i, 't, 'o, L: Feed, T: Tree, W: Sink> Session<'i, 't, 'o, L, T, W> {
         form: Form,
         parts: Option<u64>,
         name: &'n str,
+        file: &'n str,
     ) -> Result<(), Fault<'n>>
         requires digest { IsInRange (alg_of form.hash) }
         requires parts { IfSome parts IsPartSize }
-        ensures line { IfContent name.entry.now (⟦<Self as Streams>⟧.seen self.old) (λ content.
-            PrintsLine (digest_line (Requested.Digest form)) name.entry.now content result
+        ensures line { IfContent file.entry.now (⟦<Self as Streams>⟧.seen self.old) (λ content.
+            PrintsLine (digest_line (Requested.Digest form)) name.entry.now file.entry.now content result
             (W.shown self.old.out.now) (W.shown self.new.out.now)) }
-        ensures read { AfterReading name.entry.now result (⟦<Self as Streams>⟧.seen self.old)
+        ensures read { AfterReading file.entry.now result (⟦<Self as Streams>⟧.seen self.old)
             (⟦<Self as Streams>⟧.seen self.new) }
         ensures same { SameStreams self.old self.new }
     {
         listable(form, name)?;
-        let tag = self.tag_of(form.hash, parts, name)?;
+        let tag = self.tag_of(form.hash, parts, file)?;
         write_listed(self.alloc, form, tag, name, self.out)
     }
 
@@ -131,18 +133,19 @@ impl<'i, 't, 'o, L: Feed, T: Tree, W: Sink> Session<'i, 't, 'o, L, T, W> {
         stretch: Stretch,
         parts: Option<u64>,
         name: &'n str,
+        file: &'n str,
     ) -> Result<(), Fault<'n>>
         requires digest { IsWithin stretch }
         requires parts { IfSome parts IsPartSize }
-        ensures line { IfContent name.entry.now (⟦<Self as Streams>⟧.seen self.old) (λ content.
-            PrintsLine (digest_line (Requested.Output stretch)) name.entry.now content result
+        ensures line { IfContent file.entry.now (⟦<Self as Streams>⟧.seen self.old) (λ content.
+            PrintsLine (digest_line (Requested.Output stretch)) name.entry.now file.entry.now content result
             (W.shown self.old.out.now) (W.shown self.new.out.now)) }
-        ensures read { AfterReading name.entry.now result (⟦<Self as Streams>⟧.seen self.old)
+        ensures read { AfterReading file.entry.now result (⟦<Self as Streams>⟧.seen self.old)
             (⟦<Self as Streams>⟧.seen self.new) }
         ensures same { SameStreams self.old self.new }
     {
         named(2 * BLAKE3_LEN, name)?;
-        let mut output = self.output_of(parts, name)?;
+        let mut output = self.output_of(parts, file)?;
         output.seek(stretch.position);
         Ok(write_output_beside(output, stretch.length, stretch.is_raw, name, self.out)?)
     }
@@ -223,8 +226,8 @@ impl<'i, 't, 'o, L: Feed, T: Tree, W: Sink> Session<'i, 't, 'o, L, T, W> {
     }
 }
 
-// Tells the fault of a file, and answers its status. Two faults end a run, and name no file.
-fn settle<'f, E: Sink>(err: &mut E, fault: Fault<'_>) -> Result<u8, Fault<'f>>
+/// Tells the fault of a file, and answers its status. Two faults end a run, and name no file.
+pub(crate) fn settle<'f, E: Sink>(err: &mut E, fault: Fault<'_>) -> Result<u8, Fault<'f>>
     ensures { Settles fault.entry result (E.shown err.old) (E.shown err.new) }
 {
     match fault {

@@ -16,6 +16,7 @@ mod listed;
 mod output;
 mod reports;
 mod session;
+mod starts;
 mod tags;
 mod verifying;
 mod visible;

@@ -1,47 +1,105 @@
-// The command `check`: the report on a list.
+// The command `check`: the reports on lists.
 
-ghost use Rattle.std.specs.Prelude.{◌≡◌, ◌≤◌, ◌+◌, ◌++◌, [], IfSome, Some, codes, true};
+ghost use Rattle.std.specs.Prelude.{◌≡◌, ◌≤◌, ◌+◌, ◌++◌, [], nat_lt, length, map, IfSome, Some, codes, true};
+ghost use Rattle.std.specs.Prelude.{if◌then◌else◌, option_map};
+ghost use Rattle.std.specs.List.{sum_by};
 ghost use Rattle.source.specs.Counts.{count_after};
 ghost use Rattle.source.specs.Written.{Writes};
+ghost use Rattle.sumlist.specs.Checked.{name_in};
 ghost use Rattle.sumlist.specs.Lines.{lines};
 ghost use Rattle.sumlist.specs.Tally.{summary_text};
-ghost use Rattle.command.specs.Checking.{CheckRuns};
-ghost use Rattle.command.specs.Lines.{content_of};
+ghost use Rattle.command.specs.Checking.{CheckRuns, ListRuns, heading};
+ghost use Rattle.command.specs.Lines.{content_of, is_input};
 ghost use Rattle.command.specs.Run.{TellsAll};
 ghost use Rattle.command.specs.inside.Faults.{noted_of, of_check};
 ghost use Rattle.command.specs.inside.Listing.{ListTaken};
-ghost use Rattle.command.specs.inside.Reading.{failed};
+ghost use Rattle.command.specs.inside.Reading.{Leaves, failed};
+ghost use Rattle.command.specs.inside.Reported.{PrintsReport};
 ghost use Rattle.command.specs.Streams.{IfTold, OpensAtMost, DoesRun, opens_from, opens_of};
 ghost use Rattle.command.specs.inside.Streams.{SameStreams};
 
+use crate::digests::settle;
 use crate::fault::Fault;
 use crate::session::{Session, Streams, open_file};
+use crate::visible::write_visible;
 use source::{Feed, Sink, WriteFailed, write_all};
-use sumlist::{CheckFault, Kind, Summary, Tree, check, write_summary};
+use sumlist::{CheckFault, Kind, ListForm, Summary, Tree, check_list, write_summary};
 
 impl<'i, 't, 'o, L: Feed, T: Tree, W: Sink> Session<'i, 't, 'o, L, T, W> {
-    /// Prints the report, tells how many lines had each outcome where that is asked for, and answers 0
-    /// where every line that is not skipped is OK, else 1. The faults are `CannotRead` of the list,
-    /// `TooLong` where it has more than 2^64 - 1 bytes, `CannotWrite` and `OutOfMemory`; what was
-    /// written before is a beginning of the report.
-    pub fn print_report<'n, E: Sink>(
+    /// Prints the report of each list, and goes on with the next after a list that can't be read to its
+    /// end, which is told on `err`. Untagged lines are of this kind; without one they are malformed. Of
+    /// several lists, a malformed line is told with its list's name. Where it is asked for, tells how many
+    /// lines of each list had each outcome. Answers 0 where every line that is not skipped is OK, else
+    /// 1. The faults are `CannotWrite` and `OutOfMemory`, after which no further list is read; what was
+    /// written before is a beginning of the reports.
+    pub fn print_reports<'n, E: Sink>(
         &mut self,
-        kind: Kind,
+        kind: Option<Kind>,
+        is_summed: bool,
+        lists: &[&'n str],
+        err: &mut E,
+    ) -> Result<u8, Fault<'n>>
+        ensures run { DoesRun (λ bytes files. CheckRuns is_summed files kind
+            (nat_lt 1 (length (map (λ n. n.now) lists.entry.now))) (map (λ n. n.now) lists.entry.now) bytes)
+            (λ notes. TellsAll (E.shown err.old) (E.shown err.new) notes)
+            result (⟦<Self as Streams>⟧.seen self.old) (⟦<Self as Streams>⟧.seen self.new) }
+        ensures opens { IfTold (⟦<Self as Streams>⟧.seen self.old) (λ bytes files. OpensAtMost
+            (sum_by (λ name. opens_of name + opens_from lines (content_of name bytes files))
+            (map (λ n. n.now) lists.entry.now))
+            (⟦<Self as Streams>⟧.seen self.old) (⟦<Self as Streams>⟧.seen self.new)) }
+        ensures same { SameStreams self.old self.new }
+    {
+        let are_named = lists.len() > 1;
+        let mut status: u8 = 0;
+        for name in lists {
+            let form = form_of(kind, are_named, name);
+            status = status.max(self.print_report(form, is_summed, name, err)?);
+        }
+        Ok(status)
+    }
+
+    // Prints the report of a list, or tells why it was not read to its end, and answers the status of
+    // either.
+    fn print_report<'f, E: Sink>(
+        &mut self,
+        form: ListForm<'_>,
+        is_summed: bool,
+        name: &str,
+        err: &mut E,
+    ) -> Result<u8, Fault<'f>>
+        ensures report { PrintsReport is_summed form.entry.kind (name_in form.entry) name.entry.now result
+            (⟦<Self as Streams>⟧.seen self.old) (⟦<Self as Streams>⟧.seen self.new)
+            (E.shown err.old) (E.shown err.new) }
+        ensures same { SameStreams self.old self.new }
+    {
+        match self.check_named(form, is_summed, name, err) {
+            Ok(status) => Ok(status),
+            Err(fault) => settle(err, fault),
+        }
+    }
+
+    // Checks the list of this name.
+    fn check_named<'n, E: Sink>(
+        &mut self,
+        form: ListForm<'_>,
         is_summed: bool,
         name: &'n str,
         err: &mut E,
     ) -> Result<u8, Fault<'n>>
-        ensures run { DoesRun (λ bytes files.
-            CheckRuns is_summed files kind name.entry.now (content_of name.entry.now bytes files))
+        ensures run { DoesRun (λ bytes files. ListRuns is_summed files form.entry.kind (name_in form.entry)
+            name.entry.now (content_of name.entry.now bytes files))
             (λ notes. TellsAll (E.shown err.old) (E.shown err.new) notes)
             result (⟦<Self as Streams>⟧.seen self.old) (⟦<Self as Streams>⟧.seen self.new) }
+        ensures gave { Leaves (is_input name.entry.now) result
+            (⟦<Self as Streams>⟧.seen self.old).bytes (⟦<Self as Streams>⟧.seen self.new).bytes }
+        ensures files { (⟦<Self as Streams>⟧.seen self.new).files ≡ (⟦<Self as Streams>⟧.seen self.old).files }
         ensures opens { IfTold (⟦<Self as Streams>⟧.seen self.old) (λ bytes files. OpensAtMost
             (opens_of name.entry.now + opens_from lines (content_of name.entry.now bytes files))
             (⟦<Self as Streams>⟧.seen self.old) (⟦<Self as Streams>⟧.seen self.new)) }
         ensures same { SameStreams self.old self.new }
     {
         if name == "-" {
-            return self.check_input(kind, is_summed, name, err);
+            return self.check_input(form, is_summed, name, err);
         }
         let mut list = open_file(name, 0, self.tree)?;
         let mut listed = Session {
@@ -50,7 +108,7 @@ impl<'i, 't, 'o, L: Feed, T: Tree, W: Sink> Session<'i, 't, 'o, L, T, W> {
             tree: self.tree,
             out: self.out,
         };
-        let answer = listed.check_input(kind, is_summed, name, err);
+        let answer = listed.check_input(form, is_summed, name, err);
         self.tree.close(list);
         answer
     }
@@ -58,44 +116,79 @@ impl<'i, 't, 'o, L: Feed, T: Tree, W: Sink> Session<'i, 't, 'o, L, T, W> {
     // Checks the list of this name, which is the session's input.
     fn check_input<'n, E: Sink>(
         &mut self,
-        kind: Kind,
+        form: ListForm<'_>,
         is_summed: bool,
         name: &'n str,
         err: &mut E,
     ) -> Result<u8, Fault<'n>>
         ensures list { IfTold (⟦<Self as Streams>⟧.seen self.old) (λ bytes files. ListTaken
-            (CheckRuns is_summed files kind name.entry.now (Some bytes)) name.entry.now bytes result
+            (ListRuns is_summed files form.entry.kind (name_in form.entry) name.entry.now (Some bytes))
+            name.entry.now bytes result
             (W.shown self.old.out.now) (W.shown self.new.out.now) (E.shown err.old) (E.shown err.new)
             (T.failure_count self.old.tree.now) (T.failure_count self.new.tree.now)) }
         ensures counted { IfSome (L.remaining self.old.input.now) (λ bytes. L.failure_count self.new.input.now
             ≡ count_after (L.failure_count self.old.input.now) (failed true (Some bytes) result).input) }
+        ensures gave { Leaves true result (L.remaining self.old.input.now) (L.remaining self.new.input.now) }
+        ensures files { T.files self.new.tree.now ≡ T.files self.old.tree.now }
         ensures opens { IfTold (⟦<Self as Streams>⟧.seen self.old) (λ bytes _. OpensAtMost
             (opens_from lines (Some bytes)) (⟦<Self as Streams>⟧.seen self.old) (⟦<Self as Streams>⟧.seen self.new)) }
         ensures same { SameStreams self.old self.new }
     {
-        let answer = check(self.alloc, self.input, kind, self.tree, self.out);
-        note(is_summed, &answer, err);
+        let answer = check_list(self.alloc, self.input, form, self.tree, self.out);
+        note(form.name, is_summed, &answer, err);
         status_of(answer, name)
     }
 }
 
+// How a list of this name is read: its report tells the name where there are several lists.
+fn form_of(kind: Option<Kind>, are_named: bool, name: &str) -> ListForm<'_>
+    ensures kind { result.kind ≡ kind }
+    ensures name { name_in result ≡ (if are_named then Some name.now else None) }
+{
+    let name = if are_named { Some(name) } else { None };
+    ListForm { kind, name }
+}
+
 // Tells the numbers of a list on standard error, in one text: what is not taken of it is dropped.
-fn note<E: Sink>(is_summed: bool, answer: &Result<Summary, CheckFault>, err: &mut E)
-    ensures { TellsAll (E.shown err.old) (E.shown err.new) (noted_of is_summed answer.now) }
+fn note<E: Sink>(
+    list: Option<&str>,
+    is_summed: bool,
+    answer: &Result<Summary, CheckFault>,
+    err: &mut E,
+)
+    ensures { TellsAll (E.shown err.old) (E.shown err.new)
+        (noted_of is_summed (option_map (λ n. n.now) list.entry) answer.now) }
 {
     match answer {
         Ok(summary) if is_summed => {
-            let _ = write_note(summary, err);
+            let _ = write_note(list, summary, err);
         }
         _ => {}
     }
 }
 
-fn write_note<E: Sink>(summary: &Summary, err: &mut E) -> Result<(), WriteFailed>
-    ensures { Writes result (E.shown err.old) (E.shown err.new) (codes "sums: " ++ summary_text summary.now) }
+fn write_note<E: Sink>(
+    list: Option<&str>,
+    summary: &Summary,
+    err: &mut E,
+) -> Result<(), WriteFailed>
+    ensures { Writes result (E.shown err.old) (E.shown err.new)
+        (codes "sums: " ++ (heading (option_map (λ n. n.now) list.entry) ++ summary_text summary.now)) }
 {
     write_all(err, b"sums: ")?;
+    write_heading(list, err)?;
     write_summary(summary, err)
+}
+
+// Writes the name that a list has in its report, where it has one.
+fn write_heading<E: Sink>(list: Option<&str>, err: &mut E) -> Result<(), WriteFailed>
+    ensures { Writes result (E.shown err.old) (E.shown err.new) (heading (option_map (λ n. n.now) list.entry)) }
+{
+    let Some(name) = list else {
+        return Ok(());
+    };
+    write_visible(name, err)?;
+    write_all(err, b": ")
 }
 
 fn status_of(answer: Result<Summary, CheckFault>, name: &str) -> Result<u8, Fault<'_>>

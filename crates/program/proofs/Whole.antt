@@ -25,7 +25,8 @@ use Rattle.program.specs.Program.{IsAnswered, ProgramRuns, RequestRuns, TaskRuns
 
 -- what `line` promises of its answer, as one fact
 pub read_as : (words : List Text) (read : Result Request WordsFault)
-    → IfOk read (λ r. OfProgram (λ app. Reads app words (given_of r))) → OnOk read (OfProgram (λ app. fault_of app words ≡ []))
+    → IfOk read (λ r. OfProgram (λ app. Reads app words (given_of r))) → OnOk read (OfProgram (λ app. fault_of app
+    words ≡ []))
     → ((e : _) → read ≡ Err (words_fault.Words e) → OfProgram (λ app. IsAmong (kind_of e) (fault_of app words)))
     → IsRead words read
 read_as words (Ok r) reads passes fault = (reads, passes)

@@ -1,12 +1,12 @@
 -- What a run of the program prints, tells and answers, by its words, standard input and files.
-use Rattle.std.specs.Prelude.{◌⊎◌, ◌≡◌, ℕ, List, [], Some, MatchResult}
+use Rattle.std.specs.Prelude.{◌⊎◌, ◌≡◌, ℕ, List, [], MatchResult, nat_lt, length}
 use Rattle.source.specs.Written.{Done, Failed, Shown}
 use Rattle.sumlist.specs.Report.{Files}
 use Rattle.request.specs.CommandLine.{ErrorKind, Given, IsAmong, IsWrong, OfProgram, Reads, Text, fault_of}
-use Rattle.task.specs.Tasks.{Asked, asked, checks, compares, cuts, derives, hashes, in_file, joins, tags, these}
+use Rattle.task.specs.Tasks.{Asked, asked, checks, cuts, derives, hashes, in_file, joins, prints, tags, these, divides}
 use Rattle.command.specs.Checking.{CheckRuns}
 use Rattle.command.specs.Run.{Counted, Run, Runs, Tells, no_failures, refused_by}
-use Rattle.command.specs.Cutting.{PartRuns}
+use Rattle.command.specs.Cutting.{PartRuns, StartsRuns}
 use Rattle.command.specs.Hashing.{HashesAll, HashesListed}
 use Rattle.command.specs.Joining.{JoinRuns}
 use Rattle.command.specs.Keying.{KdfRuns, LineRuns, MacRuns}
@@ -19,14 +19,15 @@ TaskRuns (hashes wanted parts (these names)) files input run =
     HashesAll (digest_line wanted) files input names run
 TaskRuns (hashes wanted parts (in_file list)) files input run =
     HashesListed (digest_line wanted) files list (content_of list input files) run
-TaskRuns (compares wanted parts digest name) files input run =
-    LineRuns (Some digest) (digest_line wanted) name input files run
+TaskRuns (prints requested parts wanted name file) files input run =
+    LineRuns wanted (digest_line requested) name file input files run
 TaskRuns (cuts first chunks name) files input run = PartRuns first chunks name files input run
+TaskRuns (divides chunks name) files input run = StartsRuns chunks name files run
 TaskRuns (joins stretch bytes name lists) files input run = JoinRuns stretch bytes name lists files input run
 TaskRuns (tags mac is_raw key wanted name) files input run = MacRuns mac is_raw key wanted name files input run
 TaskRuns (derives derived is_raw name) files input run = KdfRuns derived is_raw name files run
-TaskRuns (checks kind is_summed list) files input run =
-    CheckRuns is_summed files kind list (content_of list input files) run
+TaskRuns (checks kind is_summed lists) files input run =
+    CheckRuns is_summed files kind (nat_lt 1 (length lists)) lists input run
 
 -- the run of a request: its task's, or the first fault of its settings, or want of memory before either
 abbrev pub RequestRuns : Given → Files → List ℕ → Run → Type 0

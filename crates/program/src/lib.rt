@@ -98,17 +98,19 @@ fn run_request<'n, 'i, 't, 'o, L: Feed, T: Tree, W: Sink, E: Sink>(
             Names::Given(files) => session.print_digests(requested, parts, files.as_slice(), err),
             Names::From(list) => session.print_digests_from(requested, parts, list, err),
         },
-        Task::Compare {
+        Task::Line {
             requested,
             parts,
-            digest,
+            wanted,
+            name,
             file,
-        } => session.print_comparison(requested, parts, digest.as_slice(), file),
+        } => session.print_hashed(requested, parts, wanted, name, file),
         Task::Part {
             first,
             chunks,
             file,
         } => session.print_part(first, chunks, file),
+        Task::Starts { chunks, file } => session.print_starts(chunks, file),
         Task::Join {
             stretch,
             bytes,
@@ -129,8 +131,8 @@ fn run_request<'n, 'i, 't, 'o, L: Feed, T: Tree, W: Sink, E: Sink>(
         Task::Check {
             kind,
             is_summed,
-            list,
-        } => session.print_report(kind, is_summed, list, err),
+            lists,
+        } => session.print_reports(kind, is_summed, lists.as_slice(), err),
     }
 }
 

@@ -37,9 +37,9 @@ short_rule x id = record (new_rule id) { short = Some x; value_names = 1 }
 abbrev pub is_number : Rule → Rule
 is_number a = record a { parser = Some (vp.Unsigned 0 18446744073709551615) }
 
--- `-a ALG`, which has to be there
+-- `-a ALG`
 abbrev pub algorithm_rule : NameList → Rule
-algorithm_rule names = record (short_rule 97 (codes "algorithm")) { required = true; parser = Some (vp.Names names) }
+algorithm_rule names = record (short_rule 97 (codes "algorithm")) { parser = Some (vp.Names names) }
 
 -- `-l N`
 abbrev pub length_rule : Rule
@@ -74,39 +74,40 @@ abbrev pub with_rules : App → List Rule → App
 with_rules = fold with_rule
 
 -- `hash -a ALG [-l N] [--seek N] [--parts N] [--salt HEX] [--personal HEX] [--verify HEX] [--tag] [--raw]
---     [--progress] [--files0-from F] [FILE]..`
+--     [--progress] [--files0-from F] [--name NAME] [FILE]..`
 abbrev pub hash_app : NameList → App
 hash_app names = with_rules (new_app (codes "hash"))
-    (algorithm_rule names ∷ length_rule ∷ number_rule (codes "seek") ∷ number_rule (codes "parts")
+    (required_rule (algorithm_rule names) ∷ length_rule ∷ number_rule (codes "seek") ∷ number_rule (codes "parts")
     ∷ text_rule (codes "salt") ∷ text_rule (codes "personal") ∷ text_rule (codes "verify") ∷ flag_rule (codes "tag")
-    ∷ flag_rule (codes "raw") ∷ flag_rule (codes "progress") ∷ text_rule (codes "files0-from") ∷ files_rule ∷ [])
+    ∷ flag_rule (codes "raw") ∷ flag_rule (codes "progress") ∷ text_rule (codes "files0-from")
+    ∷ text_rule (codes "name") ∷ files_rule ∷ [])
 
 -- `mac -a MAC [--key HEX] [--key-file F] [-l N] [--verify HEX] [--raw] [--progress] [FILE]`
 abbrev pub mac_app : NameList → App
-mac_app names = with_rules (new_app (codes "mac")) (algorithm_rule names ∷ text_rule (codes "key")
+mac_app names = with_rules (new_app (codes "mac")) (required_rule (algorithm_rule names) ∷ text_rule (codes "key")
     ∷ text_rule (codes "key-file") ∷ length_rule ∷ text_rule (codes "verify") ∷ flag_rule (codes "raw")
     ∷ flag_rule (codes "progress")
     ∷ file_rule ∷ [])
 
 -- `kdf -a ALG --ikm-file F [--salt HEX] [--info HEX] [--context TEXT] -l N [--raw]`
 abbrev pub kdf_app : NameList → App
-kdf_app names = with_rules (new_app (codes "kdf")) (algorithm_rule names
+kdf_app names = with_rules (new_app (codes "kdf")) (required_rule (algorithm_rule names)
     ∷ required_rule (text_rule (codes "ikm-file")) ∷ text_rule (codes "salt") ∷ text_rule (codes "info")
     ∷ text_rule (codes "context") ∷ required_rule length_rule ∷ flag_rule (codes "raw") ∷ [])
 
--- `check -a ALG [--summary] [--progress] LIST`
+-- `check [-a ALG] [--summary] [--progress] [LIST]..`
 abbrev pub check_app : NameList → App
 check_app names = with_rules (new_app (codes "check")) (algorithm_rule names ∷ flag_rule (codes "summary")
-    ∷ flag_rule (codes "progress") ∷ required_rule file_rule ∷ [])
+    ∷ flag_rule (codes "progress") ∷ files_rule ∷ [])
 
--- `part -a ALG [--first C] [--chunks N] [--progress] [FILE]`
+-- `part -a ALG [--first C] [--chunks N] [--list] [--progress] [FILE]`
 abbrev pub part_app : NameList → App
-part_app names = with_rules (new_app (codes "part")) (algorithm_rule names ∷ number_rule (codes "first")
-    ∷ number_rule (codes "chunks") ∷ flag_rule (codes "progress") ∷ file_rule ∷ [])
+part_app names = with_rules (new_app (codes "part")) (required_rule (algorithm_rule names) ∷ number_rule (codes "first")
+    ∷ number_rule (codes "chunks") ∷ flag_rule (codes "list") ∷ flag_rule (codes "progress") ∷ file_rule ∷ [])
 
 -- `join -a ALG [--name NAME] [--bytes N] [-l N] [--seek N] [--progress] [PARTS]..`
 abbrev pub join_app : NameList → App
-join_app names = with_rules (new_app (codes "join")) (algorithm_rule names ∷ text_rule (codes "name")
+join_app names = with_rules (new_app (codes "join")) (required_rule (algorithm_rule names) ∷ text_rule (codes "name")
     ∷ number_rule (codes "bytes") ∷ length_rule ∷ number_rule (codes "seek") ∷ flag_rule (codes "progress")
     ∷ files_rule ∷ [])
 

@@ -23,7 +23,7 @@ pub use Rattle.std.proofs.lemmas.Result.{MatchResult-from_err, err_from_is_err_a
 pub use Rattle.std.proofs.lemmas.Slice.Eq.{bytes_eq-Decides}
 pub use Rattle.std.specs.Io.KnownBytes.{Consumes}
 pub use Rattle.std.specs.List.{All}
-pub use Rattle.sumlist.specs.Checked.{ListChecked}
+pub use Rattle.sumlist.specs.Checked.{ListChecked, name_in}
 pub use Rattle.sumlist.specs.Entry.{Fits, IsEntry, Listing, written}
 pub use Rattle.sumlist.specs.Escape.{SpellsByte, SpellsName, escape_of, escaped, is_special, lead}
 pub use Rattle.sumlist.specs.Line.{HasForm, IsLine, IsMalformed, Parts, Spells, Says, core}
@@ -32,6 +32,7 @@ pub use Rattle.sumlist.specs.Report.{AllAllowed, Allowed, Files, IsAllowed, Outc
 pub use Rattle.sumlist.specs.Report.{told, unreadable_count, with_line}
 pub use Rattle.sumlist.specs.Tagged.{IsLabel, Labelled, label_of, tagged, tagged_len}
 pub use Rattle.sumlist.specs.declared.checking.CheckFault.{CheckFault}
+pub use Rattle.sumlist.specs.declared.checking.ListForm.{ListForm}
 pub use Rattle.sumlist.specs.declared.kind.Kind.{Kind}
 pub use Rattle.sumlist.specs.declared.summary.Mark.{Mark}
 pub use Rattle.sumlist.specs.declared.summary.Summary.{Summary}

@@ -30,10 +30,10 @@ line_is line = either_by _ (Decides-like _ (λ p. record { one = p.0; within = o
 blank_cases : (core : List ℕ) → Either (IsBlank core)
 blank_cases core = either_by _ (Decides-or _ _ (bytes_eq-Decides core []) (Decides-eqb (slice_index core 0) 35))
 
-abbrev LineCase : List ℕ → Kind → Type 0
+abbrev LineCase : List ℕ → Option Kind → Type 0
 LineCase line kind = IsSkipped line ⊎ (((e : Listing) × Spells line kind e) ⊎ IsMalformed line kind)
 
-module _ (line : List ℕ) (kind : Kind) where
+module _ (line : List ℕ) (kind : Option Kind) where
   -- no line spells two entries
   pub spells_one : (d e : Listing) → Spells line kind d → Spells line kind e → d ≡ e
   spells_one d e p q =

@@ -46,12 +46,13 @@ cut-some (c ∷ text) p e = grind (arith, nat_tests, cut-some text)
 
 -- ---- the number of digits
 
-alg_of-some : (kind : Kind) (n : ℕ) (a : Alg) → alg_of kind n ≡ Some a
-    → (kind_of a ≡ kind) × IsInRange a × (n ≡ 2 * tag_len a)
+alg_of-some : (kind : Option Kind) (n : ℕ) (a : Alg) → alg_of kind n ≡ Some a
+    → (kind ≡ Some (kind_of a)) × IsInRange a × (n ≡ 2 * tag_len a)
 alg_of-some kind n a e = grind (arith, nat_tests)
 
-alg_of-is : (k : Kind) (n : ℕ) (a : Alg) → kind_of a ≡ k → IsInRange a → n ≡ 2 * tag_len a → alg_of k n ≡ Some a
-alg_of-is k n a is r e = rw (sym is, e) (grind (arith, nat_tests))
+alg_of-is : (k : Option Kind) (n : ℕ) (a : Alg) → k ≡ Some (kind_of a) → IsInRange a → n ≡ 2 * tag_len a
+    → alg_of k n ≡ Some a
+alg_of-is k n a is r e = rw (is, e) (grind (arith, nat_tests))
 
 -- ---- the label
 
@@ -127,8 +128,9 @@ end_cut-none rest n none = none_if (end_cut n rest) (λ p e. none p.0 p.1 (end_c
 mark-Decides : (mark : ℕ) → Decides (is_mark mark) (IsMark mark)
 mark-Decides mark = Decides-or _ _ (Decides-eqb mark 32) (Decides-eqb mark 42)
 
-pub plain_form : (kind : Kind) (ds : List ℕ) (c : ℕ) (a : Alg) (tag body : List ℕ) → IsMark c → kind_of a ≡ kind
-    → IsInRange a → length ds ≡ 2 * tag_len a → decode_of ds ≡ Ok tag → Parts (ds ++ 32 ∷ c ∷ body) kind a tag body
+pub plain_form : (kind : Option Kind) (ds : List ℕ) (c : ℕ) (a : Alg) (tag body : List ℕ) → IsMark c
+    → kind ≡ Some (kind_of a) → IsInRange a → length ds ≡ 2 * tag_len a → decode_of ds ≡ Ok tag
+    → Parts (ds ++ 32 ∷ c ∷ body) kind a tag body
 plain_form kind ds c a tag body m k r s t =
     record { digits = ds; mark = c; whole = refl; marked = m; kind_is = k; range = r; sized = s; tag_is = t }
 
@@ -137,7 +139,7 @@ pub labelled_form : (l ds : List ℕ) (a : Alg) (tag body : List ℕ) → IsInRa
 labelled_form l ds a tag body r n s t =
     record { label = l; digits = ds; whole = refl; range = r; names = n; sized = s; tag_is = t }
 
-module _ (kind : Kind) where
+module _ (kind : Option Kind) where
   with_tag-some : (text : List ℕ) (a : Alg) (digits body : List ℕ) (f : Form)
       → ((t : List ℕ) → decode_of digits ≡ Ok t → HasForm text kind a t body) → with_tag a digits body ≡ Some f
       → HasForm text kind f.0 f.1 f.2

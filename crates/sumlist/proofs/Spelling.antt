@@ -4,7 +4,7 @@ use Rattle.sumlist.proofs.Common.{ap, length-append, if◌then◌else◌, ◌∙
 use Rattle.sumlist.proofs.Common.{nat_tests, decode_of-encode_lower, length-encode_with, encode_lower, lower_digits}
 use Rattle.sumlist.proofs.Common.{Alg, Kind, Listing, IsEntry, escaped, escape_of, needs_escape}
 use Rattle.sumlist.proofs.Common.{SpellsName, HasForm, IsLine, Says, core, IsBlank, Spells, IsLabel, label_of}
-use Rattle.sumlist.proofs.Common.{closing, tagged_len, ℕ}
+use Rattle.sumlist.proofs.Common.{closing, tagged_len, Option, Some, ℕ}
 use Rattle.std.specs.Prelude.{not}
 use Rattle.std.specs.List.{list_all}
 use Rattle.std.proofs.lemmas.List.Elements.{All-contains, All-head}
@@ -46,7 +46,7 @@ core_whole (c ∷ xs) all =
 
 -- ---- a line of a word, a space, and more
 
-spells : (line : List ℕ) (kind : Kind) (e : Listing) → Says line kind e → IsEntry e → Inner line
+spells : (line : List ℕ) (kind : Option Kind) (e : Listing) → Says line kind e → IsEntry e → Inner line
     → (IsBlank line → ⊥) → length line ≤ 65536 → Spells line kind e
 spells line kind e stated i all told fits =
     let whole = core_whole line all in
@@ -59,7 +59,7 @@ not_blank [] rest w b = grind arith
 not_blank (x ∷ word) rest w b = let above = (All-head InWord x word w).0 in grind arith
 
 -- where such a text has a form for each body, it spells the entry whose name is the body, escaped
-module _ (e : Listing) (kind : Kind) (word : List ℕ) (more : List ℕ → List ℕ)
+module _ (e : Listing) (kind : Option Kind) (word : List ℕ) (more : List ℕ → List ℕ)
     (has : (body : List ℕ) → HasForm (word ++ 32 ∷ more body) kind e.alg e.tag body) where
   spells_by : (b : Bool) → needs_escape e.name ≡ b → IsEntry e → IsWord word
       → Inner (word ++ 32 ∷ more (escaped e.name))
@@ -73,13 +73,13 @@ module _ (e : Listing) (kind : Kind) (word : List ℕ) (more : List ℕ → List
 
 -- ---- the plain line
 
-pub written_spells : (e : Listing) → IsEntry e → Spells (written_line e) (kind_of e.alg) e
+pub written_spells : (e : Listing) → IsEntry e → Spells (written_line e) (Some (kind_of e.alg)) e
 written_spells e i =
     let digits = encode_lower e.tag in
     let value = decode_of-encode_lower e.tag i.bytes in
     let word = digits_word digits e.tag value in
     let sized = length-encode_with lower_digits e.tag ∙ ap (λ n. 2 * n) i.sized.1 in
-    spells_by e (kind_of e.alg) digits (λ body. 32 ∷ body)
+    spells_by e (Some (kind_of e.alg)) digits (λ body. 32 ∷ body)
     (λ body. inl (plain_form _ digits 32 e.alg e.tag body (inl refl) refl i.sized.0 sized value))
     (needs_escape e.name) refl i word (simp (list_all-append, word_inner digits word, escaped_inner e.name))
     (omega (arith, length-append {A = ℕ}, sized, i.sized.1, i.fits.within))
@@ -90,7 +90,7 @@ written_spells e i =
 label_named : (a : Alg) → IsLabel (label_of a) a
 label_named a = grind (arith, nat_tests)
 
-pub tagged_spells : (e : Listing) (kind : Kind) → IsEntry e → tagged_len e.alg e.name ≤ 65536
+pub tagged_spells : (e : Listing) (kind : Option Kind) → IsEntry e → tagged_len e.alg e.name ≤ 65536
     → Spells (tagged_line e) kind e
 tagged_spells e kind i fits =
     let digits = encode_lower e.tag in

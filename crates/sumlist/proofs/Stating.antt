@@ -1,6 +1,6 @@
 -- A core states the entry that its reading finds, and nothing else, and the entry's tag fits its algorithm.
 use Rattle.sumlist.proofs.Common.{◌++◌, ◌∙◌, ◌∷◌, ◌≡◌, ◌≤◌, Alg, Bool, HasForm, IsBytes, IsInRange, Kind, List}
-use Rattle.sumlist.proofs.Common.{Listing, Some, Says, [], ap, arith, closing, core, decode_of-ok}
+use Rattle.sumlist.proofs.Common.{Listing, Option, Some, Says, [], ap, arith, closing, core, decode_of-ok}
 use Rattle.sumlist.proofs.Common.{false, inl, inr, length, length-append, name_of, nat_tests, refl, subst}
 use Rattle.sumlist.proofs.Common.{sym, tag_len, text, true, ℕ}
 use Rattle.std.proofs.lemmas.List.Elements.{All-head}
@@ -12,18 +12,18 @@ use Rattle.sumlist.proofs.Words.{InWord, IsWord, digits_word, label_word}
 
 -- ---- the tag
 
-form_fit : (text : List ℕ) (kind : Kind) (a : Alg) (t x : List ℕ) → HasForm text kind a t x
+form_fit : (text : List ℕ) (kind : Option Kind) (a : Alg) (t x : List ℕ) → HasForm text kind a t x
     → IsInRange a × (length t ≡ tag_len a) × IsBytes t
 form_fit text kind a t x h = elim h [
   | inl p ↦ let d = decode_of-ok p.digits t p.tag_is in (p.range, omega (arith, p.sized, d.2), d.3)
   | inr p ↦ let d = decode_of-ok p.digits t p.tag_is in (p.range, omega (arith, p.sized, d.2), d.3)
 ]
 
-pub stated_fit : (core : List ℕ) (kind : Kind) (e : Listing) → Says core kind e
+pub stated_fit : (core : List ℕ) (kind : Option Kind) (e : Listing) → Says core kind e
     → IsInRange e.alg × (length e.tag ≡ tag_len e.alg) × IsBytes e.tag
 stated_fit core kind e s = elim s [ inl p ↦ form_fit _ kind _ _ _ p | inr p ↦ form_fit _ kind _ _ _ p.3 ]
 
-pub form_len : {text : List ℕ} {kind : Kind} {a : Alg} {t x : List ℕ} → HasForm text kind a t x
+pub form_len : {text : List ℕ} {kind : Option Kind} {a : Alg} {t x : List ℕ} → HasForm text kind a t x
     → length x ≤ length text
 form_len h = grind (arith, length-append {A = ℕ})
 
@@ -40,7 +40,7 @@ no_slash : (word more : List ℕ) → IsWord word → is_slashed (word ++ 32 ∷
 no_slash [] more w = refl
 no_slash (c ∷ word) more w = let first = All-head InWord c word w in grind (arith, nat_tests)
 
-module _ (kind : Kind) where
+module _ (kind : Option Kind) where
   not_slashed : (core : List ℕ) (a : Alg) (t x : List ℕ) → HasForm core kind a t x → is_slashed core ≡ false
   not_slashed core a t x (inl p) =
       ap is_slashed p.whole ∙ no_slash p.digits (p.mark ∷ x) (digits_word p.digits t p.tag_is)

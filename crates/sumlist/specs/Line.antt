@@ -1,6 +1,6 @@
 -- What a line of a list means.
 use Rattle.std.specs.Prelude.{◌⊎◌, ◌≡◌, ℕ, ◌*◌, ◌-◌, ◌≤◌, List, [], ◌∷◌, ◌++◌, length, take, slice_index}
-use Rattle.std.specs.Prelude.{if◌then◌else◌, ◌==◌, Ok, Contains}
+use Rattle.std.specs.Prelude.{if◌then◌else◌, ◌==◌, Ok, Contains, Option, Some}
 use Rattle.hex.specs.Hex.{decode_of}
 use Rattle.source.specs.declared.alg.Alg.{Alg}
 use Rattle.source.specs.Digest.{tag_len, IsInRange}
@@ -25,36 +25,36 @@ abbrev pub IsSkipped : List ℕ → Type 0
 IsSkipped line = IsLine line × ((core line ≡ []) ⊎ (slice_index (core line) 0 ≡ 35))
 
 -- digits, a space, a space or `*`, and a body: the digits are the tag's, in either case, and their number tells
--- which algorithm of the kind it is
-pub record Parts (text : List ℕ) (kind : Kind) (alg : Alg) (tag body : List ℕ) : Type 0 where
+-- which algorithm of the kind it is; without a kind there are no such texts
+pub record Parts (text : List ℕ) (kind : Option Kind) (alg : Alg) (tag body : List ℕ) : Type 0 where
   pub digits : List ℕ
   pub mark : ℕ
   pub whole : text ≡ digits ++ 32 ∷ mark ∷ body
   pub marked : (mark ≡ 32) ⊎ (mark ≡ 42)
-  pub kind_is : kind_of alg ≡ kind
+  pub kind_is : kind ≡ Some (kind_of alg)
   pub range : IsInRange alg
   pub sized : length digits ≡ 2 * tag_len alg
   pub tag_is : decode_of digits ≡ Ok tag
 
 -- a text without a name's escapes, in one of the two forms
-abbrev pub HasForm : List ℕ → Kind → Alg → List ℕ → List ℕ → Type 0
+abbrev pub HasForm : List ℕ → Option Kind → Alg → List ℕ → List ℕ → Type 0
 HasForm text kind alg tag body = Parts text kind alg tag body ⊎ Labelled text alg tag body
 
 -- a core whose body is the name itself, or which begins with a backslash and whose body spells the name
-abbrev pub Says : List ℕ → Kind → Listing → Type 0
+abbrev pub Says : List ℕ → Option Kind → Listing → Type 0
 Says core kind e =
     HasForm core kind e.alg e.tag e.name
     ⊎ ((text : List ℕ) × (body : List ℕ)
     × (core ≡ 92 ∷ text) × HasForm text kind e.alg e.tag body × SpellsName body e.name)
 
 -- a line spells an entry
-pub record Spells (line : List ℕ) (kind : Kind) (e : Listing) : Type 0 where
+pub record Spells (line : List ℕ) (kind : Option Kind) (e : Listing) : Type 0 where
   pub is_line : IsLine line
   pub not_skipped : IsSkipped line → ⊥
   pub is_entry : IsEntry e
   pub form : Says (core line) kind e
 
 -- a line that is neither skipped nor spells an entry
-pub record IsMalformed (line : List ℕ) (kind : Kind) : Type 0 where
+pub record IsMalformed (line : List ℕ) (kind : Option Kind) : Type 0 where
   pub not_skipped : IsSkipped line → ⊥
   pub spells_none : (e : Listing) → Spells line kind e → ⊥

@@ -1,15 +1,15 @@
 -- Each line means one thing.
-use Rattle.std.specs.Prelude.{◌⊎◌, ◌≡◌, ℕ, List}
+use Rattle.std.specs.Prelude.{◌⊎◌, ◌≡◌, ℕ, List, Option}
 use Rattle.sumlist.specs.Entry.{Listing}
 use Rattle.sumlist.specs.Line.{IsMalformed, IsSkipped, Spells}
 use Rattle.sumlist.specs.declared.kind.Kind.{Kind}
 
 -- a line is skipped, spells an entry and no other, or is malformed
 abbrev pub OneMeaning : Type 0
-OneMeaning = (line : List ℕ) (kind : Kind) → IsSkipped line
+OneMeaning = (line : List ℕ) (kind : Option Kind) → IsSkipped line
     ⊎ (((e : Listing) × Spells line kind e × ((d : Listing) → Spells line kind d → d ≡ e)) ⊎ IsMalformed line kind)
 
 -- and no two of these
 abbrev pub NoOtherMeaning : Type 0
-NoOtherMeaning = (line : List ℕ) (kind : Kind) → (IsSkipped line → IsMalformed line kind → ⊥)
+NoOtherMeaning = (line : List ℕ) (kind : Option Kind) → (IsSkipped line → IsMalformed line kind → ⊥)
     × ((e : Listing) → Spells line kind e → (IsSkipped line → ⊥) × (IsMalformed line kind → ⊥))

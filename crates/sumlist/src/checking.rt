@@ -1,10 +1,10 @@
 // Lists checked against the files that they name.
 
 ghost use Rattle.std.specs.Prelude.{◌≡◌, ◌+◌, ◌-◌, ◌<◌, ◌≤◌, ◌^◌, ◌↔◌, ℕ, List, [], Option, Result, false, true};
-ghost use Rattle.std.specs.Prelude.{length, IfOk, IfSome, IsErr, IsErrOf, MatchResult, OnOk};
+ghost use Rattle.std.specs.Prelude.{length, None, Some, IfOk, IfSome, IsErr, IsErrOf, MatchResult, OnOk};
 ghost use Rattle.std.specs.Io.KnownBytes.{Consumes, IsAtEnd};
 ghost use Rattle.source.specs.Counts.{count_after};
-ghost use Rattle.sumlist.specs.Checked.{CountsOnly, ListChecked};
+ghost use Rattle.sumlist.specs.Checked.{CountsOnly, ListChecked, name_in};
 ghost use Rattle.sumlist.specs.Lines.{IsKept, lines};
 ghost use Rattle.sumlist.specs.inside.Ahead.{Checks, OpensEach};
 ghost use Rattle.sumlist.specs.inside.Stepped.{LineChecked, StepCounts, fault_of};
@@ -12,11 +12,12 @@ ghost use Rattle.sumlist.specs.Tally.{entries_of};
 ghost use Rattle.sumlist.specs.inside.Marks.{entry_by, lines_of, part};
 ghost use Rattle.sumlist.specs.declared.checking.CheckFault.TheVariants.{OutOfMemory, Write};
 
+use crate::line::read_line;
 use crate::piece_reader::PieceReader;
 use crate::report::{write_malformed, write_verdict};
 use crate::summary::Mark;
 use crate::verdict::{Verdict, check_entry};
-use crate::{Kind, Line, LineFault, Summary, Tree, parse_line};
+use crate::{Kind, Line, LineFault, Summary, Tree};
 use source::{Feed, Sink, SourceFault, WriteFailed};
 use std::alloc::{AllocError, Global};
 use thiserror::Error;
@@ -66,6 +67,16 @@ impl From<AllocError> for CheckFault {
     }
 }
 
+/// How a list is read, and what its report tells.
+#[derive(Clone, Copy, Debug, PartialEq, Eq)]
+pub struct ListForm<'a> {
+    /// The kind of its untagged lines. Without one they are malformed.
+    pub kind: Option<Kind>,
+    /// The name of the list, which its report tells of malformed lines: `NAME: line N: MALFORMED`, the name
+    /// in its escaped form. Without one it is `line N: MALFORMED`.
+    pub name: Option<&'a str>,
+}
+
 /// Checks a list: reads it to its end, compares the file of each entry with the entry's tag, and
 /// writes the report, which has a line for each line that is not skipped. Each line whose LF was read
 /// is checked, and its report written, before the next read of the list. Of the list it keeps one read
@@ -83,7 +94,42 @@ pub fn check<L: Feed, T: Tree, W: Sink>(
     out: &mut W,
 ) -> Result<Summary, CheckFault>
     ensures checked { IfSome (L.remaining list.old) (λ bytes. IfSome (T.files tree.old) (λ files.
-        ListChecked files kind bytes result
+        ListChecked files (Some kind) None bytes result
+        (T.failure_count tree.old) (T.failure_count tree.new)
+        (W.shown out.old).contents (W.shown out.new).contents)) }
+    ensures unreadable { IfOk result (λ s. T.failure_count tree.new
+        ≡ count_after (T.failure_count tree.old) s.unreadable) }
+    ensures opens { IfOk result (λ s. T.opens tree.new ≤ T.opens tree.old + entries_of s) }
+    ensures once { IfSome (L.remaining list.old) (λ bytes.
+        T.opens tree.new ≤ T.opens tree.old + length (lines bytes)) }
+    ensures kept { T.files tree.new ≡ T.files tree.old }
+
+    ensures end { OnOk result (IsAtEnd (L.remaining list.new)) }
+
+    // When each fault comes.
+    ensures reads { CountsOnly CheckFault.ListRead result (L.failure_count list.old) (L.failure_count list.new) }
+    ensures writes { CountsOnly CheckFault.Write result (W.shown out.old).failures (W.shown out.new).failures }
+    ensures gave { IfSome (L.remaining list.old) (λ _. (given : List ℕ)
+        × Consumes (L.remaining list.old) (L.remaining list.new) given
+        × (IsErrOf result CheckFault.ListTooLong ↔ (2 ^ 64 - 1 < length given))) }
+{
+    let form = ListForm {
+        kind: Some(kind),
+        name: None,
+    };
+    check_list(alloc, list, form, tree, out)
+}
+
+/// The same of a list in any form: its untagged lines may have no kind, and its report may tell its name.
+pub fn check_list<L: Feed, T: Tree, W: Sink>(
+    alloc: Global,
+    list: &mut L,
+    form: ListForm<'_>,
+    tree: &mut T,
+    out: &mut W,
+) -> Result<Summary, CheckFault>
+    ensures checked { IfSome (L.remaining list.old) (λ bytes. IfSome (T.files tree.old) (λ files.
+        ListChecked files form.entry.kind (name_in form.entry) bytes result
         (T.failure_count tree.old) (T.failure_count tree.new)
         (W.shown out.old).contents (W.shown out.new).contents)) }
     ensures unreadable { IfOk result (λ s. T.failure_count tree.new
@@ -104,7 +150,7 @@ pub fn check<L: Feed, T: Tree, W: Sink>(
 {
     let mut checker = Checker {
         alloc,
-        kind,
+        form,
         reader: PieceReader::new(alloc)?,
         summary: Summary::new(),
         lines: 0,
@@ -115,9 +161,9 @@ pub fn check<L: Feed, T: Tree, W: Sink>(
 
 // A list that is being checked, line by line.
 #[derive(Drop)]
-struct Checker {
+struct Checker<'n> {
     alloc: Global,
-    kind: Kind,
+    form: ListForm<'n>,
     reader: PieceReader,
     summary: Summary,
     // how many lines were checked
@@ -125,7 +171,7 @@ struct Checker {
     ghost counted: { lines ≡ lines_of summary },
 }
 
-impl Checker {
+impl<'n> Checker<'n> {
     // Checks the next line, and answers whether another may follow.
     fn step<L: Feed, T: Tree, W: Sink>(
         &mut self,
@@ -138,12 +184,12 @@ impl Checker {
             (lines_of self.new.summary + length self.new.reader.ahead ≤ self.new.reader.total) }
         ensures checked { MatchResult result
             (λ _. (r : Result Summary CheckFault) (n : ℕ) (c : Option (List ℕ))
-            → Checks (L.remaining list.new) (T.files tree.old) self.old.kind self.new.reader.ahead self.new.summary
+            → Checks (L.remaining list.new) (T.files tree.old) self.old.form self.new.reader.ahead self.new.summary
             r (T.failure_count tree.new) n (W.shown out.new).contents c
-            → Checks (L.remaining list.old) (T.files tree.old) self.old.kind self.old.reader.ahead self.old.summary
+            → Checks (L.remaining list.old) (T.files tree.old) self.old.form self.old.reader.ahead self.old.summary
             r (T.failure_count tree.old) n (W.shown out.old).contents c)
             (λ _. (r : Result Summary CheckFault) → IsErr r
-            → Checks (L.remaining list.old) (T.files tree.old) self.old.kind self.old.reader.ahead self.old.summary
+            → Checks (L.remaining list.old) (T.files tree.old) self.old.form self.old.reader.ahead self.old.summary
             r (T.failure_count tree.old) (T.failure_count tree.new)
             (W.shown out.old).contents (W.shown out.new).contents) }
         ensures unreadable { OnOk result
@@ -156,7 +202,7 @@ impl Checker {
             (λ _. (n : ℕ) → OpensEach (L.remaining list.new) self.new.reader.ahead (T.opens tree.new) n
             → OpensEach (L.remaining list.old) self.old.reader.ahead (T.opens tree.old) n)
             (λ _. OpensEach (L.remaining list.old) self.old.reader.ahead (T.opens tree.old) (T.opens tree.new)) }
-        ensures kept { (T.files tree.new ≡ T.files tree.old) × (self.new.kind ≡ self.old.kind) }
+        ensures kept { (T.files tree.new ≡ T.files tree.old) × (self.new.form ≡ self.old.form) }
         ensures end { IfOk result (λ more. more ≡ false
             → (self.new.reader.ahead ≡ []) × IsAtEnd (L.remaining list.new)) }
         ensures forth { IfOk result (λ more. more ≡ true
@@ -181,7 +227,7 @@ impl Checker {
     fn check<T: Tree, W: Sink>(&self, tree: &mut T, out: &mut W) -> Result<Mark, CheckFault>
         requires few { lines_of self.now.summary + 1 < 2 ^ 64 }
         ensures checked { IfSome (T.files tree.old) (λ files. (line : List ℕ) → IsKept self.now.reader.kept line
-            → LineChecked files self.now.kind line (lines_of self.now.summary + 1) result
+            → LineChecked files self.now.form line (lines_of self.now.summary + 1) result
             (T.failure_count tree.old) (T.failure_count tree.new)
             (W.shown out.old).contents (W.shown out.new).contents) }
         ensures unreadable { IfOk result (λ mark. T.failure_count tree.new
@@ -192,7 +238,7 @@ impl Checker {
         ensures writes { StepCounts result (W.shown out.old).failures (W.shown out.new).failures }
     {
         let Some(line) = self.reader.piece() else {
-            write_malformed(self.lines + 1, out)?;
+            write_malformed(self.form.name, self.lines + 1, out)?;
             return Ok(Mark::Malformed);
         };
         self.check_line(line, tree, out)
@@ -207,7 +253,7 @@ impl Checker {
     ) -> Result<Mark, CheckFault>
         requires few { lines_of self.now.summary + 1 < 2 ^ 64 }
         ensures checked { IfSome (T.files tree.old) (λ files.
-            LineChecked files self.now.kind line.now (lines_of self.now.summary + 1) result
+            LineChecked files self.now.form line.now (lines_of self.now.summary + 1) result
             (T.failure_count tree.old) (T.failure_count tree.new)
             (W.shown out.old).contents (W.shown out.new).contents) }
         ensures unreadable { IfOk result (λ mark. T.failure_count tree.new
@@ -217,7 +263,7 @@ impl Checker {
         ensures kept { T.files tree.new ≡ T.files tree.old }
         ensures writes { StepCounts result (W.shown out.old).failures (W.shown out.new).failures }
     {
-        match parse_line(self.alloc, line, self.kind) {
+        match read_line(self.alloc, line, self.form.kind) {
             Ok(Line::Skipped) => Ok(Mark::Skipped),
             Ok(Line::Entry(entry)) => {
                 let verdict = check_entry(&entry, tree)?;
@@ -225,7 +271,7 @@ impl Checker {
                 Ok(Mark::Told(verdict))
             }
             Err(LineFault::Malformed) => {
-                write_malformed(self.lines + 1, out)?;
+                write_malformed(self.form.name, self.lines + 1, out)?;
                 Ok(Mark::Malformed)
             }
             Err(LineFault::OutOfMemory) => Err(CheckFault::OutOfMemory),

@@ -12,7 +12,7 @@
 //! ```
 #![tactic(auto)]
 
-pub use checking::{CheckFault, check};
+pub use checking::{CheckFault, ListForm, check, check_list};
 pub use entry::{Entry, EntryFault};
 pub use files::FileTree;
 pub use fitting::{LINE_LEN, fits, tagged_fits};

@@ -55,6 +55,13 @@ impl From<AllocError> for LineFault {
 /// Where it begins with a backslash, `\\`, `\n` and `\r` in its name stand for a backslash, LF and CR, and
 /// any other backslash is malformed. Only the name of an entry takes memory.
 pub fn parse_line(alloc: Global, line: &[u8], kind: Kind) -> Result<Line, LineFault>
+    ensures { Answers line.now (Some kind) result }
+{
+    read_line(alloc, line, Some(kind))
+}
+
+/// The same of a list whose untagged lines have this kind; without one they are malformed.
+pub(crate) fn read_line(alloc: Global, line: &[u8], kind: Option<Kind>) -> Result<Line, LineFault>
     ensures { Answers line.now kind result }
 {
     if !is_line(line) {
@@ -93,7 +100,7 @@ fn is_blank(core: &[u8]) -> bool
 }
 
 // The algorithm and tag of the entry that a core states, and the text that means its name.
-fn read_core(core: &[u8], kind: Kind) -> Option<(Alg, Tag, NameText<'_>)>
+fn read_core(core: &[u8], kind: Option<Kind>) -> Option<(Alg, Tag, NameText<'_>)>
     requires { length core.now ≤ LINE_LEN }
     ensures { MatchOption result ((e : Listing) → IsStated kind core.now e → ⊥)
         (λ p. (name : List ℕ) × IsStated kind core.now record { name = name; alg = p.0; tag = p.1 }

@@ -1,6 +1,6 @@
 // Tagged lines as they are written.
 
-ghost use Rattle.std.specs.Prelude.{OnOk};
+ghost use Rattle.std.specs.Prelude.{OnOk, Option};
 ghost use Rattle.source.specs.Written.{Writes};
 ghost use Rattle.sumlist.specs.Line.{Spells};
 ghost use Rattle.sumlist.specs.Tagged.{tagged, tagged_line};
@@ -31,7 +31,7 @@ pub enum TaggedFault {
 /// and the digits in lower case, behind a backslash where the name needs escapes. It takes no memory.
 pub fn write_tagged<W: Sink>(entry: &Entry, out: &mut W) -> Result<(), TaggedFault>
     ensures writes { WritesTagged result entry.now (W.shown out.old) (W.shown out.new) }
-    ensures spells { OnOk result ((kind : Kind) → Spells (tagged_line entry.now) kind entry.now) }
+    ensures spells { OnOk result ((kind : Option Kind) → Spells (tagged_line entry.now) kind entry.now) }
 {
     if !tagged_fits(entry.alg(), entry.name()) {
         return Err(TaggedFault::TooLong);

@@ -1,7 +1,9 @@
 -- What a request asks for, there is.
 use Rattle.std.proofs.Common.{◌≡◌, ℕ, ◌-◌, ◌/◌, ◌%◌, ◌^◌, ◌≤◌, ◌*◌, Bool, true, false, List, Option, Some, None}
 use Rattle.std.proofs.Common.{Result, Ok, Err, IfSome, IfOk, refl, subst, arith}
-use Rattle.std.specs.Prelude.{◌==◌, [], ◌∷◌, codes, count_ones, if◌then◌else◌, length, max, min, nat_lt}
+use Rattle.std.specs.Prelude.{◌==◌, ◌||◌, [], ◌∷◌, codes, count_ones, if◌then◌else◌, is_some, length, max, min, nat_lt}
+use Rattle.std.specs.Prelude.{unwrap_or, not}
+use Rattle.std.specs.Str.{bytes_eq}
 use Rattle.std.proofs.Math.Nat.{le-max_left, le-min, min-le_left}
 use Rattle.std.proofs.lemmas.Bool.Decides.{nat_tests}
 use Rattle.request.specs.CommandLine.{Given, Text, has_flag, text_of}
@@ -17,18 +19,17 @@ use Rattle.task.specs.Hashing.{blake2, blake2_length, blake3_output, part_size, 
 use Rattle.task.specs.Hashing as hashing
 use Rattle.task.specs.Hashing.{may_be_raw, requested, requested_of, sha, stretch_of, tagged_blake3}
 use Rattle.task.specs.Parameters.{◌>>=◌, IsAsDefined, absent, files, given_bytes, given_number, hmac_len, kind_of}
-use Rattle.task.specs.Parameters.{named, needed, number, number_in, sized, text, unset}
-use Rattle.task.specs.Parting.{joined, least_power, names_blake3, place}
+use Rattle.task.specs.Parameters.{named, needed, number, number_in, sized, text, unset, given_kind}
+use Rattle.task.specs.Parting.{joined, least_power, listed_chunks, names_blake3, place}
 use Rattle.task.specs.Tagging.{macs, with_length}
 use Rattle.task.specs.Tagging as tagging
-use Rattle.task.specs.Tasks.{Asked, NameTexts, asked, check, commands, compares, file_or_input, hash}
-use Rattle.task.specs.Tasks.{hashes, join, kdf, mac, one_source, part}
+use Rattle.task.specs.Tasks.{Asked, NameTexts, asked, check, commands, file_or_input, hash, hashes, input_name, join}
+use Rattle.task.specs.Tasks.{kdf, mac, one_source, part, prints, starts}
 use Rattle.task.specs.declared.fault.Setting.TheVariants.{Algorithm, Bytes, Chunks, Command, Context, First, IkmFile}
-use Rattle.task.specs.declared.fault.Setting.TheVariants.{Info, Length, Parts, Personal, Salt, Seek, Verify}
-use Rattle.task.specs.declared.fault.Setting.TheVariants.{List as ListSetting}
+use Rattle.task.specs.declared.fault.Setting.TheVariants.{Info, Length, Parts, Personal, Salt, Seek, Starts, Verify}
 use Rattle.task.specs.declared.fault.TaskFault.{TaskFault}
 use Rattle.task.specs.declared.fault.UsageFault.{UsageFault}
-use Rattle.task.specs.declared.fault.UsageFault.TheVariants.{OutOfRange}
+use Rattle.task.specs.declared.fault.UsageFault.TheVariants.{FileOnly, NotWithList, OutOfRange}
 use Rattle.task.specs.Requested.{alg_of}
 use Rattle.task.specs.declared.hashing.Hash.{Hash}
 use Rattle.task.specs.declared.hashing.Hash.TheVariants as hash_of
@@ -39,7 +40,8 @@ use Rattle.task.specs.declared.parameters.HmacHash.TheVariants as hmac
 use Rattle.task.specs.declared.tagging.Mac.{Mac}
 use Rattle.task.specs.declared.tagging.Mac.TheVariants as mac_of
 use Rattle.task.specs.declared.tasks.Task.{Task}
-use Rattle.task.specs.inside.Possible.{HasKey, IsOfJoin, IsPlace, HasDigest, IsPartSize, IsWithin, HasTag, IsPossible}
+use Rattle.task.specs.inside.Possible.{HasKey, IsOfJoin, IsPartLength, IsPlace, HasDigest, IsPartSize, IsWithin}
+use Rattle.task.specs.inside.Possible.{HasTag, IsPossible}
 use Rattle.task.specs.inside.Views.{task_shown}
 use Rattle.task.proofs.Powers.{room_at}
 use Rattle.task.proofs.Ranges.{IsBetween, given_in_range, in_range, number_in_range}
@@ -119,11 +121,11 @@ parts_possible g =
     let one : count_ones n ≡ 1 = grind (arith, nat_tests) in
     (one, range.1))))
 
-either_possible : (r : Requested) (m : Option ℕ) (names : NameTexts) (wanted : Option (List ℕ)) (file : Text)
-    → HasDigest r → IfSome m IsPartSize
-    → IsPossible (option_map_or (λ d. compares r m d file) wanted (hashes r m names))
-either_possible r m names None file digest size = (digest, size)
-either_possible r m names (Some d) file digest size = (digest, size)
+either_possible : (one : Bool) (r : Requested) (m : Option ℕ) (names : NameTexts) (wanted : Option (List ℕ))
+    (name file : Text) → HasDigest r → IfSome m IsPartSize
+    → IsPossible (if one then prints r m wanted name file else hashes r m names)
+either_possible true r m names wanted name file digest size = (digest, size)
+either_possible false r m names wanted name file digest size = (digest, size)
 
 hash_possible : (g : Given) → IfOk (hash g) IsPossible
 hash_possible g =
@@ -131,8 +133,9 @@ hash_possible g =
     (λ r digest.
     by_first (λ m. IfSome m IsPartSize) IsPossible (parts g) _ (parts_possible g) (λ m size.
     by_second IsPossible (one_source (text_of (codes "files0-from") g) (files g)) _ (λ names.
-    by_second IsPossible (hashing.wanted r g) _ (λ wanted.
-    either_possible r m names wanted (file_or_input g) digest size))))
+    by_second IsPossible (input_name g) _ (λ name.
+    by_second IsPossible (hashing.wanted r g) _ (λ wanted. either_possible (is_some name || is_some wanted) r m names
+    wanted (unwrap_or name (file_or_input g)) (file_or_input g) digest size)))))
 
 -- ---- mac
 
@@ -212,7 +215,7 @@ kdf_possible g =
 -- ---- check, part, join
 
 check_possible : (g : Given) → IfOk (check g) IsPossible
-check_possible g = by_second IsPossible (kind_of g) _ (λ k. by_second IsPossible (needed ListSetting g) _ (λ list. tt))
+check_possible g = by_second IsPossible (given_kind g) _ (λ k. tt)
 
 room : (place : ℕ × Option ℕ) (fault : UsageFault) (b : Bool) → (b ≡ false → IsPlace place.0 place.1)
     → IfOk (unset fault b >>= (λ _. Ok place)) (λ p. IsPlace p.0 p.1)
@@ -238,8 +241,23 @@ place_possible g =
     by_first (λ m. IfSome m (IsBetween 1 (2 ^ 54))) Q (given_number Chunks 1 (2 ^ 54) g) _
     (given_in_range Chunks 1 (2 ^ 54) g) (λ chunks range. at_place first chunks low.1 range)))
 
+chunks_possible : (g : Given) → IfOk (listed_chunks g) IsPartLength
+chunks_possible g =
+    by_second IsPartLength (names_blake3 g) _ (λ _. by_second IsPartLength (needed Chunks g) _ (λ t.
+    by_first (IsBetween 1 (2 ^ 54)) IsPartLength (number_in Chunks 1 (2 ^ 54) t) _ (in_range Chunks 1 (2 ^ 54) t)
+    (λ n range.
+    by_second IsPartLength (unset (OutOfRange Chunks) (not (count_ones n == 1))) _ (λ _.
+    by_second IsPartLength (unset (NotWithList First) (is_some (text First g))) _ (λ _. range)))))
+
+starts_possible : (g : Given) → IfOk (starts g) IsPossible
+starts_possible g =
+    by_first IsPartLength IsPossible (listed_chunks g) _ (chunks_possible g) (λ n range.
+    by_second IsPossible (unset (FileOnly Starts) (bytes_eq (file_or_input g) (codes "-"))) _ (λ _. range))
+
 part_possible : (g : Given) → IfOk (part g) IsPossible
-part_possible g = by_first (λ p. IsPlace p.0 p.1) IsPossible (place g) _ (place_possible g) (λ p h. h)
+part_possible g =
+    in_both IsPossible (has_flag (codes "list") g) (starts g) _ (starts_possible g)
+    (by_first (λ p. IsPlace p.0 p.1) IsPossible (place g) _ (place_possible g) (λ p h. h))
 
 joined_possible : (g : Given) → IfOk (joined g) (λ j. IsOfJoin j.0)
 joined_possible g =

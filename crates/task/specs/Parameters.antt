@@ -109,6 +109,10 @@ kinds = (codes "sha256", kind.Sha256) ∷ (codes "sha512", kind.Sha512) ∷ (cod
 abbrev pub kind_of : Given → Result Kind UsageFault
 kind_of g = needed Algorithm g >>= named Algorithm kinds
 
+-- the hash, where it was given
+abbrev pub given_kind : Given → Result (Option Kind) UsageFault
+given_kind g = where_given (named Algorithm kinds) (text Algorithm g)
+
 -- the algorithm of a hash under HMAC, with its longest digests
 abbrev pub hmac_alg : HmacHash → Alg
 hmac_alg hmac.Sha256 = alg.Sha256

@@ -1,15 +1,15 @@
 -- What requests of `part` and `join` ask for, or the first fault of their settings.
-use Rattle.std.specs.Prelude.{ℕ, ◌-◌, ◌%◌, ◌^◌, nat_lt, false, Option, Result, Ok, Err}
+use Rattle.std.specs.Prelude.{ℕ, ◌-◌, ◌%◌, ◌^◌, ◌==◌, nat_lt, not, false, Option, Result, Ok, Err, count_ones, is_some}
 use Rattle.std.specs.Int.{leading_zeros, w64}
 use Rattle.std.specs.Option.{option_map_or}
 use Rattle.sumlist.specs.declared.kind.Kind.{Kind}
 use Rattle.sumlist.specs.declared.kind.Kind.TheVariants as kind
 use Rattle.request.specs.CommandLine.{Given}
 use Rattle.task.specs.Hashing.{stretch_of}
-use Rattle.task.specs.Parameters.{◌>>=◌, ◌>>◌, given_number, kind_of, number, unset}
+use Rattle.task.specs.Parameters.{◌>>=◌, ◌>>◌, given_number, kind_of, needed, number, number_in, text, unset}
 use Rattle.task.specs.declared.fault.Setting.TheVariants.{Algorithm, Bytes, Chunks, First}
 use Rattle.task.specs.declared.fault.UsageFault.{UsageFault}
-use Rattle.task.specs.declared.fault.UsageFault.TheVariants.{NotForCommand, OutOfRange}
+use Rattle.task.specs.declared.fault.UsageFault.TheVariants.{NotForCommand, NotWithList, OutOfRange}
 use Rattle.task.specs.declared.hashing.Stretch.{Stretch}
 
 -- only BLAKE3 has parts
@@ -32,6 +32,17 @@ place g = do
   chunks ← given_number Chunks 1 (2 ^ 54) g
   unset (OutOfRange First) (option_map_or (λ n. nat_lt 0 (first % least_power n)) chunks false)
   Ok (first, chunks)
+
+-- how many chunks each part has, where the first chunks of all are listed: parts of a power of two of chunks each can
+-- stand one behind another
+abbrev pub listed_chunks : Given → Result ℕ UsageFault
+listed_chunks g = do
+  names_blake3 g
+  t ← needed Chunks g
+  chunks ← number_in Chunks 1 (2 ^ 54) t
+  unset (OutOfRange Chunks) (not (count_ones chunks == 1))
+  unset (NotWithList First) (is_some (text First g))
+  Ok chunks
 
 -- which bytes of the joined output are printed, and how many bytes the parts have to have
 abbrev pub joined : Given → Result (Stretch × Option ℕ) UsageFault

@@ -1,19 +1,19 @@
 -- What a request asks for, or the first fault of its settings.
-use Rattle.std.specs.Prelude.{ℕ, ◌==◌, Bool, List, [], ◌∷◌, Option, Some, None, Result, Ok, Err, codes}
-use Rattle.std.specs.Prelude.{length, unwrap_or, if◌then◌else◌}
-use Rattle.std.specs.Option.{option_map_or}
+use Rattle.std.specs.Prelude.{ℕ, ◌==◌, ◌||◌, Bool, List, [], ◌∷◌, Option, Some, None, Result, Ok, Err, codes, is_some}
+use Rattle.std.specs.Prelude.{length, not, unwrap_or, if◌then◌else◌}
+use Rattle.std.specs.Str.{bytes_eq}
 use Rattle.request.specs.CommandLine.{Given, Text, has_flag, text_of}
 use Rattle.sumlist.specs.declared.kind.Kind.{Kind}
 use Rattle.task.specs.Deriving.{Derived, derivation}
-use Rattle.task.specs.Hashing.{parts, requested}
+use Rattle.task.specs.Hashing.{names_several, parts, requested}
 use Rattle.task.specs.Hashing as hashing
-use Rattle.task.specs.Parameters.{◌>>=◌, files, kind_of, named, needed}
-use Rattle.task.specs.Parting.{joined, place}
+use Rattle.task.specs.Parameters.{◌>>=◌, ◌>>◌, files, named, needed, unset, where_given, given_kind}
+use Rattle.task.specs.Parting.{joined, place, listed_chunks}
 use Rattle.task.specs.Tagging.{KeyText, key}
 use Rattle.task.specs.Tagging as tagging
-use Rattle.task.specs.declared.fault.Setting.TheVariants.{Command, IkmFile, List as ListSetting}
+use Rattle.task.specs.declared.fault.Setting.TheVariants.{Command, IkmFile, Name, Starts}
 use Rattle.task.specs.declared.fault.UsageFault.{UsageFault}
-use Rattle.task.specs.declared.fault.UsageFault.TheVariants.{OneSource}
+use Rattle.task.specs.declared.fault.UsageFault.TheVariants.{InputOnly, OneSource, FileOnly}
 use Rattle.task.specs.declared.hashing.Requested.{Requested}
 use Rattle.task.specs.declared.hashing.Stretch.{Stretch}
 use Rattle.task.specs.declared.tagging.Mac.{Mac}
@@ -26,12 +26,13 @@ pub data NameTexts : Type 0 where
 -- what a run is to do
 pub data Asked : Type 0 where
   hashes : Requested → Option ℕ → NameTexts → Asked
-  compares : Requested → Option ℕ → List ℕ → Text → Asked
+  prints : Requested → Option ℕ → Option (List ℕ) → Text → Text → Asked
   cuts : ℕ → Option ℕ → Text → Asked
+  divides : ℕ → Text → Asked
   joins : Stretch → Option ℕ → Text → List Text → Asked
   tags : Mac → Bool → KeyText → Option (List ℕ) → Text → Asked
   derives : Derived → Bool → Text → Asked
-  checks : Kind → Bool → Text → Asked
+  checks : Option Kind → Bool → List Text → Asked
 
 -- without a file standard input is read
 abbrev pub names_of : List Text → List Text
@@ -47,13 +48,22 @@ one_source (Some file) names = if length names == 0 then Ok (in_file file) else 
 abbrev pub file_or_input : Given → Text
 file_or_input g = unwrap_or (text_of (codes "file") g) (codes "-")
 
+-- the name of standard input, where it alone is read
+abbrev pub input_name : Given → Result (Option Text) UsageFault
+input_name g = where_given (λ t. unset (InputOnly Name)
+    (names_several g || not (bytes_eq (file_or_input g) (codes "-"))) >> Ok t) (text_of (codes "name") g)
+
+-- a file whose digest is compared, or that has a name, is the only one
 abbrev pub hash : Given → Result Asked UsageFault
 hash g = do
   wanted ← requested g
   parts ← parts g
   names ← one_source (text_of (codes "files0-from") g) (files g)
+  name ← input_name g
   digest ← hashing.wanted wanted g
-  Ok (option_map_or (λ d. compares wanted parts d (file_or_input g)) digest (hashes wanted parts names))
+  Ok (if is_some name || is_some digest
+      then prints wanted parts digest (unwrap_or name (file_or_input g)) (file_or_input g)
+      else hashes wanted parts names)
 
 abbrev pub mac : Given → Result Asked UsageFault
 mac g = do
@@ -69,13 +79,18 @@ kdf g = do
   Ok (derives derived (has_flag (codes "raw") g) material)
 
 abbrev pub check : Given → Result Asked UsageFault
-check g = do
-  kind ← kind_of g
-  list ← needed ListSetting g
-  Ok (checks kind (has_flag (codes "summary") g) list)
+check g = given_kind g >>= (λ kind. Ok (checks kind (has_flag (codes "summary") g) (names_of (files g))))
+
+-- where the parts of a file begin; standard input has no positions
+abbrev pub starts : Given → Result Asked UsageFault
+starts g = do
+  chunks ← listed_chunks g
+  unset (FileOnly Starts) (bytes_eq (file_or_input g) (codes "-"))
+  Ok (divides chunks (file_or_input g))
 
 abbrev pub part : Given → Result Asked UsageFault
-part g = place g >>= (λ place. Ok (cuts place.0 place.1 (file_or_input g)))
+part g = if has_flag (codes "list") g then starts g
+    else place g >>= (λ place. Ok (cuts place.0 place.1 (file_or_input g)))
 
 abbrev pub join : Given → Result Asked UsageFault
 join g = joined g >>= (λ wanted.

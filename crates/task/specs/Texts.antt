@@ -4,9 +4,9 @@ use Rattle.request.specs.CommandLine.{Text}
 use Rattle.task.specs.declared.fault.Setting.{Setting}
 use Rattle.task.specs.declared.fault.Setting.TheVariants as setting
 use Rattle.task.specs.declared.fault.UsageFault.{UsageFault}
-use Rattle.task.specs.declared.fault.UsageFault.TheVariants.{Needed, NotForAlgorithm, NotForCommand, NotHexadecimal}
-use Rattle.task.specs.declared.fault.UsageFault.TheVariants.{NotWithRaw, NotWithTag, OneFile, OneKey, OneSource}
-use Rattle.task.specs.declared.fault.UsageFault.TheVariants.{OutOfRange, WrongLength}
+use Rattle.task.specs.declared.fault.UsageFault.TheVariants.{InputOnly, Needed, NotForAlgorithm, NotForCommand}
+use Rattle.task.specs.declared.fault.UsageFault.TheVariants.{NotHexadecimal, NotWithRaw, NotWithTag, OneFile, OneKey}
+use Rattle.task.specs.declared.fault.UsageFault.TheVariants.{OneSource, OutOfRange, WrongLength, FileOnly, NotWithList}
 
 -- a setting as the command line has it
 abbrev pub setting_text : Setting → Text
@@ -26,14 +26,14 @@ setting_text setting.Context = codes "--context"
 setting_text setting.First = codes "--first"
 setting_text setting.Chunks = codes "--chunks"
 setting_text setting.Bytes = codes "--bytes"
-setting_text setting.List = codes "LIST"
+setting_text setting.Name = codes "--name"
+setting_text setting.Starts = codes "--list"
 
 -- its id among the options and arguments of a request: mostly that text without its two dashes
 abbrev pub setting_id : Setting → Text
 setting_id setting.Command = codes "command"
 setting_id setting.Algorithm = codes "algorithm"
 setting_id setting.Length = codes "length"
-setting_id setting.List = codes "file"
 setting_id s = drop 2 (setting_text s)
 
 -- what a fault is told of, a setting or nothing alone, and what is said of it
@@ -43,7 +43,10 @@ usage_texts (NotForAlgorithm s) = (setting_text s, codes ": not for this algorit
 usage_texts (NotForCommand s) = (setting_text s, codes ": not for this command\n")
 usage_texts (NotWithTag s) = (setting_text s, codes ": not with --tag\n")
 usage_texts (NotWithRaw s) = (setting_text s, codes ": not with --raw\n")
+usage_texts (NotWithList s) = (setting_text s, codes ": not with --list\n")
 usage_texts (OneFile s) = (setting_text s, codes ": one file only\n")
+usage_texts (InputOnly s) = (setting_text s, codes ": standard input only\n")
+usage_texts (FileOnly s) = (setting_text s, codes ": not of standard input\n")
 usage_texts (OutOfRange s) = (setting_text s, codes ": out of range\n")
 usage_texts (NotHexadecimal s) = (setting_text s, codes ": not hexadecimal\n")
 usage_texts (WrongLength s) = (setting_text s, codes ": wrong length\n")

@@ -41,8 +41,10 @@ pub enum Setting {
     Chunks,
     /// `--bytes`.
     Bytes,
-    /// The list.
-    List,
+    /// `--name`.
+    Name,
+    /// `--list`.
+    Starts,
 }
 
 /// What is wrong with a request.
@@ -58,8 +60,14 @@ pub enum UsageFault {
     NotWithTag(Setting),
     /// It says nothing beside `--raw`.
     NotWithRaw(Setting),
+    /// It says nothing beside `--list`.
+    NotWithList(Setting),
     /// It says nothing of several files.
     OneFile(Setting),
+    /// It says nothing but of standard input alone.
+    InputOnly(Setting),
+    /// It says nothing of standard input.
+    FileOnly(Setting),
     /// It is outside its range, or no name that the option takes.
     OutOfRange(Setting),
     /// It is not made of pairs of hexadecimal digits.
@@ -119,7 +127,8 @@ impl Setting {
             Setting::First => "--first",
             Setting::Chunks => "--chunks",
             Setting::Bytes => "--bytes",
-            Setting::List => "LIST",
+            Setting::Name => "--name",
+            Setting::Starts => "--list",
         }
     }
 
@@ -144,7 +153,8 @@ impl Setting {
             Setting::First => "first",
             Setting::Chunks => "chunks",
             Setting::Bytes => "bytes",
-            Setting::List => "file",
+            Setting::Name => "name",
+            Setting::Starts => "list",
         }
     }
 }
@@ -164,7 +174,10 @@ impl UsageFault {
             UsageFault::NotForCommand(setting) => (setting.text(), ": not for this command\n"),
             UsageFault::NotWithTag(setting) => (setting.text(), ": not with --tag\n"),
             UsageFault::NotWithRaw(setting) => (setting.text(), ": not with --raw\n"),
+            UsageFault::NotWithList(setting) => (setting.text(), ": not with --list\n"),
             UsageFault::OneFile(setting) => (setting.text(), ": one file only\n"),
+            UsageFault::InputOnly(setting) => (setting.text(), ": standard input only\n"),
+            UsageFault::FileOnly(setting) => (setting.text(), ": not of standard input\n"),
             UsageFault::OutOfRange(setting) => (setting.text(), ": out of range\n"),
             UsageFault::NotHexadecimal(setting) => (setting.text(), ": not hexadecimal\n"),
             UsageFault::WrongLength(setting) => (setting.text(), ": wrong length\n"),

@@ -227,8 +227,8 @@ fn blake3_output(request: &Request<'_>) -> Result<Requested, UsageFault>
     Ok(Requested::Output(stretch_of(request, request.has("raw"))?))
 }
 
-// Whether more than one file may be named.
-fn names_several(request: &Request<'_>) -> bool
+/// Whether more than one file may be named.
+pub(crate) fn names_several(request: &Request<'_>) -> bool
     ensures { result ≡ spec.names_several (given_of request.now) }
 {
     file_count(request) > 1 || request.text("files0-from").is_some()

@@ -70,6 +70,16 @@ pub(crate) fn kind_of(request: &Request<'_>) -> Result<Kind, UsageFault>
     kind_named(needed(request, Setting::Algorithm)?)
 }
 
+/// The hash that a request names, where it names one.
+pub(crate) fn given_kind(request: &Request<'_>) -> Result<Option<Kind>, UsageFault>
+    ensures { result ≡ spec.given_kind (given_of request.now) }
+{
+    match text_of(request, Setting::Algorithm) {
+        Some(name) => Ok(Some(kind_named(name)?)),
+        None => Ok(None),
+    }
+}
+
 fn kind_named(name: &str) -> Result<Kind, UsageFault>
     ensures { result ≡ spec.named Algorithm spec.kinds name.now }
 {

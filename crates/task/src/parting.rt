@@ -7,7 +7,7 @@ ghost use Rattle.task.specs.Parting.{least_power};
 
 use crate::fault::{Setting, UsageFault};
 use crate::hashing::{Stretch, stretch_of};
-use crate::parameters::{given_number, kind_of, number};
+use crate::parameters::{given_number, kind_of, needed, number, number_in, refused_flag, text_of};
 use request::Request;
 use sumlist::Kind;
 
@@ -45,6 +45,23 @@ fn has_room(first: u64, chunks: u64) -> bool
     ensures { IsTrue result ↔ (first % least_power chunks ≡ 0) }
 {
     first % chunks.next_power_of_two() == 0
+}
+
+/// How many chunks each part of a file has, where a request of `part` asks for the first chunks of all
+/// of them; or the first fault of its settings.
+pub(crate) fn listed_chunks(request: &Request<'_>) -> Result<u64, UsageFault>
+    ensures { result ≡ spec.listed_chunks (given_of request.now) }
+{
+    names_blake3(request)?;
+    let text = needed(request, Setting::Chunks)?;
+    let chunks = number_in(Setting::Chunks, 1, MOST_CHUNKS, text)?;
+    refused_flag(
+        UsageFault::OutOfRange(Setting::Chunks),
+        !chunks.is_power_of_two(),
+    )?;
+    let has_first = text_of(request, Setting::First).is_some();
+    refused_flag(UsageFault::NotWithList(Setting::First), has_first)?;
+    Ok(chunks)
 }
 
 /// Which bytes of the joined output a request of `join` has printed, and how many bytes the parts

@@ -1,6 +1,6 @@
 // What a run is to do.
 
-ghost use Rattle.std.specs.Prelude.{◌≡◌, IfOk, codes};
+ghost use Rattle.std.specs.Prelude.{◌≡◌, IfOk, codes, option_map};
 ghost use Rattle.request.specs.CommandLine.{given_of, text_of};
 ghost use Rattle.task.specs.Parameters.{IsAsDefined, files};
 ghost use Rattle.task.specs.Tasks as spec;
@@ -11,9 +11,9 @@ ghost use Rattle.task.specs.inside.Views.{names_shown, task_shown, texts_of};
 
 use crate::derivation::Derivation;
 use crate::fault::{Setting, TaskFault, UsageFault};
-use crate::hashing::{Requested, Stretch, parts_of};
-use crate::parameters::{file_count, kind_of, needed};
-use crate::parting::{joined_of, place_of};
+use crate::hashing::{Requested, Stretch, names_several, parts_of};
+use crate::parameters::{file_count, given_kind, needed, refused_flag};
+use crate::parting::{joined_of, listed_chunks, place_of};
 use crate::tagging::{Key, Mac, TagForm};
 use request::Request;
 use std::alloc::{AllocError, Global};
@@ -36,17 +36,25 @@ pub enum Task<'a> {
         parts: Option<u64>,
         names: Names<'a>,
     },
-    /// Print whether this is the digest of a file, of as many bytes, hashed in such parts.
-    Compare {
+    /// Print this of one file under this name, or whether it is the digest that is wanted, of as many
+    /// bytes; the file is hashed in such parts.
+    Line {
         requested: Requested,
         parts: Option<u64>,
-        digest: Vec<u8>,
+        wanted: Option<Vec<u8>>,
+        name: &'a str,
         file: &'a str,
     },
     /// Print the part of a file's bytes from that chunk on, to their end or so many chunks of them.
     Part {
         first: u64,
         chunks: Option<u64>,
+        file: &'a str,
+    },
+    /// Print the first chunk of each part of a file, where each but the last has so many chunks. It is
+    /// not standard input.
+    Starts {
+        chunks: u64,
         file: &'a str,
     },
     /// Print these bytes of the output of the parts in the lists, one at least, which have so many
@@ -71,11 +79,12 @@ pub enum Task<'a> {
         is_raw: bool,
         material: &'a str,
     },
-    /// Report on a list, whose untagged lines are of this hash, and tell a summary where it is asked for.
+    /// Report on lists, one at least, whose untagged lines are of this hash, where there is one, and tell
+    /// a summary of each where it is asked for.
     Check {
-        kind: Kind,
+        kind: Option<Kind>,
         is_summed: bool,
-        list: &'a str,
+        lists: Vec<&'a str>,
     },
 }
 
@@ -97,7 +106,7 @@ fn task_of<'a>(alloc: Global, request: &Request<'a>) -> Result<Task<'a>, TaskFau
         "hash" => hash(alloc, request),
         "mac" => mac(alloc, request),
         "kdf" => kdf(alloc, request),
-        "check" => Ok(check(request)?),
+        "check" => check(alloc, request),
         "part" => Ok(part(request)?),
         "join" => join(alloc, request),
         _ => Err(TaskFault::Usage(UsageFault::OutOfRange(Setting::Command))),
@@ -110,19 +119,35 @@ fn hash<'a>(alloc: Global, request: &Request<'a>) -> Result<Task<'a>, TaskFault>
     let requested = Requested::of(alloc, request)?;
     let parts = parts_of(request)?;
     let names = one_source(alloc, request)?;
-    match requested.wanted(alloc, request)? {
-        Some(digest) => Ok(Task::Compare {
+    let name = input_name(request)?;
+    let wanted = requested.wanted(alloc, request)?;
+    if name.is_some() || wanted.is_some() {
+        let file = file_or_input(request);
+        return Ok(Task::Line {
             requested,
             parts,
-            digest,
-            file: file_or_input(request),
-        }),
-        None => Ok(Task::Hash {
-            requested,
-            parts,
-            names,
-        }),
+            wanted,
+            name: name.unwrap_or(file),
+            file,
+        });
     }
+    Ok(Task::Hash {
+        requested,
+        parts,
+        names,
+    })
+}
+
+// The name of standard input, where it alone is read.
+fn input_name<'a>(request: &Request<'a>) -> Result<Option<&'a str>, UsageFault>
+    ensures { seen (option_map (λ t. t.now)) result ≡ spec.input_name (given_of request.now) }
+{
+    let Some(name) = request.text("name") else {
+        return Ok(None);
+    };
+    let others = names_several(request) || file_or_input(request) != "-";
+    refused_flag(UsageFault::InputOnly(Setting::Name), others)?;
+    Ok(Some(name))
 }
 
 // Files are named by words, or in a file.
@@ -178,27 +203,39 @@ fn kdf<'a>(alloc: Global, request: &Request<'a>) -> Result<Task<'a>, TaskFault>
     })
 }
 
-fn check<'a>(request: &Request<'a>) -> Result<Task<'a>, UsageFault>
-    ensures { seen task_shown result ≡ spec.check (given_of request.now) }
+fn check<'a>(alloc: Global, request: &Request<'a>) -> Result<Task<'a>, TaskFault>
+    ensures { IsAsDefined task_shown (spec.check (given_of request.now)) result }
 {
-    let kind = kind_of(request)?;
-    let list = needed(request, Setting::List)?;
+    let kind = given_kind(request)?;
+    let lists = names_of(alloc, request)?;
     Ok(Task::Check {
         kind,
         is_summed: request.has("summary"),
-        list,
+        lists,
     })
 }
 
 fn part<'a>(request: &Request<'a>) -> Result<Task<'a>, UsageFault>
     ensures { seen task_shown result ≡ spec.part (given_of request.now) }
 {
+    if request.has("list") {
+        return starts(request);
+    }
     let (first, chunks) = place_of(request)?;
     Ok(Task::Part {
         first,
         chunks,
         file: file_or_input(request),
     })
+}
+
+fn starts<'a>(request: &Request<'a>) -> Result<Task<'a>, UsageFault>
+    ensures { seen task_shown result ≡ spec.starts (given_of request.now) }
+{
+    let chunks = listed_chunks(request)?;
+    let file = file_or_input(request);
+    refused_flag(UsageFault::FileOnly(Setting::Starts), file == "-")?;
+    Ok(Task::Starts { chunks, file })
 }
 
 fn join<'a>(alloc: Global, request: &Request<'a>) -> Result<Task<'a>, TaskFault>

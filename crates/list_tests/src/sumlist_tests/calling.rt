@@ -1,11 +1,11 @@
 ghost use Rattle.std.specs.Prelude.{◌≡◌, IfOk, IsTrue};
 
 use super::SHA256_ABC;
+use super::failing::files;
 use source::{Bytes, Feed, Sink, VecSink};
 use std::alloc::Global;
-use std::collections::BTreeMap;
 use std::test::Fail;
-use sumlist::{CheckFault, Kind, MemoryTree, Tree, check};
+use sumlist::{CheckFault, Kind, ListForm, MemoryTree, Tree, check, check_list};
 
 // The caller of CALLING.md: whether each line that is not skipped is OK. Where it is, no file failed.
 fn all_match<L: Feed, T: Tree, W: Sink>(
@@ -29,11 +29,7 @@ fn all_match<L: Feed, T: Tree, W: Sink>(
 #[test]
 fn a_list_whose_lines_are_ok(rt: HostRuntime) -> Result<(), Fail> {
     let alloc = rt.alloc();
-    let mut files = BTreeMap::new(alloc);
-    let content = Vec::from_slice(alloc, b"abc")?;
-    let _ = files
-        .insert(String::from_str(alloc, "abc.txt")?, content)
-        .map_err(|_| "memory")?;
+    let files = files(alloc)?;
     for (name, expected) in [("abc.txt", true), ("none.txt", false)] {
         let list = format!(in alloc; "# a list\n{SHA256_ABC}  {name}\n")?;
         let mut tree = MemoryTree::new(&files, 64);
@@ -42,5 +38,26 @@ fn a_list_whose_lines_are_ok(rt: HostRuntime) -> Result<(), Fail> {
         let answer = all_match(alloc, &mut feed, Kind::Sha256, &mut tree, &mut out);
         assert_eq!(rt; answer, Ok(expected), "{name}");
     }
+    Ok(())
+}
+
+#[test]
+fn a_report_that_names_its_list(rt: HostRuntime) -> Result<(), Fail> {
+    let alloc = rt.alloc();
+    let files = files(alloc)?;
+    let list = format!(in alloc; "SHA256 (abc.txt) = {SHA256_ABC}\n{SHA256_ABC}  abc.txt\n#\n")?;
+    let mut tree = MemoryTree::new(&files, 64);
+    let mut out = VecSink::new(alloc);
+    let mut feed = Bytes::new(list.as_bytes(), 64);
+    let form = ListForm {
+        kind: None,
+        name: Some("a\nb"),
+    };
+    let answer = check_list(alloc, &mut feed, form, &mut tree, &mut out);
+    assert_eq!(rt; answer.map(|s| [s.ok, s.malformed, s.skipped]), Ok([1; 3]));
+    assert_eq!(rt;
+        out.written(),
+        b"abc.txt: OK\na\\nb: line 2: MALFORMED\n".as_slice()
+    );
     Ok(())
 }

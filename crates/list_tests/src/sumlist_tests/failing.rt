@@ -9,7 +9,7 @@ use std::collections::BTreeMap;
 use std::test::Fail;
 use sumlist::{CheckFault, Kind, MemoryTree, OpenFault, Summary, Tree, check};
 
-type Files = BTreeMap<String, Vec<u8>>;
+pub(super) type Files = BTreeMap<String, Vec<u8>>;
 
 // A match, another digest, a missing file, a digit too few, and a comment.
 const LIST: &[u8] = b"\
@@ -21,7 +21,7 @@ a7816bf8f01cfea414140de5dae2223b00361a396177a9cb410ff61f20015ad  abc.txt\n\
 
 const REPORT: &str = "abc.txt: OK\nabc.txt: FAILED\nnone.txt: MISSING\nline 4: MALFORMED\n";
 
-fn files(alloc: Global) -> Result<Files, Fail> {
+pub(super) fn files(alloc: Global) -> Result<Files, Fail> {
     let mut files = BTreeMap::new(alloc);
     let content = Vec::from_slice(alloc, b"abc")?;
     let _ = files

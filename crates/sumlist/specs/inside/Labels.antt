@@ -28,9 +28,10 @@ is_in_range _ = true
 abbrev pub sized : Alg → ℕ → Option Alg
 sized alg n = if is_in_range alg && (n == 2 * tag_len alg) then Some alg else None
 
--- the algorithm that a number of digits names
-abbrev pub alg_of : Kind → ℕ → Option Alg
-alg_of kind n = sized (alg_with kind (n / 2)) n
+-- the algorithm that a number of digits names, where there is a kind
+abbrev pub alg_of : Option Kind → ℕ → Option Alg
+alg_of None n = None
+alg_of (Some kind) n = sized (alg_with kind (n / 2)) n
 
 -- the label that is written for an algorithm, without the number
 abbrev pub front_of : Alg → List ℕ

@@ -73,7 +73,7 @@ abbrev pub is_mark : ℕ → Bool
 is_mark byte = (byte == 32) || (byte == 42)
 
 -- digits, whose number and the kind name the algorithm, and a body
-abbrev pub plain_at : Kind → List ℕ → List ℕ → Option Form
+abbrev pub plain_at : Option Kind → List ℕ → List ℕ → Option Form
 plain_at kind digits body = option_and_then (λ (alg : Alg). with_tag alg digits body) (alg_of kind (length digits))
 
 -- a label, which names the algorithm, and a body with its digits behind it
@@ -82,14 +82,14 @@ tagged_at label rest = option_and_then (λ (alg : Alg). option_and_then
     (λ (p : List ℕ × List ℕ). with_tag alg p.1 p.0) (end_cut (2 * tag_len alg) rest)) (alg_labelled label)
 
 -- what a word and the text behind its space say: a mark tells one form, a bracket the other
-abbrev pub form_at : Kind → List ℕ → List ℕ → Option Form
+abbrev pub form_at : Option Kind → List ℕ → List ℕ → Option Form
 form_at kind word [] = None
 form_at kind word (mark ∷ rest) =
     if is_mark mark then plain_at kind word rest
     else if mark == 40 then tagged_at word rest
     else None
 
-abbrev pub form_of : Kind → List ℕ → Option Form
+abbrev pub form_of : Option Kind → List ℕ → Option Form
 form_of kind text = option_and_then (λ (p : List ℕ × List ℕ). form_at kind p.0 p.1) (cut text)
 
 -- whether a core begins with a backslash, and the text behind it, or else the core
@@ -107,9 +107,9 @@ entry_of is_escaped f = option_and_then
     (λ (name : List ℕ). Some record { name = name; alg = f.0; tag = f.1 }) (name_of is_escaped f.2)
 
 -- the entry that a core states
-abbrev pub stated : Kind → List ℕ → Option Listing
+abbrev pub stated : Option Kind → List ℕ → Option Listing
 stated kind core = option_and_then (entry_of (is_slashed core)) (form_of kind (unslashed core))
 
 -- a core states an entry, whose name can be written
-abbrev pub IsStated : Kind → List ℕ → Listing → Type 0
+abbrev pub IsStated : Option Kind → List ℕ → Listing → Type 0
 IsStated kind core e = (stated kind core ≡ Some e) × IsUtf8 e.name × Fits (2 * length e.tag) e.name

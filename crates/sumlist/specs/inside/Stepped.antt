@@ -5,26 +5,29 @@ use Rattle.source.specs.Counts.{count_after, next_count}
 use Rattle.source.specs.Written.{AppendsPrefix}
 use Rattle.source.specs.declared.pumping.SourceFault.{SourceFault}
 use Rattle.source.specs.declared.pumping.SourceFault.TheVariants.{Read, TooLong}
+use Rattle.sumlist.specs.Checked.{name_in}
 use Rattle.sumlist.specs.Report.{Files, Outcome, Allowed, text}
 use Rattle.sumlist.specs.inside.Marks.{mark_of, unreadable_in}
 use Rattle.sumlist.specs.declared.checking.CheckFault.{CheckFault}
 use Rattle.sumlist.specs.declared.checking.CheckFault.TheVariants.{ListRead, Write, OutOfMemory, ListTooLong}
+use Rattle.sumlist.specs.declared.checking.ListForm.{ListForm}
 use Rattle.sumlist.specs.declared.kind.Kind.{Kind}
 use Rattle.sumlist.specs.declared.summary.Mark.{Mark}
 
 -- an outcome that may stand for the line, and which the tree counted
-pub record Stepped (files : Files) (kind : Kind) (line : List ℕ) (outcome : Outcome) (count_old count_new : ℕ)
+pub record Stepped (files : Files) (kind : Option Kind) (line : List ℕ) (outcome : Outcome) (count_old count_new : ℕ)
     : Type 0 where
   pub allowed : Allowed files kind line outcome
   pub counted : count_new ≡ count_after count_old (unreadable_in outcome)
 
--- the line of this number has an outcome, and its text was appended, or after a fault a beginning of it
-abbrev pub LineChecked : {E : Type 0} → Files → Kind → List ℕ → ℕ → Result Mark E → ℕ → ℕ → Option (List ℕ)
+-- the line of this number, in a list of this form, has an outcome, and its text was appended, or after a fault a
+-- beginning of it
+abbrev pub LineChecked : {E : Type 0} → Files → ListForm → List ℕ → ℕ → Result Mark E → ℕ → ℕ → Option (List ℕ)
     → Option (List ℕ) → Type 0
-LineChecked files kind line number r count_old count_new old new =
-    (o : Outcome) × Stepped files kind line o count_old count_new
-    × MatchResult r (λ mark. (mark_of o ≡ mark) × Appends old new (text number o))
-    (λ _. AppendsPrefix old new (text number o))
+LineChecked files form line number r count_old count_new old new =
+    (o : Outcome) × Stepped files form.kind line o count_old count_new
+    × MatchResult r (λ mark. (mark_of o ≡ mark) × Appends old new (text (name_in form) number o))
+    (λ _. AppendsPrefix old new (text (name_in form) number o))
 
 -- only a write that failed is one more failure of the sink, and nothing else was read or found too long
 abbrev pub StepCounts : {T : Type 0} → Result T CheckFault → ℕ → ℕ → Type 0

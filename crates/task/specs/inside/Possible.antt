@@ -7,7 +7,7 @@ use Rattle.source.specs.declared.alg.Alg.TheVariants as alg
 use Rattle.task.specs.Deriving.{Derived, by_blake3, by_hkdf}
 use Rattle.task.specs.Parameters.{hmac_len}
 use Rattle.task.specs.Requested.{alg_of}
-use Rattle.task.specs.Tasks.{Asked, checks, compares, cuts, derives, hashes, joins, tags}
+use Rattle.task.specs.Tasks.{Asked, checks, cuts, derives, hashes, joins, prints, tags, divides}
 use Rattle.task.specs.declared.hashing.Requested.{Requested}
 use Rattle.task.specs.declared.hashing.Requested.TheVariants.{Digest, Output}
 use Rattle.task.specs.declared.hashing.Stretch.{Stretch}
@@ -33,6 +33,10 @@ HasRoom first n = (1 ≤ n) × (n ≤ 2 ^ 54) × ((p : ℕ) → IsLeastPowerFrom
 abbrev pub IsPlace : ℕ → Option ℕ → Type 0
 IsPlace first chunks = (first < 2 ^ 54) × IfSome chunks (HasRoom first)
 
+-- a part can have so many chunks
+abbrev pub IsPartLength : ℕ → Type 0
+IsPartLength n = (1 ≤ n) × (n ≤ 2 ^ 54)
+
 -- it does not pass the end of the output
 abbrev pub IsWithin : Stretch → Type 0
 IsWithin stretch = stretch.position + stretch.length ≤ 2 ^ 64 - 1
@@ -53,9 +57,10 @@ HasDigest (Output stretch) = IsWithin stretch
 -- there are digests, tags and keys of the lengths that are asked for, and parts of such a place
 abbrev pub IsPossible : Asked → Type 0
 IsPossible (hashes wanted parts names) = HasDigest wanted × IfSome parts IsPartSize
-IsPossible (compares wanted parts digest file) = HasDigest wanted × IfSome parts IsPartSize
+IsPossible (prints wanted parts digest name file) = HasDigest wanted × IfSome parts IsPartSize
 IsPossible (cuts first chunks file) = IsPlace first chunks
+IsPossible (divides chunks file) = IsPartLength chunks
 IsPossible (joins stretch bytes name lists) = IsOfJoin stretch
 IsPossible (tags mac is_raw key wanted file) = HasTag mac
 IsPossible (derives derived is_raw material) = HasKey derived
-IsPossible (checks kind is_summed list) = ⊤
+IsPossible (checks kind is_summed lists) = ⊤

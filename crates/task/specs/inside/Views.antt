@@ -4,7 +4,8 @@ use Rattle.std.specs.Borrow.{Bor}
 use Rattle.request.specs.CommandLine.{Text}
 use Rattle.task.specs.Deriving.{Derived, by_blake3, by_hkdf}
 use Rattle.task.specs.Tagging.{KeyText, bytes, file}
-use Rattle.task.specs.Tasks.{Asked, NameTexts, checks, compares, cuts, derives, hashes, in_file, joins, tags, these}
+use Rattle.task.specs.Tasks.{Asked, NameTexts, checks, cuts, derives, hashes, in_file, joins, prints, tags, these}
+use Rattle.task.specs.Tasks.{divides}
 use Rattle.task.specs.declared.derivation.Derivation.{Derivation}
 use Rattle.task.specs.declared.derivation.Derivation.TheVariants as derivation
 use Rattle.task.specs.declared.tagging.Key.{Key}
@@ -33,10 +34,12 @@ derivation_shown (derivation.Blake3 context n) = by_blake3 context.now n
 
 abbrev pub task_shown : Task → Asked
 task_shown (code.Hash wanted parts names) = hashes wanted parts (names_shown names)
-task_shown (code.Compare wanted parts digest name) = compares wanted parts digest.items name.now
+task_shown (code.Line requested parts wanted name content) =
+    prints requested parts (option_map (λ v. v.items) wanted) name.now content.now
 task_shown (code.Part first chunks name) = cuts first chunks name.now
+task_shown (code.Starts chunks name) = divides chunks name.now
 task_shown (code.Join stretch count name lists) = joins stretch count name.now (texts_of lists)
 task_shown (code.Mac form key wanted name) =
     tags form.mac form.is_raw (key_shown key) (option_map (λ v. v.items) wanted) name.now
 task_shown (code.Kdf derivation is_raw material) = derives (derivation_shown derivation) is_raw material.now
-task_shown (code.Check kind is_summed list) = checks kind is_summed list.now
+task_shown (code.Check kind is_summed lists) = checks kind is_summed (texts_of lists)

@@ -1,5 +1,7 @@
 use Rattle.std.proofs.Common.{refl}
-use Rattle.command.proofs.Deriving.{derives_printed, derives_stopped, unended}
+use Rattle.command.specs.Keying.{line_end}
+use Rattle.command.proofs.Deriving.{derives_printed, derives_stopped}
+use Rattle.command.proofs.Printing.{unwritten}
 use Rattle.command.proofs.session.Session.print_key.Goals as goal
 use Rattle.task.specs.inside.Views.{derivation_shown}
 
@@ -16,7 +18,7 @@ returns-in_err-write_all-clause-run g c =
     let printed = c.in_ok-print_bytes in
     derives_printed (derivation_shown c.args.derivation.now) c.args.is_raw c.args.material.now _ _ tt _ _ _ _ _ _ _ _
     printed.ensures.key printed.ensures.read.counted
-    (unended c.args.is_raw _ _ _ c.from_residual-in_err-write_all.ensures.1
+    (unwritten (line_end c.args.is_raw) _ _ _ c.from_residual-in_err-write_all.ensures.1
     (rw c.line_end.ensures at c.in_err-write_all.ensures))
     c.print_bytes.ensures.read.input_failures
 

@@ -1,5 +1,6 @@
 use Rattle.std.proofs.Common.{refl}
-use Rattle.command.proofs.CutParts.{cut_printed, cut_stopped, untold}
+use Rattle.command.proofs.CutParts.{cut_printed, cut_stopped, told_line}
+use Rattle.command.proofs.Printing.{unwritten}
 use Rattle.command.proofs.session.Session.print_part.Goals as goal
 
 pub returns-in_err-part-clause-run : goal.returns-in_err-part-clause-run
@@ -14,7 +15,7 @@ returns-in_err-write_part-clause-run g c =
     cut_printed c.args.first c.args.chunks c.args.name.now
     _ _ part _ _ _ _ _ _ _ _
     c.in_ok-part.ensures.part c.in_ok-part.ensures.counted c.part_in.ensures.out
-    (untold part _ _ _ c.from_residual-in_err-write_part.ensures.1 c.in_err-write_part.ensures)
+    (unwritten (told_line part) _ _ _ c.from_residual-in_err-write_part.ensures.1 c.in_err-write_part.ensures)
 
 pub returns-clause-run : goal.returns-clause-run
 returns-clause-run g c =

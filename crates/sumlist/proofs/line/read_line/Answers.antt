@@ -3,7 +3,7 @@ use Rattle.std.proofs.Common.{string_bytes}
 use Rattle.std.proofs.lemmas.Option.{same_Some}
 use Rattle.sumlist.proofs.LineCases.{malformed_if, spells_if, spells_one}
 use Rattle.sumlist.proofs.Stating.{listing}
-use Rattle.sumlist.proofs.line.parse_line.Goals as goal
+use Rattle.sumlist.proofs.line.read_line.Goals as goal
 
 pub returns-in_default : goal.returns-in_default
 returns-in_default c =

@@ -1,0 +1,59 @@
+use Rattle.std.proofs.Common.{refl, sym, ◌∙◌}
+use Rattle.sumlist.specs.Lines.{lines}
+use Rattle.sumlist.specs.Checked.{name_in}
+use Rattle.command.specs.Checking.{ListRuns}
+use Rattle.command.proofs.Listing.{refused_list, report_file, report_input, report_refused}
+use Rattle.command.proofs.Opening.{opens_of_file, opens_of_input, opens_of_none}
+use Rattle.command.proofs.session.Session.check_named.Goals as goal
+
+pub returns-then-eq-clause-run : goal.returns-then-eq-clause-run
+returns-then-eq-clause-run g c =
+    let name = c.args.name.now in
+    report_input name (λ files content run.
+    ListRuns c.args.is_summed files c.args.form.kind (name_in c.args.form) name content run)
+    _ _ _ _ _ _ _ _ _ _ _ (sym c.eq.ensures ∙ c.if-eq.true) c.check_input.ensures.list c.check_input.ensures.counted
+
+pub returns-in_err-list-clause-run : goal.returns-in_err-list-clause-run
+returns-in_err-list-clause-run g c =
+    let name = c.args.name.now in
+    let is = sym c.eq.ensures ∙ c.if-eq.false in
+    report_refused name (λ files content run.
+    ListRuns c.args.is_summed files c.args.form.kind (name_in c.args.form) name content run)
+    (g.E.Sink.shown c.args.err.now) (g.E.Sink.shown c.args.err.now) g.T.F.Feed.remaining _ _ _ _ _ _ _ _ is
+    (λ files content t may other.
+    refused_list c.args.is_summed files c.args.form.kind (name_in c.args.form) name content t may other is)
+    c.from_residual.ensures.1 c.in_err-list.ensures.opened c.in_err-list.ensures.counted refl
+
+pub returns-clause-run : goal.returns-clause-run
+returns-clause-run g c =
+    let name = c.args.name.now in
+    report_file name (λ files content run.
+    ListRuns c.args.is_summed files c.args.form.kind (name_in c.args.form) name content run)
+    _ _ g.T.F.Feed.remaining c.in_ok-list.list _ _ _ _ _ _ _ _ _ _ _ _ _
+    (sym c.eq.ensures ∙ c.if-eq.false) c.in_ok-list.ensures.opened c.open_file.ensures.kept
+    c.in_ok-list.ensures.counted c.check_input-answer.ensures.list c.in_ok-list.ensures.fresh
+    c.check_input-answer.ensures.counted (rw (c.list-3-1.given.1 (sym c.check_input-answer.ensures.same.input)) at
+    c.close.ensures.counted)
+
+pub returns-then-eq-clause-opens : goal.returns-then-eq-clause-opens
+returns-then-eq-clause-opens g c =
+    opens_of_input lines c.args.name.now _ _ _ _ (sym c.eq.ensures ∙ c.if-eq.true) c.check_input.ensures.opens
+
+pub returns-in_err-list-clause-opens : goal.returns-in_err-list-clause-opens
+returns-in_err-list-clause-opens g c =
+    opens_of_none lines c.args.name.now _ _ _ _ (sym c.eq.ensures ∙ c.if-eq.false) c.open_file.ensures.opens
+
+pub returns-clause-opens : goal.returns-clause-opens
+returns-clause-opens g c =
+    opens_of_file lines c.args.name.now g.T.F.Feed.remaining c.in_ok-list.list _ _ _ _ _ _ _
+    (sym c.eq.ensures ∙ c.if-eq.false) c.in_ok-list.ensures.opened c.open_file.ensures.kept c.open_file.ensures.opens
+    c.check_input-answer.ensures.opens c.close.ensures.opened
+
+pub returns-then-eq-clause-gave : goal.returns-then-eq-clause-gave
+returns-then-eq-clause-gave g c = rw (sym c.eq.ensures ∙ c.if-eq.true) c.check_input.ensures.gave
+
+pub returns-in_err-list-clause-gave : goal.returns-in_err-list-clause-gave
+returns-in_err-list-clause-gave g c = rw (sym c.eq.ensures ∙ c.if-eq.false) refl
+
+pub returns-clause-gave : goal.returns-clause-gave
+returns-clause-gave g c = rw (sym c.eq.ensures ∙ c.if-eq.false) refl

@@ -1,0 +1,99 @@
+// The command `part` with `--list`: where the parts of a file begin.
+
+ghost use Rattle.std.specs.Prelude.{◌≡◌, ◌+◌, ◌*◌, ◌^◌, ◌<◌, ◌≤◌, [], false, true, IfOk, IfSome, IsErrOf, Some};
+ghost use Rattle.source.specs.Counts.{count_after};
+ghost use Rattle.source.specs.Written.{Writes};
+ghost use Rattle.command.specs.Cutting.{StartsRuns, start_lines};
+ghost use Rattle.command.specs.inside.Cutting.{CountsParts, TellsByte};
+ghost use Rattle.command.specs.inside.Reading.{failed};
+ghost use Rattle.command.specs.Streams.{OpensAtMost, DoesRun};
+ghost use Rattle.command.specs.inside.Streams.{SameStreams};
+ghost use Rattle.task.specs.inside.Possible.{IsPartLength};
+
+use crate::cutting::END;
+use crate::fault::{Fault, write_number};
+use crate::session::{Session, Streams, open_file};
+use source::{Feed, ReadFailed, Sink, WriteFailed};
+use sumlist::Tree;
+
+impl<'i, 't, 'o, L: Feed, T: Tree, W: Sink> Session<'i, 't, 'o, L, T, W> {
+    /// Prints the number of the first chunk, of 1,024 bytes, of each part of a file, a line for each, where
+    /// each part but the last has so many chunks; an empty file has one part. Answers 0; `-` is a file's
+    /// name here. No size is asked for: the file is opened at a few positions, and a byte is read there.
+    /// Nothing is written before that is done. The faults are `CannotRead`, `CannotWrite` and
+    /// `OutOfMemory`.
+    pub fn print_starts<'n>(&mut self, chunks: u64, name: &'n str) -> Result<u8, Fault<'n>>
+        requires { IsPartLength chunks }
+        ensures run { DoesRun (λ bytes files. StartsRuns chunks name.entry.now files) (λ notes. notes ≡ [])
+            result (⟦<Self as Streams>⟧.seen self.old) (⟦<Self as Streams>⟧.seen self.new) }
+        ensures opens { OpensAtMost 55 (⟦<Self as Streams>⟧.seen self.old)
+            (⟦<Self as Streams>⟧.seen self.new) }
+        ensures same { SameStreams self.old self.new }
+    {
+        let count = part_count(chunks, name, self.tree)?;
+        write_starts(chunks, count, self.out)?;
+        Ok(0)
+    }
+}
+
+// How many parts of so many chunks the file has. A part begins where the file has a byte, and none behind
+// a place without one, so the last is found by halves.
+fn part_count<'n, T: Tree>(chunks: u64, name: &'n str, tree: &mut T) -> Result<u64, Fault<'n>>
+    requires { IsPartLength chunks }
+    ensures count { IfSome (T.files tree.old)
+        (λ files. CountsParts chunks name.entry.now (files name.entry.now) result) }
+    ensures fits { IfOk result (λ count. chunks * count < 2 ^ 64) }
+    ensures counted { IfSome (T.files tree.old) (λ files. T.failure_count tree.new
+        ≡ count_after (T.failure_count tree.old) (failed false (files name.entry.now) result).files) }
+    ensures opens { T.opens tree.new ≤ T.opens tree.old + 55 }
+{
+    let mut least = 0;
+    let mut most = (END - 1) / chunks + 1;
+    'halves: while least < most {
+        let middle = least + (most - least) / 2;
+        if has_byte(name, 1024 * (chunks * middle), tree)? {
+            least = middle + 1;
+        } else {
+            most = middle;
+        }
+    }
+    Ok(least.max(1))
+}
+
+// Whether the file has a byte at a position.
+fn has_byte<'n, T: Tree>(name: &'n str, position: u64, tree: &mut T) -> Result<bool, Fault<'n>>
+    ensures byte { IfSome (T.files tree.old)
+        (λ files. TellsByte name.entry.now position (files name.entry.now) result) }
+    ensures counted { IfSome (T.files tree.old) (λ files. T.failure_count tree.new
+        ≡ count_after (T.failure_count tree.old) (failed false (files name.entry.now) result).files) }
+    ensures kept { T.files tree.new ≡ T.files tree.old }
+    ensures opens { T.opens tree.new ≤ T.opens tree.old + 1 }
+{
+    let mut feed = open_file(name, position, tree)?;
+    let answer = gives_byte(name, &mut feed);
+    tree.close(feed);
+    answer
+}
+
+// Whether the feed of this name gives one byte more.
+fn gives_byte<'n, F: Feed>(name: &'n str, feed: &mut F) -> Result<bool, Fault<'n>>
+    ensures byte { IfSome (F.remaining feed.old) (λ bytes. TellsByte name.entry.now 0 (Some bytes) result) }
+    ensures counted { F.failure_count feed.new
+        ≡ count_after (F.failure_count feed.old) (failed true (Some []) result).input }
+{
+    match feed.read(&mut [0]) {
+        Ok(count) => Ok(count > 0),
+        Err(ReadFailed) => Err(Fault::CannotRead(name)),
+    }
+}
+
+// Writes the first chunk of each of so many parts, a line for each.
+fn write_starts<W: Sink>(chunks: u64, count: u64, out: &mut W) -> Result<(), WriteFailed>
+    requires { chunks * count < 2 ^ 64 }
+    ensures { Writes result (W.shown out.old) (W.shown out.new) (start_lines chunks count) }
+{
+    for number in 0..count {
+        write_number(out, "", chunks * number, "\n")?;
+    }
+    Ok(())
+}
