@@ -105,8 +105,10 @@ class Bench:
         bin_ = os.path.join(work, "bin")
         os.mkdir(bin_)
         shutil.copy(program, os.path.join(bin_, "sums"))
+        # a cargo of rustup finds its toolchain in the home of whoever runs this
+        rustup = os.environ.get("RUSTUP_HOME", os.path.expanduser("~/.rustup"))
         self.environment = {"PATH": bin_ + ":" + os.environ["PATH"] + ":/usr/sbin:/sbin", "HOME": work,
-                            "LC_ALL": "C.UTF-8", "PARALLEL_HOME": os.path.join(work, "parallel")}
+                            "LC_ALL": "C.UTF-8", "PARALLEL_HOME": os.path.join(work, "parallel"), "RUSTUP_HOME": rustup}
         os.mkdir(self.environment["PARALLEL_HOME"])
         self.marks = [os.path.join(pwd.getpwuid(os.getuid()).pw_dir, "PWNED"), "/PWNED"]
 
