@@ -117,7 +117,8 @@ def check_commands():
         harness.judge(f"README.md has sums {command}", uses)
         named = {option for use in uses for option in re.findall(r"(?:^|\s)(--?[a-z][a-z0-9-]*)", use)}
         none(f"README.md: options that sums {command} has not", sorted(named - set(options(command))))
-        harness.same(f"statuses of sums-{command}(1)", page_statuses(f"man/sums-{command}.1"), statuses(help_of(command)))
+        of_page = page_statuses(f"man/sums-{command}.1")
+        harness.same(f"statuses of sums-{command}(1)", of_page, statuses(help_of(command)))
 
 
 def check_statuses():

@@ -216,8 +216,8 @@ def zsh_command(command):
     if command.takes == "commands":
         return f"                {command.name}) ((CURRENT == 2)) && _describe -t commands command commands ;;\n"
     specs = zsh_options(command) + {"files": ["'*:file:_files'"], "file": ["'1:file:_files'"]}.get(command.takes, [])
-    lines = " \\\n                        ".join(specs)
-    return f"                {command.name})\n                    _arguments -S \\\n                        {lines} ;;\n"
+    lines = " \\\n                        ".join(["_arguments -S", *specs])
+    return f"                {command.name})\n                    {lines} ;;\n"
 
 
 def zsh(program, commands):
