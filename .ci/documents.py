@@ -1,7 +1,7 @@
 #!/usr/bin/env python3
 """Checks the documents: each link leads somewhere, sentences are short, nothing is dated, README is short, quotes code
-that is there, and has the options and statuses of help and manual pages.
-usage: .ci/documents.py
+that is there, and has the options and statuses of the program's help and manual pages.
+usage: .ci/documents.py PROGRAM
 """
 
 import glob
@@ -17,6 +17,7 @@ DIARY = re.compile(r"20[0-9]{2}-|November|was seen|beside other")
 # the one line that tells when and on what was measured
 DATED = re.compile(r"Machine: ")
 COMMANDS = ["hash", "mac", "kdf", "check", "part", "join"]
+PROGRAM = harness.program()
 
 
 def read(path):
@@ -85,14 +86,19 @@ def check_diary(page):
 # ---- what README says beside help, manual pages and code
 
 
+def help_of(*words):
+    """What the program prints of itself, or of a command."""
+    return harness.run(PROGRAM, [*words, "--help"]).out.decode()
+
+
 def options(command):
     """The options of a command's help."""
-    return re.findall(r"(?:^ +|, )(--?[a-z0-9-]+)", read(f".ci/help/{command}").split("\nOptions:\n")[1], re.M)
+    return re.findall(r"(?:^ +|, )(--?[a-z0-9-]+)", help_of(command).split("\nOptions:\n")[1], re.M)
 
 
-def help_statuses(command):
+def statuses(told):
     """The statuses of a help, each with its words."""
-    told = read(f".ci/help/{command}").split("\nStatus:\n")[1]
+    told = told.split("\nStatus:\n")[1]
     return {number: " ".join(text.split()) for number, text in re.findall(r"^  (\d+)  (.*(?:\n     .*)*)", told, re.M)}
 
 
@@ -111,14 +117,15 @@ def check_commands():
         harness.judge(f"README.md has sums {command}", uses)
         named = {option for use in uses for option in re.findall(r"(?:^|\s)(--?[a-z][a-z0-9-]*)", use)}
         none(f"README.md: options that sums {command} has not", sorted(named - set(options(command))))
-        harness.same(f"statuses of sums-{command}(1)", page_statuses(f"man/sums-{command}.1"), help_statuses(command))
+        of_page = page_statuses(f"man/sums-{command}.1")
+        harness.same(f"statuses of sums-{command}(1)", of_page, statuses(help_of(command)))
 
 
 def check_statuses():
     told = dict(re.findall(r"^\| (\d+) \| (.*) \|$", read("README.md"), re.M))
     of_page = page_statuses("man/sums.1")
     harness.same("statuses of README.md and sums(1)", sorted(told), sorted(of_page))
-    for number, text in help_statuses("sums").items():
+    for number, text in statuses(help_of()).items():
         harness.same(f"status {number} in README.md", told.get(number), text)
         harness.same(f"status {number} in sums(1)", of_page.get(number), text)
 

@@ -1,6 +1,7 @@
 #!/usr/bin/env python3
 """Runs the program on each row of rows/*.tsv, over the files of files.tsv: status, standard output and standard error
-have to be those of the row, byte for byte. tables.py tells how a table is written.
+have to be those of the row, byte for byte. A call for help of usages.tsv has to print its line of usage, and nothing on
+standard error. tables.py tells how a table is written.
 usage: .ci/rows.py PROGRAM
 """
 
@@ -35,6 +36,10 @@ def main():
         for row in rows:
             got = harness.run(program, row.words, row.given)
             harness.judge(f"{row.place}: {row.name}", got == row.answer, row.words, *differences(got, row.answer))
+        for place, words, usage in tables.usages():
+            got = harness.run(program, words)
+            is_right = (got.status, got.err) == (0, b"") and usage in got.out.splitlines()
+            harness.judge(f"{place}: {usage.decode()}", is_right, words, got)
     harness.finish()
 
 

@@ -1,7 +1,8 @@
 #!/usr/bin/env python3
-r"""Reads the tables of .ci: rows/*.tsv (runs of the program and what they answer), failed.tsv (the same where a call
-fails), places.tsv (each place of a file in the words and in a list), runs.tsv (runs whose calls and allocations are
-failed), files.tsv (the files that all find) and values.tsv (texts with names).
+r"""Reads the tables of .ci: rows/*.tsv (runs of the program and what they answer), usages.tsv (calls for help and a
+line of what they print), failed.tsv (runs where a call fails), places.tsv (each place of a file in the words and in a
+list), runs.tsv (runs whose calls and allocations are failed), files.tsv (the files that all find) and values.tsv (texts
+with names).
 
 A table has a line of headings, and then a row a line, with a tab between two cells. Lines that begin with # are
 comments. In a cell `-` alone stands for nothing, `\n`, `\t`, `\\` and `\xHH` for bytes, and braces for
@@ -115,6 +116,12 @@ def rows():
     for path in sorted(glob.glob(f"{HERE}/rows/*.tsv")):
         for place, cells in table(os.path.relpath(path, HERE)):
             yield row(place, cells)
+
+
+def usages():
+    """The calls for help: the place of each, its words, and the line of its usage."""
+    for place, cells in table("usages.tsv"):
+        yield place, words_of(cells["words"]), text(cells["usage"])
 
 
 def failed_rows():

@@ -1,7 +1,7 @@
 # shellcheck shell=sh disable=SC2154
 # What tools/package and its checks share: the files of a release, of what was built for several levels of x86-64. It
-# runs at the top of the repository, after tools/installed.sh, whose soname it takes. BUILT/LEVEL/sums and BUILT/LEVEL/libhash_c.a are there
-# for each of $levels, which are named lowest first.
+# runs at the top of the repository, after tools/installed.sh, whose names it takes. BUILT/LEVEL/sums and
+# BUILT/LEVEL/libhash_c.a are there for each of $levels, which are named lowest first.
 
 # launcher FILE LIBEXEC: the program that begins the build for this processor; LIBEXEC is where the builds are if they
 # are not beside it
@@ -49,7 +49,8 @@ is_whole() {
 }
 
 # tree BUILT ROOT PREFIX LIBDIR ZSH: all files of a release in the folder ROOT, which is to stand at PREFIX, or anywhere
-# where that is empty; LIBDIR is the folder of libraries below it, ZSH that of zsh's completions
+# where that is empty; LIBDIR is the folder of libraries below it, ZSH that of zsh's completions. These are made by what
+# $sums says, one of the programs that runs here.
 tree() {
     root=$2
     program_builds "$1" "$root" "$3"
@@ -57,6 +58,8 @@ tree() {
     mkdir -p "$root/$4/pkgconfig"
     pkgconfig "${3:-\${pcfiledir\}/../..}" "\${prefix}/$4" "\${prefix}/include" "-L\${libdir} -lsums_hash" \
         > "$root/$4/pkgconfig/sums_hash.pc"
+    completions=$work/completion
+    tools/completions.py "$sums" "$completions"
     program_texts put "$5"
     library_texts put
 }

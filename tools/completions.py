@@ -1,51 +1,91 @@
 #!/usr/bin/env python3
-"""Writes the completions for bash, zsh and fish from completion/options.table.
-usage: tools/completions.py          writes completion/sums.bash, completion/_sums and completion/sums.fish
-       tools/completions.py check    tells where they differ from what would be written; status 1 where they do
+"""Writes the completions of the program sums for bash, zsh and fish, from what its help says of commands and options.
+usage: tools/completions.py PROGRAM FOLDER     writes sums.bash, _sums and sums.fish into FOLDER
 """
 
-import difflib
 import os
+import re
+import subprocess
 import sys
 
-TABLE = "completion/options.table"
-WRITTEN = "Written by tools/completions.py from completion/options.table."
+# what options take one of, where the help does not list it word by word
+WORDS = {"--parts": " ".join(str(1 << exponent) for exponent in range(11))}
+# what the help calls a file that is the value of an option
+FILE = "<F>"
 
 
 class Command:
-    def __init__(self, name, takes, text):
-        self.name, self.takes, self.text = name, takes, text
-        self.options = []
+    """A command; its other words are `files`, one `file`, `commands`, or none."""
+
+    def __init__(self, name, text, options, takes):
+        self.name, self.text, self.options, self.takes = name, text, options, takes
 
 
 class Option:
-    def __init__(self, name, takes, text):
-        self.name, self.takes, self.text = name, takes, text
-        self.is_long = name.startswith("--")
+    """An option by its names; it takes a `file`, one of words, what nobody can guess (`-`), or nothing."""
+
+    def __init__(self, short, long, value, text):
+        self.names = [name for name in (short, long) if name]
+        self.text = about(text)
+        self.takes = takes_of(long, value, text)
 
 
-def rows():
-    """the rows of the table, each as its four parts"""
-    with open(TABLE) as table:
-        for number, line in enumerate(table, 1):
-            row = line.rstrip("\n").split("|")
-            if line.startswith("#"):
-                continue
-            if len(row) != 4:
-                sys.exit(f"tools/completions.py: {TABLE}:{number}: no four parts: {line.rstrip()}")
-            yield row
+# ---- the help
 
 
-def read_table():
-    commands = []
-    for command, option, takes, text in rows():
-        if not option:
-            commands.append(Command(command, takes, text))
-        elif commands and commands[-1].name == command:
-            commands[-1].options.append(Option(option, takes, text))
+def help_of(program, *words):
+    return subprocess.run([program, *words, "--help"], stdout=subprocess.PIPE, check=True).stdout.decode()
+
+
+def about(text):
+    """the beginning of a text, which tells what an option is"""
+    return re.split(r"\. |; | \[|: (?=[a-z0-9])", text)[0]
+
+
+def takes_of(long, value, text):
+    listed = re.search(r": ([a-z0-9-]+(?:(?:, | or )[a-z0-9-]+)*)(?:\. |$)", text)
+    if not value:
+        return ""
+    if long in WORDS:
+        return WORDS[long]
+    if listed:
+        return " ".join(re.split(", | or ", listed[1]))
+    return "file" if value == FILE else "-"
+
+
+def section(text, title):
+    """the entries of a section of a help: the lines of each as one"""
+    lines = re.search(rf"^{title}:\n((?: .*\n)*)", text, re.M)
+    return [" ".join(entry.split()) for entry in re.split(r"\n(?= {2,6}\S)", lines[1])] if lines else []
+
+
+def options(text):
+    for entry in section(text, "Options"):
+        short, long, value, told = re.match(r"(-\w)?(?:, )?(--\S+)?(?: (<\S+>))? ?(.*)", entry).groups()
+        yield Option(short, long, value, told)
+
+
+def takes(text):
+    """what the other words of a command are, by its usage"""
+    if re.search(r"^Usage: .* \[[A-Z]+\]\.\.\.$", text, re.M):
+        return "files"
+    return "file" if re.search(r"^Usage: .* \[[A-Z]+\]$", text, re.M) else ""
+
+
+def read_command(name, text, told):
+    return Command(name, told, list(options(text)), takes(text))
+
+
+def read_program(program):
+    """the program as a command, and its commands"""
+    whole, commands = help_of(program), []
+    for entry in section(whole, "Commands"):
+        name, _, told = entry.partition(" ")
+        if name == "help":
+            commands.append(Command(name, told, [], "commands"))
         else:
-            sys.exit(f"tools/completions.py: {TABLE}: {option} does not stand below {command}")
-    return commands
+            commands.append(read_command(name, help_of(program, name), told))
+    return read_command("sums", whole, ""), commands
 
 
 def quoted(text):
@@ -53,14 +93,18 @@ def quoted(text):
     return "'" + text.replace("'", "'\\''") + "'"
 
 
-def names(things):
-    return " ".join(thing.name for thing in things)
+def names(commands):
+    return " ".join(command.name for command in commands)
+
+
+def option_names(command):
+    return " ".join(name for option in command.options for name in option.names)
 
 
 # ---- bash
 
 BASH_HEAD = """\
-# Completion for bash of the program sums. {written}
+# Completion for bash of the program sums.
 
 # Offers those of the words that begin with the one that is being written.
 _sums_words() {{
@@ -76,7 +120,7 @@ _sums() {{
     local word=${{COMP_WORDS[COMP_CWORD]}} before=${{COMP_WORDS[COMP_CWORD - 1]}} command=${{COMP_WORDS[1]}} i
     COMPREPLY=()
     if ((COMP_CWORD == 1)); then
-        _sums_words '{commands} -h --help -V --version' "$word"
+        _sums_words '{first}' "$word"
         return
     fi
     # --key-file=F comes as three words
@@ -98,14 +142,12 @@ _sums() {{
 
 def bash_values(command):
     """the lines that tell what stands behind each option of a command"""
-    for option in command.options:
-        if option.takes not in ("", "-", "file"):
-            yield f"        {command.name}:{option.name})\n"
-            yield f"            _sums_words {quoted(option.takes)} \"$word\"\n            return ;;\n"
-    for takes, does in ("file", "_sums_files; return"), ("-", "return"):
-        found = [f"{command.name}:{option.name}" for option in command.options if option.takes == takes]
-        if found:
-            yield f"        {' | '.join(found)}) {does} ;;\n"
+    for takes in dict.fromkeys(option.takes for option in command.options if option.takes):
+        found = " | ".join(f"{command.name}:{name}" for option in command.options if option.takes == takes
+            for name in option.names)
+        words = f"_sums_words {quoted(takes)} \"$word\"; "
+        does = {"file": "_sums_files; ", "-": ""}.get(takes, words)
+        yield f"        {found}) {does}return ;;\n"
 
 
 def bash_words(command, commands):
@@ -115,12 +157,11 @@ def bash_words(command, commands):
         yield f"            if ((COMP_CWORD == 2)); then _sums_words {quoted(names(commands))} \"$word\"; fi ;;\n"
         return
     begins = f"{command.name}:-*" if command.takes else f"{command.name}:-* | {command.name}:"
-    yield f"        {begins})\n"
-    yield f"            _sums_words {quoted(names(command.options) + ' -h --help')} \"$word\" ;;\n"
+    yield f"        {begins})\n            _sums_words {quoted(option_names(command))} \"$word\" ;;\n"
 
 
-def bash(commands):
-    text = BASH_HEAD.format(written=WRITTEN, commands=names(commands))
+def bash(program, commands):
+    text = BASH_HEAD.format(first=names(commands) + " " + option_names(program))
     for command in commands:
         text += "".join(bash_values(command))
     text += "    esac\n    case $command:$word in\n"
@@ -134,7 +175,7 @@ def bash(commands):
 
 ZSH_HEAD = """\
 #compdef sums
-# Completion for zsh of the program sums. {written}
+# Completion for zsh of the program sums.
 
 _sums() {{
     local curcontext=$curcontext state state_descr line
@@ -142,7 +183,7 @@ _sums() {{
     local -a commands=(
 {commands}
     )
-    _arguments -C '(- *)'{{-h,--help}}'[print help]' '(- *)'{{-V,--version}}'[print version]' \\
+    _arguments -C {options} \\
         '1:command:->command' '*::word:->words' && return
     case $state in
         command) _describe -t commands command commands ;;
@@ -157,28 +198,31 @@ def zsh_text(text):
 
 
 def zsh_option(option):
+    """the specs of an option, one for each of its names; nothing stands beside help and the version"""
     text = zsh_text(option.text)
-    spec = f"[{text}]"
-    if option.takes:
+    value = {"": "", "file": ":file:_files", "-": f":{text}:"}.get(option.takes, f":value:({option.takes})")
+    ends = "(- *)" if option.names[-1] in ("--help", "--version") else ""
+    for name in option.names:
         # the value stands behind it, or in the same word
-        spec = ("=" if option.is_long else "+") + spec
-        spec += {"-": f":{text}:", "file": ":file:_files"}.get(option.takes, f":value:({option.takes})")
-    return quoted(option.name + spec)
+        joint = ("=" if name.startswith("--") else "+") if option.takes else ""
+        yield quoted(f"{ends}{name}{joint}[{text}]{value}")
+
+
+def zsh_options(command):
+    return [spec for option in command.options for spec in zsh_option(option)]
 
 
 def zsh_command(command):
     if command.takes == "commands":
         return f"                {command.name}) ((CURRENT == 2)) && _describe -t commands command commands ;;\n"
-    specs = [zsh_option(option) for option in command.options]
-    specs.append("'(- *)'{-h,--help}'[print help]'")
-    specs += {"files": ["'*:file:_files'"], "file": ["'1:file:_files'"]}.get(command.takes, [])
-    lines = " \\\n                        ".join(specs)
-    return f"                {command.name})\n                    _arguments -S \\\n                        {lines} ;;\n"
+    specs = zsh_options(command) + {"files": ["'*:file:_files'"], "file": ["'1:file:_files'"]}.get(command.takes, [])
+    lines = " \\\n                        ".join(["_arguments -S", *specs])
+    return f"                {command.name})\n                    {lines} ;;\n"
 
 
-def zsh(commands):
-    about = "\n".join("        " + quoted(f"{command.name}:{command.text}") for command in commands)
-    text = ZSH_HEAD.format(written=WRITTEN, commands=about)
+def zsh(program, commands):
+    about_each = "\n".join("        " + quoted(f"{command.name}:{command.text}") for command in commands)
+    text = ZSH_HEAD.format(commands=about_each, options=" ".join(zsh_options(program)))
     for command in commands:
         text += zsh_command(command)
     return text + "            esac ;;\n    esac\n}\n\n_sums \"$@\"\n"
@@ -187,7 +231,7 @@ def zsh(commands):
 # ---- fish
 
 FISH_HEAD = """\
-# Completion for fish of the program sums. {written}
+# Completion for fish of the program sums.
 
 # Whether the word that is being written is the first.
 function __sums_is_first
@@ -206,59 +250,43 @@ function __sums_is_behind
 end
 
 complete -c sums -f
-complete -c sums -n __sums_is_first -s h -l help -d 'print help'
-complete -c sums -n __sums_is_first -s V -l version -d 'print version'
 """
 
 
 def fish_option(begin, option):
-    name = "-l " + option.name[2:] if option.is_long else "-s " + option.name[1:]
+    said = " ".join("-l " + name[2:] if name.startswith("--") else "-s " + name[1:] for name in option.names)
     takes = {"": "", "-": " -x", "file": " -r -F"}.get(option.takes, f" -x -a {quoted(option.takes)}")
-    return f"{begin} {name}{takes} -d {quoted(option.text)}\n"
+    return f"{begin} {said}{takes} -d {quoted(option.text)}\n"
 
 
-def fish_command(command, commands):
-    if command.takes == "commands":
-        return f"complete -c sums -n '__sums_is_behind {command.name}' -a {quoted(names(commands))}\n"
-    begin = f"complete -c sums -n '__sums_command_is {command.name}'"
+def fish_command(begin, command):
+    """the lines of a command, which have this beginning"""
     text = "".join(fish_option(begin, option) for option in command.options)
-    text += f"{begin} -s h -l help -d 'print help'\n"
     return text + (f"{begin} -F\n" if command.takes else "")
 
 
-def fish(commands):
-    text = FISH_HEAD.format(written=WRITTEN)
+def fish(program, commands):
+    begin = "complete -c sums -n __sums_is_first"
+    text = FISH_HEAD + "".join(fish_option(begin, option) for option in program.options)
     for command in commands:
-        text += f"complete -c sums -n __sums_is_first -a {command.name} -d {quoted(command.text)}\n"
-    return text + "".join(fish_command(command, commands) for command in commands)
-
-
-FILES = {"completion/sums.bash": bash, "completion/_sums": zsh, "completion/sums.fish": fish}
-
-
-def differences(path, wanted):
-    with open(path) as file:
-        there = file.read()
-    return list(difflib.unified_diff(there.splitlines(True), wanted.splitlines(True), path, "what would be written"))
+        text += f"{begin} -a {command.name} -d {quoted(command.text)}\n"
+    for command in commands:
+        if command.takes == "commands":
+            text += f"complete -c sums -n '__sums_is_behind {command.name}' -a {quoted(names(commands))}\n"
+        else:
+            text += fish_command(f"complete -c sums -n '__sums_command_is {command.name}'", command)
+    return text
 
 
 def main(words):
-    if words not in ([], ["check"]):
-        sys.stderr.write(__doc__)
-        return 2
-    os.chdir(os.path.join(os.path.dirname(os.path.abspath(__file__)), ".."))
-    commands = read_table()
-    differs = False
-    for path, written in FILES.items():
-        if words:
-            lines = differences(path, written(commands))
-            sys.stdout.writelines(lines)
-            differs = differs or bool(lines)
-        else:
-            with open(path, "w") as file:
-                file.write(written(commands))
-    return 1 if differs else 0
+    if len(words) != 2:
+        sys.exit(__doc__.splitlines()[1])
+    program, commands = read_program(words[0])
+    os.makedirs(words[1], exist_ok=True)
+    for name, written in (("sums.bash", bash), ("_sums", zsh), ("sums.fish", fish)):
+        with open(os.path.join(words[1], name), "w", encoding="utf-8") as file:
+            file.write(written(program, commands))
 
 
 if __name__ == "__main__":
-    sys.exit(main(sys.argv[1:]))
+    main(sys.argv[1:])

@@ -8,6 +8,8 @@
 version=$(cat VERSION)
 # What would break a program that is linked already changes the first number, and so the name that it asks for.
 soname=libsums_hash.so.${version%%.*}
+# The folder of the completions, which tools/completions.py makes.
+completions=completion
 
 # refuse TEXT: ends with a fault of the words
 refuse() {
@@ -70,9 +72,9 @@ program_texts() {
     for page in sums sums-hash sums-mac sums-kdf sums-check sums-part sums-join; do
         "$1" 644 "man/$page.1" "share/man/man1/$page.1"
     done
-    "$1" 644 completion/sums.bash share/bash-completion/completions/sums
-    "$1" 644 completion/_sums "${2:-share/zsh/site-functions}/_sums"
-    "$1" 644 completion/sums.fish share/fish/vendor_completions.d/sums.fish
+    "$1" 644 "$completions/sums.bash" share/bash-completion/completions/sums
+    "$1" 644 "$completions/_sums" "${2:-share/zsh/site-functions}/_sums"
+    "$1" 644 "$completions/sums.fish" share/fish/vendor_completions.d/sums.fish
 }
 
 # library_texts DO: what a caller of the C library reads

@@ -1,12 +1,11 @@
 #!/usr/bin/env python3
 """Cuts random files into random parts, by `sums part`, and joins them, by `sums join`, and compares each line,
-each digest and each refusal with a second, plain implementation in this file. Each case is also joined with its
-lines changed: out of order, doubled, left out, cut short, of another file, or with other words. No part of
-tools/test.
+each digest and each refusal with a second, plain implementation: the hash of .ci/standards.py, and the lines of this
+file. Each case is also joined with its lines changed: out of order, doubled, left out, cut short, of another file, or
+with other words. No part of tools/test.
 usage: tools/parts.py PROGRAM [CASES] [SEED]    CASES is 10,000 where it is not named
 """
 
-import functools
 import os
 import random
 import re
@@ -15,108 +14,29 @@ import sys
 sys.path.append(os.path.join(os.path.dirname(os.path.realpath(__file__)), "../.ci"))
 
 import harness
+from standards import (CHUNK, NARROW, chaining_value, left_chunks, mode_of, output, parent, subtree, to_bytes, to_words,
+    tree)
 
-CHUNK = 1024
 LIMIT = 2**64 - 1
-CHUNK_START, CHUNK_END, PARENT, ROOT = 1, 2, 4, 8
-IV = [0x6A09E667, 0xBB67AE85, 0x3C6EF372, 0xA54FF53A, 0x510E527F, 0x9B05688C, 0x1F83D9AB, 0x5BE0CD19]
-ORDER = [2, 6, 3, 10, 7, 0, 4, 13, 1, 11, 12, 5, 9, 14, 15, 8]
-LANES = [(0, 4, 8, 12), (1, 5, 9, 13), (2, 6, 10, 14), (3, 7, 11, 15),
-         (0, 5, 10, 15), (1, 6, 11, 12), (2, 7, 8, 13), (3, 4, 9, 14)]
+HASH = mode_of()
 CONTENT = random.Random(1).randbytes(48 * CHUNK)
 
 
-# ---- BLAKE3, of bytes and of the chaining values of parts
-
-
-def rotated(word, count):
-    return (word >> count | word << (32 - count)) & 0xFFFFFFFF
-
-
-def compressed(h, m, t, size, flags):
-    """The sixteen words of a compression."""
-    v = list(h) + IV[:4] + [t & 0xFFFFFFFF, t >> 32, size, flags]
-    for _ in range(7):
-        for i, (a, b, c, d) in enumerate(LANES):
-            v[a] = (v[a] + v[b] + m[2 * i]) & 0xFFFFFFFF
-            v[d] = rotated(v[d] ^ v[a], 16)
-            v[c] = (v[c] + v[d]) & 0xFFFFFFFF
-            v[b] = rotated(v[b] ^ v[c], 12)
-            v[a] = (v[a] + v[b] + m[2 * i + 1]) & 0xFFFFFFFF
-            v[d] = rotated(v[d] ^ v[a], 8)
-            v[c] = (v[c] + v[d]) & 0xFFFFFFFF
-            v[b] = rotated(v[b] ^ v[c], 7)
-        m = [m[i] for i in ORDER]
-    return [v[i] ^ v[i + 8] for i in range(8)] + [v[i + 8] ^ h[i] for i in range(8)]
-
-
-def words_of(data):
-    return [int.from_bytes(data[i : i + 4], "little") for i in range(0, len(data), 4)]
-
-
-def bytes_of(words):
-    return b"".join(word.to_bytes(4, "little") for word in words)
-
-
-@functools.lru_cache(maxsize=None)
-def chunk_node(number, data):
-    """What the last compression of a chunk is of: h, m, t, the size of the block, and flags."""
-    h, blocks = IV, [data[i : i + 64] for i in range(0, len(data), 64)] or [b""]
-    for i, block in enumerate(blocks):
-        flags = (CHUNK_START if i == 0 else 0) | (CHUNK_END if i == len(blocks) - 1 else 0)
-        node = (h, words_of(block.ljust(64, b"\0")), number, len(block), flags)
-        h = compressed(*node)[:8]
-    return node
-
-
-def value_of(node):
-    return bytes_of(compressed(*node)[:8])
-
-
-def parent_node(left, right):
-    return (IV, words_of(left + right), 0, 64, PARENT)
-
-
-def power_below(n):
-    """The greatest power of two below n."""
-    return 1 << ((n - 1).bit_length() - 1)
-
-
-@functools.lru_cache(maxsize=None)
-def tree_value(first, data):
-    return value_of(tree_node(first, data))
-
-
-def tree_node(first, data):
-    """The node over bytes of which the first chunk has this number."""
-    count = max(1, -(-len(data) // CHUNK))
-    if count == 1:
-        return chunk_node(first, data)
-    left = power_below(count)
-    return parent_node(tree_value(first, data[: CHUNK * left]), tree_value(first + left, data[CHUNK * left :]))
+# ---- parts in a row, two at least, each as its number of bytes and its chaining value
 
 
 def row_node(row):
-    """The node over parts in a row, two at least, each as its number of bytes and its value."""
-    count = -(-sum(size for size, _ in row) // CHUNK)
-    left = CHUNK * power_below(count)
+    left = CHUNK * left_chunks(-(-sum(size for size, _ in row) // CHUNK))
     at = 0
     for i, (size, _) in enumerate(row):
         at += size
         if at == left:
-            return parent_node(row_value(row[: i + 1]), row_value(row[i + 1 :]))
+            return parent(HASH, row_value(row[: i + 1]), row_value(row[i + 1 :]))
     raise AssertionError("no part ends there")
 
 
 def row_value(row):
-    return row[0][1] if len(row) == 1 else value_of(row_node(row))
-
-
-def output_of(node, position, length):
-    h, m, _, size, flags = node
-    blocks = range(position // 64, (position + length + 63) // 64)
-    text = b"".join(bytes_of(compressed(h, m, t, size, flags | ROOT)) for t in blocks)
-    return text[position % 64 :][:length]
+    return row[0][1] if len(row) == 1 else chaining_value(row_node(row))
 
 
 # ---- the lines, and what is told of them
@@ -129,7 +49,8 @@ def is_placed(first, size):
 
 
 def line_of(first, data):
-    return b"sums-part-1 blake3 %d %d %s\n" % (first, len(data), tree_value(first, data).hex().encode())
+    value = to_bytes(NARROW, subtree(HASH, first, data))
+    return b"sums-part-1 blake3 %d %d %s\n" % (first, len(data), value.hex().encode())
 
 
 def parsed(line):
@@ -137,7 +58,7 @@ def parsed(line):
     found = re.fullmatch(rb"sums-part-1 blake3 (0|[1-9][0-9]*) (0|[1-9][0-9]*) ([0-9a-f]{64})", line)
     if not found or not is_placed(int(found[1]), int(found[2])):
         return None
-    return int(found[1]), int(found[2]), bytes.fromhex(found[3].decode())
+    return int(found[1]), int(found[2]), to_words(NARROW, bytes.fromhex(found[3].decode()))
 
 
 def is_whole(size):
@@ -178,7 +99,7 @@ def joined(lists, wanted, length, position, name):
         return 1, b"", b"sums: one part alone: hash the file itself\n"
     if wanted not in (None, count):
         return 1, b"", b"sums: the parts end after %d bytes\n" % count
-    return 0, output_of(row_node(row), position, length).hex().encode() + b"  " + name + b"\n", b""
+    return 0, output(row_node(row), position, length).hex().encode() + b"  " + name + b"\n", b""
 
 
 # ---- random cases
@@ -294,7 +215,7 @@ def case(source, run):
 
 
 def hashed(data):
-    return output_of(tree_node(0, data), 0, 32).hex().encode() + b"  file\n"
+    return output(tree(HASH, 0, data), 0, 32).hex().encode() + b"  file\n"
 
 
 def main():

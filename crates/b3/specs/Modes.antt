@@ -7,13 +7,15 @@ use Rattle.b3.specs.Node.{Node}
 use Rattle.b3.specs.Tree.{tree}
 use Rattle.b3.specs.Bytes.{slice}
 
--- the flags KEYED_HASH, DERIVE_KEY_CONTEXT and DERIVE_KEY_MATERIAL (2.2)
+-- the flag KEYED_HASH (2.2)
 abbrev pub keyed_flag : ℕ
 keyed_flag = 16
 
+-- the flag DERIVE_KEY_CONTEXT (2.2)
 abbrev pub context_flag : ℕ
 context_flag = 32
 
+-- the flag DERIVE_KEY_MATERIAL (2.2)
 abbrev pub material_flag : ℕ
 material_flag = 64
 
@@ -53,12 +55,14 @@ material_parameters key = material_flag ∷ key_words key
 abbrev pub derive_parameters : List ℕ → List ℕ
 derive_parameters context = material_parameters (context_key context)
 
--- the root of each mode over a message
+-- the root over a message, in the mode hash
 abbrev pub hash_root : List ℕ → Node
 hash_root m = root_of hash_parameters m
 
+-- in the mode keyed_hash, under a key
 abbrev pub keyed_root : List ℕ → List ℕ → Node
 keyed_root key m = root_of (keyed_parameters key) m
 
+-- and in the mode derive_key, under a context
 abbrev pub derive_root : List ℕ → List ℕ → Node
 derive_root context m = root_of (derive_parameters context) m

@@ -4,13 +4,15 @@ use Rattle.b3.specs.Modes.{tree_of}
 use Rattle.b3.specs.Node.{cv}
 use Rattle.b3.specs.declared.row.PartValue.{PartValue}
 
--- the number of its first chunk, how many bytes it has, and its chaining value
+-- the number of its first chunk
 abbrev pub value_first : PartValue → ℕ
 value_first part = part.first_chunk
 
+-- how many bytes it has
 abbrev pub value_len : PartValue → ℕ
 value_len part = part.len
 
+-- its chaining value
 abbrev pub value_words : PartValue → List ℕ
 value_words part = part.value
 

@@ -1,4 +1,4 @@
--- Which parameters are refused.
+-- Which parameters are refused (RFC 7693, 2.1).
 use Rattle.std.specs.Prelude.{ℕ, Option, Some, None, nat_lt, if◌then◌else◌}
 use Rattle.blake2.specs.declared.fault.ParameterFault.{ParameterFault}
 use Rattle.blake2.specs.declared.fault.ParameterFault.TheVariants.{DigestLength, KeyLength}

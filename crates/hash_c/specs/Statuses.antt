@@ -5,8 +5,8 @@ use Rattle.blake2.specs.declared.fault.ParameterFault.TheVariants.{DigestLength,
 use Rattle.hash_c.specs.declared.statuses.TheConstants.{SUMS_DIGEST_LENGTH, SUMS_END_OF_OUTPUT, SUMS_INPUT_TOO_LONG}
 use Rattle.hash_c.specs.declared.statuses.TheConstants.{SUMS_KEY_LENGTH, SUMS_OK}
 
--- the first of two statuses that is a refusal
 infixr 10 ◌otherwise◌
+-- the first of two statuses that is a refusal
 abbrev pub ◌otherwise◌ : (first second : ℕ) → ℕ
 first otherwise second = if nat_lt SUMS_OK first then first else second
 

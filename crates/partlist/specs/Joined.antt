@@ -1,4 +1,4 @@
--- Lines of parts one behind the other, and what stands in the way of joining them.
+-- Lines of parts one behind the other, and what stands in the way of joining them (docs/FORMAT.md, Lines of parts).
 use Rattle.std.specs.Prelude.{◌≡◌, ℕ, ◌+◌, ◌*◌, ◌^◌, ◌<◌, ⊤, List, [], ◌∷◌, ◌++◌, length, Option, IfSome}
 use Rattle.std.specs.List.{AllZip}
 use Rattle.b3.specs.Modes.{hash_parameters}

@@ -1,4 +1,5 @@
--- The line that tells a part of a file: where the part stands, how many bytes it has, and its chaining value.
+-- The line that tells a part of a file: where the part stands, how many bytes it has, and its chaining value
+-- (docs/FORMAT.md, Lines of parts).
 use Rattle.std.specs.Prelude.{◌≡◌, ℕ, List, ◌∷◌, ◌++◌, length, codes}
 use Rattle.std.specs.Fmt.{decimal}
 use Rattle.hex.specs.Hex.{IsBytes, encode_lower}

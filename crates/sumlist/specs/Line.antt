@@ -1,4 +1,4 @@
--- What a line of a list means.
+-- What a line of a list means (docs/FORMAT.md, Grammar).
 use Rattle.std.specs.Prelude.{◌⊎◌, ◌≡◌, ℕ, ◌*◌, ◌-◌, ◌≤◌, List, [], ◌∷◌, ◌++◌, length, take, slice_index}
 use Rattle.std.specs.Prelude.{if◌then◌else◌, ◌==◌, Ok, Contains, Option, Some}
 use Rattle.hex.specs.Hex.{decode_of}

@@ -1,4 +1,4 @@
--- Each line means one thing.
+-- Each line means one thing (docs/FORMAT.md, Grammar).
 use Rattle.std.specs.Prelude.{◌⊎◌, ◌≡◌, ℕ, List, Option}
 use Rattle.sumlist.specs.Entry.{Listing}
 use Rattle.sumlist.specs.Line.{IsMalformed, IsSkipped, Spells}

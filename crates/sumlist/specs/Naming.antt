@@ -1,4 +1,4 @@
--- Names that are separated by NUL.
+-- Names that are separated by NUL (docs/FORMAT.md, Names in a file).
 use Rattle.std.specs.Prelude.{◌≡◌, ℕ, Bool, true, false, List, [], ◌∷◌, Option}
 use Rattle.source.specs.declared.pumping.SourceFault.{SourceFault}
 use Rattle.sumlist.specs.Lines.{IsKept, pieces}

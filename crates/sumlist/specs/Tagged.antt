@@ -1,4 +1,4 @@
--- Lines that name their algorithm: `LABEL (name) = digits`.
+-- Lines that name their algorithm: `LABEL (name) = digits` (docs/FORMAT.md, Grammar: the table of labels).
 use Rattle.std.specs.Prelude.{◌⊎◌, ◌≡◌, ℕ, ◌+◌, ◌*◌, List, [], ◌∷◌, ◌++◌, length, if◌then◌else◌, ◌==◌, Ok, codes}
 use Rattle.std.specs.Fmt.{decimal}
 use Rattle.hex.specs.Hex.{decode_of, encode_lower}
