@@ -55,11 +55,9 @@ tree() {
     root=$2
     program_builds "$1" "$root" "$3"
     library_builds "$1" "$root" "$4"
-    mkdir -p "$root/$4/pkgconfig"
-    pkgconfig "${3:-\${pcfiledir\}/../..}" "\${prefix}/$4" "\${prefix}/include" "-L\${libdir} -lsums_hash" \
-        > "$root/$4/pkgconfig/sums_hash.pc"
+    prefix=${3:-\${pcfiledir\}/../..} libdir=$4
     program_texts put "$5"
-    library_texts put
+    library_texts put "$libdir"
 }
 
 # put MODE FILE PLACE
@@ -67,6 +65,7 @@ put() {
     mkdir -p "$root/${3%/*}"
     case $1 in
         link) ln -s "$2" "$root/$3" ;;
+        text) text_for "$3" "$prefix" "$libdir" > "$root/$3" ;;
         *) install -m "$1" "$2" "$root/$3" ;;
     esac
 }
