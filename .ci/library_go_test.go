@@ -73,6 +73,13 @@ func TestPeerHKDF(t *testing.T) {
 		if got := must(HKDFSHA256(len(want), material, salt, info)); !bytes.Equal(got, want) {
 			t.Fatal("SHA-256", i)
 		}
+		prk := hkdf.Extract(sha256.New, material, salt)
+		if got := must(HKDFExtractSHA256(material, salt)); !bytes.Equal(got, prk) {
+			t.Fatal("extract", i)
+		}
+		if got := must(HKDFExpandSHA256(len(want), prk, info)); !bytes.Equal(got, want) {
+			t.Fatal("expand", i)
+		}
 		must(io.ReadFull(hkdf.New(sha512.New, material, salt, info), want))
 		if got := must(HKDFSHA512(len(want), material, salt, info)); !bytes.Equal(got, want) {
 			t.Fatal("SHA-512", i)

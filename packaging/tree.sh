@@ -23,8 +23,8 @@ program_builds() {
     done
 }
 
-# library_builds BUILT ROOT LIBDIR: the library for each level, the lowest in the usual place and as an archive, the
-# others where the loader looks first on a processor that has their level
+# library_builds BUILT ROOT LIBDIR: the library for each level, the lowest in the usual place, the others where the
+# loader looks first on a processor that has their level; and one archive of all levels
 library_builds() {
     place=$2/$3
     for level in $levels; do
@@ -34,7 +34,8 @@ library_builds() {
         is_whole "$place/$soname" || refuse "the archive of $level has not the header's calls"
         place=$2/$3/glibc-hwcaps/$(above "$level")
     done
-    install -m 644 "$1/${levels%% *}/libhash_c.a" "$2/$3/libsums_hash.a"
+    # shellcheck disable=SC2086 # a level has no space
+    packaging/fat "$1" "$2/$3/libsums_hash.a" $levels
     ln -s "$soname" "$2/$3/libsums_hash.so"
 }
 
@@ -55,13 +56,11 @@ tree() {
     root=$2
     program_builds "$1" "$root" "$3"
     library_builds "$1" "$root" "$4"
-    mkdir -p "$root/$4/pkgconfig"
-    pkgconfig "${3:-\${pcfiledir\}/../..}" "\${prefix}/$4" "\${prefix}/include" "-L\${libdir} -lsums_hash" \
-        > "$root/$4/pkgconfig/sums_hash.pc"
     completions=$work/completion
     tools/completions.py "$sums" "$completions"
+    prefix=${3:-\${pcfiledir\}/../..} libdir=$4
     program_texts put "$5"
-    library_texts put
+    library_texts put "$libdir"
 }
 
 # put MODE FILE PLACE
@@ -69,6 +68,7 @@ put() {
     mkdir -p "$root/${3%/*}"
     case $1 in
         link) ln -s "$2" "$root/$3" ;;
+        text) text_for "$3" "$prefix" "$libdir" > "$root/$3" ;;
         *) install -m "$1" "$2" "$root/$3" ;;
     esac
 }

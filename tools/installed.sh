@@ -17,12 +17,13 @@ refuse() {
     exit 2
 }
 
-# pkgconfig PREFIX LIBDIR INCLUDEDIR LIBS: the text of the library's pkg-config file
+# pkgconfig PREFIX LIBDIR INCLUDEDIR LIBS: the text of the library's pkg-config file, where a blank of a path has a
+# backslash before it
 pkgconfig() {
     cat <<END
-prefix=$1
-libdir=$2
-includedir=$3
+prefix=$(blanks_escaped "$1")
+libdir=$(blanks_escaped "$2")
+includedir=$(blanks_escaped "$3")
 
 Name: sums_hash
 Description: BLAKE2, BLAKE3, SHA-2, HMAC and HKDF, proved against their definitions
@@ -30,6 +31,60 @@ Version: $version
 Cflags: -I\${includedir}
 Libs: $4
 END
+}
+
+blanks_escaped() {
+    printf '%s\n' "$1" | sed 's/[[:blank:]]/\\&/g'
+}
+
+# cmake_config LIBDIR: the text by which CMake finds the library, which stands in LIBDIR/cmake/sums_hash
+cmake_config() {
+    cat <<END
+# find_package(sums_hash): the targets are sums_hash::sums_hash, the shared library, and sums_hash::sums_hash_static.
+# They are found from the place of this file, so that the whole installation can be moved.
+if(TARGET sums_hash::sums_hash)
+    return()
+endif()
+get_filename_component(_sums_hash_libdir "\${CMAKE_CURRENT_LIST_DIR}/../.." REALPATH)
+get_filename_component(_sums_hash_prefix "\${_sums_hash_libdir}/$(echo "$1" | sed 's/[^/][^/]*/../g')" ABSOLUTE)
+add_library(sums_hash::sums_hash SHARED IMPORTED)
+set_target_properties(sums_hash::sums_hash PROPERTIES
+    IMPORTED_LOCATION "\${_sums_hash_libdir}/$soname"
+    IMPORTED_SONAME $soname
+    INTERFACE_INCLUDE_DIRECTORIES "\${_sums_hash_prefix}/include")
+add_library(sums_hash::sums_hash_static STATIC IMPORTED)
+set_target_properties(sums_hash::sums_hash_static PROPERTIES
+    IMPORTED_LOCATION "\${_sums_hash_libdir}/libsums_hash.a"
+    IMPORTED_LINK_INTERFACE_LANGUAGES C
+    INTERFACE_INCLUDE_DIRECTORIES "\${_sums_hash_prefix}/include")
+unset(_sums_hash_libdir)
+unset(_sums_hash_prefix)
+END
+}
+
+# cmake_version: the text by which CMake knows whether the version is one that was asked for
+cmake_version() {
+    cat <<END
+set(PACKAGE_VERSION $version)
+if(CMAKE_SIZEOF_VOID_P AND NOT CMAKE_SIZEOF_VOID_P EQUAL 8)
+    set(PACKAGE_VERSION_UNSUITABLE TRUE)
+endif()
+if(PACKAGE_FIND_VERSION_MAJOR EQUAL ${version%%.*} AND NOT PACKAGE_FIND_VERSION VERSION_GREATER PACKAGE_VERSION)
+    set(PACKAGE_VERSION_COMPATIBLE TRUE)
+endif()
+if(PACKAGE_FIND_VERSION VERSION_EQUAL PACKAGE_VERSION)
+    set(PACKAGE_VERSION_EXACT TRUE)
+endif()
+END
+}
+
+# text_for PLACE PREFIX LIBDIR: what stands in a file that is written for an installation at PREFIX
+text_for() {
+    case $1 in
+        *.pc) pkgconfig "$2" "\${prefix}/$3" "\${prefix}/include" "-L\${libdir} -lsums_hash" ;;
+        *-config.cmake) cmake_config "$3" ;;
+        *-version.cmake) cmake_version ;;
+    esac
 }
 
 # shared ARCHIVE FILE [LEVEL]: the archive as a shared library. Where LEVEL is named, the loader refuses it on a
@@ -64,8 +119,8 @@ functions() {
     sed -n 's/^\(uint32_t\|void\) \(sums_[a-z0-9_]*\)(.*/\2/p' bindings/c/sums_hash.h
 }
 
-# Each of the next three calls DO MODE FILE PLACE for each file that belongs to it, and DO link TARGET PLACE for each
-# link. PLACE is below the prefix.
+# Each of the next four calls DO MODE FILE PLACE for each file that belongs to it, DO link TARGET PLACE for each link,
+# and DO text - PLACE for each file that text_for writes. PLACE is below the prefix.
 
 # program_texts DO [ZSH]: the program's manual pages and completions; ZSH is the folder for those of zsh
 program_texts() {
@@ -77,20 +132,22 @@ program_texts() {
     "$1" 644 "$completions/sums.fish" share/fish/vendor_completions.d/sums.fish
 }
 
-# library_texts DO: what a caller of the C library reads
+# library_texts DO [LIBDIR]: what a caller of the C library and his tools read
 library_texts() {
     "$1" 644 bindings/c/sums_hash.h include/sums_hash.h
+    "$1" text - "${2:-lib}/pkgconfig/sums_hash.pc"
+    "$1" text - "${2:-lib}/cmake/sums_hash/sums_hash-config.cmake"
+    "$1" text - "${2:-lib}/cmake/sums_hash/sums_hash-config-version.cmake"
     "$1" 644 man/sums_hash.3 share/man/man3/sums_hash.3
     for function in $(functions); do "$1" link sums_hash.3 "share/man/man3/$function.3"; done
 }
 
-# library_files DO [LIBDIR]: the C library; sums_hash.pc is the one file that is written anew
+# library_files DO [LIBDIR]: the C library
 library_files() {
     "$1" 644 lib/libsums_hash.a "${2:-lib}/libsums_hash.a"
     "$1" 755 "lib/$soname" "${2:-lib}/$soname"
     "$1" link "$soname" "${2:-lib}/libsums_hash.so"
-    "$1" 644 lib/sums_hash.pc "${2:-lib}/pkgconfig/sums_hash.pc"
-    library_texts "$1"
+    library_texts "$1" "${2-}"
 }
 
 # program_files DO: the program

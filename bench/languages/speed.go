@@ -55,6 +55,22 @@ func must[T any](value T, err error) T {
 	return value
 }
 
+// atOnce has the rows of the calls on a whole message.
+func atOnce(data []byte) {
+	row("blake2b at once", len(data), "x/crypto",
+		func() []byte { digest := hash.SumBLAKE2b(data); return digest[:] },
+		func() []byte { digest := blake2b.Sum512(data); return digest[:] })
+	row("blake2s at once", len(data), "x/crypto",
+		func() []byte { digest := hash.SumBLAKE2s(data); return digest[:] },
+		func() []byte { digest := blake2s.Sum256(data); return digest[:] })
+	row("blake3 at once", len(data), "lukechampine.com/blake3",
+		func() []byte { digest := hash.SumBLAKE3(data); return digest[:] },
+		func() []byte { digest := blake3.Sum256(data); return digest[:] })
+	row("sha256 at once", len(data), "crypto/sha256",
+		func() []byte { digest := hash.SumSHA256(data); return digest[:] },
+		func() []byte { digest := sha256.Sum256(data); return digest[:] })
+}
+
 func main() {
 	for _, size := range []int{64, 1 << 20} {
 		data := make([]byte, size)
@@ -67,6 +83,9 @@ func main() {
 				h.Write(data)
 				return h.Sum(nil)
 			}
+		}
+		if size == 64 {
+			atOnce(data)
 		}
 		row("blake2b", size, "x/crypto",
 			of(func() stdhash.Hash { return must(hash.NewBLAKE2b(64, nil)) }),

@@ -5,36 +5,6 @@ package hash
 // #include "sums_hash.h"
 import "C"
 
-import "unsafe"
-
-func ofBLAKE2b(s *state) *C.sums_blake2b_state { return (*C.sums_blake2b_state)(unsafe.Pointer(s)) }
-
-func ofBLAKE2s(s *state) *C.sums_blake2s_state { return (*C.sums_blake2s_state)(unsafe.Pointer(s)) }
-
-var blake2bFunction = function{
-	block: 128,
-	update: func(s *state, piece []byte) C.uint32_t {
-		at, n := pointer(piece)
-		return C.sums_blake2b_update(ofBLAKE2b(s), at, n)
-	},
-	finish: func(s *state, out []byte) C.uint32_t {
-		at, n := pointer(out)
-		return C.sums_blake2b_finish(ofBLAKE2b(s), at, n)
-	},
-}
-
-var blake2sFunction = function{
-	block: 64,
-	update: func(s *state, piece []byte) C.uint32_t {
-		at, n := pointer(piece)
-		return C.sums_blake2s_update(ofBLAKE2s(s), at, n)
-	},
-	finish: func(s *state, out []byte) C.uint32_t {
-		at, n := pointer(out)
-		return C.sums_blake2s_finish(ofBLAKE2s(s), at, n)
-	},
-}
-
 // NewBLAKE2b begins a message that BLAKE2b (RFC 7693) hashes, for a digest of size bytes, 1 to 64, under a key of up to
 // 64 bytes; nil is no key.
 func NewBLAKE2b(size int, key []byte) (*Hash, error) {
@@ -47,12 +17,12 @@ func NewBLAKE2bSalted(size int, key, salt, person []byte) (*Hash, error) {
 	if err := taken(size, salt, parameters[0][:], person, parameters[1][:]); err != nil {
 		return nil, err
 	}
-	return begun(&blake2bFunction, size, func(s *state) C.uint32_t {
-		at, n := pointer(key)
-		saltAt, _ := pointer(parameters[0][:])
-		personAt, _ := pointer(parameters[1][:])
-		return C.sums_blake2b_init_salted(ofBLAKE2b(s), C.size_t(size), at, n, saltAt, personAt)
-	})
+	begun := blake2bFunction.state()
+	at, n := pointer(key)
+	saltAt, _ := pointer(parameters[0][:])
+	personAt, _ := pointer(parameters[1][:])
+	status := C.sums_blake2b_init_salted((*C.sums_blake2b_state)(begun.memory()), C.size_t(size), at, n, saltAt, personAt)
+	return newHash(&blake2bFunction, size, begun, status)
 }
 
 // NewBLAKE2s begins a message that BLAKE2s (RFC 7693) hashes, for a digest of size bytes, 1 to 32, under a key of up to
@@ -67,12 +37,12 @@ func NewBLAKE2sSalted(size int, key, salt, person []byte) (*Hash, error) {
 	if err := taken(size, salt, parameters[0][:], person, parameters[1][:]); err != nil {
 		return nil, err
 	}
-	return begun(&blake2sFunction, size, func(s *state) C.uint32_t {
-		at, n := pointer(key)
-		saltAt, _ := pointer(parameters[0][:])
-		personAt, _ := pointer(parameters[1][:])
-		return C.sums_blake2s_init_salted(ofBLAKE2s(s), C.size_t(size), at, n, saltAt, personAt)
-	})
+	begun := blake2sFunction.state()
+	at, n := pointer(key)
+	saltAt, _ := pointer(parameters[0][:])
+	personAt, _ := pointer(parameters[1][:])
+	status := C.sums_blake2s_init_salted((*C.sums_blake2s_state)(begun.memory()), C.size_t(size), at, n, saltAt, personAt)
+	return newHash(&blake2sFunction, size, begun, status)
 }
 
 // taken copies what there is of salt and personalization; a size that is no size_t is refused as the library would.
@@ -86,4 +56,24 @@ func taken(size int, salt, saltRoom, person, personRoom []byte) error {
 	copy(saltRoom, salt)
 	copy(personRoom, person)
 	return nil
+}
+
+// SumBLAKE2b is the BLAKE2b digest of 64 bytes of a whole message.
+func SumBLAKE2b(data []byte) (digest [64]byte) {
+	at, n := pointer(data)
+	out, size := pointer(digest[:])
+	if err := checked(C.sums_blake2b(out, size, at, n, nil, 0)); err != nil {
+		panic(err)
+	}
+	return digest
+}
+
+// SumBLAKE2s is the BLAKE2s digest of 32 bytes of a whole message.
+func SumBLAKE2s(data []byte) (digest [32]byte) {
+	at, n := pointer(data)
+	out, size := pointer(digest[:])
+	if err := checked(C.sums_blake2s(out, size, at, n, nil, 0)); err != nil {
+		panic(err)
+	}
+	return digest
 }

@@ -12,64 +12,58 @@ import (
 )
 
 // BLAKE3 is a message that BLAKE3 hashes, under a key or for a context if it was so begun; it is a hash.Hash, and is
-// begun by NewBLAKE3 and its like. One message is for one goroutine at a time.
-type BLAKE3 struct{ state, afterReset C.sums_blake3_state }
+// begun by NewBLAKE3 and its like. One message is for one goroutine at a time, but Sum, Clone and XOF, which leave it
+// as it is, may run side by side.
+type BLAKE3 struct{ message }
 
 var _ hash.Hash = (*BLAKE3)(nil)
 
-// NewBLAKE3 begins a message.
-func NewBLAKE3() *BLAKE3 {
+func ofBLAKE3(s state) *C.sums_blake3_state { return (*C.sums_blake3_state)(s.memory()) }
+
+// What a message without a key begins with.
+var begunBLAKE3 = blake3Function.state()
+
+func init() { C.sums_blake3_init(ofBLAKE3(begunBLAKE3)) }
+
+func newBLAKE3(begun state) *BLAKE3 {
 	h := new(BLAKE3)
-	C.sums_blake3_init(&h.afterReset)
-	h.Reset()
+	h.begin(&blake3Function, h.Size(), begun)
 	return h
 }
+
+// NewBLAKE3 begins a message.
+func NewBLAKE3() *BLAKE3 { return newBLAKE3(begunBLAKE3) }
 
 // NewBLAKE3Keyed begins a message under a key of 32 bytes.
 func NewBLAKE3Keyed(key []byte) (*BLAKE3, error) {
 	if len(key) != 32 {
 		return nil, ErrKeyLength
 	}
-	h := new(BLAKE3)
+	begun := blake3Function.state()
 	at, _ := pointer(key)
-	C.sums_blake3_init_keyed(&h.afterReset, at)
-	h.Reset()
-	return h, nil
+	C.sums_blake3_init_keyed(ofBLAKE3(begun), at)
+	return newBLAKE3(begun), nil
 }
 
 // NewBLAKE3Derive begins key material for a context, which is a text of the application.
 func NewBLAKE3Derive(context string) *BLAKE3 {
-	h := new(BLAKE3)
+	begun := blake3Function.state()
 	at, n := pointer([]byte(context))
-	C.sums_blake3_init_derive(&h.afterReset, at, n)
-	h.Reset()
-	return h
+	C.sums_blake3_init_derive(ofBLAKE3(begun), at, n)
+	return newBLAKE3(begun)
 }
 
-// Write adds a piece to the message. It fails only where the message would be longer than 2^64 - 1 bytes, and then adds
-// nothing.
-func (h *BLAKE3) Write(piece []byte) (int, error) {
-	at, n := pointer(piece)
-	if err := checked(C.sums_blake3_update(&h.state, at, n)); err != nil {
-		return 0, err
-	}
-	return len(piece), nil
-}
-
-// Sum appends the digest of the message so far, which can go on: the first 32 bytes of the output.
-func (h *BLAKE3) Sum(b []byte) []byte {
-	b, room := appended(b, h.Size())
-	at, n := pointer(room)
-	if err := checked(C.sums_blake3_output(&h.state, 0, at, n)); err != nil {
+// SumBLAKE3 is the digest of a whole message, the first 32 bytes of the output.
+func SumBLAKE3(data []byte) (digest [32]byte) {
+	at, n := pointer(data)
+	out, size := pointer(digest[:])
+	if err := checked(C.sums_blake3(out, size, 0, at, n)); err != nil {
 		panic(err)
 	}
-	return b
+	return digest
 }
 
-// Reset begins the message anew, in the same mode and under the same key.
-func (h *BLAKE3) Reset() { h.state = h.afterReset }
-
-// Size is the number of bytes that Sum appends.
+// Size is the number of bytes that Sum appends, the first 32 of the output.
 func (h *BLAKE3) Size() int { return 32 }
 
 // BlockSize is the number of bytes of a block.
@@ -77,16 +71,23 @@ func (h *BLAKE3) BlockSize() int { return 64 }
 
 // Clone is another BLAKE3 of the same message.
 func (h *BLAKE3) Clone() *BLAKE3 {
-	other := *h
-	return &other
+	other := new(BLAKE3)
+	h.cloneTo(&other.message)
+	return other
 }
 
 // XOF is a reader of the output of the message so far, from its first byte on. The message can go on.
-func (h *BLAKE3) XOF() *Output { return &Output{state: h.state} }
+func (h *BLAKE3) XOF() *Output {
+	other := h.Clone()
+	if err := other.hand(other.waiting); err != nil {
+		panic(err)
+	}
+	return &Output{state: other.known()}
+}
 
 // Output reads the output of a message, which has 2^64 - 1 bytes, from any position on; it is an io.ReadSeeker.
 type Output struct {
-	state    C.sums_blake3_state
+	state    state
 	position uint64
 }
 
@@ -96,6 +97,9 @@ const outputLength = 1<<64 - 1
 
 // Read fills the buffer with the next bytes. At the end of the output it gives those that are left, and then io.EOF.
 func (o *Output) Read(buffer []byte) (int, error) {
+	if o.state == nil {
+		return 0, ErrNotBegun
+	}
 	if left := outputLength - o.position; uint64(len(buffer)) > left {
 		buffer = buffer[:left]
 		if left == 0 {
@@ -103,15 +107,16 @@ func (o *Output) Read(buffer []byte) (int, error) {
 		}
 	}
 	at, n := pointer(buffer)
-	if err := checked(C.sums_blake3_output(&o.state, C.uint64_t(o.position), at, n)); err != nil {
+	if err := checked(C.sums_blake3_output(ofBLAKE3(o.state), C.uint64_t(o.position), at, n)); err != nil {
 		return 0, err
 	}
 	o.position += uint64(len(buffer))
 	return len(buffer), nil
 }
 
-// Seek moves to a position, counted from the start, from here, or from the end. It answers the position, which is
-// negative from byte 2^63 on, where it is 2^64 more. A position outside the output is refused, and nothing moves.
+// Seek moves to a position, counted from the start or from here. It answers the position, which is negative from byte
+// 2^63 on, where it is 2^64 more. A position outside the output is refused, and each that is counted from the end,
+// since no int64 tells where that is; nothing moves then.
 func (o *Output) Seek(offset int64, whence int) (int64, error) {
 	var base uint64
 	switch whence {
@@ -119,7 +124,7 @@ func (o *Output) Seek(offset int64, whence int) (int64, error) {
 	case io.SeekCurrent:
 		base = o.position
 	case io.SeekEnd:
-		base = outputLength
+		return 0, errors.New("sums: the output is too long to seek from its end")
 	default:
 		return 0, errors.New("sums: no such whence")
 	}

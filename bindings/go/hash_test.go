@@ -7,6 +7,7 @@ import (
 	"crypto/hmac"
 	"crypto/sha256"
 	"crypto/sha512"
+	"encoding"
 	"encoding/hex"
 	stdhash "hash"
 	"io"
@@ -43,10 +44,10 @@ var makers = map[string]func() stdhash.Hash{
 	"hmac of long key": func() stdhash.Hash { return must(NewHMACSHA256(make([]byte, 1000))) },
 }
 
-var message = bytes.Repeat([]byte{1, 2, 3, 5, 7}, 999)
+var input = bytes.Repeat([]byte{1, 2, 3, 5, 7}, 999)
 
 func written(h stdhash.Hash, t *testing.T) []byte {
-	if n, err := h.Write(message); n != len(message) || err != nil {
+	if n, err := h.Write(input); n != len(input) || err != nil {
 		t.Fatal(n, err)
 	}
 	return h.Sum(nil)
@@ -65,7 +66,7 @@ func TestSum(t *testing.T) {
 		if len(want) != h.Size() || h.BlockSize()%64 != 0 || h.BlockSize() == 0 {
 			t.Error("sizes", len(want), h.Size(), h.BlockSize())
 		}
-		// it appends, with room behind the slice and without, and leaves what stands before and the message
+		// it appends, with room behind the slice and without, and leaves what stands before and the input
 		for _, room := range []int{0, 1, 7, 500} {
 			b := append([]byte("before"), make([]byte, room)...)[:6]
 			if sum := h.Sum(b); string(sum[:6]) != "before" || !bytes.Equal(sum[6:], want) {
@@ -80,7 +81,7 @@ func TestPieces(t *testing.T) {
 		want := written(begin(), t)
 		random := rand.New(rand.NewSource(1))
 		h := begin()
-		for rest := message; len(rest) > 0; {
+		for rest := input; len(rest) > 0; {
 			n := random.Intn(300)
 			if n > len(rest) {
 				n = len(rest)
@@ -97,26 +98,100 @@ func TestPieces(t *testing.T) {
 		if !bytes.Equal(h.Sum(nil), begin().Sum(nil)) {
 			t.Error("Reset")
 		}
-		must(io.Copy(h, iotest.OneByteReader(bytes.NewReader(message))))
+		must(io.Copy(h, iotest.OneByteReader(bytes.NewReader(input))))
 		if !bytes.Equal(h.Sum(nil), want) {
 			t.Error("io.Copy after Reset")
 		}
 	})
 }
 
-func TestClone(t *testing.T) {
-	h := must(NewHMACBLAKE2b([]byte("key")))
-	before := written(h, t)
-	other := h.Clone()
-	must(other.Write([]byte("more")))
-	if !bytes.Equal(h.Sum(nil), before) || bytes.Equal(other.Sum(nil), before) {
-		t.Error("a clone is not another")
+func clone(h stdhash.Hash) stdhash.Hash {
+	if b, is := h.(*BLAKE3); is {
+		return b.Clone()
 	}
-	b := NewBLAKE3()
-	before = written(b, t)
-	must(b.Clone().Write([]byte("more")))
-	if !bytes.Equal(b.Sum(nil), before) {
-		t.Error("a clone of BLAKE3 is not another")
+	return h.(*Hash).Clone()
+}
+
+// TestWaiting tries messages about the lengths at which the bytes that wait go to the library, in one piece and in two,
+// with a sum, a clone and a piece that changes later on the way.
+func TestWaiting(t *testing.T) {
+	eachHash(t, func(t *testing.T, begin func() stdhash.Hash) {
+		h := begin()
+		for _, n := range []int{0, 1, mostWaiting - 1, mostWaiting, mostWaiting + 1, 4 * mostWaiting} {
+			for _, cut := range []int{0, 1, n / 2, n - 1, n} {
+				if cut < 0 || cut > n {
+					continue
+				}
+				whole := begin()
+				must(whole.Write(input[:n]))
+				want := whole.Sum(nil)
+				h.Reset()
+				piece := append([]byte(nil), input[:cut]...)
+				must(h.Write(piece))
+				for i := range piece {
+					piece[i]++
+				}
+				h.Sum(nil)
+				other := clone(h)
+				must(h.Write(input[cut:n]))
+				must(other.Write(input[cut:n]))
+				if !bytes.Equal(h.Sum(nil), want) || !bytes.Equal(h.Sum(nil), want) {
+					t.Error("in two pieces", n, cut)
+				}
+				must(h.Write(input[:7]))
+				if !bytes.Equal(other.Sum(nil), want) {
+					t.Error("a clone is no other message", n, cut)
+				}
+			}
+		}
+	})
+}
+
+// TestCopies tries copies of a message's struct, which would share its memory.
+func TestCopies(t *testing.T) {
+	for _, n := range []int{0, 1, 5000} {
+		h, b := NewSHA256(), NewBLAKE3()
+		must(h.Write(make([]byte, n)))
+		must(b.Write(make([]byte, n)))
+		hashes, trees := *h, *b
+		for i, use := range []func(){
+			func() { hashes.Sum(nil) }, func() { hashes.Clone() }, func() { trees.Sum(nil) }, func() { trees.XOF() },
+		} {
+			func() {
+				defer func() {
+					if recover() != ErrCopied {
+						t.Error("not refused", n, i)
+					}
+				}()
+				use()
+			}()
+		}
+		if _, err := hashes.Write([]byte("a")); err != ErrCopied {
+			t.Error(err)
+		}
+	}
+	if _, err := new(BLAKE3).Clone().Write(nil); err != ErrNotBegun {
+		t.Error(err)
+	}
+	// a state is no format to keep
+	if _, is := stdhash.Hash(NewSHA256()).(encoding.BinaryMarshaler); is {
+		t.Error("a state can be written")
+	}
+}
+
+func TestAtOnce(t *testing.T) {
+	for _, n := range []int{0, 1, 64, 1000, 4000} {
+		of256, of512 := SumSHA256(input[:n]), SumSHA512(input[:n])
+		b, s, tree := SumBLAKE2b(input[:n]), SumBLAKE2s(input[:n]), SumBLAKE3(input[:n])
+		for name, got := range map[string][]byte{
+			"sha256": of256[:], "sha512": of512[:], "blake2b": b[:], "blake2s": s[:], "blake3": tree[:],
+		} {
+			h := makers[name]()
+			must(h.Write(input[:n]))
+			if !bytes.Equal(got, h.Sum(nil)) {
+				t.Error(name, n)
+			}
+		}
 	}
 }
 
@@ -164,13 +239,14 @@ func TestOutput(t *testing.T) {
 	must(h.Write([]byte("more")))
 	must(o.Seek(0, io.SeekStart))
 	if got := must(io.ReadAll(io.LimitReader(o, 1000))); !bytes.Equal(got, want) {
-		t.Error("the output of a message that went on")
+		t.Error("the output of a input that went on")
 	}
 }
 
 func TestEndOfOutput(t *testing.T) {
 	o := NewBLAKE3().XOF()
-	if at := must(o.Seek(-3, io.SeekEnd)); uint64(at) != 1<<64-4 {
+	must(o.Seek(1<<63-1, io.SeekStart))
+	if at := must(o.Seek(1<<63-3, io.SeekCurrent)); uint64(at) != 1<<64-4 {
 		t.Error(at)
 	}
 	if n, err := o.Read(make([]byte, 10)); n != 3 || err != nil {
@@ -182,7 +258,7 @@ func TestEndOfOutput(t *testing.T) {
 	for _, seek := range []struct {
 		offset int64
 		whence int
-	}{{1, io.SeekCurrent}, {1, io.SeekEnd}, {-1, io.SeekStart}, {0, 3}} {
+	}{{1, io.SeekCurrent}, {0, io.SeekEnd}, {-3, io.SeekEnd}, {-1, io.SeekStart}, {0, 3}} {
 		if _, err := o.Seek(seek.offset, seek.whence); err == nil {
 			t.Error("not refused", seek)
 		}
@@ -215,13 +291,71 @@ func TestRefusals(t *testing.T) {
 		{refusal(HKDFSHA256(8161, nil, nil, nil)), ErrEndOfOutput},
 		{refusal(HKDFBLAKE2b(1<<60, nil, nil, nil)), ErrEndOfOutput},
 		{refusal(HKDFSHA512(-1, nil, nil, nil)), ErrEndOfOutput},
+		{refusal(HKDFExpandSHA256(8161, make([]byte, 32), nil)), ErrEndOfOutput},
+		{refusal(HKDFExpandBLAKE2b(-1, make([]byte, 64), nil)), ErrEndOfOutput},
+		{refusal(HKDFExpandSHA512(32, make([]byte, 63), nil)), ErrKeyLength},
+		{refusal(HKDFExpandBLAKE2s(8161, nil, nil)), ErrKeyLength},
 		{refusal(new(Hash).Write([]byte("a"))), ErrNotBegun},
 		{refusal(new(BLAKE3).Write([]byte("a"))), ErrNotBegun},
+		{refusal(new(BLAKE3).XOF().Read(make([]byte, 1))), ErrNotBegun},
+		{refusal(new(Output).Read(make([]byte, 1))), ErrNotBegun},
 	} {
 		if c.got != c.want {
 			t.Error(i, c.got)
 		}
 	}
+}
+
+// RFC 5869, appendix A.1
+func TestHKDF(t *testing.T) {
+	bytesOf := func(digits string) []byte { return must(hex.DecodeString(digits)) }
+	material, salt := bytes.Repeat([]byte{0x0b}, 22), bytesOf("000102030405060708090a0b0c")
+	prk := must(HKDFExtractSHA256(material, salt))
+	if want := "077709362c2e32df0ddc3f0dc47bba6390b6c73bb50f9c3122ec844ad7c2b3e5"; hex.EncodeToString(prk) != want {
+		t.Error("extract", prk)
+	}
+	info, want := bytesOf("f0f1f2f3f4f5f6f7f8f9"), bytesOf("3cb25f25faacd57a90434f64d0362f2a"+
+		"2d2d0a90cf1a5a4c5db02d56ecc4c5bf34007208d5b887185865")
+	if !bytes.Equal(must(HKDFExpandSHA256(42, prk, info)), want) {
+		t.Error("expand")
+	}
+	for i, of := range []struct {
+		whole   func(int, []byte, []byte, []byte) ([]byte, error)
+		extract func([]byte, []byte) ([]byte, error)
+		expand  func(int, []byte, []byte) ([]byte, error)
+		most    int
+	}{
+		{HKDFSHA256, HKDFExtractSHA256, HKDFExpandSHA256, 8160},
+		{HKDFSHA512, HKDFExtractSHA512, HKDFExpandSHA512, 16320},
+		{HKDFBLAKE2b, HKDFExtractBLAKE2b, HKDFExpandBLAKE2b, 16320},
+		{HKDFBLAKE2s, HKDFExtractBLAKE2s, HKDFExpandBLAKE2s, 8160},
+	} {
+		for _, size := range []int{0, 1, 42, of.most} {
+			whole := must(of.whole(size, material, salt, info))
+			if !bytes.Equal(whole, must(of.expand(size, must(of.extract(material, salt)), info))) || len(whole) != size {
+				t.Error("two steps", i, size)
+			}
+		}
+	}
+}
+
+// TestReaders calls side by side what leaves a message as it is.
+func TestReaders(t *testing.T) {
+	h := NewBLAKE3()
+	want := written(h, t)
+	var group sync.WaitGroup
+	for i := 0; i < 50; i++ {
+		group.Add(1)
+		go func() {
+			defer group.Done()
+			output := make([]byte, 32)
+			must(io.ReadFull(h.XOF(), output))
+			if !bytes.Equal(h.Sum(nil), want) || !bytes.Equal(h.Clone().Sum(nil), want) || !bytes.Equal(output, want) {
+				t.Error("side by side")
+			}
+		}()
+	}
+	group.Wait()
 }
 
 func TestSideBySide(t *testing.T) {
@@ -232,7 +366,7 @@ func TestSideBySide(t *testing.T) {
 		go func() {
 			defer group.Done()
 			h := must(NewBLAKE2b(64, nil))
-			for _, b := range message {
+			for _, b := range input {
 				must(h.Write([]byte{b}))
 			}
 			if !bytes.Equal(h.Sum(nil), want) {

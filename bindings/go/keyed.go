@@ -5,113 +5,47 @@ package hash
 // #include "sums_hash.h"
 import "C"
 
-import "unsafe"
-
 // ---- HMAC
-
-func ofHMACSHA256(s *state) *C.sums_hmac_sha256_state {
-	return (*C.sums_hmac_sha256_state)(unsafe.Pointer(s))
-}
-
-func ofHMACSHA512(s *state) *C.sums_hmac_sha512_state {
-	return (*C.sums_hmac_sha512_state)(unsafe.Pointer(s))
-}
-
-func ofHMACBLAKE2b(s *state) *C.sums_hmac_blake2b_state {
-	return (*C.sums_hmac_blake2b_state)(unsafe.Pointer(s))
-}
-
-func ofHMACBLAKE2s(s *state) *C.sums_hmac_blake2s_state {
-	return (*C.sums_hmac_blake2s_state)(unsafe.Pointer(s))
-}
-
-var hmacSHA256Function = function{
-	block: 64,
-	update: func(s *state, piece []byte) C.uint32_t {
-		at, n := pointer(piece)
-		return C.sums_hmac_sha256_update(ofHMACSHA256(s), at, n)
-	},
-	finish: func(s *state, out []byte) C.uint32_t {
-		at, n := pointer(out)
-		return C.sums_hmac_sha256_finish(ofHMACSHA256(s), at, n)
-	},
-}
-
-var hmacSHA512Function = function{
-	block: 128,
-	update: func(s *state, piece []byte) C.uint32_t {
-		at, n := pointer(piece)
-		return C.sums_hmac_sha512_update(ofHMACSHA512(s), at, n)
-	},
-	finish: func(s *state, out []byte) C.uint32_t {
-		at, n := pointer(out)
-		return C.sums_hmac_sha512_finish(ofHMACSHA512(s), at, n)
-	},
-}
-
-var hmacBLAKE2bFunction = function{
-	block: 128,
-	update: func(s *state, piece []byte) C.uint32_t {
-		at, n := pointer(piece)
-		return C.sums_hmac_blake2b_update(ofHMACBLAKE2b(s), at, n)
-	},
-	finish: func(s *state, out []byte) C.uint32_t {
-		at, n := pointer(out)
-		return C.sums_hmac_blake2b_finish(ofHMACBLAKE2b(s), at, n)
-	},
-}
-
-var hmacBLAKE2sFunction = function{
-	block: 64,
-	update: func(s *state, piece []byte) C.uint32_t {
-		at, n := pointer(piece)
-		return C.sums_hmac_blake2s_update(ofHMACBLAKE2s(s), at, n)
-	},
-	finish: func(s *state, out []byte) C.uint32_t {
-		at, n := pointer(out)
-		return C.sums_hmac_blake2s_finish(ofHMACBLAKE2s(s), at, n)
-	},
-}
 
 // NewHMACSHA256 begins a message that HMAC (RFC 2104) over SHA-256 makes a tag of, under a key of any length.
 func NewHMACSHA256(key []byte) (*Hash, error) {
-	return begun(&hmacSHA256Function, 32, func(s *state) C.uint32_t {
-		at, n := pointer(key)
-		return C.sums_hmac_sha256_init(ofHMACSHA256(s), at, n)
-	})
+	begun := hmacSHA256Function.state()
+	at, n := pointer(key)
+	status := C.sums_hmac_sha256_init((*C.sums_hmac_sha256_state)(begun.memory()), at, n)
+	return newHash(&hmacSHA256Function, 32, begun, status)
 }
 
 // NewHMACSHA512 is the same over SHA-512.
 func NewHMACSHA512(key []byte) (*Hash, error) {
-	return begun(&hmacSHA512Function, 64, func(s *state) C.uint32_t {
-		at, n := pointer(key)
-		return C.sums_hmac_sha512_init(ofHMACSHA512(s), at, n)
-	})
+	begun := hmacSHA512Function.state()
+	at, n := pointer(key)
+	status := C.sums_hmac_sha512_init((*C.sums_hmac_sha512_state)(begun.memory()), at, n)
+	return newHash(&hmacSHA512Function, 64, begun, status)
 }
 
 // NewHMACBLAKE2b is the same over BLAKE2b of 64 bytes.
 func NewHMACBLAKE2b(key []byte) (*Hash, error) {
-	return begun(&hmacBLAKE2bFunction, 64, func(s *state) C.uint32_t {
-		at, n := pointer(key)
-		return C.sums_hmac_blake2b_init(ofHMACBLAKE2b(s), at, n)
-	})
+	begun := hmacBLAKE2bFunction.state()
+	at, n := pointer(key)
+	status := C.sums_hmac_blake2b_init((*C.sums_hmac_blake2b_state)(begun.memory()), at, n)
+	return newHash(&hmacBLAKE2bFunction, 64, begun, status)
 }
 
 // NewHMACBLAKE2s is the same over BLAKE2s of 32 bytes.
 func NewHMACBLAKE2s(key []byte) (*Hash, error) {
-	return begun(&hmacBLAKE2sFunction, 32, func(s *state) C.uint32_t {
-		at, n := pointer(key)
-		return C.sums_hmac_blake2s_init(ofHMACBLAKE2s(s), at, n)
-	})
+	begun := hmacBLAKE2sFunction.state()
+	at, n := pointer(key)
+	status := C.sums_hmac_blake2s_init((*C.sums_hmac_blake2s_state)(begun.memory()), at, n)
+	return newHash(&hmacBLAKE2sFunction, 32, begun, status)
 }
 
 // ---- HKDF
 
-// derived is a key of size bytes, which write fills; there are 255 digests of them, and more are refused before there
-// has to be room for them.
+// derived is a key of size bytes, which write fills; there are 255 digests of them. Of more, one more is asked for, and
+// refused by the library, so that there has to be no room for them.
 func derived(size, digest int, write func(*C.uint8_t, C.size_t) C.uint32_t) ([]byte, error) {
-	if size < 0 || size > 255*digest {
-		return nil, ErrEndOfOutput
+	if most := 255 * digest; size < 0 || size > most {
+		size = most + 1
 	}
 	key := make([]byte, size)
 	if err := checked(write(pointer(key))); err != nil {
@@ -157,5 +91,77 @@ func HKDFBLAKE2s(size int, material, salt, info []byte) ([]byte, error) {
 	i, in := pointer(info)
 	return derived(size, 32, func(at *C.uint8_t, n C.size_t) C.uint32_t {
 		return C.sums_hkdf_blake2s(at, n, m, mn, s, sn, i, in)
+	})
+}
+
+// HKDFExtractSHA256 is the first step of HKDF over SHA-256: the pseudorandom key, of 32 bytes. A nil salt is none.
+func HKDFExtractSHA256(material, salt []byte) ([]byte, error) {
+	m, mn := pointer(material)
+	s, sn := pointer(salt)
+	return derived(32, 32, func(at *C.uint8_t, _ C.size_t) C.uint32_t {
+		return C.sums_hkdf_extract_sha256(at, m, mn, s, sn)
+	})
+}
+
+// HKDFExpandSHA256 is the second step: a key of size bytes, at most 8,160, of a pseudorandom key of 32 bytes or more.
+func HKDFExpandSHA256(size int, prk, info []byte) ([]byte, error) {
+	p, pn := pointer(prk)
+	i, in := pointer(info)
+	return derived(size, 32, func(at *C.uint8_t, n C.size_t) C.uint32_t {
+		return C.sums_hkdf_expand_sha256(at, n, p, pn, i, in)
+	})
+}
+
+// HKDFExtractSHA512 is the same over SHA-512: 64 bytes.
+func HKDFExtractSHA512(material, salt []byte) ([]byte, error) {
+	m, mn := pointer(material)
+	s, sn := pointer(salt)
+	return derived(64, 64, func(at *C.uint8_t, _ C.size_t) C.uint32_t {
+		return C.sums_hkdf_extract_sha512(at, m, mn, s, sn)
+	})
+}
+
+// HKDFExpandSHA512 is the same over SHA-512: at most 16,320 bytes, of a pseudorandom key of 64 or more.
+func HKDFExpandSHA512(size int, prk, info []byte) ([]byte, error) {
+	p, pn := pointer(prk)
+	i, in := pointer(info)
+	return derived(size, 64, func(at *C.uint8_t, n C.size_t) C.uint32_t {
+		return C.sums_hkdf_expand_sha512(at, n, p, pn, i, in)
+	})
+}
+
+// HKDFExtractBLAKE2b is the same over BLAKE2b of 64 bytes: 64 bytes.
+func HKDFExtractBLAKE2b(material, salt []byte) ([]byte, error) {
+	m, mn := pointer(material)
+	s, sn := pointer(salt)
+	return derived(64, 64, func(at *C.uint8_t, _ C.size_t) C.uint32_t {
+		return C.sums_hkdf_extract_blake2b(at, m, mn, s, sn)
+	})
+}
+
+// HKDFExpandBLAKE2b is the same over BLAKE2b of 64 bytes: at most 16,320 bytes, of a pseudorandom key of 64 or more.
+func HKDFExpandBLAKE2b(size int, prk, info []byte) ([]byte, error) {
+	p, pn := pointer(prk)
+	i, in := pointer(info)
+	return derived(size, 64, func(at *C.uint8_t, n C.size_t) C.uint32_t {
+		return C.sums_hkdf_expand_blake2b(at, n, p, pn, i, in)
+	})
+}
+
+// HKDFExtractBLAKE2s is the same over BLAKE2s of 32 bytes: 32 bytes.
+func HKDFExtractBLAKE2s(material, salt []byte) ([]byte, error) {
+	m, mn := pointer(material)
+	s, sn := pointer(salt)
+	return derived(32, 32, func(at *C.uint8_t, _ C.size_t) C.uint32_t {
+		return C.sums_hkdf_extract_blake2s(at, m, mn, s, sn)
+	})
+}
+
+// HKDFExpandBLAKE2s is the same over BLAKE2s of 32 bytes: at most 8,160 bytes, of a pseudorandom key of 32 or more.
+func HKDFExpandBLAKE2s(size int, prk, info []byte) ([]byte, error) {
+	p, pn := pointer(prk)
+	i, in := pointer(info)
+	return derived(size, 32, func(at *C.uint8_t, n C.size_t) C.uint32_t {
+		return C.sums_hkdf_expand_blake2s(at, n, p, pn, i, in)
 	})
 }

@@ -5,48 +5,40 @@ package hash
 // #include "sums_hash.h"
 import "C"
 
-import "unsafe"
+// What a message without a key begins with.
+var begunSHA256, begunSHA512 = sha256Function.state(), sha512Function.state()
 
-func ofSHA256(s *state) *C.sums_sha256_state { return (*C.sums_sha256_state)(unsafe.Pointer(s)) }
-
-func ofSHA512(s *state) *C.sums_sha512_state { return (*C.sums_sha512_state)(unsafe.Pointer(s)) }
-
-var sha256Function = function{
-	block: 64,
-	update: func(s *state, piece []byte) C.uint32_t {
-		at, n := pointer(piece)
-		return C.sums_sha256_update(ofSHA256(s), at, n)
-	},
-	finish: func(s *state, out []byte) C.uint32_t {
-		at, _ := pointer(out)
-		return C.sums_sha256_finish(ofSHA256(s), at)
-	},
-}
-
-var sha512Function = function{
-	block: 128,
-	update: func(s *state, piece []byte) C.uint32_t {
-		at, n := pointer(piece)
-		return C.sums_sha512_update(ofSHA512(s), at, n)
-	},
-	finish: func(s *state, out []byte) C.uint32_t {
-		at, _ := pointer(out)
-		return C.sums_sha512_finish(ofSHA512(s), at)
-	},
+func init() {
+	C.sums_sha256_init((*C.sums_sha256_state)(begunSHA256.memory()))
+	C.sums_sha512_init((*C.sums_sha512_state)(begunSHA512.memory()))
 }
 
 // NewSHA256 begins a message that SHA-256 (FIPS 180-4) hashes.
 func NewSHA256() *Hash {
-	h := &Hash{function: &sha256Function, size: 32}
-	C.sums_sha256_init(ofSHA256(&h.afterReset))
-	h.Reset()
+	h := new(Hash)
+	h.begin(&sha256Function, 32, begunSHA256)
 	return h
 }
 
 // NewSHA512 begins a message that SHA-512 (FIPS 180-4) hashes.
 func NewSHA512() *Hash {
-	h := &Hash{function: &sha512Function, size: 64}
-	C.sums_sha512_init(ofSHA512(&h.afterReset))
-	h.Reset()
+	h := new(Hash)
+	h.begin(&sha512Function, 64, begunSHA512)
 	return h
+}
+
+// SumSHA256 is the SHA-256 digest of a whole message.
+func SumSHA256(data []byte) (digest [32]byte) {
+	at, n := pointer(data)
+	out, _ := pointer(digest[:])
+	C.sums_sha256(out, at, n)
+	return digest
+}
+
+// SumSHA512 is the SHA-512 digest of a whole message.
+func SumSHA512(data []byte) (digest [64]byte) {
+	at, n := pointer(data)
+	out, _ := pointer(digest[:])
+	C.sums_sha512(out, at, n)
+	return digest
 }

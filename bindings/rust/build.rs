@@ -2,7 +2,8 @@
 //! Finds libsums_hash: with the feature `bundled` the archive in native/, else in the folder SUMS_HASH_LIB_DIR, else by
 //! pkg-config, which PKG_CONFIG names.
 
-use std::{env, path::Path, process::Command};
+use std::path::{Path, PathBuf};
+use std::{env, process::Command};
 
 fn main() {
     for name in ["SUMS_HASH_LIB_DIR", "PKG_CONFIG", "PKG_CONFIG_PATH"] {
@@ -10,9 +11,8 @@ fn main() {
     }
     if env::var_os("CARGO_FEATURE_BUNDLED").is_some() {
         bundled();
-    } else if let Ok(folder) = env::var("SUMS_HASH_LIB_DIR") {
-        let has_archive = Path::new(&folder).join("libsums_hash.a").exists();
-        link(&folder, if has_archive { "static" } else { "dylib" });
+    } else if let Some(folder) = env::var_os("SUMS_HASH_LIB_DIR").filter(|folder| !folder.is_empty()) {
+        named(PathBuf::from(folder));
     } else {
         by_pkg_config();
     }
@@ -21,6 +21,37 @@ fn main() {
 fn link(folder: &str, kind: &str) {
     println!("cargo:rustc-link-search=native={folder}");
     println!("cargo:rustc-link-lib={kind}=sums_hash");
+}
+
+/// The workspace, of which no variable tells: the lowest folder above OUT_DIR that has a manifest, since OUT_DIR is in
+/// its folder `target`, if nothing else is told to cargo.
+fn workspace() -> PathBuf {
+    let out = PathBuf::from(env::var_os("OUT_DIR").expect("cargo sets it"));
+    let found = out.ancestors().find(|above| above.join("Cargo.toml").exists());
+    found.map(Path::to_owned).unwrap_or_else(|| {
+        panic!(
+            "sums-hash: no workspace is above {}, so SUMS_HASH_LIB_DIR has to begin with /",
+            out.display()
+        )
+    })
+}
+
+fn named(folder: PathBuf) {
+    let folder = if folder.is_absolute() {
+        folder
+    } else {
+        workspace().join(folder)
+    };
+    let Some(path) = folder.to_str() else {
+        panic!("sums-hash: SUMS_HASH_LIB_DIR is not UTF-8: {}", folder.display());
+    };
+    for (file, kind) in [("libsums_hash.a", "static"), ("libsums_hash.so", "dylib")] {
+        if folder.join(file).exists() {
+            println!("cargo:rerun-if-changed={path}/{file}");
+            return link(path, kind);
+        }
+    }
+    panic!("sums-hash: SUMS_HASH_LIB_DIR has no libsums_hash.a and no libsums_hash.so: {path}");
 }
 
 fn bundled() {
@@ -49,7 +80,9 @@ fn by_pkg_config() {
         Ok(told) => panic!("sums-hash: {}{ADVICE}", String::from_utf8_lossy(&told.stderr)),
         Err(fault) => panic!("sums-hash: no pkg-config ({fault}): {ADVICE}"),
     };
-    for word in words.split_whitespace() {
+    // a blank in a path has a backslash before it
+    for word in words.replace("\\ ", "\0").split_whitespace() {
+        let word = word.replace('\0', " ");
         if let Some(folder) = word.strip_prefix("-L") {
             println!("cargo:rustc-link-search=native={folder}");
         } else if let Some(archive) = word.strip_suffix("/libsums_hash.a") {

@@ -5,6 +5,8 @@ use std::fmt::Debug;
 
 use blobby::{Blob2Iterator, Blob3Iterator, Blob4Iterator};
 use digest::{dev, Digest, DynDigest, ExtendableOutput, FixedOutputReset, HashMarker, KeyInit, Mac, Update, XofReader};
+use hkdf::SimpleHkdf;
+use hmac::SimpleHmac;
 use sums_hash::traits::*;
 
 fn vectors(name: &str) -> Vec<u8> {
@@ -152,6 +154,50 @@ fn hmac_over_blake2() {
     }
 }
 
+/// The tag of a message under a key by `Mac`, in pieces, which is `wanted`.
+fn is_keyed<M: Mac + KeyInit + Clone>(key: &[u8], input: &[u8], wanted: &[u8]) {
+    let mut mac = <M as Mac>::new_from_slice(key).unwrap();
+    input.chunks(33).for_each(|piece| Mac::update(&mut mac, piece));
+    assert_eq!(mac.clone().finalize().into_bytes()[..], *wanted);
+    mac.verify_slice(wanted).unwrap();
+}
+
+#[test]
+fn keyed_blake() {
+    let (bytes, input) = ([7; 64], [9; 300]);
+    let (mut short, mut long) = ([0; 32], [0; 64]);
+    for length in [1, 32, 64] {
+        sums_hash::blake2b(&mut long, &input, &bytes[..length]).unwrap();
+        is_keyed::<Blake2bMac512>(&bytes[..length], &input, &long);
+    }
+    for length in [1, 32] {
+        sums_hash::blake2s(&mut short, &input, &bytes[..length]).unwrap();
+        is_keyed::<Blake2sMac256>(&bytes[..length], &input, &short);
+    }
+    sums_hash::blake3_keyed(&mut short, 0, &input, &[7; 32]).unwrap();
+    is_keyed::<Blake3Mac>(&bytes[..32], &input, &short);
+    for length in [0, 65] {
+        <Blake2bMac512 as Mac>::new_from_slice(&vec![7; length]).unwrap_err();
+    }
+    for length in [0, 33] {
+        <Blake2sMac256 as Mac>::new_from_slice(&vec![7; length]).unwrap_err();
+    }
+    for length in [0, 31, 33] {
+        <Blake3Mac as Mac>::new_from_slice(&vec![7; length]).unwrap_err();
+    }
+}
+
+#[test]
+fn generic_over_a_digest() {
+    let mut tag = [0; 32];
+    sums_hash::hmac_sha256(&mut tag, b"message", b"key").unwrap();
+    is_keyed::<SimpleHmac<Sha256>>(b"key", b"message", &tag);
+    let (mut ours, mut theirs) = ([0; 100], [0; 100]);
+    sums_hash::hkdf_sha512(&mut ours, b"secret", b"salt", b"what for").unwrap();
+    SimpleHkdf::<Sha512>::new(Some(b"salt"), b"secret").expand(b"what for", &mut theirs).unwrap();
+    assert_eq!(ours, theirs);
+}
+
 #[test]
 fn nothing_is_shown() {
     let mut hasher = Blake3::default();
@@ -159,4 +205,6 @@ fn nothing_is_shown() {
     assert_eq!(format!("{hasher:?}"), "Blake3 { .. }");
     let mac = <HmacSha256 as Mac>::new_from_slice(b"secret").unwrap();
     assert_eq!(format!("{mac:?}"), "HmacSha256 { .. }");
+    let mac = <Blake2sMac256 as Mac>::new_from_slice(b"secret").unwrap();
+    assert_eq!(format!("{mac:?}"), "Blake2s { .. }");
 }

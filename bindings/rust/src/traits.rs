@@ -1,11 +1,15 @@
 // SPDX-License-Identifier: MIT OR Apache-2.0
-//! The hashes and HMAC under the traits of the crate `digest` 0.10.
+//! The hashes, HMAC and the keyed hashes under the traits of the crate `digest` 0.10.
 //!
 //! ```
 //! use digest::Digest;
 //! use sums_hash::traits::Sha256;
 //! assert_eq!(Sha256::digest(b"abc")[..], sums_hash::sha256(b"abc"));
 //! ```
+//!
+//! What is generic over `Digest`, `Mac` or `KeyInit` takes them, as do `SimpleHmac` of the crate `hmac` 0.12 and
+//! `SimpleHkdf` of `hkdf` 0.12. `Hmac` and `Hkdf` of these crates do not, nor what is built on them, since they want
+//! the blocks of a hash (`CoreProxy`): take [`HmacSha256`] and its like, and [`hkdf_sha256`](crate::hkdf_sha256).
 //!
 //! These traits have no refusals: `update` panics where the message would be longer than the function takes, which is
 //! 2^61 - 1 bytes at least, and a reader where the output ends, behind byte 2^64 - 1.
@@ -18,6 +22,8 @@ use digest::{
     ExtendableOutput, FixedOutput, FixedOutputReset, HashMarker, InvalidLength, Key, KeyInit, MacMarker, Output,
     OutputSizeUser, Reset, Update, XofReader,
 };
+
+use crate::Refusal;
 
 const BEGUN: &str = "a state that was begun is not refused";
 
@@ -83,26 +89,44 @@ macro_rules! hash {
     };
 }
 
-macro_rules! hmac {
-    ($(#[$about:meta])* $Name:ident, $Message:ident, $Size:ty, $Block:ty) => {
-        of_size!($(#[$about])* $Name, $Message, $Size, $Block, |message, out| message.finish(out).expect(BEGUN));
+// A tag under a key of at most so many bytes, which begins a message or is refused.
+macro_rules! mac {
+    ($(#[$about:meta])* $Name:ident, $Message:ident, $Size:ty, $Block:ty, $Longest:ty, |$key:ident| $begun:expr,
+     |$message:ident, $out:ident| $finish:expr) => {
+        of_size!($(#[$about])* $Name, $Message, $Size, $Block, |$message, $out| $finish);
 
         impl MacMarker for $Name {}
 
         impl KeySizeUser for $Name {
-            type KeySize = $Block;
+            type KeySize = $Longest;
         }
 
         impl KeyInit for $Name {
             fn new(key: &Key<Self>) -> Self {
-                Self(crate::$Message::new(key).expect("a key of one block is not refused"))
+                Self::new_from_slice(key).expect("a key of this length is not refused")
             }
 
-            fn new_from_slice(key: &[u8]) -> Result<Self, InvalidLength> {
-                crate::$Message::new(key).map(Self).map_err(|_| InvalidLength)
+            fn new_from_slice($key: &[u8]) -> Result<Self, InvalidLength> {
+                $begun.map(Self).map_err(|_| InvalidLength)
             }
         }
     };
+}
+
+macro_rules! hmac {
+    ($(#[$about:meta])* $Name:ident, $Message:ident, $Size:ty, $Block:ty) => {
+        mac!($(#[$about])* $Name, $Message, $Size, $Block, $Block, |key| crate::$Message::new(key),
+             |message, out| message.finish(out).expect(BEGUN));
+    };
+}
+
+/// A key of BLAKE2, which is no key where it has no bytes.
+fn some(key: &[u8]) -> Result<&[u8], Refusal> {
+    if key.is_empty() {
+        Err(Refusal::KeyLength)
+    } else {
+        Ok(key)
+    }
 }
 
 hash!(
@@ -141,6 +165,22 @@ hmac!(
 hmac!(
     /// HMAC over BLAKE2s of 32 bytes.
     HmacBlake2s256, HmacBlake2s, U32, U64
+);
+
+mac!(
+    /// Keyed BLAKE2b of 64 bytes, under a key of 1 to 64.
+    Blake2bMac512, Blake2b, U64, U128, U64, |key| some(key).and_then(|key| crate::Blake2b::new(64, key)),
+    |message, out| message.finish(out).expect(BEGUN)
+);
+mac!(
+    /// Keyed BLAKE2s of 32 bytes, under a key of 1 to 32.
+    Blake2sMac256, Blake2s, U32, U64, U32, |key| some(key).and_then(|key| crate::Blake2s::new(32, key)),
+    |message, out| message.finish(out).expect(BEGUN)
+);
+mac!(
+    /// Keyed BLAKE3 of 32 bytes, under a key of 32.
+    Blake3Mac, Blake3, U32, U64, U32, |key| key.try_into().map(crate::Blake3::keyed),
+    |message, out| message.output(0, out).expect(BEGUN)
 );
 
 /// A reader of BLAKE3's output, from its first byte on.
