@@ -34,9 +34,9 @@ def cut(data, size):
     return [data[at : at + size] for at in range(0, len(data), size)]
 
 
-def each_way(name, make, data, want, read=lambda hasher: hasher.digest()):
+def each_way(name, make, data, want, read=lambda hasher: hasher.digest(), sizes=PIECES):
     """The library's answer for the data in pieces of each size, and whole."""
-    for size in PIECES:
+    for size in sizes:
         hasher = make()
         for piece in cut(data, size):
             hasher.update(piece)
@@ -82,6 +82,14 @@ def sha2_lengths():
         for length in range(261):
             want = hashlib.new(name, counting(length)).digest()
             each_way(f"{name} of {length} bytes", getattr(sums_hash, name), counting(length), want)
+
+
+def sha256_edges():
+    """About the edges of a block, of its padding and of runs of eight blocks, the last of them behind two runs."""
+    for edge in range(64, 64 * 17 + 1, 64):
+        for length in (edge - 9, edge - 8, edge - 1, edge, edge + 1):
+            want = hashlib.sha256(counting(length)).digest()
+            each_way(f"sha256 of {length} bytes", sums_hash.sha256, counting(length), want, sizes=range(1, 131))
 
 
 def sequence(length):
@@ -338,6 +346,7 @@ def main():
               "6a411f08ce25adcdfb02aba641451cec53c598b24f4fc787fbdc88797f4c1dfe")
     blake2_lengths()
     sha2_lengths()
+    sha256_edges()
     blake3_trees()
     blake3_contexts()
     blake3_cuts()

@@ -4,14 +4,15 @@ ghost use Rattle.std.specs.Prelude.{◌≡◌};
 ghost use Rattle.sha2.specs.Sha256.{sha256};
 ghost use Rattle.sha2.specs.Sha512.{sha512};
 
-use sha2::{Digest, Sha256, Sha512};
+use sha_blocks::digest256;
+use sha2::{Digest, Sha512};
 
 /// The SHA-256 digest of `input` (FIPS 180-4, section 6.2).
 #[unsafe(no_mangle)]
 pub extern "C" fn sums_sha256(out: &mut [u8; 32], input: &[u8])
     ensures { out.new ≡ sha256 input.now }
 {
-    *out = Sha256::digest(input);
+    *out = digest256(input);
 }
 
 /// The SHA-512 digest of `input` (FIPS 180-4, section 6.4).

@@ -8,7 +8,8 @@ ghost use Rattle.blake2.specs.Blake2.{blake2, unsalted};
 
 use crate::blake2_hash::{Blake2b512, Blake2s256};
 use crate::block_hash::BlockHash;
-use crate::sha2_stream::{Sha256Stream, Sha512Stream};
+use crate::sha256_stream::Sha256Stream;
+use crate::sha512_stream::Sha512Stream;
 
 /// Does nothing. Its contract says which hash functions the four are (FIPS 180-4, 6.2 and 6.4; RFC
 /// 7693, 3.3), and how many bytes the block, the digest and the longest input of each have.

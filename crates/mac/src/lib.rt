@@ -17,11 +17,13 @@ pub use block_hash::BlockHash;
 pub use hmac::{Hmac, TagLength};
 pub use key::{KeyTooLong, block_sized_key, xor_each};
 pub use laws::hash_laws;
-pub use sha2_stream::{Sha256Stream, Sha512Stream};
+pub use sha256_stream::Sha256Stream;
+pub use sha512_stream::Sha512Stream;
 
 mod blake2_hash;
 mod block_hash;
 mod hmac;
 mod key;
 mod laws;
-mod sha2_stream;
+mod sha256_stream;
+mod sha512_stream;

@@ -12,6 +12,5 @@ mod hash_state;
 mod hmac;
 mod state256;
 mod state512;
-mod stream;
 mod tables;
 mod value;

@@ -5,9 +5,8 @@ ghost use Rattle.std.specs.Prelude.{IfSome, IsErrOf, OnOk, OnErr};
 ghost use Rattle.sha2.specs.Sha256.{sha256};
 ghost use Rattle.states.specs.inside.States.{IsBegun256, StateHolds256};
 
-use crate::stream;
-use crate::value::Value256;
 use blake2::StateFault;
+use sha_blocks::{Value256, pieces};
 use words::Tag;
 
 // The number of bytes of a digest.
@@ -36,9 +35,10 @@ impl Sha256State {
         ensures { StateHolds256 self.new [] }
     {
         self.digest_length = OUT;
-        let mut value = Value256 { h: self.h };
-        stream::begin(&mut value, &mut self.buffer);
-        self.h = value.h;
+        let (value, buffer) = pieces::begin::<Value256, 64>();
+        let h = value.h;
+        self.h = h;
+        self.buffer = buffer;
         self.taken = 0;
     }
 
@@ -69,7 +69,7 @@ impl Sha256State {
             return Err(StateFault::TooLong);
         }
         let mut value = Value256 { h: self.h };
-        stream::update(&mut value, &mut self.buffer, u128::from(self.taken), piece);
+        pieces::update(&mut value, &mut self.buffer, u128::from(self.taken), piece);
         self.h = value.h;
         self.taken += piece.len() as u64;
         Ok(())
@@ -89,6 +89,7 @@ impl Sha256State {
         let bits = 8 * self.taken;
         let value = Value256 { h: self.h };
         let taken = u128::from(self.taken);
-        Some(stream::finish(value, &self.buffer, taken, &bits.to_be_bytes()).tag())
+        let value = pieces::finish(value, &self.buffer, taken, &bits.to_be_bytes());
+        Some(Tag::of(&value.bytes()).unwrap())
     }
 }

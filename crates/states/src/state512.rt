@@ -5,9 +5,9 @@ ghost use Rattle.std.specs.Prelude.{IfSome, IsErrOf, OnOk, OnErr};
 ghost use Rattle.sha2.specs.Sha512.{sha512};
 ghost use Rattle.states.specs.inside.States.{IsBegun512, StateHolds512, taken_512};
 
-use crate::stream;
 use crate::value::Value512;
 use blake2::StateFault;
+use sha_blocks::pieces;
 use words::Tag;
 
 // The number of bytes of a digest.
@@ -37,9 +37,10 @@ impl Sha512State {
         ensures { StateHolds512 self.new [] }
     {
         self.digest_length = OUT;
-        let mut value = Value512 { h: self.h };
-        stream::begin(&mut value, &mut self.buffer);
-        self.h = value.h;
+        let (value, buffer) = pieces::begin::<Value512, 128>();
+        let h = value.h;
+        self.h = h;
+        self.buffer = buffer;
         self.count(0);
     }
 
@@ -71,7 +72,7 @@ impl Sha512State {
         }
         let taken = self.taken();
         let mut value = Value512 { h: self.h };
-        stream::update(&mut value, &mut self.buffer, taken, piece);
+        pieces::update(&mut value, &mut self.buffer, taken, piece);
         self.h = value.h;
         self.count(taken + piece.len() as u128);
         Ok(())
@@ -91,7 +92,7 @@ impl Sha512State {
         let taken = self.taken();
         let bits = 8 * taken;
         let value = Value512 { h: self.h };
-        Some(stream::finish(value, &self.buffer, taken, &bits.to_be_bytes()).tag())
+        Some(pieces::finish(value, &self.buffer, taken, &bits.to_be_bytes()).tag())
     }
 
     // How many bytes the message has.

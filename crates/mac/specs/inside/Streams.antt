@@ -1,13 +1,24 @@
 -- What contracts see of the SHA-2 streams.
 use Rattle.std.specs.Prelude.{◌≡◌, ℕ, ◌+◌, ◌-◌, ◌^◌, List, length}
-use Rattle.mac.specs.declared.sha2_stream.Sha2Stream.{Sha2Stream}
+use Rattle.sha2.specs.Hashers.{Holds512}
+use Rattle.sha2.specs.Sha256.{hash_after, initial_hash_256}
+use Rattle.sha_blocks.specs.inside.Taken.{HasTaken}
+use Rattle.mac.specs.declared.sha256_stream.Sha256Stream.{Sha256Stream}
+use Rattle.mac.specs.declared.sha512_stream.Sha512Stream.{Sha512Stream}
 
-module _ {D : Type 0} {BITS : ℕ} where
-  -- how many more bytes the stream takes
-  abbrev pub stream_room : Sha2Stream D BITS → ℕ
-  stream_room s = s.room
+-- how many more bytes the stream takes
+abbrev pub room_256 : Sha256Stream → ℕ
+room_256 s = s.room
 
-  -- the hasher within holds the input, and the room is what is left of the limit
-  pub record StreamHolds (holds : D → List ℕ → Type 0) (s : Sha2Stream D BITS) (m : List ℕ) : Type 0 where
-    pub hasher : holds s.hasher m
-    pub room : s.room + length m ≡ 2 ^ BITS - 1
+abbrev pub room_512 : Sha512Stream → ℕ
+room_512 s = s.room
+
+-- value and buffer have taken the input, and the room is what is left of the limit
+pub record StreamHolds256 (s : Sha256Stream) (m : List ℕ) : Type 0 where
+  pub taken : HasTaken (λ p k. hash_after initial_hash_256 p k) 64 s.value.h s.buffer m
+  pub room : s.room + length m ≡ 2 ^ 61 - 1
+
+-- the hasher within holds the input, and the room is what is left of the limit
+pub record StreamHolds512 (s : Sha512Stream) (m : List ℕ) : Type 0 where
+  pub hasher : Holds512 s.hasher m
+  pub room : s.room + length m ≡ 2 ^ 125 - 1

@@ -5,8 +5,7 @@ use Rattle.b3.specs.inside.Hasher as b3
 use Rattle.b3.specs.Modes.{hash_parameters}
 use Rattle.blake2.specs.Blake2.{from_list, listed, message_limit, unsalted}
 use Rattle.blake2.specs.inside.Hashers.{Holds2b, Holds2s, parameters_2b, parameters_2s, room_left_2b, room_left_2s}
-use Rattle.mac.specs.inside.Streams.{StreamHolds, stream_room}
-use Rattle.sha2.specs.Hashers.{Holds256, Holds512}
+use Rattle.mac.specs.inside.Streams.{StreamHolds256, StreamHolds512, room_256, room_512}
 use Rattle.words.specs.Blake2.{blake2b, blake2s}
 use Rattle.source.specs.declared.alg.Alg.{Alg}
 use Rattle.source.specs.declared.alg.Alg.TheVariants as alg
@@ -15,8 +14,8 @@ use Rattle.source.specs.declared.any_hash.Inner.{Inner}
 use Rattle.source.specs.declared.any_hash.Inner.TheVariants as inner
 
 abbrev pub inner_holds : Inner → List ℕ → Type 0
-inner_holds (inner.Sha256 h) m = StreamHolds Holds256 h m
-inner_holds (inner.Sha512 h) m = StreamHolds Holds512 h m
+inner_holds (inner.Sha256 h) m = StreamHolds256 h m
+inner_holds (inner.Sha512 h) m = StreamHolds512 h m
 inner_holds (inner.Blake2b h) m = Holds2b h m
 inner_holds (inner.Blake2s h) m = Holds2s h m
 inner_holds (inner.Blake3 h) m = b3.Holds h m
@@ -38,8 +37,8 @@ parameters_of (alg.Blake2s n) = 3 ∷ listed (unsalted blake2s n [])
 parameters_of alg.Blake3 = 4 ∷ hash_parameters
 
 abbrev pub inner_room : Inner → ℕ
-inner_room (inner.Sha256 h) = stream_room h
-inner_room (inner.Sha512 h) = stream_room h
+inner_room (inner.Sha256 h) = room_256 h
+inner_room (inner.Sha512 h) = room_512 h
 inner_room (inner.Blake2b h) = room_left_2b h
 inner_room (inner.Blake2s h) = room_left_2s h
 inner_room (inner.Blake3 h) = b3.hasher_room h

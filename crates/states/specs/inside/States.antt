@@ -3,7 +3,7 @@ use Rattle.std.specs.Prelude.{◌≡◌, ◌≤◌, ℕ, ◌+◌, ◌-◌, ◌*�
 use Rattle.sha2.specs.Sha256.{hash_after, initial_hash_256}
 use Rattle.sha2.specs.Sha512.{initial_hash_512}
 use Rattle.sha2.specs.Sha512 as S512
-use Rattle.states.specs.inside.Taken.{HasTaken}
+use Rattle.sha_blocks.specs.inside.Taken.{HasTaken}
 use Rattle.states.specs.declared.state256.Sha256State.{Sha256State}
 use Rattle.states.specs.declared.state512.Sha512State.{Sha512State}
 

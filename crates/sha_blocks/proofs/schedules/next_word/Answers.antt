@@ -1,0 +1,13 @@
+use Rattle.sha_blocks.proofs.Rounds.{sum_around}
+use Rattle.sha_blocks.proofs.schedules.next_word.Goals as goal
+
+pub returns : goal.returns
+returns c i h =
+    rw (
+      c.add-2.ensures i h,
+      c.add-known.ensures i h,
+      c.add.ensures i h,
+      c.small_sigma0.ensures i h,
+      c.small_sigma1.ensures i h,
+    )
+    (sum_around _ _ _ _)

@@ -1,0 +1,18 @@
+// SHA-256 of a message that lies in memory as a whole.
+
+ghost use Rattle.std.specs.Prelude.{◌≡◌};
+ghost use Rattle.sha2.specs.Sha256;
+
+use crate::pieces;
+use crate::value::Value256;
+
+/// The SHA-256 digest of `message` (FIPS 180-4, section 6.2).
+pub fn digest256(message: &[u8]) -> [u8; 32]
+    ensures { result ≡ Sha256.sha256 message.now }
+{
+    let (mut value, mut buffer) = pieces::begin::<Value256, 64>();
+    pieces::update(&mut value, &mut buffer, 0, message);
+    let taken = message.len() as u64;
+    let bits = taken.wrapping_mul(8).to_be_bytes();
+    pieces::finish(value, &buffer, u128::from(taken), &bits).bytes()
+}
