@@ -1,9 +1,9 @@
 #!/usr/bin/env python3
 """Runs the program with each of its calls of read, write, open, lseek and close failed in turn, under several
-errors, and with reads and writes of one byte, of 7 and of 4,096. A digest or an OK that is wrong, a line that the
-usual run does not print, a status that is not documented, or a fault that is not told is a failure. The runs are those
-of runs.tsv; the rows of failed.tsv say the very answer where one call fails, and those of rows/ answer as they say with
-short reads and writes too.
+errors, and with reads and writes of one byte, of 7, of 4,096 and about a block. A digest or an OK that is wrong, a line
+that the usual run does not print, a status that is not documented, or a fault that is not told is a failure. The runs
+are those of runs.tsv; the rows of failed.tsv say the very answer where one call fails, and those of rows/ answer as
+they say with short reads and writes too.
 usage: .ci/calls.py PROGRAM
 """
 
@@ -22,6 +22,7 @@ ERRORS = {
     "lseek": [errno.ESPIPE, errno.EINVAL],
 }
 SIZES = (1, 7, 4096)
+ABOUT_A_BLOCK = (63, 64, 65)
 SUMMARY = rb"sums: (.+: )?\d+ OK, \d+ failed, \d+ missing, \d+ unreadable, \d+ too long, \d+ malformed, \d+ skipped"
 
 
@@ -117,9 +118,9 @@ class Failing:
         print(f"{name}: {runs} runs, {len(complaints)} wrong")
         harness.judge(name, runs > 0 and not complaints, *complaints[:5])
 
-    def short(self, name, words, given, wanted):
+    def short(self, name, words, given, wanted, sizes=SIZES):
         """Each read and each write is of so many bytes at most."""
-        for size in SIZES:
+        for size in sizes:
             harness.same(f"{name}, {size} bytes at a time", self.run(words, given, SHORT=str(size)), wanted)
 
     def one(self, row, failure):
@@ -139,7 +140,7 @@ def main():
         tables.make_files()
         for name, words, given in tables.runs():
             failing.each(name, words, given)
-            failing.short(name, words, given, failing.run(words, given))
+            failing.short(name, words, given, failing.run(words, given), SIZES + ABOUT_A_BLOCK)
         harness.judge("each call is made, and failed", all(failing.failed.values()), failing.failed)
         for row, failure in tables.failed_rows():
             failing.one(row, failure)

@@ -1,10 +1,11 @@
 #!/usr/bin/env python3
-"""Compares the calls, states and refusals that the packages of Python and Rust declare with those of the header of C.
-That of Go compiles the header itself.
-usage: SUMS_HASH_LIBRARY=FILE .ci/declarations.py HEADER SOURCES    SOURCES is src/ of the crate
+"""Compares the calls, states and refusals that the packages of Python and Rust declare, and the calls of the library
+itself with the order of their arguments, with those of the header of C. The package of Go compiles the header itself.
+usage: SUMS_HASH_LIBRARY=FILE .ci/declarations.py HEADER SOURCES CALLS    src/ of the package of Rust, and of hash_c
 """
 
 import ctypes
+import glob
 import re
 
 import sums_hash
@@ -33,27 +34,60 @@ def of_header(path):
     }
 
 
+def kind_in_rust(kind):
+    """A type of the header as Rust names it."""
+    if kind.endswith("_state"):
+        return "".join(part.capitalize() for part in kind.split("_")[1:])
+    return KINDS_OF_RUST[kind]
+
+
 def in_rust(argument):
     """An argument as native.rs has it."""
     constant, kind, pointer, name, bytes_of = argument
-    if kind.endswith("_state"):
-        kind = "".join(part.capitalize() for part in kind.split("_")[1:])
-    else:
-        kind = KINDS_OF_RUST[kind]
+    kind = kind_in_rust(kind)
     kind = f"[{kind}; {bytes_of}]" if bytes_of else kind
     is_memory = pointer or bytes_of
     return f"{name}: " + (f"*{'const' if constant else 'mut'} " if is_memory else "") + kind
 
 
-def compare_rust(header, path):
-    with open(path) as file:
-        text = file.read()
-    found = re.findall(r"fn (sums_\w+)\(([^)]*)\)( -> u32)?;", text)
-    same("calls in Rust", sorted(name for name, _, _ in found), sorted(header))
+def in_library(arguments):
+    """Arguments as the library has them: memory and the length behind it are one slice."""
+    left = list(arguments)
+    while left:
+        constant, kind, pointer, name, bytes_of = left.pop(0)
+        kind = kind_in_rust(kind)
+        if bytes_of:
+            kind = f"[{kind}; {bytes_of}]"
+        elif kind == "u8":
+            kind = "[u8]"
+            if left and left[0][1:4] == ("size_t", "", f"{name}_len"):
+                left.pop(0)
+        lent = f"&{'' if constant else 'mut '}" if pointer or bytes_of else ""
+        yield f"{name}: {lent}{kind}"
+
+
+def compare_calls(where, text, header, spelled):
+    """The calls that a text in Rust or Rattle declares, with their arguments in their order, as `spelled` writes them."""
+    found = re.findall(r"fn (sums_\w+)\(([^)]*)\)( -> u32)?", text)
+    same(f"calls in {where}", sorted(name for name, _, _ in found), sorted(header))
     for name, arguments, status in found:
         got = [each.strip() for each in arguments.split(",") if each.strip()]
         answers, wanted = header.get(name, (None, []))
-        same(f"{name} in Rust", (bool(status), got), (answers, [in_rust(each) for each in wanted]))
+        same(f"{name} in {where}", (bool(status), got), (answers, list(spelled(wanted))))
+
+
+def compare_library(header, sources):
+    texts = []
+    for path in glob.glob(f"{sources}/*.rt"):
+        with open(path) as file:
+            texts.append(file.read())
+    compare_calls("the library", "\n".join(texts), header, in_library)
+
+
+def compare_rust(header, path):
+    with open(path) as file:
+        text = file.read()
+    compare_calls("Rust", text, header, lambda arguments: map(in_rust, arguments))
     sizes = {f"{name}State": size for name, size in sizes_in_words().items()}
     same("states in Rust", {name: int(size) for name, size in re.findall(r"(\w+State): (\d+),", text)}, sizes)
 
@@ -98,9 +132,10 @@ def compare_python(header):
 
 
 def main():
-    header_path, sources = harness.arguments(2)
+    header_path, sources, calls = harness.arguments(3)
     header = of_header(header_path)
     same("calls in the header", len(header) > 50, True)
+    compare_library(header, calls)
     compare_rust(header, f"{sources}/native.rs")
     compare_python(header)
     compare_refusals(refusals(header_path), f"{sources}/refusal.rs")

@@ -77,6 +77,15 @@ def blake2_case(about, name, data, settings):
     each_way(about, lambda given=b"": getattr(sums_hash, name)(given, **settings), data, want)
 
 
+def blake2_empty_pieces():
+    """Pieces of no bytes before, between and behind others."""
+    for name in BLAKE2:
+        hasher = getattr(sums_hash, name)()
+        for piece in (b"", b"ab", b"", b"c", b""):
+            hasher.update(piece)
+        same(f"{name} of abc with empty pieces", hasher.digest(), getattr(hashlib, name)(b"abc").digest())
+
+
 def sha2_lengths():
     for name in ("sha256", "sha512"):
         for length in range(261):
@@ -153,7 +162,7 @@ def blake3_contexts():
 
 
 # where groups of eight chunks, and runs of such groups, begin and end: a length, and where it is cut in two
-CUTS = [(8192, 8192), (8193, 8193), (8193, 8192), (8193, 1), (16384, 16384), (16384, 8191), (16385, 16385), (16385, 1),
+CUTS = [(1025, 1), (1025, 1024), (8192, 8192), (8193, 8193), (8193, 8192), (8193, 1), (16384, 16384), (16384, 8191), (16385, 16385), (16385, 1),
         (16385, 16384), (2048, 2048), (3072, 3072), (4096, 4096), (5120, 5120), (7168, 7168), (17408, 1024),
         (16384, 3072), (32768, 32768), (32768, 24576), (65536, 65536), (65537, 65537), (65536, 32768)]
 
@@ -171,12 +180,13 @@ def blake3_cuts():
 
 def blake3_positions():
     """Stretches of output: about the first blocks, about block 2^32, and up to the last byte."""
-    hasher, root = sums_hash.blake3(cycle(1025)), tree(mode_of(), 0, cycle(1025))
-    whole = output(root, 0, 270)
-    for position in range(131):
-        for count in (0, 1, 2, 63, 64, 65, 130):
-            got, want = hasher.digest(count, seek=position), whole[position : position + count]
-            same(f"{count} bytes of output at {position}", got, want)
+    for length in (0, 1025):
+        hasher, root = sums_hash.blake3(cycle(length)), tree(mode_of(), 0, cycle(length))
+        whole = output(root, 0, 270)
+        for position in range(131):
+            for count in range(131):
+                got, want = hasher.digest(count, seek=position), whole[position : position + count]
+                same(f"{count} bytes of output of {length} at {position}", got, want)
     for position in (2**38 - 32, 2**38, 2**38 + 1, 2**63 - 1, 2**63, 2**64 - 1 - LONG):
         got, want = hasher.digest(LONG, seek=position), output(root, position, LONG)
         same(f"output at {position}", got, want)
@@ -345,6 +355,7 @@ def main():
     self_test("blake2s", (16, 20, 28, 32), (0, 3, 64, 65, 255, 1024),
               "6a411f08ce25adcdfb02aba641451cec53c598b24f4fc787fbdc88797f4c1dfe")
     blake2_lengths()
+    blake2_empty_pieces()
     sha2_lengths()
     sha256_edges()
     blake3_trees()

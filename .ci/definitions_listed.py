@@ -17,8 +17,8 @@ DEFINITION = re.compile(r"^(?:(?:abbrev|unfoldable|opaque) pub|pub (?:record|dat
 OF_STANDARDS = ("words", "blake2", "b3", "mac", "kdf", "states")
 OF_LISTS = ("sumlist", "partlist")
 # files that speak of what the code does, and not of a standard or of the format of lists
-OF_CODE = ("partlist/Laws", "sumlist/Checked", "sumlist/Named", "sumlist/Opening", "sumlist/Parsed", "sumlist/Settled",
-           "sumlist/TaggedFaults", "sumlist/Tally")
+OF_CODE = ("b3/Begun", "blake2/Begun", "states/Begun", "partlist/Laws", "sumlist/Checked", "sumlist/Named", "sumlist/Opening",
+           "sumlist/Parsed", "sumlist/Settled", "sumlist/TaggedFaults", "sumlist/Tally")
 STANDARD = re.compile(r"RFC (?:7693|2104|5869)|the BLAKE[23] paper")
 # the section behind a standard, and one that stands alone in a comment
 SECTION = re.compile(STANDARD.pattern.join(["(?:", r")(?:, (?:section )?| \()[1-9]\b"]))

@@ -42,6 +42,7 @@ static void untouched(const char *what, const uint8_t *bytes, size_t count) {
     static void function##_lengths(void) {                                                                   \
         sums_##function##_state state = {0}, before;                                                         \
         REFUSED(SUMS_DIGEST_LENGTH, 0, sums_##function(bytes, 0, text, 3, NULL, 0))                          \
+        REFUSED(SUMS_DIGEST_LENGTH, 0, sums_##function(bytes, 0, text, 3, text, most + 1))                   \
         REFUSED(SUMS_DIGEST_LENGTH, most + 1, sums_##function(bytes, most + 1, text, 3, NULL, 0))            \
         REFUSED(SUMS_DIGEST_LENGTH, most + 1, sums_##function(bytes, most + 1, text, 3, text, most + 1))     \
         REFUSED(SUMS_KEY_LENGTH, most, sums_##function(bytes, most, text, 3, text, most + 1))                \

@@ -1,7 +1,8 @@
 #!/usr/bin/env python3
 """Cuts files into parts of each size, joins their lines, and compares with the digest of the whole file, by the
-program and by b3sum where it is installed; hashes files in parts of each size, with each option. Then the lines that
-`join` refuses, the parts that `part` refuses, and parts that come out of one pipe.
+program and by b3sum where it is installed; lists where parts begin, and hashes files in parts of each size, with each
+option. Then parts that are far behind the first, the lines that `join` refuses, the parts that `part` refuses, and
+parts that come out of one pipe.
 usage: .ci/parts.py PROGRAM
 """
 
@@ -75,6 +76,16 @@ def sizes():
                 same(" ".join([f"{size} bytes in parts of {chunks} chunks, joined", *words]), answer, want)
 
 
+def listed():
+    """The first chunk of each part, without a look at the size."""
+    for size in SIZES:
+        for chunks in CHUNKS:
+            starts = range(0, max(1, -(-size // CHUNK)), chunks)
+            want = (0, "".join(f"{first}\n" for first in starts).encode(), b"")
+            answer = part("--list", "--chunks", str(chunks), str(size))
+            same(f"the parts of {chunks} chunks of {size} bytes", answer, want)
+
+
 def hash_in_parts():
     """The line of a file, and of standard input, is that without parts."""
     for size in SIZES_OF_HASH:
@@ -108,6 +119,19 @@ def ways():
         more = part("--first", str(first), "--chunks", str(chunks), "-", given=piece + b"more")
         judge(f"{name}: its front", len(piece) < CHUNK * chunks or more == want, more)
     expect("the line of a part", part("--first", "256", given=data[:1]), 0, *LINE_OF_ONE_BYTE)
+
+
+def far_positions():
+    """A part is read from its place in a file, however far that is: most of this one is a hole."""
+    with open("far", "wb") as file:
+        file.seek(2**40)
+        file.write(content(CHUNK))
+    for first, given in ((2**30, content(CHUNK)), (2**30 - 1, bytes(CHUNK))):
+        answer = part("--first", str(first), "--chunks", "1", "far")
+        same(f"chunk {first} of a file", answer, part("--first", str(first), given=given))
+    answer = part("--list", "--chunks", str(2**30), "far")
+    same("the parts of a file with a hole", answer, (0, b"0\n1073741824\n", b""))
+    os.remove("far")
 
 
 # BLAKE3's chaining value of the byte 0 as chunk 256
@@ -282,9 +306,11 @@ program = harness.program()
 with harness.folder():
     files()
     sizes()
+    listed()
     hash_in_parts()
     stretches()
     ways()
+    far_positions()
     pipe()
     refused_lines()
     refused_parts()

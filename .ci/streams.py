@@ -1,7 +1,7 @@
 #!/usr/bin/env python3
 """Runs the program where its streams and files are more than a text: devices that take nothing, inputs and outputs
 that are longer than a buffer, a pipe that comes in two pieces, the names that `find` prints, files that are pipes,
-files of another user, and many files of which few may be open at a time.
+files of another user, files with names that are nearly another's, and many files of which few may be open at a time.
 usage: .ci/streams.py PROGRAM
 """
 
@@ -180,14 +180,36 @@ def files_of_another_user():
     os.chmod(".", 0o755)
     copy = shutil.copy(program, os.path.abspath("program"))
     for content, row in tables.places():
-        with open("this", "wb") as file:
-            file.write(content)
+        write("this", content)
         os.chmod("this", 0o444)
         same(f"{row.place}: {row.name}, read-only", harness.run(copy, row.words, row.given, **user), row.answer)
         os.chmod("this", 0)
         refused = (1, b"this: UNREADABLE\n", b"") if row.name == "a listed file" else (1, b"", CANNOT_READ)
         same(f"{row.place}: {row.name}, unreadable", harness.run(copy, row.words, row.given, **user), refused)
         os.remove("this")
+
+
+def near_names():
+    """Each file is that of its very name, beside files of other content whose names differ from it in a byte, in case,
+    in the last of 255 bytes, or in being relative."""
+    absolute = f"{os.getcwd()}/evil"
+    os.makedirs(os.path.dirname(absolute[1:]))
+    names = ["evil.iso", "evil.isp", "Evil.iso", "evil.iso.", 255 * "e", 254 * "e" + "f", absolute, absolute[1:]]
+    for name in names:
+        write(name, b"another")
+    for name in map(os.fsencode, names):
+        for content, row in tables.places():
+            write(name, content)
+            words = [name if word == b"this" else word for word in row.words]
+            wanted = row.answer._replace(out=row.answer.out.replace(b"this", name))
+            got = harness.run(program, words, row.given.replace(b"this", name))
+            same(f"{row.place}: {row.name}, by the name {os.fsdecode(name)}", got, wanted)
+        write(name, b"another")
+
+
+def write(name, content):
+    with open(name, "wb") as file:
+        file.write(content)
 
 
 def few_open_files():
@@ -213,5 +235,6 @@ with harness.folder():
     rest_of_input()
     named_pipes()
     files_of_another_user()
+    near_names()
     few_open_files()
 harness.finish()

@@ -6,4 +6,5 @@ pub mod Modes
 pub mod Parts
 pub mod Values
 pub mod Laws
+pub mod Begun
 pub mod inside

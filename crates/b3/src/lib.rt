@@ -16,7 +16,7 @@
 
 pub use chunk::{CHUNK_LEN, MOST_CHUNKS};
 pub use hasher::Blake3;
-pub use laws::{debug_laws, output_laws, tree_laws};
+pub use laws::{debug_laws, output_laws, state_laws, tree_laws};
 pub use mode::Mode;
 pub use output::{EndOfOutput, Output};
 pub use part::{NotNeighbours, NotWhole, Part};

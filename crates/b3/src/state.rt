@@ -1,7 +1,8 @@
 // A hasher as plain numbers.
 
 ghost use Rattle.std.specs.Prelude.{◌≡◌, ◌↔◌, ℕ, List, IsTrue, IsSome, IfSome};
-ghost use Rattle.b3.specs.inside.States.{IsBegun, IsKept, StateHolds};
+ghost use Rattle.b3.specs.Begun.{IsBegun};
+ghost use Rattle.b3.specs.inside.States.{IsKept, StateHolds};
 
 use crate::chunk::{Chunk, MOST_CHUNKS};
 use crate::hasher::Blake3;
@@ -28,7 +29,7 @@ pub struct Blake3State {
     stack: [[u32; 8]; 54],
 }
 
-#[tactic(auto, unfolding(crate::specs::inside::States::IsBegun, crate::specs::inside::States::StateHolds))]
+#[tactic(auto, unfolding(crate::specs::Begun::IsBegun, crate::specs::inside::States::StateHolds))]
 impl Blake3State {
     /// Keeps what `hasher` has taken.
     pub fn save(&mut self, hasher: &Blake3)

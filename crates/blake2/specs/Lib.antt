@@ -1,3 +1,4 @@
 pub mod Blake2
 pub mod Faults
+pub mod Begun
 pub mod inside

@@ -18,7 +18,7 @@
 pub use blake2b::Blake2b;
 pub use blake2s::Blake2s;
 pub use fault::{ParameterFault, StateFault};
-pub use laws::parameter_laws;
+pub use laws::{parameter_laws, state_laws};
 pub use state2b::Blake2bState;
 pub use state2s::Blake2sState;
 

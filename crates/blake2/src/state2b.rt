@@ -5,7 +5,8 @@ ghost use Rattle.std.specs.Prelude.{IfSome, IsErrOf};
 ghost use Rattle.std.specs.Prelude.{OnOk, OnErr};
 ghost use Rattle.words.specs.Blake2.{blake2b};
 ghost use Rattle.blake2.specs.Blake2.{Parameters, blake2, from_list, message_limit};
-ghost use Rattle.blake2.specs.inside.States.{IsBegun2b, StateHolds2b, compressed_2b};
+ghost use Rattle.blake2.specs.Begun.{IsBegun2b};
+ghost use Rattle.blake2.specs.inside.States.{StateHolds2b, compressed_2b};
 
 use crate::StateFault;
 use crate::blake2b::Blake2b;
@@ -28,7 +29,7 @@ pub struct Blake2bState {
     buffer: [u8; 128],
 }
 
-#[tactic(auto, unfolding(crate::specs::inside::States::IsBegun2b, crate::specs::inside::States::StateHolds2b))]
+#[tactic(auto, unfolding(crate::specs::Begun::IsBegun2b, crate::specs::inside::States::StateHolds2b))]
 impl Blake2bState {
     /// Keeps what `hasher` has taken.
     pub fn save(&mut self, hasher: &Blake2b)

@@ -5,7 +5,8 @@ ghost use Rattle.std.specs.Prelude.{IfSome, IsErrOf};
 ghost use Rattle.std.specs.Prelude.{OnOk, OnErr};
 ghost use Rattle.words.specs.Blake2.{blake2s};
 ghost use Rattle.blake2.specs.Blake2.{Parameters, blake2, from_list, message_limit};
-ghost use Rattle.blake2.specs.inside.States.{IsBegun2s, StateHolds2s};
+ghost use Rattle.blake2.specs.Begun.{IsBegun2s};
+ghost use Rattle.blake2.specs.inside.States.{StateHolds2s};
 
 use crate::StateFault;
 use crate::blake2s::Blake2s;
@@ -27,7 +28,7 @@ pub struct Blake2sState {
     buffer: [u8; 64],
 }
 
-#[tactic(auto, unfolding(crate::specs::inside::States::IsBegun2s, crate::specs::inside::States::StateHolds2s))]
+#[tactic(auto, unfolding(crate::specs::Begun::IsBegun2s, crate::specs::inside::States::StateHolds2s))]
 impl Blake2sState {
     /// Keeps what `hasher` has taken.
     pub fn save(&mut self, hasher: &Blake2s)

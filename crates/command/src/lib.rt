@@ -3,7 +3,7 @@
 
 pub use fault::{Fault, tell};
 pub use laws::{join_laws, visible_laws};
-pub use session::{Session, Streams};
+pub use session::{Session, Streams, session_laws};
 pub use visible::write_visible;
 
 mod cutting;

@@ -80,6 +80,7 @@ fn gives_byte<'n, F: Feed>(name: &'n str, feed: &mut F) -> Result<bool, Fault<'n
     ensures byte { IfSome (F.remaining feed.old) (λ bytes. TellsByte name.entry.now 0 (Some bytes) result) }
     ensures counted { F.failure_count feed.new
         ≡ count_after (F.failure_count feed.old) (failed true (Some []) result).input }
+    ensures memory { IsErrOf result Fault.OutOfMemory → ⊥ }
 {
     match feed.read(&mut [0]) {
         Ok(count) => Ok(count > 0),

@@ -4,7 +4,8 @@ ghost use Rattle.std.specs.Prelude.{◌≡◌, ◌≢◌, ◌+◌, ◌-◌, ◌^
 ghost use Rattle.words.specs.Blake2.{blake2s};
 ghost use Rattle.blake2.specs.Blake2.{Parameters, blake2, message_limit, salted, unsalted};
 ghost use Rattle.blake2.specs.Faults.{parameter_fault};
-ghost use Rattle.blake2.specs.inside.States.{IsBegun2s, StateHolds2s};
+ghost use Rattle.blake2.specs.Begun.{IsBegun2s};
+ghost use Rattle.blake2.specs.inside.States.{StateHolds2s};
 ghost use Rattle.hash_c.specs.Statuses.{input_status, length_status, parameter_status};
 
 use crate::statuses::{SUMS_NOT_BEGUN, SUMS_OK};

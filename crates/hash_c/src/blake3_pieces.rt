@@ -3,7 +3,8 @@
 ghost use Rattle.std.specs.Prelude.{◌≡◌, ◌≢◌, ◌+◌, ◌-◌, ◌^◌, ◌++◌, ◌↔◌, [], ℕ, List, length};
 ghost use Rattle.b3.specs.Bytes.{slice};
 ghost use Rattle.b3.specs.Modes.{derive_parameters, hash_parameters, keyed_parameters, root_of};
-ghost use Rattle.b3.specs.inside.States.{IsBegun, StateHolds};
+ghost use Rattle.b3.specs.Begun.{IsBegun};
+ghost use Rattle.b3.specs.inside.States.{StateHolds};
 ghost use Rattle.hash_c.specs.Statuses.{input_status, output_status};
 
 use crate::blake3_once::output_into;

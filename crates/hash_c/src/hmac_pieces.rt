@@ -4,10 +4,10 @@
 ghost use Rattle.std.specs.Prelude.{◌≡◌, ◌≢◌, ◌+◌, ◌-◌, ◌^◌, ◌++◌, ◌↔◌, [], ℕ, List, length, take};
 ghost use Rattle.sha2.specs.Sha256.{sha256};
 ghost use Rattle.sha2.specs.Sha512.{sha512};
-ghost use Rattle.states.specs.inside.States.{IsBegun256, IsBegun512};
+ghost use Rattle.states.specs.Begun.{IsBegun256, IsBegun512};
 ghost use Rattle.words.specs.Blake2.{blake2b, blake2s};
 ghost use Rattle.blake2.specs.Blake2.{blake2, unsalted};
-ghost use Rattle.blake2.specs.inside.States.{IsBegun2b, IsBegun2s};
+ghost use Rattle.blake2.specs.Begun.{IsBegun2b, IsBegun2s};
 ghost use Rattle.mac.specs.Hmac.{block_sized_key, hmac_of_block_key};
 ghost use Rattle.states.specs.Macs.{IsMac};
 ghost use Rattle.hash_c.specs.inside.Macs.{IsMac256, IsMac2b, IsMac2s, IsMac512};

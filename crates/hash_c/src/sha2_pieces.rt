@@ -3,7 +3,8 @@
 ghost use Rattle.std.specs.Prelude.{◌≡◌, ◌≢◌, ◌+◌, ◌-◌, ◌^◌, ◌++◌, ◌↔◌, [], ℕ, List, length};
 ghost use Rattle.sha2.specs.Sha256.{sha256};
 ghost use Rattle.sha2.specs.Sha512.{sha512};
-ghost use Rattle.states.specs.inside.States.{IsBegun256, IsBegun512, StateHolds256, StateHolds512};
+ghost use Rattle.states.specs.Begun.{IsBegun256, IsBegun512};
+ghost use Rattle.states.specs.inside.States.{StateHolds256, StateHolds512};
 ghost use Rattle.hash_c.specs.Statuses.{input_status};
 ghost use Rattle.hash_c.specs.declared.statuses.TheConstants.{SUMS_NOT_BEGUN, SUMS_OK};
 

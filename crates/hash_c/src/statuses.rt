@@ -1,5 +1,7 @@
 // The statuses that the calls answer, by their names in the header of C.
 
+ghost use Rattle.std.specs.Prelude.{◌≡◌};
+
 /// All is done.
 pub const SUMS_OK: u32 = 0;
 
@@ -17,3 +19,13 @@ pub const SUMS_NOT_BEGUN: u32 = 4;
 
 /// The output has no such bytes.
 pub const SUMS_END_OF_OUTPUT: u32 = 5;
+
+// Does nothing. Its contract says the number of each status, by which a caller in C knows it.
+fn status_laws()
+    ensures ok { SUMS_OK ≡ 0 }
+    ensures digest_length { SUMS_DIGEST_LENGTH ≡ 1 }
+    ensures key_length { SUMS_KEY_LENGTH ≡ 2 }
+    ensures input_too_long { SUMS_INPUT_TOO_LONG ≡ 3 }
+    ensures not_begun { SUMS_NOT_BEGUN ≡ 4 }
+    ensures end_of_output { SUMS_END_OF_OUTPUT ≡ 5 }
+{}

@@ -72,18 +72,31 @@ fn what_is_held_and_the_room_follow_the_input(rt: HostRuntime) -> Result<(), Fai
         (0, 0),
         (1024, 0),
         (1025, 1),
+        (2048, 1),
+        (2049, 1),
         (3072, 1),
         (3073, 2),
+        (4096, 2),
         (4097, 1),
         (8192, 3),
         (8193, 1),
+        (16_384, 4),
+        (16_385, 1),
         (102_400, 4),
     ] {
-        let mut hasher = Blake3::new();
-        hasher.update(input.get(..length).ok_or("too long a row")?)?;
-        assert_eq!(rt; hasher.held(), held, "{length} bytes");
-        assert_eq!(rt; hasher.count(), length as u64);
-        assert_eq!(rt; hasher.room(), u128::from(u64::MAX) - length as u128);
+        for size in [1, 63, 64, 65, 1023, 1024, 1025, 8192, 102_400usize] {
+            let mut hasher = Blake3::new();
+            for piece in input
+                .get(..length)
+                .ok_or("too long a row")?
+                .chunks(size.max(1))
+            {
+                hasher.update(piece)?;
+            }
+            assert_eq!(rt; hasher.held(), held, "{length} bytes in pieces of {size}");
+            assert_eq!(rt; hasher.count(), length as u64);
+            assert_eq!(rt; hasher.room(), u128::from(u64::MAX) - length as u128);
+        }
     }
     Ok(())
 }

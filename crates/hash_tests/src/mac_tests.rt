@@ -59,7 +59,7 @@ fn a_tag_has_half_a_digest_to_a_whole_one(rt: HostRuntime) -> Result<(), Fail> {
 #[test]
 fn whole_tags_are_verified(rt: HostRuntime) -> Result<(), Fail> {
     let mut given = [0; 33];
-    given[..32].copy_from_slice(Hmac::<Blake2s256>::new(b"key")?.finish().bytes());
+    given[..32].copy_from_slice(Hmac::<Sha256Stream>::new(b"key")?.finish().bytes());
     for (length, turned, is_tag) in [
         (32, 0, true),
         (0, 0, false),
@@ -68,7 +68,7 @@ fn whole_tags_are_verified(rt: HostRuntime) -> Result<(), Fail> {
         (32, 1, false),
     ] {
         given[31] ^= turned;
-        let mac = Hmac::<Blake2s256>::new(b"key")?;
+        let mac = Hmac::<Sha256Stream>::new(b"key")?;
         assert_eq!(rt; mac.verify(&given[..length]), is_tag, "{length} {turned}");
     }
     Ok(())

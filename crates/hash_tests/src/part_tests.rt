@@ -35,6 +35,8 @@ fn a_part_stands_where_a_subtree_does(rt: HostRuntime) -> Result<(), Fail> {
         (1, 0, false),
         (1, 1024, true),
         (1, 1025, false),
+        (2, 3072, false),
+        (4, 3072, true),
         (4, 4096, true),
         (4, 4097, false),
         (18_014_398_509_481_983, 1023, true),
@@ -139,6 +141,30 @@ fn joined_parts_have_the_digest_of_all(rt: HostRuntime) -> Result<(), Fail> {
         };
         assert!(rt; begins(whole.root(), digits), "{mode:?}");
     }
+    let nothing = Part::of(Mode::derive(CONTEXT), 0, b"")?;
+    let digits = "2cc39783c223154fea8dfb7c1b1660f2ac2dcbd1c1de8277b0b0dd39b7e50d7d";
+    assert!(rt; begins(nothing.root(), digits), "the key of no material");
+    Ok(())
+}
+
+fn joined(left: Part, right: Part) -> Result<Part, Fail> {
+    Part::join(left, right).map_err(|_| Fail::from("not joined"))
+}
+
+// Eight chunks in pairs, from the left and from the right: an official BLAKE3 test vector.
+#[test]
+fn parts_joined_in_any_order_have_one_root(rt: HostRuntime) -> Result<(), Fail> {
+    let input = counting(rt.alloc(), 8192)?;
+    let two = |first| joined(chunks(&input, first, 1)?, chunks(&input, first + 1, 1)?);
+    let digits = "aae792484c8efe4f19e2ca7d371d8c467ffb10748d8a5a1ae579948f718a2a63";
+    let left = joined(two(0)?, two(2)?)?;
+    let right = joined(two(4)?, two(6)?)?;
+    assert!(rt; begins(joined(left, right)?.root(), digits));
+    let last = two(6)?;
+    let right = joined(two(4)?, last)?;
+    let second = two(2)?;
+    let left = joined(two(0)?, second)?;
+    assert!(rt; begins(joined(left, right)?.root(), digits));
     Ok(())
 }
 

@@ -8,21 +8,20 @@ use Rattle.sha2.specs.Sha512.{sha512}
 use Rattle.words.specs.Blake2.{blake2b, blake2s}
 use Rattle.source.specs.declared.alg.Alg.{Alg}
 use Rattle.source.specs.declared.alg.Alg.TheVariants.{Sha256, Sha512, Blake2b, Blake2s, Blake3}
-use Rattle.source.specs.declared.alg.TheConstants.{BLAKE2B_LEN, BLAKE2S_LEN, BLAKE3_LEN}
 
 -- whether there is a digest of so many bytes (RFC 7693, 2.1)
 abbrev pub IsInRange : Alg → Type 0
-IsInRange (Blake2b n) = (1 ≤ n) × (n ≤ BLAKE2B_LEN)
-IsInRange (Blake2s n) = (1 ≤ n) × (n ≤ BLAKE2S_LEN)
+IsInRange (Blake2b n) = (1 ≤ n) × (n ≤ 64)
+IsInRange (Blake2s n) = (1 ≤ n) × (n ≤ 32)
 IsInRange _ = ⊤
 
--- the length of the digest in bytes
+-- the length of the digest in bytes; BLAKE3's is 32 where no other is asked for (the BLAKE3 paper, 2.6)
 abbrev pub tag_len : Alg → ℕ
 tag_len Sha256 = 32
 tag_len Sha512 = 64
 tag_len (Blake2b n) = n
 tag_len (Blake2s n) = n
-tag_len Blake3 = BLAKE3_LEN
+tag_len Blake3 = 32
 
 -- the length of a block in bytes (FIPS 180-4, 1; RFC 7693, 2.1; the BLAKE3 paper, 2.1)
 abbrev pub block_len : Alg → ℕ
@@ -46,4 +45,4 @@ digest Sha256 m = sha256 m
 digest Sha512 m = sha512 m
 digest (Blake2b n) m = blake2 blake2b (unsalted blake2b n []) m
 digest (Blake2s n) m = blake2 blake2s (unsalted blake2s n []) m
-digest Blake3 m = slice (hash_root m) 0 BLAKE3_LEN
+digest Blake3 m = slice (hash_root m) 0 32

@@ -4,8 +4,10 @@ ghost use Rattle.std.specs.Prelude.{◌≡◌, ◌<◌, ◌≤◌, ◌+◌, ◌+
 ghost use Rattle.std.specs.Prelude.{OnErr, IsErrOf};
 ghost use Rattle.words.specs.Blake2.{blake2b, blake2s};
 ghost use Rattle.blake2.specs.Blake2.{unsalted};
-ghost use Rattle.blake2.specs.inside.States.{IsBegun2b, IsBegun2s, StateHolds2b, StateHolds2s};
-ghost use Rattle.states.specs.inside.States.{IsBegun256, IsBegun512, StateHolds256, StateHolds512};
+ghost use Rattle.blake2.specs.Begun.{IsBegun2b, IsBegun2s};
+ghost use Rattle.blake2.specs.inside.States.{StateHolds2b, StateHolds2s};
+ghost use Rattle.states.specs.Begun.{IsBegun256, IsBegun512};
+ghost use Rattle.states.specs.inside.States.{StateHolds256, StateHolds512};
 
 use crate::{Sha256State, Sha512State};
 use blake2::{Blake2b, Blake2bState, Blake2s, Blake2sState, StateFault};

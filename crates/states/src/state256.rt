@@ -3,7 +3,8 @@
 ghost use Rattle.std.specs.Prelude.{◌≡◌, ◌<◌, ◌≤◌, ◌+◌, ◌-◌, ◌^◌, ◌++◌, ◌↔◌, [], ℕ, List, length, IsOk, IsTrue, IsSome};
 ghost use Rattle.std.specs.Prelude.{IfSome, IsErrOf, OnOk, OnErr};
 ghost use Rattle.sha2.specs.Sha256.{sha256};
-ghost use Rattle.states.specs.inside.States.{IsBegun256, StateHolds256};
+ghost use Rattle.states.specs.Begun.{IsBegun256};
+ghost use Rattle.states.specs.inside.States.{StateHolds256};
 
 use blake2::StateFault;
 use sha_blocks::{Value256, pieces};
@@ -28,7 +29,7 @@ pub struct Sha256State {
     buffer: [u8; 64],
 }
 
-#[tactic(auto, unfolding(crate::specs::inside::States::IsBegun256, crate::specs::inside::States::StateHolds256))]
+#[tactic(auto, unfolding(crate::specs::Begun::IsBegun256, crate::specs::inside::States::StateHolds256))]
 impl Sha256State {
     /// Begins a message.
     pub fn begin(&mut self)

@@ -3,7 +3,8 @@
 ghost use Rattle.std.specs.Prelude.{◌≡◌, ◌<◌, ◌≤◌, ◌+◌, ◌-◌, ◌^◌, ◌++◌, ◌↔◌, [], ℕ, List, length, IsOk, IsTrue, IsSome};
 ghost use Rattle.std.specs.Prelude.{IfSome, IsErrOf, OnOk, OnErr};
 ghost use Rattle.sha2.specs.Sha512.{sha512};
-ghost use Rattle.states.specs.inside.States.{IsBegun512, StateHolds512, taken_512};
+ghost use Rattle.states.specs.Begun.{IsBegun512};
+ghost use Rattle.states.specs.inside.States.{StateHolds512, taken_512};
 
 use crate::value::Value512;
 use blake2::StateFault;
@@ -30,7 +31,7 @@ pub struct Sha512State {
     buffer: [u8; 128],
 }
 
-#[tactic(auto, unfolding(crate::specs::inside::States::IsBegun512, crate::specs::inside::States::StateHolds512))]
+#[tactic(auto, unfolding(crate::specs::Begun::IsBegun512, crate::specs::inside::States::StateHolds512))]
 impl Sha512State {
     /// Begins a message.
     pub fn begin(&mut self)

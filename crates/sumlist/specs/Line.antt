@@ -4,7 +4,6 @@ use Rattle.std.specs.Prelude.{if◌then◌else◌, ◌==◌, Ok, Contains, Optio
 use Rattle.hex.specs.Hex.{decode_of}
 use Rattle.source.specs.declared.alg.Alg.{Alg}
 use Rattle.source.specs.Digest.{tag_len, IsInRange}
-use Rattle.sumlist.specs.declared.fitting.TheConstants.{LINE_LEN}
 use Rattle.sumlist.specs.declared.kind.Kind.{Kind}
 use Rattle.sumlist.specs.Entry.{Listing, IsEntry}
 use Rattle.sumlist.specs.Escape.{SpellsName}
@@ -14,7 +13,7 @@ use Rattle.sumlist.specs.Tagged.{Labelled}
 -- bytes that can be a line: no LF among them, and not too many
 pub record IsLine (line : List ℕ) : Type 0 where
   pub one : Contains line 10 → ⊥
-  pub within : length line ≤ LINE_LEN
+  pub within : length line ≤ 65536
 
 -- a line without the one CR at its end, if it has one
 abbrev pub core : List ℕ → List ℕ

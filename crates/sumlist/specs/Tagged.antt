@@ -4,7 +4,6 @@ use Rattle.std.specs.Fmt.{decimal}
 use Rattle.hex.specs.Hex.{decode_of, encode_lower}
 use Rattle.source.specs.declared.alg.Alg.{Alg}
 use Rattle.source.specs.declared.alg.Alg.TheVariants.{Sha256, Sha512, Blake2b, Blake2s, Blake3}
-use Rattle.source.specs.declared.alg.TheConstants.{BLAKE2B_LEN, BLAKE2S_LEN}
 use Rattle.source.specs.Digest.{tag_len, IsInRange}
 use Rattle.sumlist.specs.Escape.{escaped, lead}
 use Rattle.sumlist.specs.Entry.{Listing}
@@ -13,8 +12,8 @@ use Rattle.sumlist.specs.Entry.{Listing}
 abbrev pub label_of : Alg → List ℕ
 label_of Sha256 = codes "SHA256"
 label_of Sha512 = codes "SHA512"
-label_of (Blake2b n) = if n == BLAKE2B_LEN then codes "BLAKE2b" else codes "BLAKE2b-" ++ decimal (8 * n)
-label_of (Blake2s n) = if n == BLAKE2S_LEN then codes "BLAKE2s" else codes "BLAKE2s-" ++ decimal (8 * n)
+label_of (Blake2b n) = if n == 64 then codes "BLAKE2b" else codes "BLAKE2b-" ++ decimal (8 * n)
+label_of (Blake2s n) = if n == 32 then codes "BLAKE2s" else codes "BLAKE2s-" ++ decimal (8 * n)
 label_of Blake3 = codes "BLAKE3"
 
 -- a label that names an algorithm: the written one, or that of BLAKE2 with the number of a whole tag's bits too

@@ -1,15 +1,16 @@
 // The files of the system, by name.
 
 ghost use Rattle.std.specs.IoError.{error_kind};
-ghost use Rattle.std.specs.Prelude.{◌≡◌, ◌<◌, Err, None, Ok, IfErr, IfOk};
+ghost use Rattle.std.specs.Io.Seek.{MovesTo};
+ghost use Rattle.std.specs.Prelude.{◌≡◌, ◌<◌, Err, None, Ok, IfErr, IfOk, IsOk, OnOk};
 ghost use Rattle.sumlist.specs.Opening.{OpenCounts, fault_of};
-ghost use Rattle.sumlist.specs.inside.Moved.{IsMoved, seek_fault as seek_fault_of};
+ghost use Rattle.sumlist.specs.inside.Moved.{IsMoved, refused_seek};
 ghost use Rattle.either.specs.declared.Either.TheVariants.{Left};
 
 use crate::tree::{OpenFault, Tree};
 use either::Either;
 use source::{Device, Feed};
-use std::fs::OpenOptions;
+use std::fs::File;
 use std::io;
 use std::io::{Empty, ErrorKind, Seek, SeekFrom};
 use std::rt::Files;
@@ -55,8 +56,8 @@ impl<'r, R: Files> Tree for FileTree<'r, R> {
     ghost files = { λ _. None };
 
     fn open_at(&mut self, name: &str, position: u64) -> Result<Self::F, OpenFault> {
-        let file = OpenOptions::new().read(true).open(self.rt, name);
-        let reader = self.counted(opened_at(file, position))?;
+        let opened = File::open(self.rt, name);
+        let reader = self.counted(opened_at(opened, position))?;
         Ok(Device::new(reader))
     }
 
@@ -75,35 +76,35 @@ fn opened_at<F: Seek + Drop>(
     ensures moved { IfOk opened (λ file. 0 < position → IsMoved F.stream_position file position result) }
 {
     match opened {
-        Ok(file) => from_position(file, position),
+        Ok(mut file) => {
+            let moved = move_to(&mut file, position);
+            handed(file, moved)
+        }
         Err(error) => Err(OpenFault::of(error.kind())),
     }
 }
 
-// The file from a position on, or nothing where no file has the position.
-fn from_position<F: Seek + Drop>(mut file: F, position: u64) -> Result<Either<F, Empty>, OpenFault>
-    ensures start { position ≡ 0 → result ≡ Ok (Left file) }
-    ensures moved { 0 < position → IsMoved F.stream_position file position result }
+// Moves a file to a position. The beginning needs no seek, which a pipe refuses.
+fn move_to<F: Seek>(file: &mut F, position: u64) -> io::Result<()>
+    ensures start { position ≡ 0 → IsOk result × (file.new ≡ file.old) }
+    ensures moved { 0 < position
+        → MovesTo (F.stream_position file.old) (F.stream_position file.new) position result }
 {
-    // The beginning needs no seeking, which a pipe refuses.
     if position == 0 {
-        return Ok(Either::Left(file));
+        return Ok(());
     }
-    let Err(error) = file.seek(SeekFrom::Start(position)) else {
-        return Ok(Either::Left(file));
-    };
-    match seek_fault(error.kind()) {
-        None => Ok(Either::Right(io::empty())),
-        Some(fault) => Err(fault),
-    }
+    file.seek(SeekFrom::Start(position))?;
+    Ok(())
 }
 
-// What it means that the system refused a position in this way: that no file is so long, or a fault.
-fn seek_fault(kind: ErrorKind) -> Option<OpenFault>
-    ensures { result ≡ seek_fault_of kind }
+// What the system's seek came to: the file, nothing where no file has the position, or a fault.
+fn handed<F: Drop>(file: F, moved: io::Result<()>) -> Result<Either<F, Empty>, OpenFault>
+    ensures file { OnOk moved (result ≡ Ok (Left file)) }
+    ensures refused { IfErr moved (λ error. result ≡ refused_seek (error_kind error)) }
 {
-    match kind {
-        ErrorKind::InvalidInput => None,
-        _ => Some(OpenFault::Failed),
+    match moved {
+        Ok(()) => Ok(Either::Left(file)),
+        Err(error) if error.kind() == ErrorKind::InvalidInput => Ok(Either::Right(io::empty())),
+        Err(_) => Err(OpenFault::Failed),
     }
 }

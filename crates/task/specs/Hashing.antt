@@ -5,7 +5,6 @@ use Rattle.std.specs.Option.{option_map_or}
 use Rattle.source.specs.Digest.{tag_len}
 use Rattle.source.specs.declared.alg.Alg.{Alg}
 use Rattle.source.specs.declared.alg.Alg.TheVariants as alg
-use Rattle.source.specs.declared.alg.TheConstants.{BLAKE2B_LEN, BLAKE2S_LEN, BLAKE3_LEN}
 use Rattle.sumlist.specs.declared.kind.Kind.{Kind}
 use Rattle.sumlist.specs.declared.kind.Kind.TheVariants as kind
 use Rattle.request.specs.CommandLine.{Given, has_flag, text_of}
@@ -66,14 +65,14 @@ abbrev pub tagged_blake3 : Given → Result Requested UsageFault
 tagged_blake3 g = do
   absent (Salt ∷ Personal ∷ []) g
   may_be_raw g
-  number Length BLAKE3_LEN BLAKE3_LEN BLAKE3_LEN g
+  number Length 32 32 32 g
   number Seek 0 0 0 g
   Ok (whole (Plain alg.Blake3) g)
 
 -- the bytes that `-l` and `--seek` say, before the end of the output
 abbrev pub stretch_of : Given → Bool → Result Stretch UsageFault
 stretch_of g is_raw = do
-  n ← number Length BLAKE3_LEN 1 (2 ^ 64 - 1) g
+  n ← number Length 32 1 (2 ^ 64 - 1) g
   position ← number Seek 0 0 (2 ^ 64 - 1 - n) g
   Ok (record { position = position; length = n; is_raw = is_raw })
 
@@ -95,8 +94,8 @@ parts g = where_given (λ t. number_in Parts 1 1024 t >>= part_size) (text Parts
 abbrev pub requested_of : Given → Kind → Result Requested UsageFault
 requested_of g kind.Sha256 = sha alg.Sha256 g
 requested_of g kind.Sha512 = sha alg.Sha512 g
-requested_of g kind.Blake2b = blake2 Blake2b BLAKE2B_LEN 16 g
-requested_of g kind.Blake2s = blake2 Blake2s BLAKE2S_LEN 8 g
+requested_of g kind.Blake2b = blake2 Blake2b 64 16 g
+requested_of g kind.Blake2s = blake2 Blake2s 32 8 g
 requested_of g kind.Blake3 = if has_flag (codes "tag") g then tagged_blake3 g else blake3_output g
 
 abbrev pub requested : Given → Result Requested UsageFault

@@ -9,7 +9,6 @@ use Rattle.hex.specs.Hex.{decode_of}
 use Rattle.source.specs.Digest.{tag_len}
 use Rattle.source.specs.declared.alg.Alg.{Alg}
 use Rattle.source.specs.declared.alg.Alg.TheVariants as alg
-use Rattle.source.specs.declared.alg.TheConstants.{BLAKE2B_LEN, BLAKE2S_LEN}
 use Rattle.sumlist.specs.declared.kind.Kind.{Kind}
 use Rattle.sumlist.specs.declared.kind.Kind.TheVariants as kind
 use Rattle.task.specs.Texts.{setting_id}
@@ -117,8 +116,8 @@ given_kind g = where_given (named Algorithm kinds) (text Algorithm g)
 abbrev pub hmac_alg : HmacHash → Alg
 hmac_alg hmac.Sha256 = alg.Sha256
 hmac_alg hmac.Sha512 = alg.Sha512
-hmac_alg hmac.Blake2b = alg.Blake2b BLAKE2B_LEN
-hmac_alg hmac.Blake2s = alg.Blake2s BLAKE2S_LEN
+hmac_alg hmac.Blake2b = alg.Blake2b 64
+hmac_alg hmac.Blake2s = alg.Blake2s 32
 
 -- the length of its digest
 abbrev pub hmac_len : HmacHash → ℕ

@@ -1,7 +1,6 @@
 -- What a request of `mac` has printed, or the first fault of its settings.
 use Rattle.std.specs.Prelude.{ℕ, ◌-◌, ◌/◌, ◌^◌, List, [], ◌∷◌, Option, Some, None, Result, Ok, Err, codes}
 use Rattle.request.specs.CommandLine.{Given, Text, has_flag, text_of}
-use Rattle.source.specs.declared.alg.TheConstants.{BLAKE2B_LEN, BLAKE2S_LEN, BLAKE3_LEN}
 use Rattle.task.specs.Parameters.{◌>>=◌, ◌>>◌, given_bytes, hmac_len, named, needed, number, text, unset}
 use Rattle.task.specs.Parameters.{wanted_bytes, where_given}
 use Rattle.task.specs.declared.fault.Setting.TheVariants as setting
@@ -24,9 +23,9 @@ hmac h = with_length (Hmac h) (hmac_len h) (hmac_len h / 2) (hmac_len h)
 abbrev pub macs : List (Text × (Given → Result Mac UsageFault))
 macs = (codes "hmac-sha256", hmac hash.Sha256) ∷ (codes "hmac-sha512", hmac hash.Sha512)
     ∷ (codes "hmac-blake2b", hmac hash.Blake2b) ∷ (codes "hmac-blake2s", hmac hash.Blake2s)
-    ∷ (codes "blake2b", with_length Blake2b BLAKE2B_LEN 1 BLAKE2B_LEN)
-    ∷ (codes "blake2s", with_length Blake2s BLAKE2S_LEN 1 BLAKE2S_LEN)
-    ∷ (codes "blake3", with_length Blake3 BLAKE3_LEN 1 (2 ^ 64 - 1)) ∷ []
+    ∷ (codes "blake2b", with_length Blake2b 64 1 64)
+    ∷ (codes "blake2s", with_length Blake2s 32 1 32)
+    ∷ (codes "blake3", with_length Blake3 32 1 (2 ^ 64 - 1)) ∷ []
 
 abbrev pub mac : Given → Result Mac UsageFault
 mac g = needed setting.Algorithm g >>= named setting.Algorithm macs >>= (λ f. f g)

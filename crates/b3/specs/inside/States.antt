@@ -1,16 +1,9 @@
 -- What the plain numbers of a hasher stand for.
-use Rattle.std.specs.Prelude.{◌≡◌, ◌<◌, ◌≤◌, ℕ, ◌+◌, ◌-◌, ◌*◌, ◌^◌, List, ◌∷◌, count_ones, take}
+use Rattle.std.specs.Prelude.{◌≡◌, ℕ, ◌+◌, ◌-◌, List, ◌∷◌, count_ones, take}
+use Rattle.b3.specs.Begun.{IsBegun}
 use Rattle.b3.specs.inside.Hasher.{Holds}
 use Rattle.b3.specs.declared.hasher.Blake3.{Blake3}
 use Rattle.b3.specs.declared.state.Blake3State.{Blake3State}
-
--- the numbers of s can be those of a hasher; its words and its block can be any
-unfoldable pub IsBegun : Blake3State → Type 0
-IsBegun s = (0 < s.mode)
-    × (s.mode ≤ 256)
-    × (s.len ≤ 1024)
-    × (1024 * s.closed + s.len ≤ 2 ^ 64 - 1)
-    × (count_ones s.closed ≤ 54)
 
 -- the fields of the hasher h are those of s
 abbrev pub IsKept : Blake3State → Blake3 → Type 0

@@ -1,6 +1,7 @@
 -- What the plain numbers of a hasher stand for.
-use Rattle.std.specs.Prelude.{◌≡◌, ◌<◌, ◌≤◌, ℕ, ◌+◌, ◌-◌, ◌*◌, ◌^◌, List, length}
+use Rattle.std.specs.Prelude.{◌≡◌, ◌≤◌, ℕ, ◌+◌, ◌*◌, ◌^◌, List, length}
 use Rattle.words.specs.Blake2.{blake2b, blake2s}
+use Rattle.blake2.specs.Begun.{IsBegun2b, IsBegun2s}
 use Rattle.blake2.specs.Blake2.{Parameters}
 use Rattle.blake2.specs.inside.Held.{HoldsMessage}
 use Rattle.blake2.specs.declared.state2b.Blake2bState.{Blake2bState}
@@ -10,13 +11,6 @@ use Rattle.blake2.specs.declared.state2s.Blake2sState.{Blake2sState}
 abbrev pub compressed_2b : Blake2bState → ℕ
 compressed_2b s = s.compressed_low + 2 ^ 64 * s.compressed_high
 
--- the numbers of s can be those of a hasher; its words and its buffer can be any
-unfoldable pub IsBegun2b : Blake2bState → Type 0
-IsBegun2b s = (0 < s.digest_length)
-    × (s.digest_length ≤ 64)
-    × (s.used ≤ 128)
-    × (compressed_2b s + s.used ≤ 2 ^ 128 - 1)
-
 -- s has taken the message m under the parameters
 unfoldable pub StateHolds2b : Blake2bState → Parameters → List ℕ → Type 0
 StateHolds2b s p m = IsBegun2b s
@@ -25,12 +19,6 @@ StateHolds2b s p m = IsBegun2b s
     × HoldsMessage blake2b p s.h s.buffer s.used (compressed_2b s) m
 
 -- the same of BLAKE2s
-unfoldable pub IsBegun2s : Blake2sState → Type 0
-IsBegun2s s = (0 < s.digest_length)
-    × (s.digest_length ≤ 32)
-    × (s.used ≤ 64)
-    × (s.compressed + s.used ≤ 2 ^ 64 - 1)
-
 unfoldable pub StateHolds2s : Blake2sState → Parameters → List ℕ → Type 0
 StateHolds2s s p m = IsBegun2s s
     × (s.digest_length ≡ p.digest_length)

@@ -1,15 +1,12 @@
 -- What the plain numbers of a hasher stand for.
-use Rattle.std.specs.Prelude.{◌≡◌, ◌≤◌, ℕ, ◌+◌, ◌-◌, ◌*◌, ◌^◌, List, length}
+use Rattle.std.specs.Prelude.{◌≡◌, ℕ, ◌+◌, ◌*◌, ◌^◌, List, length}
 use Rattle.sha2.specs.Sha256.{hash_after, initial_hash_256}
 use Rattle.sha2.specs.Sha512.{initial_hash_512}
 use Rattle.sha2.specs.Sha512 as S512
 use Rattle.sha_blocks.specs.inside.Taken.{HasTaken}
+use Rattle.states.specs.Begun.{IsBegun256, IsBegun512}
 use Rattle.states.specs.declared.state256.Sha256State.{Sha256State}
 use Rattle.states.specs.declared.state512.Sha512State.{Sha512State}
-
--- the numbers of s can be those of a hasher; its words and its buffer can be any
-unfoldable pub IsBegun256 : Sha256State → Type 0
-IsBegun256 s = (s.digest_length ≡ 32) × (s.taken ≤ 2 ^ 61 - 1)
 
 -- s has taken the message m
 unfoldable pub StateHolds256 : Sha256State → List ℕ → Type 0
@@ -22,9 +19,6 @@ abbrev pub taken_512 : Sha512State → ℕ
 taken_512 s = s.taken_low + 2 ^ 64 * s.taken_high
 
 -- the same of SHA-512
-unfoldable pub IsBegun512 : Sha512State → Type 0
-IsBegun512 s = (s.digest_length ≡ 64) × (taken_512 s ≤ 2 ^ 125 - 1)
-
 unfoldable pub StateHolds512 : Sha512State → List ℕ → Type 0
 StateHolds512 s m = IsBegun512 s
     × (taken_512 s ≡ length m)

@@ -3,7 +3,8 @@ use Rattle.words.specs.Blake2.{blake2b}
 use Rattle.blake2.specs.Blake2.{Parameters, from_list, listed}
 use Rattle.blake2.specs.inside.Hashers.{Holds2b, hasher_parameters, parameters_2b}
 use Rattle.blake2.specs.inside.Listed.{read_back}
-use Rattle.blake2.specs.inside.States.{IsBegun2b, StateHolds2b}
+use Rattle.blake2.specs.Begun.{IsBegun2b}
+use Rattle.blake2.specs.inside.States.{StateHolds2b}
 use Rattle.blake2.proofs.state2b.Blake2bState.save.Goals as goal
 
 pub returns : goal.returns

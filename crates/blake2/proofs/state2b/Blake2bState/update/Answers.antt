@@ -3,7 +3,8 @@ use Rattle.words.specs.Blake2.{blake2b}
 use Rattle.blake2.specs.Blake2.{Parameters, message_limit}
 use Rattle.blake2.specs.inside.Lengths.{block_len_2b}
 use Rattle.blake2.specs.inside.Rooms.{room_of}
-use Rattle.blake2.specs.inside.States.{IsBegun2b, StateHolds2b, compressed_2b}
+use Rattle.blake2.specs.Begun.{IsBegun2b}
+use Rattle.blake2.specs.inside.States.{StateHolds2b, compressed_2b}
 use Rattle.blake2.specs.declared.state2b.Blake2bState.{Blake2bState}
 use Rattle.blake2.proofs.state2b.Blake2bState.update.Goals as goal
 

@@ -3,7 +3,8 @@ use Rattle.words.specs.Blake2.{blake2s}
 use Rattle.blake2.specs.Blake2.{Parameters, from_list, listed}
 use Rattle.blake2.specs.inside.Hashers.{Holds2s, hasher_parameters, parameters_2s}
 use Rattle.blake2.specs.inside.Listed.{read_back}
-use Rattle.blake2.specs.inside.States.{IsBegun2s, StateHolds2s}
+use Rattle.blake2.specs.Begun.{IsBegun2s}
+use Rattle.blake2.specs.inside.States.{StateHolds2s}
 use Rattle.blake2.proofs.state2s.Blake2sState.save.Goals as goal
 
 pub returns : goal.returns

@@ -3,7 +3,8 @@ use Rattle.words.specs.Blake2.{blake2s}
 use Rattle.blake2.specs.Blake2.{Parameters, message_limit}
 use Rattle.blake2.specs.inside.Lengths.{block_len_2s}
 use Rattle.blake2.specs.inside.Rooms.{room_of}
-use Rattle.blake2.specs.inside.States.{IsBegun2s, StateHolds2s}
+use Rattle.blake2.specs.Begun.{IsBegun2s}
+use Rattle.blake2.specs.inside.States.{StateHolds2s}
 use Rattle.blake2.specs.declared.state2s.Blake2sState.{Blake2sState}
 use Rattle.blake2.proofs.state2s.Blake2sState.update.Goals as goal
 

@@ -1,8 +1,9 @@
 use Rattle.std.proofs.Common.{◌∙◌, ◌^◌, List, ℕ, ap, arith, length, refl}
 use Rattle.std.specs.Int.{w64}
 use Rattle.sha2.specs.Sha256.{digest_bytes, padded_message, sha256}
-use Rattle.states.specs.inside.States.{IsBegun256, StateHolds256}
 use Rattle.sha_blocks.proofs.Taking.{bits_counted}
+use Rattle.states.specs.Begun.{IsBegun256}
+use Rattle.states.specs.inside.States.{StateHolds256}
 use Rattle.states.proofs.state256.Sha256State.finish.Goals as goal
 
 pub returns-clause-digest : goal.returns-clause-digest

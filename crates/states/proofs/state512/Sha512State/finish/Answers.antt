@@ -1,8 +1,9 @@
 use Rattle.std.proofs.Common.{◌∙◌, ◌^◌, List, ℕ, ap, arith, length, refl}
 use Rattle.std.specs.Int.{w128}
 use Rattle.sha2.specs.Sha512.{digest_bytes, padded_message, sha512}
-use Rattle.states.specs.inside.States.{IsBegun512, StateHolds512}
 use Rattle.sha_blocks.proofs.Taking.{bits_counted}
+use Rattle.states.specs.Begun.{IsBegun512}
+use Rattle.states.specs.inside.States.{StateHolds512}
 use Rattle.states.proofs.state512.Sha512State.finish.Goals as goal
 
 pub returns-clause-digest : goal.returns-clause-digest
