@@ -1,21 +1,22 @@
 #!/usr/bin/env python3
-"""Compares the calls, states and refusals that the packages of Python and Rust declare, and the calls of the library
-itself with the order of their arguments, with those of the header of C. The package of Go compiles the header itself.
-usage: SUMS_HASH_LIBRARY=FILE .ci/declarations.py HEADER SOURCES CALLS    src/ of the package of Rust, and of hash_c
+"""Compares with the header of C: the calls and states that the crate of Rust declares, the calls of the library itself
+with the order of their arguments, the refusals of the packages of Rust and Python, and the sizes that the states have
+for the C compiler and in the sources of the crates. The packages of Python and Go compile the header itself.
+usage: .ci/declarations.py HEADER SOURCES CRATES    with sums_hash on the path; SOURCES is src/ of the crate of Rust
 """
 
-import ctypes
 import glob
+import os
 import re
+import subprocess
+import tempfile
 
 import sums_hash
-from sums_hash import _library
 
 import harness
 from harness import same
 
 KINDS_OF_RUST = {"uint8_t": "u8", "size_t": "usize", "uint64_t": "u64"}
-KINDS_OF_PYTHON = {"size_t": ctypes.c_size_t, "uint64_t": ctypes.c_uint64}
 
 
 def words(text):
@@ -76,20 +77,20 @@ def compare_calls(where, text, header, spelled):
         same(f"{name} in {where}", (bool(status), got), (answers, list(spelled(wanted))))
 
 
-def compare_library(header, sources):
+def compare_library(header, crates):
     texts = []
-    for path in glob.glob(f"{sources}/*.rt"):
+    for path in glob.glob(f"{crates}/hash_c/src/*.rt"):
         with open(path) as file:
             texts.append(file.read())
     compare_calls("the library", "\n".join(texts), header, in_library)
 
 
-def compare_rust(header, path):
+def compare_rust(header, sizes, path):
     with open(path) as file:
         text = file.read()
     compare_calls("Rust", text, header, lambda arguments: map(in_rust, arguments))
-    sizes = {f"{name}State": size for name, size in sizes_in_words().items()}
-    same("states in Rust", {name: int(size) for name, size in re.findall(r"(\w+State): (\d+),", text)}, sizes)
+    wanted = {"".join(part.capitalize() for part in f"{name}_state".split("_")): size for name, size in sizes.items()}
+    same("states in Rust", {name: int(size) for name, size in re.findall(r"(\w+State): (\d+),", text)}, wanted)
 
 
 def refusals(path):
@@ -112,33 +113,71 @@ def compare_refusals(header, path):
     same("refusals in Python", texts, wanted)
 
 
-def sizes_in_words():
-    """The bytes of each state, named as a type of Rust is. .ci/library_python.py compares them with C and the crates."""
-    return {
-        "".join(part.capitalize() for part in name.split("_")): size for name, size in _library.STATE_SIZES.items()
-    }
+def sizes_in_header(path):
+    """The size of each state as the header tells it."""
+    with open(path) as file:
+        found = re.findall(r"sums_(\w+)_state; /\* ([0-9,]+) bytes \*/", file.read())
+    return {name: int(size.replace(",", "")) for name, size in found}
 
 
-def compare_python(header):
-    for name, (answer, arguments) in _library.DECLARATIONS.items():
-        answers, wanted = header.get(f"sums_{name}", (None, []))
-        same(f"{name} in Python", (answer, list(arguments)), (
-            ctypes.c_uint32 if answers else None,
-            [ctypes.c_void_p if pointer or bytes_of else KINDS_OF_PYTHON[kind]
-             for _, kind, pointer, _, bytes_of in wanted],
-        ))
-    used = {f"sums_{name}" for name in _library.DECLARATIONS}
-    same("calls in Python that the header has not", used - set(header), set())
+def sizes_in_c(header, names):
+    """The size of each state by the C compiler."""
+    lines = "".join(f'printf("{name} %zu\\n", sizeof(sums_{name}_state));' for name in names)
+    with tempfile.TemporaryDirectory() as work:
+        source, program = os.path.join(work, "sizes.c"), os.path.join(work, "sizes")
+        with open(source, "w") as file:
+            file.write(f'#include <stdio.h>\n#include "{os.path.abspath(header)}"\nint main(void) {{ {lines} }}\n')
+        subprocess.run(["cc", "-o", program, source], check=True)
+        out = subprocess.run([program], check=True, capture_output=True, text=True).stdout
+    return {name: int(size) for name, size in (line.split() for line in out.splitlines())}
+
+
+def sizes_in_crates(folder, names):
+    """The size of each #[repr(C)] struct of the crates' sources, by the layout of C. Blake2bState is blake2b's."""
+    structs, plain = {}, {"u8": (1, 1), "u32": (4, 4), "u64": (8, 8), "usize": (8, 8)}
+
+    def layout(kind):
+        found = re.fullmatch(r"\[(.*); *(\d+)\]", kind)
+        if found:
+            size, align = layout(found[1])
+            return size * int(found[2]), align
+        return plain.get(kind) or of_fields(structs[kind])
+
+    def of_fields(fields):
+        end, most = 0, 1
+        for kind in fields:
+            size, align = layout(kind)
+            end, most = (end + align - 1) // align * align + size, max(most, align)
+        return (end + most - 1) // most * most, most
+
+    for place, _, files in os.walk(folder):
+        for name in files:
+            if not name.endswith(".rt"):
+                continue
+            with open(os.path.join(place, name)) as file:
+                text = re.sub(r"//[^\n]*", "", file.read())
+            for found in re.finditer(r"#\[repr\(C\)\]\s*(?:#\[[^\]]*\]\s*)*pub struct (\w+) *\{([^}]*)\}", text):
+                fields = [field.split(":")[1].strip() for field in found[2].split(",") if ":" in field]
+                structs[found[1]] = fields
+    sizes = {name.removesuffix("State").lower(): of_fields(fields)[0] for name, fields in structs.items()}
+    return {name: sizes.get(name.replace("_", "")) for name in names}
+
+
+def compare_sizes(header, crates):
+    told = sizes_in_header(header)
+    same("states in the header", len(told), 9)
+    same("sizes of the states in C", sizes_in_c(header, told), told)
+    same("sizes of the states in the crates", sizes_in_crates(crates, told), told)
 
 
 def main():
-    header_path, sources, calls = harness.arguments(3)
+    header_path, sources, crates = harness.arguments(3)
     header = of_header(header_path)
     same("calls in the header", len(header) > 50, True)
-    compare_library(header, calls)
-    compare_rust(header, f"{sources}/native.rs")
-    compare_python(header)
+    compare_library(header, crates)
+    compare_rust(header, sizes_in_header(header_path), f"{sources}/native.rs")
     compare_refusals(refusals(header_path), f"{sources}/refusal.rs")
+    compare_sizes(header_path, crates)
     harness.finish()
 
 

@@ -1,7 +1,7 @@
 #!/usr/bin/env python3
 """Compares the C library with a second writing of the standards, that of standards.py; and both with hashlib, hmac and
 b3sum, where that is installed, and with the outside values of .ci/vectors.
-usage: .ci/definitions.py LIBRARY    LIBRARY is a libsums_hash.so.1, which bindings/python calls
+usage: .ci/definitions.py ARCHIVE    ARCHIVE is a libsums_hash.a beside its header, which bindings/python is built with
 """
 
 import hashlib
@@ -369,9 +369,13 @@ def main():
 
 
 if __name__ == "__main__":
-    os.environ["SUMS_HASH_LIBRARY"] = harness.program(os.R_OK)
+    archive = harness.program(os.R_OK)
     sys.dont_write_bytecode = True
-    sys.path.insert(0, os.path.join(harness.HERE, "..", "bindings", "python"))
-    import sums_hash
+    with tempfile.TemporaryDirectory() as work:
+        package = shutil.copytree(os.path.join(harness.HERE, "..", "bindings", "python"), os.path.join(work, "python"))
+        subprocess.run([sys.executable, "setup.py", "-q", "build_ext", "-f", "--inplace"], cwd=package, check=True,
+                       env={**os.environ, "SUMS_HASH_LIB_DIR": os.path.dirname(archive)})
+        sys.path.insert(0, package)
+        import sums_hash
 
-    main()
+        main()

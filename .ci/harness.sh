@@ -102,6 +102,14 @@ lacks() {
     return 1
 }
 
+# has_python WHAT: sets `python` to one that the extension of Python can be built with
+has_python() {
+    has python3 "$1" || return
+    python=$(python3 -c 'import sys; print(sys.executable)')
+    "$python" -c 'import setuptools, sysconfig; open(sysconfig.get_path("include") + "/Python.h").close()' \
+        2> /dev/null || lacks 'python3-dev or python3-setuptools' "$1"
+}
+
 # make_files: the files of files.tsv, in this folder
 make_files() {
     "$here/tables.py" files

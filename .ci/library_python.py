@@ -1,16 +1,12 @@
 #!/usr/bin/env python3
-"""Compares the module of Python with hashlib and hmac on random messages, and the sizes of its states with those that
-the C compiler and the sources of the crates give.
-usage: SUMS_HASH_LIBRARY=FILE .ci/library_python.py HEADER CRATES [TOLD]    TOLD is what .ci/library_rust.rs printed
+"""Compares the module of Python with hashlib and hmac on random messages.
+usage: .ci/library_python.py [TOLD]    with sums_hash on the path; TOLD is what .ci/library_rust.rs printed
 """
 
 import hashlib
 import hmac
 import os
 import random
-import re
-import subprocess
-import tempfile
 
 import sums_hash
 
@@ -55,6 +51,7 @@ def random_message():
         want = hmac.new(key, data, name).digest()[:count]
         hasher = in_pieces(getattr(sums_hash, "hmac_" + name)(key), bytearray(data))
         same("hmac " + name, hasher.digest(count), want)
+        same("hmac_digest " + name, sums_hash.hmac_digest(key, data, name)[:count], want)
         length, info = random.randrange(1, 255 * size + 1), os.urandom(random.randrange(50))
         prk, want = hkdf(name, data, length, key, info)
         same("hkdf " + name, sums_hash.hkdf(name, data, length, salt=key, info=info), want)
@@ -133,57 +130,11 @@ def told_by_rust():
     return [f"{name} {value.hex()}" for name, value in lines] + ["refused " + name for name in refusals]
 
 
-def sizes_in_c(header):
-    """The size of each state by the C compiler."""
-    lines = "".join(f'printf("{name} %zu\\n", sizeof(sums_{name}_state));' for name in sums_hash.STATE_SIZES)
-    with tempfile.TemporaryDirectory() as work:
-        source, program = os.path.join(work, "sizes.c"), os.path.join(work, "sizes")
-        with open(source, "w") as file:
-            file.write(f'#include <stdio.h>\n#include "{os.path.abspath(header)}"\nint main(void) {{ {lines} }}\n')
-        subprocess.run(["cc", "-o", program, source], check=True)
-        out = subprocess.run([program], check=True, capture_output=True, text=True).stdout
-    return {name: int(size) for name, size in (line.split() for line in out.splitlines())}
-
-
-def sizes_in_crates(folder):
-    """The size of each #[repr(C)] struct of the crates' sources, by the layout of C. Blake2bState is blake2b's."""
-    structs, plain = {}, {"u8": (1, 1), "u32": (4, 4), "u64": (8, 8), "usize": (8, 8)}
-
-    def layout(kind):
-        found = re.fullmatch(r"\[(.*); *(\d+)\]", kind)
-        if found:
-            size, align = layout(found[1])
-            return size * int(found[2]), align
-        return plain.get(kind) or of_fields(structs[kind])
-
-    def of_fields(fields):
-        end, most = 0, 1
-        for kind in fields:
-            size, align = layout(kind)
-            end, most = (end + align - 1) // align * align + size, max(most, align)
-        return (end + most - 1) // most * most, most
-
-    for place, _, files in os.walk(folder):
-        for name in files:
-            if not name.endswith(".rt"):
-                continue
-            with open(os.path.join(place, name)) as file:
-                text = re.sub(r"//[^\n]*", "", file.read())
-            for found in re.finditer(r"#\[repr\(C\)\]\s*(?:#\[[^\]]*\]\s*)*pub struct (\w+) *\{([^}]*)\}", text):
-                fields = [field.split(":")[1].strip() for field in found[2].split(",") if ":" in field]
-                structs[found[1]] = fields
-    sizes = {name.removesuffix("State").lower(): of_fields(fields)[0] for name, fields in structs.items()}
-    return {name: sizes.get(name.replace("_", "")) for name in sums_hash.STATE_SIZES}
-
-
 def main():
-    header, crates, *told = harness.arguments(2)
-    same("sizes of the states in C", sizes_in_c(header), sums_hash.STATE_SIZES)
-    same("sizes of the states in the crates", sizes_in_crates(crates), sums_hash.STATE_SIZES)
     for _ in range(300):
         random_message()
     refusals()
-    for path in told:
+    for path in harness.arguments(0):
         with open(path) as file:
             same("the module of Rust", file.read().splitlines(), told_by_rust())
     harness.finish()

@@ -1,0 +1,581 @@
+# SPDX-License-Identifier: MIT OR Apache-2.0
+"""What an extension in C may get wrong: lengths, words, buffers, references, signals, threads, forks, interpreters.
+python3 -m unittest discover bindings/python/tests    with sums_hash on the path; a debug build counts references"""
+
+import copy
+import gc
+import importlib
+import inspect
+import multiprocessing
+import os
+import pickle
+import shutil
+import signal
+import subprocess
+import sys
+import tempfile
+import threading
+import unittest
+import warnings
+
+import sums_hash
+
+from test_sums_hash import DATA, FIXED, every_object
+
+KINDS = [type(hasher) for hasher in every_object()]
+LONG = 2**16  # bytes of a piece that lets other threads run
+
+
+def fresh(kind, data=b""):
+    """An object of the message, under an empty key where the kind wants one."""
+    return kind(b"", data) if "hmac" in kind.__mro__[-2].__name__ else kind(data)
+
+
+def in_process(program):
+    """What a program of Python prints that runs beside, and has to end well before long."""
+    done = subprocess.run([sys.executable, "-c", program], capture_output=True, text=True, timeout=100,
+                          env={**os.environ, "PYTHONPATH": os.pathsep.join(sys.path)})
+    if done.returncode or done.stderr:
+        raise AssertionError(f"status {done.returncode}, {done.stderr}")
+    return done.stdout
+
+
+class Lengths(unittest.TestCase):
+    """No attribute changes how much memory the library reads or writes."""
+
+    def test_of_a_subclass(self):
+        for kind in KINDS:
+            for size in (0, 1, 16, 2**40, -1, None, "text"):
+                words = dict.fromkeys(("digest_size", "block_size", "key_size", "MAX_DIGEST_SIZE", "MAX_KEY_SIZE",
+                                       "SALT_SIZE", "PERSON_SIZE", "name", "DIGEST_SIZES", "state_size"), size)
+                other = fresh(type("Other", (kind,), words), DATA)
+                self.assertEqual(other.digest(), fresh(kind, DATA).digest())
+                self.assertEqual(other.copy().hexdigest(), fresh(kind, DATA).hexdigest())
+
+    def test_of_a_subclass_of_blake2(self):
+        class Short(sums_hash.blake2b):
+            MAX_DIGEST_SIZE = MAX_KEY_SIZE = SALT_SIZE = PERSON_SIZE = 100
+
+        for wrong in ({"digest_size": 65}, {"key": bytes(65)}, {"salt": bytes(17)}, {"person": bytes(17)}):
+            self.assertRaises(ValueError, Short, **wrong)
+
+    def test_of_an_object(self):
+        for hasher in every_object():
+            for word in ("digest_size", "block_size", "key_size", "name", "update", "other"):
+                self.assertRaises(AttributeError, setattr, hasher, word, 3)
+        for kind in KINDS:
+            other = fresh(type("Other", (kind,), {"digest_size": 32}), DATA)
+            other.digest_size = 3
+            self.assertEqual(other.digest(), fresh(kind, DATA).digest())
+
+    def test_of_a_type(self):
+        for kind in KINDS:
+            for word in ("digest_size", "block_size", "key_size", "MAX_DIGEST_SIZE", "MAX_KEY_SIZE", "SALT_SIZE"):
+                before, want = kind.__dict__.get(word), fresh(kind, DATA).digest()
+                try:
+                    setattr(kind, word, 1)
+                    self.assertEqual(fresh(kind, DATA).digest(), want)
+                finally:
+                    delattr(kind, word) if before is None else setattr(kind, word, before)
+
+    def test_of_the_table(self):
+        before = dict(sums_hash.DIGEST_SIZES)
+        want = sums_hash.hkdf_extract("sha512", DATA), sums_hash.hmac_sha512(b"", DATA).digest()
+        try:
+            sums_hash.DIGEST_SIZES.update(sha512=1, md5=16, blake3=2**40)
+            self.assertEqual((sums_hash.hkdf_extract("sha512", DATA), sums_hash.hmac_sha512(b"", DATA).digest()), want)
+            self.assertRaises(sums_hash.Refused, sums_hash.hkdf, "sha512", DATA, 255 * 64 + 1)
+            for name in ("md5", "blake3"):
+                self.assertRaises(ValueError, sums_hash.hkdf_extract, name, DATA)
+        finally:
+            sums_hash.DIGEST_SIZES.clear()
+            sums_hash.DIGEST_SIZES.update(before)
+
+    def test_of_a_key(self):
+        class Short(sums_hash.blake3):
+            key_size = 1
+
+        for wrong in (b"", b"k", bytes(31), bytes(33)):
+            self.assertRaises(ValueError, Short, key=wrong)
+        try:
+            sums_hash.blake3.key_size = 1
+            self.assertRaises(ValueError, sums_hash.blake3, key=b"k")
+        finally:
+            sums_hash.blake3.key_size = 32
+
+    def test_of_another_class(self):
+        for hasher in every_object():
+            for kind in KINDS:
+                if kind is not type(hasher):
+                    self.assertRaises(TypeError, setattr, hasher, "__class__", kind)
+                    self.assertRaises(TypeError, kind.update, hasher, b"")
+                    self.assertRaises(TypeError, type, "Both", (kind, type(hasher)), {})
+
+
+class Faulty:
+    """A number that fails, as does what compares it."""
+
+    def __index__(self):
+        raise ZeroDivisionError
+
+    def __eq__(self, _other):
+        raise ZeroDivisionError
+
+    def __bool__(self):
+        raise ZeroDivisionError
+
+
+class Words(unittest.TestCase):
+    def test_signatures(self):
+        want = {
+            "sha256": "(data=b'', *, usedforsecurity=True, string=b'')",
+            "blake3": "(data=b'', /, *, key=None, derive_key_context=None, usedforsecurity=True)",
+            "hmac_sha256": "(key, msg=None, *, usedforsecurity=True)",
+            "hkdf": "(name, material, length, *, salt=b'', info=b'')",
+        }
+        for name, text in want.items():
+            self.assertEqual(str(inspect.signature(getattr(sums_hash, name))), text)
+        for kind in KINDS:
+            self.assertEqual((kind.__module__, kind.__qualname__), ("sums_hash", kind.__name__))
+            self.assertTrue(kind.__doc__ and "--" not in kind.__doc__)
+            for method in ("update", "digest", "hexdigest", "copy", "reset"):
+                self.assertTrue(getattr(kind, method).__doc__)
+                inspect.signature(getattr(kind, method))
+
+    def test_wrong_words(self):
+        for kind in KINDS:
+            for words, named in (((b"", b"", b""), {}), ((), {"none": 1}), ((b"",), {"key": Faulty()})):
+                self.assertRaises(TypeError, kind, *words, **named)
+        for name in ("fanout", "depth", "leaf_size", "node_offset", "node_depth", "inner_size", "last_node",
+                     "digest_size"):
+            self.assertRaises(ZeroDivisionError, sums_hash.blake2b, **{name: Faulty()})
+        for name in ("length", "seek"):
+            self.assertRaises(ZeroDivisionError, sums_hash.blake3().digest, **{name: Faulty()})
+        for wrong in (-1, 2**63, 2**64, -2**70):
+            with self.assertRaisesRegex(ValueError, f"^{wrong} is not from 0 to {2**63 - 1}$"):
+                sums_hash.blake3().digest(wrong)
+        for length in (2**62, 2**63 - 1):
+            self.assertRaises((MemoryError, OverflowError), sums_hash.blake3().digest, length)
+            self.assertRaises((MemoryError, OverflowError), sums_hash.blake3().hexdigest, length)
+
+    def test_data_or_string(self):
+        for kind in (sums_hash.sha256, sums_hash.sha512):
+            for words in ({"data": DATA}, {"string": DATA}):
+                self.assertEqual(kind(**words).digest(), kind(DATA).digest())
+            self.assertRaises(TypeError, kind, DATA, string=DATA)
+            self.assertRaises(TypeError, kind, string="text")
+
+    def test_contexts(self):
+        with self.assertRaisesRegex(TypeError, "^derive_key_context must be a str$"):
+            sums_hash.blake3(derive_key_context=b"bytes")
+        self.assertRaises(UnicodeEncodeError, sums_hash.blake3, derive_key_context="\ud800")
+        for context in ("", "ä\0ö"):
+            self.assertNotEqual(sums_hash.blake3(derive_key_context=context).digest(), sums_hash.blake3().digest())
+
+    def test_not_begun(self):
+        """An object whose __init__ has not run, or has failed, is refused."""
+        for kind in KINDS:
+            hasher = kind.__new__(kind)
+            for call in (lambda: hasher.update(b"a"), hasher.digest, hasher.copy().hexdigest):
+                with self.assertRaisesRegex(sums_hash.Refused, "^the state was never begun$"):
+                    call()
+            hasher.reset()
+            self.assertRaises(sums_hash.Refused, hasher.digest)
+
+    def test_begun_again(self):
+        for hasher in every_object():
+            want = fresh(type(hasher), DATA).digest()
+            hasher.__init__(*((b"", DATA) if hasher.name.startswith("hmac") else (DATA,)))
+            self.assertEqual(hasher.digest(), want)
+            self.assertRaises(TypeError, hasher.__init__, none=1)
+            self.assertEqual(hasher.digest(), want)
+        hasher = sums_hash.blake2b(b"abc", digest_size=20)
+        self.assertRaises(sums_hash.Refused, hasher.__init__, digest_size=65)
+        self.assertEqual(hasher.digest(), sums_hash.blake2b(b"abc", digest_size=20).digest())
+        self.assertRaises(TypeError, hasher.__init__, "text", digest_size=30)
+        self.assertEqual(hasher.digest(), sums_hash.blake2b(digest_size=30).digest())
+
+    def test_reset(self):
+        key = bytes(range(32))
+        for hasher in (*(sums_hash.new(name) for name in FIXED), sums_hash.blake3(), sums_hash.blake3(key=key),
+                       sums_hash.blake3(derive_key_context="a context"), sums_hash.hmac_sha512(key),
+                       sums_hash.blake2s(digest_size=9, key=key, salt=b"salt", person=b"person")):
+            empty = hasher.digest()
+            hasher.update(DATA)
+            other = hasher.copy()
+            want = hasher.digest()
+            for each in (hasher, other):
+                each.reset()
+                self.assertEqual(each.digest(), empty)
+                each.update(DATA)
+                self.assertEqual(each.digest(), want)
+
+    def test_subclasses(self):
+        class Own(sums_hash.blake2b):
+            def __init__(self, word):
+                super().__init__(b"abc", digest_size=9)
+                self.word = word
+
+        class Slotted(sums_hash.sha256):
+            __slots__ = ("word",)
+
+        for copied in (lambda hasher: hasher.copy(), copy.copy, copy.deepcopy):
+            other = copied(Own("kept"))
+            self.assertEqual((type(other), other.word, other.digest_size), (Own, "kept", 9))
+            self.assertEqual(other.digest(), sums_hash.blake2b(b"abc", digest_size=9).digest())
+            self.assertIs(type(copied(Slotted(b"abc"))), Slotted)
+        kept = Own("cycle")
+        kept.word = kept
+        count = sum(type(each) is Own for each in gc.get_objects())
+        del kept
+        gc.collect()
+        self.assertEqual(sum(type(each) is Own for each in gc.get_objects()), count - 1)
+
+    def test_pickled_refusals(self):
+        with self.assertRaises(sums_hash.Refused) as caught:
+            sums_hash.blake2b(digest_size=0)
+        caught.exception.note = "kept"
+        for again in (copy.copy(caught.exception), copy.deepcopy(caught.exception),
+                      *(pickle.loads(pickle.dumps(caught.exception, protocol))
+                        for protocol in range(pickle.HIGHEST_PROTOCOL + 1))):
+            self.assertEqual((type(again), str(again), again.status, again.note),
+                             (sums_hash.Refused, "the function has no output of that length", 1, "kept"))
+
+    def test_of_whole_messages(self):
+        for name in FIXED:
+            tag = sums_hash.new(f"hmac-{name}", DATA, key=b"key").digest()
+            self.assertEqual(sums_hash.hmac_digest(b"key", DATA, name), tag)
+            self.assertEqual(sums_hash.hmac_digest(key=b"key", msg=DATA * 9, digest=name),
+                             sums_hash.new(f"hmac-{name}", DATA * 9, key=b"key").digest())
+        for wrong in ("blake3", "SHA256", None):
+            with self.assertRaisesRegex(ValueError, f"^{wrong} is none of sha256, sha512, blake2b, blake2s$"):
+                sums_hash.hmac_digest(b"key", b"", wrong)
+        self.assertRaises(TypeError, sums_hash.hmac_digest, "key", b"", "sha256")
+        self.assertRaises(TypeError, sums_hash.hmac_digest, b"key", None, "sha256")
+
+    def test_other_pythons(self):
+        """PyPy and a free-threaded CPython, which this one claims to be, are refused."""
+        for claim, text in (("sys.implementation.name = 'pypy'", "is an extension of CPython, and this is pypy"),
+                            ("sys.abiflags += 't'", "has no build for a free-threaded CPython")):
+            told = in_process(f"""
+import sys
+{claim}
+try:
+    import sums_hash
+except ImportError as fault:
+    print(fault)
+""")
+            self.assertEqual(told, f"sums_hash {text}\n")
+
+    def test_without_its_extension(self):
+        """A package whose extension does not fit tells what was tried and where."""
+        with tempfile.TemporaryDirectory() as folder:
+            package = os.path.join(folder, "sums_hash")
+            shutil.copytree(os.path.dirname(sums_hash.__file__), package, ignore=shutil.ignore_patterns("_native*.so"))
+            text = in_process(f"""
+import sys
+sys.path.insert(0, {folder!r})
+try:
+    import sums_hash
+except ImportError as fault:
+    print(fault)
+""")
+        self.assertIn("wants its extension for CPython 3.11 or later", text)
+        for suffix in importlib.machinery.EXTENSION_SUFFIXES:
+            self.assertIn(f"_native{suffix}", text)
+        self.assertIn(package, text)
+
+
+class Buffers(unittest.TestCase):
+    def test_held_for_the_call(self):
+        """What is hashed cannot be resized meanwhile, and can be afterwards."""
+        data, hasher, faults = bytearray(2**25), sums_hash.sha256(), []
+        thread = threading.Thread(target=hasher.update, args=(data,))
+        thread.start()
+        while thread.is_alive():
+            try:
+                data.append(0)
+                data.pop()
+            except BufferError:
+                faults.append(1)
+        thread.join()
+        self.assertTrue(faults)
+        data.append(0)
+
+    def test_released_view(self):
+        view = memoryview(bytearray(DATA))
+        view.release()
+        for hasher in every_object():
+            self.assertRaises(ValueError, hasher.update, view)
+
+    @unittest.skipIf(sys.version_info < (3, 12), "no buffers of Python's own")
+    def test_own_buffers(self):
+        class Own:
+            def __init__(self, give):
+                self.give = give
+
+            def __buffer__(self, _flags):
+                return self.give()
+
+        hasher = sums_hash.sha256()
+
+        def nested():
+            hasher.update(b"inner")
+            return memoryview(b"outer")
+
+        hasher.update(Own(nested))
+        self.assertEqual(hasher.digest(), sums_hash.sha256(b"innerouter").digest())
+        for wrong in (lambda: 1, lambda: 1 // 0):
+            self.assertRaises((TypeError, ZeroDivisionError), hasher.update, Own(wrong))
+
+    def test_failed_calls_let_go(self):
+        data = bytearray(DATA)
+        for call in (
+            lambda: sums_hash.blake2b(key=data), lambda: sums_hash.blake2b(salt=data),
+            lambda: sums_hash.blake3(key=data),
+            lambda: sums_hash.hkdf("sha256", data, 9, salt=data, info="text"),
+            lambda: sums_hash.hkdf("sha256", data, 2**20, salt=data, info=data),
+            lambda: sums_hash.hmac_sha256(data, "text"), lambda: sums_hash.hmac_digest(data, data, "md5"),
+            lambda: sums_hash.sha256.__new__(sums_hash.sha256).update(data),
+        ):
+            self.assertRaises((ValueError, TypeError), call)
+            data.append(0)
+
+
+class Signals(unittest.TestCase):
+    def test_a_handler_reads_the_object_in_work(self):
+        """For two seconds the main thread and another one feed an object, and a handler reads its digest."""
+        told = in_process(f"""
+import signal, threading, time, sums_hash
+hasher, read, end = sums_hash.sha256(), [], time.monotonic() + 2
+signal.signal(signal.SIGALRM, lambda *_: read.append(hasher.hexdigest()))
+pieces = bytearray(9), bytearray({LONG}), bytes(500)
+def feed():
+    while time.monotonic() < end:
+        for piece in pieces:
+            hasher.update(piece)
+thread = threading.Thread(target=feed)
+thread.start()
+signal.setitimer(signal.ITIMER_REAL, 0.001, 0.001)
+feed()
+signal.setitimer(signal.ITIMER_REAL, 0)
+thread.join()
+pieces[0].append(0)
+pieces[1].append(0)
+print(len(read) > 20)
+""")
+        self.assertEqual(told, "True\n")
+
+    def test_an_interrupted_update_lets_go(self):
+        """Ten thousand updates end by an exception out of a handler, and each bytearray can be resized then."""
+        class Interrupted(Exception):
+            pass
+
+        def interrupt(*_):
+            raise Interrupted
+
+        count, data = 0, bytearray(LONG)
+        before = signal.signal(signal.SIGALRM, interrupt)
+        try:
+            while count < 10000:
+                hasher = sums_hash.blake3()
+                try:
+                    signal.setitimer(signal.ITIMER_REAL, 0.00001)
+                    while True:
+                        hasher.update(data)
+                except Interrupted:
+                    count += 1
+                data.append(0)
+                data.pop()
+                self.assertEqual(len(hasher.digest()), 32)
+        finally:
+            signal.setitimer(signal.ITIMER_REAL, 0)
+            signal.signal(signal.SIGALRM, before)
+
+
+class Threads(unittest.TestCase):
+    def test_all_at_once(self):
+        """Pieces, copies and digests of one object by eight threads, short and long; each piece is taken whole."""
+        pieces = [b"x" * (1 + i * 997 % (2 * LONG)) for i in range(100)]
+        for hasher in (sums_hash.sha256(), sums_hash.blake2b(), sums_hash.blake3(), sums_hash.hmac_sha512(b"key")):
+            want, faults = hasher.copy(), []
+
+            def work(step):
+                try:
+                    for piece in pieces:
+                        step(piece)
+                except Exception as fault:
+                    faults.append(fault)
+
+            steps = (hasher.update, lambda _: hasher.digest(), lambda piece: hasher.copy().update(piece),
+                     lambda _: hasher.hexdigest())
+            threads = [threading.Thread(target=work, args=(step,)) for step in steps * 2]
+            for thread in threads:
+                thread.start()
+            for thread in threads:
+                thread.join()
+            for piece in pieces * 2:
+                want.update(piece)
+            self.assertEqual((faults, hasher.digest()), ([], want.digest()))
+
+    def test_forked_in_the_middle(self):
+        """In a process that was forked while another thread was at work on an object each call on it is an exception,
+        and none waits. Other objects work."""
+        told = in_process(f"""
+import os, threading, warnings, sums_hash
+warnings.simplefilter("ignore")
+hasher, other, data = sums_hash.sha256(), sums_hash.sha256(b"abc"), bytearray(2**26)
+def is_lent():
+    try:
+        data.append(0)
+        data.pop()
+        return False
+    except BufferError:
+        return True
+def faults():
+    for call in (hasher.digest, hasher.copy, hasher.reset, hasher.__init__,
+                 lambda: hasher.update(b"a"), lambda: hasher.update(bytes({LONG}))):
+        try:
+            call()
+        except RuntimeError as fault:
+            yield str(fault) == "another thread was at work on the object when the process was forked"
+thread = threading.Thread(target=hasher.update, args=(data,))
+thread.start()
+while not is_lent():
+    pass
+child = os.fork()
+if child == 0:
+    other.update(bytes({LONG}))
+    wrong = list(faults()) != [True] * 6 or other.digest() != sums_hash.sha256(b"abc" + bytes({LONG})).digest()
+    os._exit(wrong)
+print(os.waitpid(child, 0)[1])
+thread.join()
+print(hasher.digest() == sums_hash.sha256(data).digest())
+""")
+        self.assertEqual(told, "0\nTrue\n")
+
+    def test_forked_pools(self):
+        with warnings.catch_warnings():
+            warnings.simplefilter("ignore")
+            with multiprocessing.get_context("fork").Pool(2) as pool:
+                self.assertEqual(pool.map(hashed, [DATA] * 4), [sums_hash.sha256(DATA).hexdigest()] * 4)
+
+    def test_the_end_with_a_thread_at_work(self):
+        """A process ends while a thread of its own is in a call, and what runs last waits for no lock."""
+        told = in_process("""
+import os, sys, threading, sums_hash
+hasher, data = sums_hash.sha256(), bytes(2**24)
+class Last:
+    def __del__(self, hasher=hasher, write=os.write):
+        hasher.update(b"a")
+        write(1, b"%d" % len(hasher.digest()))
+sys.last = Last()
+def feed():
+    while True:
+        hasher.update(data)
+threading.Thread(target=feed, daemon=True).start()
+""")
+        self.assertEqual(told, "32")
+
+
+def hashed(data):
+    return sums_hash.sha256(data).hexdigest()
+
+
+def own_interpreters():
+    """The calls that make an interpreter, run a program in it and end it."""
+    if sys.version_info >= (3, 13):
+        import _interpreters as module
+
+        return lambda: module.create("isolated"), lambda *words: module.exec(*words), module.destroy
+    import _xxsubinterpreters as module
+
+    return lambda: module.create(isolated=True), module.run_string, module.destroy
+
+
+class Interpreters(unittest.TestCase):
+    def test_of_its_own(self):
+        """Twenty interpreters, from 3.12 on with locks of their own, hash side by side."""
+        create, run, destroy = own_interpreters()
+        program = f"""
+import sys
+sys.path[:] = {sys.path!r}
+import sums_hash
+for size in (3, {LONG}):
+    assert sums_hash.sha256(bytes(size)).copy().digest() == sums_hash.new("sha256", bytes(size)).digest()
+try:
+    sums_hash.blake2b(digest_size=0)
+    assert False
+except sums_hash.Refused:
+    pass
+"""
+        made, faults = [create() for _ in range(20)], []
+
+        def work(interpreter):
+            try:
+                fault = run(interpreter, program)
+                if fault is not None:
+                    faults.append(fault)
+            except Exception as fault:
+                faults.append(fault)
+
+        threads = [threading.Thread(target=work, args=(interpreter,)) for interpreter in made]
+        for thread in threads:
+            thread.start()
+        for thread in threads:
+            thread.join()
+        for interpreter in made:
+            destroy(interpreter)
+        self.assertEqual(faults, [])
+
+
+def every_call():
+    """Calls of each kind, those that fail among them."""
+    for hasher in every_object():
+        kind = type(hasher)
+        yield from (
+            lambda: hasher.update(bytes(5000)), hasher.digest, hasher.hexdigest, hasher.copy, hasher.reset,
+            lambda: hasher.update("text"), lambda: hasher.update(1), lambda: hasher.digest(7),
+            lambda: hasher.digest(length=2**70), lambda: kind(b"", none=1), lambda: copy.deepcopy(hasher),
+            lambda: pickle.dumps(hasher), lambda: hasher.update(memoryview(DATA)[::2]),
+            lambda: kind.__new__(kind).update(b""), lambda: type("Own", (kind,), {})(b"").copy(),
+        )
+    yield from (
+        lambda: sums_hash.blake2b(b"a", digest_size=9, key=b"k", salt=bytearray(3), person=b"p"),
+        lambda: sums_hash.blake2b(digest_size=0), lambda: sums_hash.blake2s(salt=bytes(9)),
+        lambda: sums_hash.blake2b(fanout=2), lambda: sums_hash.blake2b(digest_size=2**70),
+        lambda: sums_hash.blake3(key=b""), lambda: sums_hash.blake3(key=bytes(32)).digest(5000, seek=9),
+        lambda: sums_hash.blake3(derive_key_context="a"), lambda: sums_hash.blake3(derive_key_context="\ud800"),
+        lambda: sums_hash.blake3(key=bytes(32), derive_key_context="a"), lambda: sums_hash.sha256(b"", string=b""),
+        lambda: sums_hash.blake3().digest(9, seek=2**64 - 3), lambda: sums_hash.hmac_digest(b"key", DATA, "sha256"),
+        lambda: sums_hash.hkdf("sha256", b"m", 50, salt=b"s", info=bytearray(4)),
+        lambda: sums_hash.hkdf("sha256", b"m", 2**40), lambda: sums_hash.hkdf("sha256", b"m", 5, info="text"),
+        lambda: sums_hash.hkdf("md5", b"m", 5), lambda: sums_hash.hkdf_extract("blake2b", bytes(9000)),
+        lambda: sums_hash.hkdf_expand("sha512", b"m", 3), lambda: sums_hash.new("sha256", b"a"),
+        lambda: sums_hash.new("md5"),
+    )
+
+
+class References(unittest.TestCase):
+    def test_none_is_kept(self):
+        counts = [sys.getallocatedblocks]
+        if hasattr(sys, "gettotalrefcount"):
+            counts.append(sys.gettotalrefcount)
+        grown = []
+        for _ in range(5):
+            gc.collect()
+            before = [count() for count in counts]
+            for _ in range(100):
+                for call in every_call():
+                    try:
+                        call()
+                    except (TypeError, ValueError, BufferError, pickle.PicklingError):
+                        pass
+            gc.collect()
+            grown.append(max(count() - past for count, past in zip(counts, before)))
+        # the interpreter's own caches grow now and then; what one call keeps is kept in each of a hundred
+        self.assertLess(min(grown), 50, grown)
+
+
+if __name__ == "__main__":
+    unittest.main()
