@@ -45,7 +45,7 @@ impl<'i, 't, 'o, L: Feed, T: Tree, W: Sink> Session<'i, 't, 'o, L, T, W> {
         requires digest { HasDigest requested }
         requires parts { IfSome parts IsPartSize }
         ensures run { DoesRun (λ bytes files.
-            HashesAll (digest_line requested) files bytes (map (λ n. n.now) names.entry.now))
+            HashesAll (digest_line requested) files (map (λ n. n.now) names.entry.now) bytes)
             (λ notes. TellsAll (E.shown err.old) (E.shown err.new) notes)
             result (⟦<Self as Streams>⟧.seen self.old) (⟦<Self as Streams>⟧.seen self.new) }
         ensures opens { OpensAtMost (sum_by opens_of (map (λ n. n.now) names.entry.now))
@@ -73,10 +73,12 @@ impl<'i, 't, 'o, L: Feed, T: Tree, W: Sink> Session<'i, 't, 'o, L, T, W> {
         ensures name { PrintsName (digest_line requested) name.entry.now result
             (⟦<Self as Streams>⟧.seen self.old) (⟦<Self as Streams>⟧.seen self.new)
             (E.shown err.old) (E.shown err.new) }
+        ensures opens { OpensAtMost (opens_of name.entry.now) (⟦<Self as Streams>⟧.seen self.old)
+            (⟦<Self as Streams>⟧.seen self.new) }
         ensures same { SameStreams self.old self.new }
     {
-        match self.hash_file(requested, parts, name, name) {
-            Ok(()) => Ok(0),
+        match self.print_compared(requested, parts, None, name, name) {
+            Ok(status) => Ok(status),
             Err(fault) => settle(err, fault),
         }
     }
