@@ -1,7 +1,7 @@
 // The command `hash`: the digest of each file, as a line of a list.
 
 ghost use Rattle.std.specs.Prelude.{◌≡◌, ◌-◌, ◌*◌, ◌^◌, ℕ, [], length, vec_len, Some, true, IfOk, IfSome};
-ghost use Rattle.std.specs.Prelude.{IsErrOf, MatchResult, None, map};
+ghost use Rattle.std.specs.Prelude.{IsErrOf, IsOk, MatchResult, None, map};
 ghost use Rattle.std.specs.List.{sum_by};
 ghost use Rattle.b3.specs.Modes.{hash_root};
 ghost use Rattle.b3.specs.inside.Output.{output_position, output_root};
@@ -11,20 +11,22 @@ ghost use Rattle.task.specs.Requested.{alg_of};
 ghost use Rattle.task.specs.inside.Possible.{HasDigest, IsPartSize, IsWithin};
 ghost use Rattle.command.specs.Run.{TellsAll};
 ghost use Rattle.command.specs.Hashing.{HashesAll};
-ghost use Rattle.command.specs.Lines.{IsListable, digest_line, form_text, hash_of};
+ghost use Rattle.command.specs.Lines.{FitsPlace, IsListable, digest_line, form_text, hash_of};
+ghost use Rattle.command.specs.inside.Keys.{HasBytes, IsMadeOf, MakesOf, made_bytes, made_text};
 ghost use Rattle.command.specs.inside.Hashed.{PrintsName, Settles};
-ghost use Rattle.command.specs.inside.Printing.{PrintsLine, PrintsListed};
+ghost use Rattle.command.specs.inside.Printing.{PrintsListed};
 ghost use Rattle.command.specs.inside.Reading.{Leaves, Reads, failed};
 ghost use Rattle.command.specs.Streams.{OpensAtMost, DoesRun, opens_of};
 ghost use Rattle.command.specs.inside.Streams.{AfterReading, IfContent, SameStreams};
 ghost use Rattle.command.specs.declared.fault.Fault.TheVariants.{BadName};
 
 use crate::fault::{Fault, tell};
-use crate::output::{named, write_line, write_output_beside};
+use crate::making::{Made, write_made};
+use crate::output::named;
 use crate::session::{Session, Streams, absorb_feed, open_file};
 use b3::{Blake3, Mode, Output};
 use blake2::{Blake2b, Blake2s};
-use source::{Alg, AnyHash, BLAKE3_LEN, Feed, Sink, digest_of, output_in_parts, write_all};
+use source::{Alg, AnyHash, BLAKE3_LEN, Feed, Sink, digest_of, output_in_parts};
 use std::alloc::{AllocError, Global};
 use sumlist::{Entry, TaggedFault, Tree, fits, tagged_fits, write_tagged};
 use task::{Form, Hash, Requested, Stretch};
@@ -83,73 +85,83 @@ impl<'i, 't, 'o, L: Feed, T: Tree, W: Sink> Session<'i, 't, 'o, L, T, W> {
         }
     }
 
-    /// Prints the line of a file under a name, which is judged before the file is opened, and the file
-    /// read to its end before the first byte of its line is written.
-    pub(crate) fn hash_file<'n>(
+    /// The digest of a file under a name, which is judged before the file is opened.
+    pub(crate) fn make_digest<'n>(
         &mut self,
         requested: Requested,
         parts: Option<u64>,
         name: &'n str,
         file: &'n str,
-    ) -> Result<(), Fault<'n>>
+    ) -> Result<Made, Fault<'n>>
         requires digest { HasDigest requested }
         requires parts { IfSome parts IsPartSize }
-        ensures line { IfContent file.entry.now (⟦<Self as Streams>⟧.seen self.old) (λ content.
-            PrintsLine (digest_line requested) name.entry.now file.entry.now content result
-            (W.shown self.old.out.now) (W.shown self.new.out.now)) }
+        ensures made { IfContent file.entry.now (⟦<Self as Streams>⟧.seen self.old) (λ content. MakesOf
+            (λ bytes made. made_bytes made ≡ bytes) (digest_line requested) name.entry.now file.entry.now content
+            result) }
+        ensures has { IfOk result HasBytes }
+        ensures fits { IsOk result → FitsPlace (digest_line requested).place name.now }
+        ensures sized { IfOk result (IsMadeOf requested) }
         ensures read { AfterReading file.entry.now result (⟦<Self as Streams>⟧.seen self.old)
             (⟦<Self as Streams>⟧.seen self.new) }
+        ensures out { (⟦<Self as Streams>⟧.seen self.new).out ≡ (⟦<Self as Streams>⟧.seen self.old).out }
         ensures same { SameStreams self.old self.new }
     {
         match requested {
-            Requested::Digest(form) => self.hash_whole(form, parts, name, file),
-            Requested::Output(stretch) => self.hash_output(stretch, parts, name, file),
+            Requested::Digest(form) => self.make_whole(form, parts, name, file),
+            Requested::Output(stretch) => self.make_output(stretch, parts, name, file),
         }
     }
 
-    fn hash_whole<'n>(
+    fn make_whole<'n>(
         &mut self,
         form: Form,
         parts: Option<u64>,
         name: &'n str,
         file: &'n str,
-    ) -> Result<(), Fault<'n>>
+    ) -> Result<Made, Fault<'n>>
         requires digest { IsInRange (alg_of form.hash) }
         requires parts { IfSome parts IsPartSize }
-        ensures line { IfContent file.entry.now (⟦<Self as Streams>⟧.seen self.old) (λ content.
-            PrintsLine (digest_line (Requested.Digest form)) name.entry.now file.entry.now content result
-            (W.shown self.old.out.now) (W.shown self.new.out.now)) }
+        ensures made { IfContent file.entry.now (⟦<Self as Streams>⟧.seen self.old) (λ content. MakesOf
+            (λ bytes made. made_bytes made ≡ bytes) (digest_line (Requested.Digest form)) name.entry.now
+            file.entry.now content result) }
+        ensures has { IfOk result HasBytes }
+        ensures fits { IsOk result → FitsPlace (digest_line (Requested.Digest form)).place name.now }
+        ensures sized { IfOk result (IsMadeOf (Requested.Digest form)) }
         ensures read { AfterReading file.entry.now result (⟦<Self as Streams>⟧.seen self.old)
             (⟦<Self as Streams>⟧.seen self.new) }
+        ensures out { (⟦<Self as Streams>⟧.seen self.new).out ≡ (⟦<Self as Streams>⟧.seen self.old).out }
         ensures same { SameStreams self.old self.new }
     {
         listable(form, name)?;
-        let tag = self.tag_of(form.hash, parts, file)?;
-        write_listed(self.alloc, form, tag, name, self.out)
+        Ok(Made::Tag(self.tag_of(form.hash, parts, file)?))
     }
 
     // The same of BLAKE3's output, whatever its length: a name that fits beside the digest's digits
     // fits.
-    fn hash_output<'n>(
+    fn make_output<'n>(
         &mut self,
         stretch: Stretch,
         parts: Option<u64>,
         name: &'n str,
         file: &'n str,
-    ) -> Result<(), Fault<'n>>
+    ) -> Result<Made, Fault<'n>>
         requires digest { IsWithin stretch }
         requires parts { IfSome parts IsPartSize }
-        ensures line { IfContent file.entry.now (⟦<Self as Streams>⟧.seen self.old) (λ content.
-            PrintsLine (digest_line (Requested.Output stretch)) name.entry.now file.entry.now content result
-            (W.shown self.old.out.now) (W.shown self.new.out.now)) }
+        ensures made { IfContent file.entry.now (⟦<Self as Streams>⟧.seen self.old) (λ content. MakesOf
+            (λ bytes made. made_bytes made ≡ bytes) (digest_line (Requested.Output stretch)) name.entry.now
+            file.entry.now content result) }
+        ensures has { IfOk result HasBytes }
+        ensures fits { IsOk result → FitsPlace (digest_line (Requested.Output stretch)).place name.now }
+        ensures sized { IfOk result (IsMadeOf (Requested.Output stretch)) }
         ensures read { AfterReading file.entry.now result (⟦<Self as Streams>⟧.seen self.old)
             (⟦<Self as Streams>⟧.seen self.new) }
+        ensures out { (⟦<Self as Streams>⟧.seen self.new).out ≡ (⟦<Self as Streams>⟧.seen self.old).out }
         ensures same { SameStreams self.old self.new }
     {
         named(2 * BLAKE3_LEN, name)?;
         let mut output = self.output_of(parts, file)?;
         output.seek(stretch.position);
-        Ok(write_output_beside(output, stretch.length, stretch.is_raw, name, self.out)?)
+        Ok(Made::Output(output, stretch.length))
     }
 
     // The digest of a file, in parts where it is BLAKE3's and they are asked for.
@@ -376,27 +388,49 @@ fn plain_digest<'n, F: Feed>(alg: Alg, name: &'n str, feed: &mut F) -> Result<Ta
     }
 }
 
-// Writes a digest as it is, or its line with a name. Memory is taken for a tagged line alone, before
-// its first byte.
+/// Writes a digest as it is, or its line with a name. Memory is taken for a tagged line alone, before
+/// its first byte.
+pub(crate) fn write_digest<'n, W: Sink>(
+    alloc: Global,
+    requested: Requested,
+    made: Made,
+    name: &'n str,
+    out: &mut W,
+) -> Result<(), Fault<'n>>
+    requires digest { HasDigest requested }
+    requires has { HasBytes made }
+    requires sized { IsMadeOf requested made }
+    requires fits { FitsPlace (digest_line requested).place name.now }
+    ensures { PrintsListed result (W.shown out.old) (W.shown out.new)
+        (made_text requested name.entry.now (made_bytes made)) }
+{
+    match requested {
+        Requested::Digest(form) => write_listed(alloc, form, made, name, out),
+        Requested::Output(stretch) => Ok(write_made(made, stretch.is_raw, name, out)?),
+    }
+}
+
 fn write_listed<'n, W: Sink>(
     alloc: Global,
     form: Form,
-    tag: Tag,
+    made: Made,
     name: &'n str,
     out: &mut W,
 ) -> Result<(), Fault<'n>>
     requires range { IsInRange (alg_of form.hash) }
-    requires length { length tag ≡ tag_len (alg_of form.hash) }
+    requires has { HasBytes made }
+    requires sized { IsMadeOf (Requested.Digest form) made }
     requires listable { IsListable form.is_tagged (alg_of form.hash) name.now }
     ensures { PrintsListed result (W.shown out.old) (W.shown out.new)
-        (form_text form (record { name = name.entry.now; alg = alg_of form.hash; tag = tag })) }
+        (form_text form (record { name = name.entry.now; alg = alg_of form.hash; tag = made_bytes made })) }
 {
     if form.is_raw {
-        return Ok(write_all(out, tag.bytes())?);
+        return Ok(write_made(made, true, name, out)?);
     }
     if !form.is_tagged {
-        return Ok(write_line(tag.bytes(), name, out)?);
+        return Ok(write_made(made, false, name, out)?);
     }
+    let Made::Tag(tag) = made else { unreachable!() };
     let name = String::from_str(alloc, name)?;
     let Ok(entry) = Entry::new(form.hash.alg(), name, tag) else {
         unreachable!()
