@@ -1,11 +1,12 @@
 // A digest or tag that is yet to be printed or compared.
 
-ghost use Rattle.std.specs.Prelude.{◌≡◌, ◌+◌, ◌-◌, ◌^◌, ◌≤◌, IfOk};
+ghost use Rattle.std.specs.Prelude.{◌≡◌, ◌+◌, ◌-◌, ◌^◌, ◌≤◌, IfOk, length};
 ghost use Rattle.b3.specs.Bytes.{slice};
 ghost use Rattle.b3.specs.inside.Output.{output_position, output_root};
 ghost use Rattle.source.specs.Written.{Writes};
-ghost use Rattle.command.specs.Lines.{printed_beside};
 ghost use Rattle.command.specs.inside.Keys.{HasBytes, IsWanted, made_bytes};
+ghost use Rattle.command.specs.inside.Making.{made_len};
+ghost use Rattle.command.specs.inside.Printing.{printed_beside};
 
 use crate::output::{write_beside, write_output, write_output_beside};
 use b3::Output;
@@ -21,6 +22,26 @@ pub(crate) enum Made {
     Tag(Tag),
     /// So many bytes of an output of BLAKE3, from its position on.
     Output(Output, u64),
+}
+
+impl Made {
+    /// The bytes, where they are no more than a tag may have.
+    pub(crate) fn into_tag(self) -> Tag
+        requires has { HasBytes self }
+        requires few { made_len self ≤ 64 }
+        ensures value { result ≡ made_bytes self }
+        ensures length { length result ≡ made_len self }
+    {
+        match self {
+            Made::Tag(tag) => tag,
+            Made::Output(mut output, length) => {
+                let mut room = [0; 64];
+                let (bytes, _) = room.split_at_mut(length as usize);
+                output.fill(bytes).unwrap();
+                Tag::of(bytes).unwrap()
+            }
+        }
+    }
 }
 
 /// Writes the bytes as they are, or the line of their digits and a name.

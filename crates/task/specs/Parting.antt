@@ -2,10 +2,11 @@
 use Rattle.std.specs.Prelude.{ℕ, ◌-◌, ◌%◌, ◌^◌, ◌==◌, nat_lt, not, false, Option, Result, Ok, Err, count_ones, is_some}
 use Rattle.std.specs.Int.{leading_zeros, w64}
 use Rattle.std.specs.Option.{option_map_or}
+use Rattle.source.specs.declared.alg.TheConstants.{BLAKE3_LEN}
 use Rattle.sumlist.specs.declared.kind.Kind.{Kind}
 use Rattle.sumlist.specs.declared.kind.Kind.TheVariants as kind
 use Rattle.request.specs.CommandLine.{Given}
-use Rattle.task.specs.Hashing.{stretch_of}
+use Rattle.task.specs.Hashing.{stretch}
 use Rattle.task.specs.Parameters.{◌>>=◌, ◌>>◌, given_number, kind_of, needed, number, number_in, text, unset}
 use Rattle.task.specs.declared.fault.Setting.TheVariants.{Algorithm, Bytes, Chunks, First}
 use Rattle.task.specs.declared.fault.UsageFault.{UsageFault}
@@ -48,6 +49,6 @@ listed_chunks g = do
 abbrev pub joined : Given → Result (Stretch × Option ℕ) UsageFault
 joined g = do
   names_blake3 g
-  stretch ← stretch_of g false
+  stretch ← stretch BLAKE3_LEN 1 (2 ^ 64 - 1) g
   bytes ← given_number Bytes 0 (2 ^ 64 - 1) g
   Ok (stretch, bytes)

@@ -60,7 +60,7 @@ hash g = do
   parts ← parts g
   names ← one_source (text_of (codes "files0-from") g) (files g)
   name ← input_name g
-  digest ← hashing.wanted wanted g
+  digest ← hashing.wanted wanted.stretch.length g
   Ok (if is_some name || is_some digest
       then prints wanted parts digest (unwrap_or name (file_or_input g)) (file_or_input g)
       else hashes wanted parts names)

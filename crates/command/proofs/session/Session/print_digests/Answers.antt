@@ -16,10 +16,11 @@ pub loop-name-init : goal.loop-name-init
 loop-name-init g c =
     let see = seen_of g.L.Feed.remaining g.L.Feed.failure_count g.T.Tree.files g.T.Tree.failure_count
     g.T.Tree.opens g.W.Sink.shown in
+    let l = digest_line c.args.hashing.requested in
     record {
       same = record { input = refl; tree = refl; out = refl };
       opens = omega arith;
-      goes = goes-start is_input (name_runs (digest_line c.args.requested)) (line_whole (digest_line c.args.requested))
+      goes = goes-start is_input (name_runs l) (line_whole l)
           _ (see c.args.self.now) _;
     }
 
@@ -27,8 +28,9 @@ pub returns-in_err-print_digest-clause-run : goal.returns-in_err-print_digest-cl
 returns-in_err-print_digest-clause-run g c =
     let see = seen_of g.L.Feed.remaining g.L.Feed.failure_count g.T.Tree.files g.T.Tree.failure_count
     g.T.Tree.opens g.W.Sink.shown in
-    goes-stop is_input (name_runs (digest_line c.args.requested))
-    (line_whole (digest_line c.args.requested)) _ c.loop-name.status (see c.args.self.now) (see c.loop-name.self)
+    let l = digest_line c.args.hashing.requested in
+    goes-stop is_input (name_runs l)
+    (line_whole l) _ c.loop-name.status (see c.args.self.now) (see c.loop-name.self)
     (g.E.Sink.shown c.args.err.now) (g.E.Sink.shown c.loop-name.err) _ _ _ (see c.print_digest.new.self) _
     (next_name c.args.names.now c.loop-name.name-index _ c.loop-name-test.true) c.loop-name.invariant.goes _ _
     c.from_residual.ensures.1 c.in_err-print_digest.ensures.name
@@ -37,14 +39,15 @@ pub loop-name-preserved : goal.loop-name-preserved
 loop-name-preserved g c =
     let see = seen_of g.L.Feed.remaining g.L.Feed.failure_count g.T.Tree.files g.T.Tree.failure_count
     g.T.Tree.opens g.W.Sink.shown in
+    let l = digest_line c.args.hashing.requested in
     let most = c.max-status.ensures in
     record {
       same = Same-trans _ _ _ c.loop-name.invariant.same c.print_digest.ensures.same;
       opens = opens_more c.args.names.now c.loop-name.name-index _ c.loop-name-test.true (see c.args.self.now)
           (see c.loop-name.self) (see c.print_digest.new.self) c.loop-name.invariant.opens
           c.print_digest.ensures.opens;
-      goes = goes-next is_input (name_runs (digest_line c.args.requested))
-          (line_whole (digest_line c.args.requested)) _ c.loop-name.status (see c.args.self.now) (see c.loop-name.self)
+      goes = goes-next is_input (name_runs l)
+          (line_whole l) _ c.loop-name.status (see c.args.self.now) (see c.loop-name.self)
           (g.E.Sink.shown c.args.err.now) (g.E.Sink.shown c.loop-name.err) _ _ _ (see c.print_digest.new.self) _
           (next_name c.args.names.now c.loop-name.name-index _ c.loop-name-test.true) c.loop-name.invariant.goes _ _
           (omega (arith, most)) c.in_ok-print_digest.ensures.name;
@@ -54,8 +57,9 @@ pub returns-clause-run : goal.returns-clause-run
 returns-clause-run g c =
     let see = seen_of g.L.Feed.remaining g.L.Feed.failure_count g.T.Tree.files g.T.Tree.failure_count
     g.T.Tree.opens g.W.Sink.shown in
-    goes-end is_input (name_runs (digest_line c.args.requested))
-    (line_whole (digest_line c.args.requested)) _ c.loop-name.status (see c.args.self.now) (see c.loop-name.self)
+    let l = digest_line c.args.hashing.requested in
+    goes-end is_input (name_runs l)
+    (line_whole l) _ c.loop-name.status (see c.args.self.now) (see c.loop-name.self)
     (g.E.Sink.shown c.args.err.now) (g.E.Sink.shown c.loop-name.err) _
     (ap (map (λ n. n.now)) (drop_all c.loop-name.name-index c.args.names.now c.loop-name-test.false))
     c.loop-name.invariant.goes

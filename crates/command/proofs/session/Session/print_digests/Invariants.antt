@@ -15,8 +15,8 @@ invariant-loop-name g l =
       same : SameStreams l.initial.self l.self;
       opens : OpensAtMost (sum_by opens_of (map (λ n. n.now) (take l.name-index l.names)))
           (see l.initial.self) (see l.self);
-      goes : Goes is_input (name_runs (digest_line l.requested))
-          (line_whole (digest_line l.requested))
+      goes : Goes is_input (name_runs (digest_line l.hashing.requested))
+          (line_whole (digest_line l.hashing.requested))
           (map (λ n. n.now) l.names) (map (λ n. n.now) (drop l.name-index l.names)) l.status (see l.initial.self)
           (see l.self) (g.E.Sink.shown l.initial.err) (g.E.Sink.shown l.err);
     }
