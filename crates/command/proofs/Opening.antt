@@ -1,16 +1,13 @@
 -- How many files were opened.
 use Rattle.std.proofs.Common.{◌≡◌, ℕ, ◌+◌, ◌<◌, ◌≤◌, List, [], ◌∷◌, ◌++◌, length, suc, ap, map, take, drop, get_or}
-use Rattle.std.proofs.Common.{Bool, true, false, Option, None, Some, Result, IfSome, arith, refl, if◌then◌else◌}
+use Rattle.std.proofs.Common.{Bool, true, false, Option, None, Some, IfSome, arith, refl, if◌then◌else◌}
 use Rattle.std.proofs.lemmas.List.Sums.{sum_by-append}
 use Rattle.std.specs.Borrow.{Bor}
 use Rattle.std.specs.List.{sum_by}
 use Rattle.request.specs.CommandLine.{Text}
-use Rattle.source.specs.Written.{Shown}
 use Rattle.sumlist.specs.Report.{Files}
-use Rattle.command.specs.Lines.{LineForm, content_of, is_input}
+use Rattle.command.specs.Lines.{content_of, is_input}
 use Rattle.command.specs.Streams.{OpensAtMost, Seen, opens_from, opens_of}
-use Rattle.command.specs.declared.fault.Fault.{Fault}
-use Rattle.command.specs.inside.Hashed.{PrintsNameAt}
 use Rattle.command.proofs.Names.{all_names, one_more}
 
 -- ---- the names that a loop has gone through
@@ -49,20 +46,12 @@ module _ (given : List (Bor Text)) (i : ℕ) (d : Bor Text) (within : i < length
 
 -- ---- the names in a list
 
-opens_once : (name : Text) → opens_of name ≤ 1
+pub opens_once : (name : Text) → opens_of name ≤ 1
 opens_once name = on (is_input name)
   where
     on : (b : Bool) → (if b then 0 else 1) ≤ 1
     on true = omega arith
     on false = omega arith
-
-pub opens_at : (l : LineForm) (n : ℕ) (name : Option (Bor Text)) (r : Result ℕ Fault) (old new : Seen)
-    (err_old err_new : Shown) → PrintsNameAt l n name r old new err_old err_new → OpensAtMost 1 old new
-opens_at l n None r old new err_old err_new printed = rw printed.1 (omega arith)
-opens_at l n (Some name) r old new err_old err_new printed =
-    let most = printed.read.opens in
-    let once = opens_once name.now in
-    omega (arith, most, once)
 
 -- what was opened of a list of such pieces, where its bytes and the files are told
 abbrev pub OpensListed : (List ℕ → List (List ℕ)) → Text → Option (List ℕ) → Option Files → (i j : ℕ) → Type 0

@@ -1,5 +1,6 @@
 -- The run of `part --list`.
-use Rattle.std.proofs.Common.{◌≡◌, ℕ, zero, suc, ◌+◌, ◌-◌, ◌*◌, ◌/◌, ◌^◌, ◌<◌, ◌≤◌, List, [], ◌∷◌, ◌++◌, length, min}
+use Rattle.std.proofs.Common.{◌≡◌, ◌∙◌}
+use Rattle.std.proofs.Common.{ℕ, zero, suc, ◌+◌, ◌-◌, ◌*◌, ◌/◌, ◌^◌, ◌<◌, ◌≤◌, List, [], ◌∷◌, ◌++◌, length, min}
 use Rattle.std.proofs.Common.{max, Bool, true, false, Option, Some, None, IfSome, Result, Ok, Err, refl, sym, ap, inl}
 use Rattle.std.proofs.Common.{inr}
 use Rattle.std.proofs.Common.{subst, arith}
@@ -14,11 +15,11 @@ use Rattle.source.specs.Counts.{count_after}
 use Rattle.source.specs.Written.{Done, Failed, Shown}
 use Rattle.sumlist.specs.Report.{Files}
 use Rattle.command.specs.Run.{Run, Failures, failures_of, no_failures, refused_by}
-use Rattle.command.specs.Cutting.{MayRefuseStarts, StartsRuns, part_count, start_lines}
+use Rattle.command.specs.Cutting.{StartsRuns, part_count, start_lines}
 use Rattle.command.specs.Keying.{Prints}
 use Rattle.command.specs.Troubles.{Trouble, cannot_write, trouble_of}
 use Rattle.command.specs.declared.fault.Fault.{Fault}
-use Rattle.command.specs.inside.Cutting.{CountsParts, TellsByte}
+use Rattle.command.specs.inside.Cutting.{CountsParts, MayRefuseStarts, TellsByte}
 use Rattle.command.specs.inside.Reading.{failed}
 use Rattle.command.proofs.Refused.{Counted-file, Counted-none, Does-refused}
 use Rattle.command.proofs.Tagging.{Taken}
@@ -95,6 +96,11 @@ known_fewer n least most i has (Some m) some is byte known =
     (known.0, counts_none n i m some (none_there has (1024 * (n * i)) (length m) is byte))
 
 -- ---- the same, where the files are told
+
+starts-other : (name : Text) (t : Trouble) → MayRefuseStarts name t → t ≡ cannot_write → ⊥
+starts-other name t (inl p) is = let e = sym p ∙ is in cc
+starts-other name t (inr (inl p)) is = let e = sym p ∙ is in cc
+starts-other name t (inr (inr p)) is = p
 
 module _ (n : ℕ) (name : Text) where
   -- what the halves know, and that nothing has failed
@@ -191,7 +197,7 @@ module _ (n : ℕ) (name : Text) where
         refused_by t failures,
         inr (t, counted.0, refl),
         Does-refused t failures f answer old new stopped refl
-            (λ is. subst (λ (x : Trouble). MayRefuseStarts name x) is counted.0) none,
+            (starts-other name t counted.0) none,
         refl,
         Counted-file (files name) t i j u v still counted.1,
       )

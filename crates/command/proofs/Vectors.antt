@@ -7,8 +7,8 @@ use Rattle.std.specs.Str.{chars}
 use Rattle.hex.specs.Hex.{encode_with}
 use Rattle.command.specs.Cutting.{part_count, start_lines}
 use Rattle.sumlist.specs.Report.{malformed, no_lines, report_from}
-use Rattle.command.specs.Checking.{followed, noted}
-use Rattle.command.specs.Run.{Run, ends, no_failures, refused_by}
+use Rattle.command.specs.Checking.{noted}
+use Rattle.command.specs.Run.{Run, ends, followed, no_failures, refused_by}
 use Rattle.command.specs.Troubles.{cannot_read, told}
 use Rattle.command.specs.Visible.{visible}
 

@@ -16,6 +16,7 @@ is_directional c = is_in_range 0x202a 0x202e c || is_in_range 0x2066 0x2069 c
 abbrev pub is_quiet : ℕ → Bool
 is_quiet c = not (is_control c || is_directional c)
 
+-- a character that stands as it is
 abbrev pub is_plain : ℕ → Bool
 is_plain c = is_quiet c && not (c == 92)
 

@@ -3,6 +3,7 @@ pub mod Faults
 pub mod Reading
 pub mod Printing
 pub mod Streams
+pub mod Making
 pub mod Keys
 pub mod Cutting
 pub mod Listing

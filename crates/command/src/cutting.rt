@@ -21,6 +21,7 @@ use b3::{Mode, PartValue};
 use partlist::write_part;
 use source::{Feed, Sink, SourceFault, part_of};
 use sumlist::Tree;
+use task::Place;
 
 // A part is read in runs of at most so many chunks.
 const RUN: u64 = 1024;
@@ -29,88 +30,65 @@ const RUN: u64 = 1024;
 pub(crate) const END: u64 = 1 << 54;
 
 impl<'i, 't, 'o, L: Feed, T: Tree, W: Sink> Session<'i, 't, 'o, L, T, W> {
-    /// Prints the line of a part of the file: its bytes from the chunk `first` on, in so many chunks
-    /// of 1,024 bytes or to the end. Answers 0. The faults are `CannotRead`, `NoBytes` where none stand
+    /// Prints the line of a part of the file: its bytes from the first chunk of a place on, in as many
+    /// chunks as that has or to the end. Answers 0. The faults are `CannotRead`, `NoBytes` where none stand
     /// there, `MoreThanPart` where they are more than can be a part there, `TooLong` where they end past
     /// byte 2^64 - 1, `CannotWrite` and `OutOfMemory`. Where the part is one of standard input, no byte
     /// behind it is read.
-    pub fn print_part<'n>(
-        &mut self,
-        first: u64,
-        chunks: Option<u64>,
-        name: &'n str,
-    ) -> Result<u8, Fault<'n>>
-        requires { IsPlace first chunks }
-        ensures run { DoesRun (λ bytes files. PartRuns first chunks name.entry.now files bytes)
+    pub fn print_part<'n>(&mut self, place: Place, name: &'n str) -> Result<u8, Fault<'n>>
+        ensures run { DoesRun (λ bytes files. PartRuns place.first place.chunks name.entry.now files bytes)
             (λ notes. notes ≡ [])
             result (⟦<Self as Streams>⟧.seen self.old) (⟦<Self as Streams>⟧.seen self.new) }
         ensures left { is_input name.entry.now ≡ true → OnOk result (IfSome (L.remaining self.old.input.now)
-            (λ bytes. L.remaining self.new.input.now ≡ Some (behind_chunks chunks bytes))) }
+            (λ bytes. L.remaining self.new.input.now ≡ Some (behind_chunks place.chunks bytes))) }
         ensures opens { OpensAtMost (opens_of name.entry.now) (⟦<Self as Streams>⟧.seen self.old)
             (⟦<Self as Streams>⟧.seen self.new) }
         ensures same { SameStreams self.old self.new }
     {
-        let part = self.part_in(first, chunks, name)?;
+        let part = self.part_in(place, name)?;
         write_part(&part, self.out)?;
         Ok(0)
     }
 
     // The part, for which memory is taken before the file is opened.
-    fn part_in<'n>(
-        &mut self,
-        first: u64,
-        chunks: Option<u64>,
-        name: &'n str,
-    ) -> Result<PartValue, Fault<'n>>
-        requires { IsPlace first chunks }
+    fn part_in<'n>(&mut self, place: Place, name: &'n str) -> Result<PartValue, Fault<'n>>
         ensures part { IfContent name.entry.now (⟦<Self as Streams>⟧.seen self.old) (λ content.
-            MakesPart first name.entry.now (option_map (cut first chunks name.entry.now) content) result) }
+            MakesPart place.first name.entry.now (option_map (cut place.first place.chunks name.entry.now) content)
+            result) }
         ensures counted { IfContent name.entry.now (⟦<Self as Streams>⟧.seen self.old) (λ content.
             Counted (failed (is_input name.entry.now) content result)
             (⟦<Self as Streams>⟧.seen self.old).input_failures (⟦<Self as Streams>⟧.seen self.new).input_failures
             (⟦<Self as Streams>⟧.seen self.old).file_failures (⟦<Self as Streams>⟧.seen self.new).file_failures) }
         ensures left { is_input name.entry.now ≡ true → OnOk result (IfSome (L.remaining self.old.input.now)
-            (λ bytes. L.remaining self.new.input.now ≡ Some (behind_chunks chunks bytes))) }
+            (λ bytes. L.remaining self.new.input.now ≡ Some (behind_chunks place.chunks bytes))) }
         ensures out { (⟦<Self as Streams>⟧.seen self.new).out ≡ (⟦<Self as Streams>⟧.seen self.old).out }
         ensures opens { OpensAtMost (opens_of name.entry.now) (⟦<Self as Streams>⟧.seen self.old)
             (⟦<Self as Streams>⟧.seen self.new) }
         ensures same { SameStreams self.old self.new }
     {
-        let room = room_from(first, chunks);
-        let place = Place {
-            first,
-            chunks,
-            room,
-        };
+        let room = room_from(place.first, place.chunks);
         let mut run = part_buffer(self.alloc, room.min(RUN))?;
         if name == "-" {
-            return part_of_feed(place, run.as_mut_slice(), name, self.input);
+            return part_of_feed(place, room, run.as_mut_slice(), name, self.input);
         }
-        let mut feed = open_file(name, 1024 * first, self.tree)?;
-        let answer = part_of_feed(place, run.as_mut_slice(), name, &mut feed);
+        let mut feed = open_file(name, 1024 * place.first, self.tree)?;
+        let answer = part_of_feed(place, room, run.as_mut_slice(), name, &mut feed);
         self.tree.close(feed);
         answer
     }
 }
 
-// Where a part begins, how many chunks it has at most, if that was said, and in how many it has room.
-#[derive(Clone, Copy)]
-struct Place {
-    first: u64,
-    chunks: Option<u64>,
-    room: u64,
-}
-
 // The part of what a feed gives, in so many chunks of it or in all.
 fn part_of_feed<'n, F: Feed>(
     place: Place,
+    room: u64,
     run: &mut [u8],
     name: &'n str,
     feed: &mut F,
 ) -> Result<PartValue, Fault<'n>>
-    requires room { IsRoom place.first place.chunks place.room }
+    requires room { IsRoom place.first place.chunks room }
     requires run { (e : ℕ) × (length run.old ≡ 1024 * 2 ^ e) }
-    requires within { length run.old ≤ 1024 * place.room }
+    requires within { length run.old ≤ 1024 * room }
     ensures part { IfSome (F.remaining feed.old) (λ bytes.
         MakesPart place.first name.entry.now (Some (first_chunks place.chunks bytes)) result) }
     ensures counted { F.failure_count feed.new
@@ -120,10 +98,10 @@ fn part_of_feed<'n, F: Feed>(
     ensures memory { IsErrOf result Fault.OutOfMemory → ⊥ }
 {
     let bytes = bytes_of(place.chunks);
-    match part_of(Mode::Hash, place.first, place.room, bytes, feed, run) {
+    match part_of(Mode::Hash, place.first, room, bytes, feed, run) {
         Ok(Some(part)) => Ok(part),
         Ok(None) => Err(Fault::NoBytes(name)),
-        Err(fault) => Err(unmade(fault, place.first.saturating_add(place.room), name)),
+        Err(fault) => Err(unmade(fault, place.first.saturating_add(room), name)),
     }
 }
 

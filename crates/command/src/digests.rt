@@ -1,51 +1,50 @@
 // The command `hash`: the digest of each file, as a line of a list.
 
-ghost use Rattle.std.specs.Prelude.{◌≡◌, ◌-◌, ◌*◌, ◌^◌, ℕ, [], length, vec_len, Some, true, IfOk, IfSome};
-ghost use Rattle.std.specs.Prelude.{IsErrOf, MatchResult, None, map};
+ghost use Rattle.std.specs.Prelude.{◌≡◌, ◌≢◌, ◌≤◌, ◌-◌, ◌*◌, ◌^◌, ℕ, [], length, vec_len, Some, true, IfOk, IfSome};
+ghost use Rattle.std.specs.Prelude.{IsErrOf, IsOk, MatchResult, None, map};
 ghost use Rattle.std.specs.List.{sum_by};
 ghost use Rattle.b3.specs.Modes.{hash_root};
-ghost use Rattle.b3.specs.inside.Output.{output_position, output_root};
+ghost use Rattle.b3.specs.inside.Output.{output_root};
 ghost use Rattle.source.specs.Counts.{count_after};
 ghost use Rattle.source.specs.Digest.{IsInRange, digest, input_limit, tag_len};
-ghost use Rattle.task.specs.Requested.{alg_of};
-ghost use Rattle.task.specs.inside.Possible.{HasDigest, IsPartSize, IsWithin};
+ghost use Rattle.sumlist.specs.Entry.{Fits};
+ghost use Rattle.sumlist.specs.Tagged.{tagged, tagged_len};
+ghost use Rattle.task.specs.inside.Possible.{HasDigest, IsPartSize};
 ghost use Rattle.command.specs.Run.{TellsAll};
 ghost use Rattle.command.specs.Hashing.{HashesAll};
-ghost use Rattle.command.specs.Lines.{IsListable, digest_line, form_text, hash_of};
+ghost use Rattle.command.specs.Lines.{FitsPlace, digest_line};
+ghost use Rattle.command.specs.inside.Keys.{HasBytes, MakesOf, made_bytes};
+ghost use Rattle.command.specs.inside.Making.{made_len};
 ghost use Rattle.command.specs.inside.Hashed.{PrintsName, Settles};
-ghost use Rattle.command.specs.inside.Printing.{PrintsLine, PrintsListed};
+ghost use Rattle.command.specs.inside.Printing.{PrintsListed};
 ghost use Rattle.command.specs.inside.Reading.{Leaves, Reads, failed};
 ghost use Rattle.command.specs.Streams.{OpensAtMost, DoesRun, opens_of};
 ghost use Rattle.command.specs.inside.Streams.{AfterReading, IfContent, SameStreams};
 ghost use Rattle.command.specs.declared.fault.Fault.TheVariants.{BadName};
 
 use crate::fault::{Fault, tell};
-use crate::output::{named, write_line, write_output_beside};
+use crate::making::{Made, write_made};
 use crate::session::{Session, Streams, absorb_feed, open_file};
 use b3::{Blake3, Mode, Output};
 use blake2::{Blake2b, Blake2s};
-use source::{Alg, AnyHash, BLAKE3_LEN, Feed, Sink, digest_of, output_in_parts, write_all};
+use source::{Alg, AnyHash, Feed, Sink, digest_of, output_in_parts};
 use std::alloc::{AllocError, Global};
 use sumlist::{Entry, TaggedFault, Tree, fits, tagged_fits, write_tagged};
-use task::{Form, Hash, Requested, Stretch};
+use task::{Form, Hash, Hashing, Requested};
 use words::Tag;
 
 impl<'i, 't, 'o, L: Feed, T: Tree, W: Sink> Session<'i, 't, 'o, L, T, W> {
     /// Prints the line of each file, and goes on with the next after a file that can't be read or
     /// named, which is told on `err`. Answers the status: 1 where one had no line, else 0. The faults
-    /// are `CannotWrite` and `OutOfMemory`, after which no further file is read. `parts` is how many
-    /// chunks of 1,024 bytes are hashed as one part.
+    /// are `CannotWrite` and `OutOfMemory`, after which no further file is read.
     pub fn print_digests<'n, E: Sink>(
         &mut self,
-        requested: Requested,
-        parts: Option<u64>,
+        hashing: Hashing,
         names: &[&'n str],
         err: &mut E,
     ) -> Result<u8, Fault<'n>>
-        requires digest { HasDigest requested }
-        requires parts { IfSome parts IsPartSize }
         ensures run { DoesRun (λ bytes files.
-            HashesAll (digest_line requested) files bytes (map (λ n. n.now) names.entry.now))
+            HashesAll (digest_line hashing.requested) files (map (λ n. n.now) names.entry.now) bytes)
             (λ notes. TellsAll (E.shown err.old) (E.shown err.new) notes)
             result (⟦<Self as Streams>⟧.seen self.old) (⟦<Self as Streams>⟧.seen self.new) }
         ensures opens { OpensAtMost (sum_by opens_of (map (λ n. n.now) names.entry.now))
@@ -54,7 +53,7 @@ impl<'i, 't, 'o, L: Feed, T: Tree, W: Sink> Session<'i, 't, 'o, L, T, W> {
     {
         let mut status: u8 = 0;
         for name in names {
-            status = status.max(self.print_digest(requested, parts, name, err)?);
+            status = status.max(self.print_digest(hashing, name, err)?);
         }
         Ok(status)
     }
@@ -63,164 +62,63 @@ impl<'i, 't, 'o, L: Feed, T: Tree, W: Sink> Session<'i, 't, 'o, L, T, W> {
     /// failed write and want of memory end a run.
     pub(crate) fn print_digest<'f, E: Sink>(
         &mut self,
-        requested: Requested,
-        parts: Option<u64>,
+        hashing: Hashing,
         name: &str,
         err: &mut E,
     ) -> Result<u8, Fault<'f>>
-        requires digest { HasDigest requested }
-        requires parts { IfSome parts IsPartSize }
-        ensures name { PrintsName (digest_line requested) name.entry.now result
+        ensures name { PrintsName (digest_line hashing.requested) name.entry.now result
             (⟦<Self as Streams>⟧.seen self.old) (⟦<Self as Streams>⟧.seen self.new)
             (E.shown err.old) (E.shown err.new) }
+        ensures opens { OpensAtMost (opens_of name.entry.now) (⟦<Self as Streams>⟧.seen self.old)
+            (⟦<Self as Streams>⟧.seen self.new) }
         ensures same { SameStreams self.old self.new }
     {
-        match self.hash_file(requested, parts, name, name) {
-            Ok(()) => Ok(0),
+        match self.print_compared(hashing, None, name, name) {
+            Ok(status) => Ok(status),
             Err(fault) => settle(err, fault),
         }
     }
 
-    /// Prints the line of a file under a name, which is judged before the file is opened, and the file
-    /// read to its end before the first byte of its line is written.
-    pub(crate) fn hash_file<'n>(
+    /// The digest of a file under a name, which is judged before the file is opened.
+    pub(crate) fn make_digest<'n>(
         &mut self,
-        requested: Requested,
-        parts: Option<u64>,
+        hashing: Hashing,
         name: &'n str,
         file: &'n str,
-    ) -> Result<(), Fault<'n>>
-        requires digest { HasDigest requested }
-        requires parts { IfSome parts IsPartSize }
-        ensures line { IfContent file.entry.now (⟦<Self as Streams>⟧.seen self.old) (λ content.
-            PrintsLine (digest_line requested) name.entry.now file.entry.now content result
-            (W.shown self.old.out.now) (W.shown self.new.out.now)) }
+    ) -> Result<Made, Fault<'n>>
+        ensures made { IfContent file.entry.now (⟦<Self as Streams>⟧.seen self.old) (λ content. MakesOf
+            (λ bytes made. made_bytes made ≡ bytes) (digest_line hashing.requested) name.entry.now
+            file.entry.now content result) }
+        ensures has { IfOk result HasBytes }
+        ensures sized { IfOk result (λ made. made_len made ≡ hashing.requested.stretch.length) }
+        ensures fits { IsOk result → FitsPlace (digest_line hashing.requested).place name.now }
         ensures read { AfterReading file.entry.now result (⟦<Self as Streams>⟧.seen self.old)
             (⟦<Self as Streams>⟧.seen self.new) }
+        ensures out { (⟦<Self as Streams>⟧.seen self.new).out ≡ (⟦<Self as Streams>⟧.seen self.old).out }
         ensures same { SameStreams self.old self.new }
     {
-        match requested {
-            Requested::Digest(form) => self.hash_whole(form, parts, name, file),
-            Requested::Output(stretch) => self.hash_output(stretch, parts, name, file),
-        }
+        listable(hashing.requested, name)?;
+        self.digest_of_file(hashing, file)
     }
 
-    fn hash_whole<'n>(
-        &mut self,
-        form: Form,
-        parts: Option<u64>,
-        name: &'n str,
-        file: &'n str,
-    ) -> Result<(), Fault<'n>>
-        requires digest { IsInRange (alg_of form.hash) }
-        requires parts { IfSome parts IsPartSize }
-        ensures line { IfContent file.entry.now (⟦<Self as Streams>⟧.seen self.old) (λ content.
-            PrintsLine (digest_line (Requested.Digest form)) name.entry.now file.entry.now content result
-            (W.shown self.old.out.now) (W.shown self.new.out.now)) }
-        ensures read { AfterReading file.entry.now result (⟦<Self as Streams>⟧.seen self.old)
-            (⟦<Self as Streams>⟧.seen self.new) }
-        ensures same { SameStreams self.old self.new }
-    {
-        listable(form, name)?;
-        let tag = self.tag_of(form.hash, parts, file)?;
-        write_listed(self.alloc, form, tag, name, self.out)
-    }
-
-    // The same of BLAKE3's output, whatever its length: a name that fits beside the digest's digits
-    // fits.
-    fn hash_output<'n>(
-        &mut self,
-        stretch: Stretch,
-        parts: Option<u64>,
-        name: &'n str,
-        file: &'n str,
-    ) -> Result<(), Fault<'n>>
-        requires digest { IsWithin stretch }
-        requires parts { IfSome parts IsPartSize }
-        ensures line { IfContent file.entry.now (⟦<Self as Streams>⟧.seen self.old) (λ content.
-            PrintsLine (digest_line (Requested.Output stretch)) name.entry.now file.entry.now content result
-            (W.shown self.old.out.now) (W.shown self.new.out.now)) }
-        ensures read { AfterReading file.entry.now result (⟦<Self as Streams>⟧.seen self.old)
-            (⟦<Self as Streams>⟧.seen self.new) }
-        ensures same { SameStreams self.old self.new }
-    {
-        named(2 * BLAKE3_LEN, name)?;
-        let mut output = self.output_of(parts, file)?;
-        output.seek(stretch.position);
-        Ok(write_output_beside(output, stretch.length, stretch.is_raw, name, self.out)?)
-    }
-
-    // The digest of a file, in parts where it is BLAKE3's and they are asked for.
-    fn tag_of<'n>(
-        &mut self,
-        hash: Hash,
-        parts: Option<u64>,
-        name: &'n str,
-    ) -> Result<Tag, Fault<'n>>
-        requires digest { IsInRange (alg_of hash) }
-        requires parts { IfSome parts IsPartSize }
-        ensures digest { IfContent name.entry.now (⟦<Self as Streams>⟧.seen self.old) (λ content.
-            Reads (input_limit (alg_of hash)) (λ m tag. tag ≡ hash_of hash m) name.entry.now content result) }
-        ensures length { IfOk result (λ tag. length tag ≡ tag_len (alg_of hash)) }
+    // The digest of a file; the buffer of its parts is made before it is opened.
+    fn digest_of_file<'n>(&mut self, hashing: Hashing, name: &'n str) -> Result<Made, Fault<'n>>
+        ensures made { IfContent name.entry.now (⟦<Self as Streams>⟧.seen self.old) (λ content.
+            Reads (digest_line hashing.requested).limit
+            (λ m made. made_bytes made ≡ (digest_line hashing.requested).bytes m) name.entry.now content result) }
+        ensures has { IfOk result HasBytes }
+        ensures sized { IfOk result (λ made. made_len made ≡ hashing.requested.stretch.length) }
         ensures read { AfterReading name.entry.now result (⟦<Self as Streams>⟧.seen self.old)
             (⟦<Self as Streams>⟧.seen self.new) }
-        ensures same { SameStreams self.old self.new }
         ensures out { (⟦<Self as Streams>⟧.seen self.new).out ≡ (⟦<Self as Streams>⟧.seen self.old).out }
+        ensures same { SameStreams self.old self.new }
     {
+        let mut run = run_buffer(self.alloc, hashing.parts)?;
         if name == "-" {
-            return tag_of_feed(self.alloc, hash, parts, name, self.input);
+            return digest_of_feed(hashing.requested, run.as_mut_slice(), name, self.input);
         }
         let mut feed = open_file(name, 0, self.tree)?;
-        let answer = tag_of_feed(self.alloc, hash, parts, name, &mut feed);
-        self.tree.close(feed);
-        answer
-    }
-
-    // BLAKE3's output of a file, in parts where they are asked for.
-    fn output_of<'n>(&mut self, parts: Option<u64>, name: &'n str) -> Result<Output, Fault<'n>>
-        requires { IfSome parts IsPartSize }
-        ensures output { IfContent name.entry.now (⟦<Self as Streams>⟧.seen self.old) (λ content.
-            Reads (2 ^ 64 - 1) (λ m output. output_root output ≡ hash_root m) name.entry.now content result) }
-        ensures read { AfterReading name.entry.now result (⟦<Self as Streams>⟧.seen self.old)
-            (⟦<Self as Streams>⟧.seen self.new) }
-        ensures same { SameStreams self.old self.new }
-        ensures out { (⟦<Self as Streams>⟧.seen self.new).out ≡ (⟦<Self as Streams>⟧.seen self.old).out }
-    {
-        match parts {
-            Some(chunks) => self.output_of_parts(chunks, name),
-            None => self.output_of_whole(name),
-        }
-    }
-
-    fn output_of_whole<'n>(&mut self, name: &'n str) -> Result<Output, Fault<'n>>
-        ensures output { IfContent name.entry.now (⟦<Self as Streams>⟧.seen self.old) (λ content.
-            Reads (2 ^ 64 - 1) (λ m output. output_root output ≡ hash_root m) name.entry.now content result) }
-        ensures read { AfterReading name.entry.now result (⟦<Self as Streams>⟧.seen self.old)
-            (⟦<Self as Streams>⟧.seen self.new) }
-        ensures same { SameStreams self.old self.new }
-        ensures out { (⟦<Self as Streams>⟧.seen self.new).out ≡ (⟦<Self as Streams>⟧.seen self.old).out }
-    {
-        let mut hasher = Blake3::new();
-        self.absorb(&mut hasher, name)?;
-        Ok(hasher.output())
-    }
-
-    // The buffer of a part is made before the file is opened.
-    fn output_of_parts<'n>(&mut self, chunks: u64, name: &'n str) -> Result<Output, Fault<'n>>
-        requires { IsPartSize chunks }
-        ensures output { IfContent name.entry.now (⟦<Self as Streams>⟧.seen self.old) (λ content.
-            Reads (2 ^ 64 - 1) (λ m output. output_root output ≡ hash_root m) name.entry.now content result) }
-        ensures read { AfterReading name.entry.now result (⟦<Self as Streams>⟧.seen self.old)
-            (⟦<Self as Streams>⟧.seen self.new) }
-        ensures same { SameStreams self.old self.new }
-        ensures out { (⟦<Self as Streams>⟧.seen self.new).out ≡ (⟦<Self as Streams>⟧.seen self.old).out }
-    {
-        let mut part = part_buffer(self.alloc, chunks)?;
-        if name == "-" {
-            return output_of_feed(part.as_mut_slice(), name, self.input);
-        }
-        let mut feed = open_file(name, 0, self.tree)?;
-        let answer = output_of_feed(part.as_mut_slice(), name, &mut feed);
+        let answer = digest_of_feed(hashing.requested, run.as_mut_slice(), name, &mut feed);
         self.tree.close(feed);
         answer
     }
@@ -246,120 +144,84 @@ pub(crate) fn part_buffer(alloc: Global, chunks: u64) -> Result<Vec<u8>, AllocEr
     vec![in alloc; 0u8; 1024 * chunks as usize]
 }
 
-// Refuses a name that cannot stand on a line of this form.
-fn listable<'n>(form: Form, name: &'n str) -> Result<(), Fault<'n>>
-    requires { IsInRange (alg_of form.hash) }
-    ensures { MatchResult result (λ _. IsListable form.is_tagged (alg_of form.hash) name.now)
-        (λ fault. (fault ≡ BadName name.entry) × (IsListable form.is_tagged (alg_of form.hash) name.now → ⊥)) }
+// The buffer of the parts that a file is hashed in, an empty one where it is hashed whole.
+fn run_buffer(alloc: Global, parts: Option<u64>) -> Result<Vec<u8>, AllocError>
+    requires { IfSome parts IsPartSize }
+    ensures { IfOk result (λ buffer. vec_len buffer ≢ 0 → (e : ℕ) × (vec_len buffer ≡ 1024 * 2 ^ e)) }
 {
-    let alg = form.hash.alg();
-    if !fits(2 * alg.digest_len(), name) || form.is_tagged && !tagged_fits(alg, name) {
+    match parts {
+        Some(chunks) => part_buffer(alloc, chunks),
+        None => Ok(Vec::new(alloc)),
+    }
+}
+
+// Refuses a name that cannot stand on a line of this form.
+fn listable<'n>(requested: Requested, name: &'n str) -> Result<(), Fault<'n>>
+    requires { HasDigest requested }
+    ensures { MatchResult result (λ _. FitsPlace (digest_line requested).place name.now)
+        (λ fault. (fault ≡ BadName name.entry) × (FitsPlace (digest_line requested).place name.now → ⊥)) }
+{
+    let alg = requested.alg();
+    if !fits(2 * alg.digest_len(), name)
+        || requested.form == Form::Tagged && !tagged_fits(alg, name)
+    {
         return Err(Fault::BadName(name));
     }
     Ok(())
 }
 
-// The digest of all that a feed gives, in parts where it is BLAKE3's and they are asked for.
-fn tag_of_feed<'n, F: Feed>(
-    alloc: Global,
-    hash: Hash,
-    parts: Option<u64>,
+// The digest of all that a feed gives, which BLAKE3 takes in parts as long as the buffer, if that is not
+// empty.
+fn digest_of_feed<'n, F: Feed>(
+    requested: Requested,
+    run: &mut [u8],
     name: &'n str,
     feed: &mut F,
-) -> Result<Tag, Fault<'n>>
-    requires digest { IsInRange (alg_of hash) }
-    requires parts { IfSome parts IsPartSize }
-    ensures digest { IfSome (F.remaining feed.old) (λ bytes. Reads (input_limit (alg_of hash))
-        (λ m tag. tag ≡ hash_of hash m) name.entry.now (Some bytes) result) }
-    ensures length { IfOk result (λ tag. length tag ≡ tag_len (alg_of hash)) }
-    ensures counted { F.failure_count feed.new
-        ≡ count_after (F.failure_count feed.old) (failed true (Some []) result).input }
-    ensures gave { Leaves true result (F.remaining feed.old) (F.remaining feed.new) }
-    ensures memory { parts ≡ None → IsErrOf result Fault.OutOfMemory → ⊥ }
-{
-    match (hash, parts) {
-        (Hash::Plain(Alg::Blake3), Some(chunks)) => digest_of_parts(alloc, chunks, name, feed),
-        _ => digest_of_feed(hash, name, feed),
-    }
-}
-
-fn digest_of_parts<'n, F: Feed>(
-    alloc: Global,
-    chunks: u64,
-    name: &'n str,
-    feed: &mut F,
-) -> Result<Tag, Fault<'n>>
-    requires { IsPartSize chunks }
-    ensures digest { IfSome (F.remaining feed.old) (λ bytes. Reads (2 ^ 64 - 1)
-        (λ m tag. tag ≡ digest Alg.Blake3 m) name.entry.now (Some bytes) result) }
-    ensures length { IfOk result (λ tag. length tag ≡ BLAKE3_LEN) }
-    ensures counted { F.failure_count feed.new
-        ≡ count_after (F.failure_count feed.old) (failed true (Some []) result).input }
-    ensures gave { Leaves true result (F.remaining feed.old) (F.remaining feed.new) }
-{
-    let mut part = part_buffer(alloc, chunks)?;
-    let mut output = output_of_feed(part.as_mut_slice(), name, feed)?;
-    let mut digest = [0; BLAKE3_LEN];
-    output.fill(&mut digest).unwrap();
-    Ok(Tag::of(&digest).unwrap())
-}
-
-// BLAKE3's output of all that a feed gives, in parts as long as the buffer.
-fn output_of_feed<'n, F: Feed>(
-    part: &mut [u8],
-    name: &'n str,
-    feed: &mut F,
-) -> Result<Output, Fault<'n>>
-    requires { (e : ℕ) × (length part.old ≡ 1024 * 2 ^ e) }
-    ensures output { IfSome (F.remaining feed.old) (λ bytes. Reads (2 ^ 64 - 1)
-        (λ m output. output_root output ≡ hash_root m) name.entry.now (Some bytes) result) }
-    ensures position { IfOk result (λ output. output_position output ≡ 0) }
+) -> Result<Made, Fault<'n>>
+    requires digest { HasDigest requested }
+    requires run { length run.old ≢ 0 → (e : ℕ) × (length run.old ≡ 1024 * 2 ^ e) }
+    ensures made { IfSome (F.remaining feed.old) (λ bytes.
+        Reads (digest_line requested).limit (λ m made. made_bytes made ≡ (digest_line requested).bytes m)
+        name.entry.now (Some bytes) result) }
+    ensures has { IfOk result HasBytes }
+    ensures sized { IfOk result (λ made. made_len made ≡ requested.stretch.length) }
     ensures counted { F.failure_count feed.new
         ≡ count_after (F.failure_count feed.old) (failed true (Some []) result).input }
     ensures gave { Leaves true result (F.remaining feed.old) (F.remaining feed.new) }
     ensures memory { IsErrOf result Fault.OutOfMemory → ⊥ }
 {
-    match output_in_parts(Mode::Hash, feed, part) {
-        Ok(output) => Ok(output),
-        Err(fault) => Err(Fault::of_source(fault, name)),
-    }
-}
-
-// The digest of all that a feed gives.
-fn digest_of_feed<'n, F: Feed>(hash: Hash, name: &'n str, feed: &mut F) -> Result<Tag, Fault<'n>>
-    requires { IsInRange (alg_of hash) }
-    ensures digest { IfSome (F.remaining feed.old) (λ bytes. Reads (input_limit (alg_of hash))
-        (λ m tag. tag ≡ hash_of hash m) name.entry.now (Some bytes) result) }
-    ensures length { IfOk result (λ tag. length tag ≡ tag_len (alg_of hash)) }
-    ensures counted { F.failure_count feed.new
-        ≡ count_after (F.failure_count feed.old) (failed true (Some []) result).input }
-    ensures gave { Leaves true result (F.remaining feed.old) (F.remaining feed.new) }
-    ensures memory { IsErrOf result Fault.OutOfMemory → ⊥ }
-{
-    match hash {
-        Hash::Plain(alg) => plain_digest(alg, name, feed),
-        Hash::Blake2b(length, salt, personal) => {
+    let length = requested.stretch.length as usize;
+    match requested.hash {
+        Hash::Sha256 => plain_digest(Alg::Sha256, name, feed),
+        Hash::Sha512 => plain_digest(Alg::Sha512, name, feed),
+        Hash::Blake2b(salt, personal) => {
             let Ok(mut hasher) = Blake2b::with_parameters(length, &[], &salt, &personal) else {
                 unreachable!()
             };
             absorb_feed(&mut hasher, name, feed)?;
-            Ok(hasher.finish())
+            Ok(Made::Tag(hasher.finish()))
         }
-        Hash::Blake2s(length, salt, personal) => {
+        Hash::Blake2s(salt, personal) => {
             let Ok(mut hasher) = Blake2s::with_parameters(length, &[], &salt, &personal) else {
                 unreachable!()
             };
             absorb_feed(&mut hasher, name, feed)?;
-            Ok(hasher.finish())
+            Ok(Made::Tag(hasher.finish()))
+        }
+        Hash::Blake3 => {
+            let mut output = output_of_feed(run, name, feed)?;
+            output.seek(requested.stretch.position);
+            Ok(Made::Output(output, requested.stretch.length))
         }
     }
 }
 
-fn plain_digest<'n, F: Feed>(alg: Alg, name: &'n str, feed: &mut F) -> Result<Tag, Fault<'n>>
+fn plain_digest<'n, F: Feed>(alg: Alg, name: &'n str, feed: &mut F) -> Result<Made, Fault<'n>>
     requires { IsInRange alg }
-    ensures digest { IfSome (F.remaining feed.old) (λ bytes. Reads (input_limit alg)
-        (λ m tag. tag ≡ digest alg m) name.entry.now (Some bytes) result) }
-    ensures length { IfOk result (λ tag. length tag ≡ tag_len alg) }
+    ensures made { IfSome (F.remaining feed.old) (λ bytes. Reads (input_limit alg)
+        (λ m made. made_bytes made ≡ digest alg m) name.entry.now (Some bytes) result) }
+    ensures has { IfOk result HasBytes }
+    ensures sized { IfOk result (λ made. made_len made ≡ tag_len alg) }
     ensures counted { F.failure_count feed.new
         ≡ count_after (F.failure_count feed.old) (failed true (Some []) result).input }
     ensures gave { Leaves true result (F.remaining feed.old) (F.remaining feed.new) }
@@ -369,34 +231,76 @@ fn plain_digest<'n, F: Feed>(alg: Alg, name: &'n str, feed: &mut F) -> Result<Ta
         unreachable!()
     };
     match digest_of(hasher, feed) {
-        Ok(tag) => Ok(tag),
+        Ok(tag) => Ok(Made::Tag(tag)),
         Err(fault) => Err(Fault::of_source(fault, name)),
     }
 }
 
-// Writes a digest as it is, or its line with a name. Memory is taken for a tagged line alone, before
-// its first byte.
-fn write_listed<'n, W: Sink>(
+// BLAKE3's output of all that a feed gives, in parts as long as the buffer, if that is not empty.
+fn output_of_feed<'n, F: Feed>(
+    run: &mut [u8],
+    name: &'n str,
+    feed: &mut F,
+) -> Result<Output, Fault<'n>>
+    requires { length run.old ≢ 0 → (e : ℕ) × (length run.old ≡ 1024 * 2 ^ e) }
+    ensures output { IfSome (F.remaining feed.old) (λ bytes. Reads (2 ^ 64 - 1)
+        (λ m output. output_root output ≡ hash_root m) name.entry.now (Some bytes) result) }
+    ensures counted { F.failure_count feed.new
+        ≡ count_after (F.failure_count feed.old) (failed true (Some []) result).input }
+    ensures gave { Leaves true result (F.remaining feed.old) (F.remaining feed.new) }
+    ensures memory { IsErrOf result Fault.OutOfMemory → ⊥ }
+{
+    if run.is_empty() {
+        let mut hasher = Blake3::new();
+        absorb_feed(&mut hasher, name, feed)?;
+        return Ok(hasher.output());
+    }
+    match output_in_parts(Mode::Hash, feed, run) {
+        Ok(output) => Ok(output),
+        Err(fault) => Err(Fault::of_source(fault, name)),
+    }
+}
+
+/// Writes a digest as it is, or its line with a name. Memory is taken for a tagged line alone, before
+/// its first byte.
+pub(crate) fn write_digest<'n, W: Sink>(
     alloc: Global,
-    form: Form,
+    requested: Requested,
+    made: Made,
+    name: &'n str,
+    out: &mut W,
+) -> Result<(), Fault<'n>>
+    requires digest { HasDigest requested }
+    requires has { HasBytes made }
+    requires sized { made_len made ≡ requested.stretch.length }
+    requires fits { FitsPlace (digest_line requested).place name.now }
+    ensures { PrintsListed result (W.shown out.old) (W.shown out.new)
+        ((digest_line requested).text name.entry.now (made_bytes made)) }
+{
+    match requested.form {
+        Form::Plain => Ok(write_made(made, false, name, out)?),
+        Form::Raw => Ok(write_made(made, true, name, out)?),
+        Form::Tagged => write_tagged_line(alloc, requested.alg(), made.into_tag(), name, out),
+    }
+}
+
+// Writes the line that names the algorithm of a digest.
+fn write_tagged_line<'n, W: Sink>(
+    alloc: Global,
+    alg: Alg,
     tag: Tag,
     name: &'n str,
     out: &mut W,
 ) -> Result<(), Fault<'n>>
-    requires range { IsInRange (alg_of form.hash) }
-    requires length { length tag ≡ tag_len (alg_of form.hash) }
-    requires listable { IsListable form.is_tagged (alg_of form.hash) name.now }
+    requires range { IsInRange alg }
+    requires length { length tag ≡ tag_len alg }
+    requires fits { Fits (2 * tag_len alg) name.now }
+    requires tagged { tagged_len alg name.now ≤ 65536 }
     ensures { PrintsListed result (W.shown out.old) (W.shown out.new)
-        (form_text form (record { name = name.entry.now; alg = alg_of form.hash; tag = tag })) }
+        (tagged (record { name = name.entry.now; alg = alg; tag = tag })) }
 {
-    if form.is_raw {
-        return Ok(write_all(out, tag.bytes())?);
-    }
-    if !form.is_tagged {
-        return Ok(write_line(tag.bytes(), name, out)?);
-    }
     let name = String::from_str(alloc, name)?;
-    let Ok(entry) = Entry::new(form.hash.alg(), name, tag) else {
+    let Ok(entry) = Entry::new(alg, name, tag) else {
         unreachable!()
     };
     match write_tagged(&entry, out) {

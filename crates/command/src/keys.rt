@@ -3,11 +3,11 @@
 ghost use Rattle.std.specs.Prelude.{◌≡◌, ◌*◌, ◌-◌, ◌≤◌, [], length, option_map, IfOk, IfSome};
 ghost use Rattle.command.specs.Keying.{KdfRuns, derived_by, expanded};
 ghost use Rattle.command.specs.Keying as spec;
+ghost use Rattle.command.specs.inside.Printing as printing;
 ghost use Rattle.command.specs.inside.Keys.{Extracts, PrintsDerived, PrintsKey, function_with};
 ghost use Rattle.command.specs.Streams.{OpensAtMost, DoesRun};
 ghost use Rattle.command.specs.inside.Streams.{AfterFile, SameStreams};
 ghost use Rattle.task.specs.Deriving.{by_blake3};
-ghost use Rattle.task.specs.inside.Possible.{HasKey};
 ghost use Rattle.task.specs.inside.Views.{derivation_shown};
 
 use crate::fault::Fault;
@@ -35,7 +35,6 @@ impl<'i, 't, 'o, L: Feed, T: Tree, W: Sink> Session<'i, 't, 'o, L, T, W> {
         is_raw: bool,
         material: &'n str,
     ) -> Result<u8, Fault<'n>>
-        requires { HasKey (derivation_shown derivation.now) }
         ensures run { DoesRun
             (λ bytes files. KdfRuns (derivation_shown derivation.now) is_raw material.entry.now files)
             (λ notes. notes ≡ [])
@@ -55,7 +54,6 @@ impl<'i, 't, 'o, L: Feed, T: Tree, W: Sink> Session<'i, 't, 'o, L, T, W> {
         is_raw: bool,
         material: &'n str,
     ) -> Result<(), Fault<'n>>
-        requires { HasKey (derivation_shown derivation.now) }
         ensures key { IfSome (T.files self.old.tree.now) (λ files.
             PrintsDerived is_raw (derived_by (derivation_shown derivation.now))
             material.entry.now (files material.entry.now) result
@@ -143,7 +141,7 @@ impl<'i, 't, 'o, L: Feed, T: Tree, W: Sink> Session<'i, 't, 'o, L, T, W> {
 
 // What is printed behind a key.
 fn line_end(is_raw: bool) -> &'static [u8]
-    ensures { result.now ≡ spec.line_end is_raw }
+    ensures { result.now ≡ printing.line_end is_raw }
 {
     if is_raw { b"" } else { b"\n" }
 }

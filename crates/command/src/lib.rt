@@ -13,6 +13,7 @@ mod joining;
 mod keys;
 mod laws;
 mod listed;
+mod making;
 mod output;
 mod reports;
 mod session;

@@ -70,6 +70,9 @@ impl<'i, 't, 'o, L: Feed, T: Tree, W: Sink> Session<'i, 't, 'o, L, T, W> {
         ensures report { PrintsReport is_summed form.entry.kind (name_in form.entry) name.entry.now result
             (⟦<Self as Streams>⟧.seen self.old) (⟦<Self as Streams>⟧.seen self.new)
             (E.shown err.old) (E.shown err.new) }
+        ensures opens { IfTold (⟦<Self as Streams>⟧.seen self.old) (λ bytes files. OpensAtMost
+            (opens_of name.entry.now + opens_from lines (content_of name.entry.now bytes files))
+            (⟦<Self as Streams>⟧.seen self.old) (⟦<Self as Streams>⟧.seen self.new)) }
         ensures same { SameStreams self.old self.new }
     {
         match self.check_named(form, is_summed, name, err) {

@@ -15,6 +15,7 @@ use crate::fault::{Fault, write_number};
 use crate::session::{Session, Streams, open_file};
 use source::{Feed, ReadFailed, Sink, WriteFailed};
 use sumlist::Tree;
+use task::PartLength;
 
 impl<'i, 't, 'o, L: Feed, T: Tree, W: Sink> Session<'i, 't, 'o, L, T, W> {
     /// Prints the number of the first chunk, of 1,024 bytes, of each part of a file, a line for each, where
@@ -22,16 +23,15 @@ impl<'i, 't, 'o, L: Feed, T: Tree, W: Sink> Session<'i, 't, 'o, L, T, W> {
     /// name here. No size is asked for: the file is opened at a few positions, and a byte is read there.
     /// Nothing is written before that is done. The faults are `CannotRead`, `CannotWrite` and
     /// `OutOfMemory`.
-    pub fn print_starts<'n>(&mut self, chunks: u64, name: &'n str) -> Result<u8, Fault<'n>>
-        requires { IsPartLength chunks }
-        ensures run { DoesRun (λ bytes files. StartsRuns chunks name.entry.now files) (λ notes. notes ≡ [])
+    pub fn print_starts<'n>(&mut self, parts: PartLength, name: &'n str) -> Result<u8, Fault<'n>>
+        ensures run { DoesRun (λ bytes files. StartsRuns parts.chunks name.entry.now files) (λ notes. notes ≡ [])
             result (⟦<Self as Streams>⟧.seen self.old) (⟦<Self as Streams>⟧.seen self.new) }
         ensures opens { OpensAtMost 55 (⟦<Self as Streams>⟧.seen self.old)
             (⟦<Self as Streams>⟧.seen self.new) }
         ensures same { SameStreams self.old self.new }
     {
-        let count = part_count(chunks, name, self.tree)?;
-        write_starts(chunks, count, self.out)?;
+        let count = part_count(parts.chunks, name, self.tree)?;
+        write_starts(parts.chunks, count, self.out)?;
         Ok(0)
     }
 }

@@ -16,7 +16,7 @@ use Rattle.command.specs.Troubles.{cannot_write, out_of_memory, told, usage}
 -- the run of a task; in how many parts a file is hashed makes no difference
 abbrev pub TaskRuns : Asked → Files → List ℕ → Run → Type 0
 TaskRuns (hashes wanted parts (these names)) files input run =
-    HashesAll (digest_line wanted) files input names run
+    HashesAll (digest_line wanted) files names input run
 TaskRuns (hashes wanted parts (in_file list)) files input run =
     HashesListed (digest_line wanted) files list (content_of list input files) run
 TaskRuns (prints requested parts wanted name file) files input run =

@@ -90,33 +90,23 @@ fn run_request<'n, 'i, 't, 'o, L: Feed, T: Tree, W: Sink, E: Sink>(
     ensures same { SameStreams session.old session.new }
 {
     match Task::of(session.alloc, request)? {
-        Task::Hash {
-            requested,
-            parts,
-            names,
-        } => match names {
-            Names::Given(files) => session.print_digests(requested, parts, files.as_slice(), err),
-            Names::From(list) => session.print_digests_from(requested, parts, list, err),
+        Task::Hash { hashing, names } => match names {
+            Names::Given(files) => session.print_digests(hashing, files.as_slice(), err),
+            Names::From(list) => session.print_digests_from(hashing, list, err),
         },
         Task::Line {
-            requested,
-            parts,
+            hashing,
             wanted,
             name,
             file,
-        } => session.print_hashed(requested, parts, wanted, name, file),
-        Task::Part {
-            first,
-            chunks,
-            file,
-        } => session.print_part(first, chunks, file),
-        Task::Starts { chunks, file } => session.print_starts(chunks, file),
+        } => session.print_hashed(hashing, wanted, name, file),
+        Task::Part { place, file } => session.print_part(place, file),
+        Task::Starts { parts, file } => session.print_starts(parts, file),
         Task::Join {
-            stretch,
-            bytes,
+            joining,
             name,
             lists,
-        } => session.print_joined(stretch, bytes, name, lists.as_slice()),
+        } => session.print_joined(joining, name, lists.as_slice()),
         Task::Mac {
             form,
             key,

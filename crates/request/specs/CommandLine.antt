@@ -126,6 +126,7 @@ sums_app names macs = fold (λ whole below. with_subcommand whole below.top) pro
 abbrev pub Given : Type 0
 Given = Text × List Row
 
+-- a request as what the words gave
 abbrev pub given_of : Request → Given
 given_of r = (r.command.now, rows_of (found_of r.matches))
 

@@ -1,5 +1,2 @@
-pub mod Numbers
-pub mod Powers
-pub mod Steps
-pub mod Ranges
-pub mod Possible
+mod Numbers
+mod Powers

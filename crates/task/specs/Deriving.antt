@@ -24,6 +24,7 @@ hkdf h g = do
   info ← given_bytes setting.Info g
   Ok (by_hkdf h n salt (unwrap_or info []))
 
+-- BLAKE3's derivation, which takes a context and no salt and no info
 abbrev pub blake3 : Given → Result Derived UsageFault
 blake3 g = do
   absent (setting.Salt ∷ setting.Info ∷ []) g
@@ -40,5 +41,6 @@ derivation_of g kind.Blake2b = hkdf hash.Blake2b g
 derivation_of g kind.Blake2s = hkdf hash.Blake2s g
 derivation_of g kind.Blake3 = blake3 g
 
+-- what is derived, by `-a`
 abbrev pub derivation : Given → Result Derived UsageFault
 derivation g = kind_of g >>= derivation_of g

@@ -2,109 +2,100 @@
 use Rattle.std.specs.Prelude.{ℕ, ◌-◌, ◌/◌, ◌^◌, ◌==◌, ◌&&◌, ◌||◌, Bool, List, [], ◌∷◌, length, Option, Result, Ok, Err}
 use Rattle.std.specs.Prelude.{codes, count_ones, is_some, max, min, nat_lt, if◌then◌else◌}
 use Rattle.std.specs.Option.{option_map_or}
-use Rattle.source.specs.Digest.{tag_len}
-use Rattle.source.specs.declared.alg.Alg.{Alg}
-use Rattle.source.specs.declared.alg.Alg.TheVariants as alg
 use Rattle.sumlist.specs.declared.kind.Kind.{Kind}
 use Rattle.sumlist.specs.declared.kind.Kind.TheVariants as kind
 use Rattle.request.specs.CommandLine.{Given, has_flag, text_of}
 use Rattle.task.specs.Parameters.{◌>>=◌, ◌>>◌, absent, files, given_bytes, kind_of, number, number_in, sized, text}
 use Rattle.task.specs.Parameters.{unset, wanted_bytes, where_given}
-use Rattle.task.specs.Requested.{alg_of}
-use Rattle.task.specs.declared.fault.Setting.TheVariants.{Length, Parts, Personal, Raw, Salt, Seek, Verify}
+use Rattle.task.specs.declared.fault.Setting.{Setting}
+use Rattle.task.specs.declared.fault.Setting.TheVariants.{Length, Parts, Personal, Salt, Seek, Verify}
+use Rattle.task.specs.declared.fault.Setting.TheVariants as setting
 use Rattle.task.specs.declared.fault.UsageFault.{UsageFault}
-use Rattle.task.specs.declared.fault.UsageFault.TheVariants.{NotWithRaw, NotWithTag, OneFile}
-use Rattle.task.specs.declared.fault.UsageFault.TheVariants.{OutOfRange}
+use Rattle.task.specs.declared.fault.UsageFault.TheVariants.{NotWithRaw, NotWithTag, OneFile, OutOfRange}
+use Rattle.task.specs.declared.hashing.Form.{Form}
+use Rattle.task.specs.declared.hashing.Form.TheVariants.{Plain, Raw, Tagged}
 use Rattle.task.specs.declared.hashing.Hash.{Hash}
-use Rattle.task.specs.declared.hashing.Hash.TheVariants.{Plain, Blake2b, Blake2s}
+use Rattle.task.specs.declared.hashing.Hash.TheVariants as hash
 use Rattle.task.specs.declared.hashing.Requested.{Requested}
-use Rattle.task.specs.declared.hashing.Requested.TheVariants.{Digest, Output}
 use Rattle.task.specs.declared.hashing.Stretch.{Stretch}
 
--- a digest, on lines that name their algorithm or do not, or as its bytes
-abbrev pub whole : Hash → Given → Requested
-whole hash g = Digest (record { hash = hash; is_tagged = has_flag (codes "tag") g; is_raw = has_flag (codes "raw") g })
+-- the settings that a hash does not have
+abbrev pub others : Kind → List Setting
+others kind.Blake2b = Seek ∷ Parts ∷ []
+others kind.Blake2s = Seek ∷ Parts ∷ []
+others kind.Blake3 = Salt ∷ Personal ∷ []
+others _ = Length ∷ Seek ∷ Salt ∷ Personal ∷ Parts ∷ []
 
 -- it may name more than one file
 abbrev pub names_several : Given → Bool
 names_several g = nat_lt 1 (length (files g)) || is_some (text_of (codes "files0-from") g)
 
--- the bytes themselves stand on no line, and are those of one file
-abbrev pub may_be_raw : Given → Result (Unit {0}) UsageFault
-may_be_raw g = do
-  unset (NotWithTag Raw) (has_flag (codes "raw") g && has_flag (codes "tag") g)
-  unset (OneFile Raw) (has_flag (codes "raw") g && names_several g)
+-- how a digest is printed: the bytes themselves stand on no line, and are those of one file
+abbrev pub form_of : Given → Result Form UsageFault
+form_of g = do
+  unset (NotWithTag setting.Raw) (has_flag (codes "raw") g && has_flag (codes "tag") g)
+  unset (OneFile setting.Raw) (has_flag (codes "raw") g && names_several g)
+  Ok (if has_flag (codes "raw") g then Raw else if has_flag (codes "tag") g then Tagged else Plain)
 
--- SHA-2 has no parameters
-abbrev pub sha : Alg → Given → Result Requested UsageFault
-sha a g = do
-  absent (Length ∷ Seek ∷ Salt ∷ Personal ∷ Parts ∷ []) g
-  may_be_raw g
-  Ok (whole (Plain a) g)
+-- the least and the greatest length of a digest; the label of BLAKE3 stands for the first bytes of its output, which
+-- without it ends far behind
+abbrev pub lengths : Kind → Form → ℕ × ℕ
+lengths kind.Sha256 form = (32, 32)
+lengths kind.Sha512 form = (64, 64)
+lengths kind.Blake2b form = (1, 64)
+lengths kind.Blake2s form = (1, 32)
+lengths kind.Blake3 Tagged = (32, 32)
+lengths kind.Blake3 form = (1, 2 ^ 64 - 1)
 
--- without `-l` a digest has as many bytes as the digits of `--verify` spell, within its range, or else the most
-abbrev pub blake2_length : ℕ → Given → Result ℕ UsageFault
-blake2_length most g =
-    number Length (option_map_or (λ t. min most (max 1 (length t / 2))) (text Verify g) most) 1 most g
+-- its length where `-l` is not given: that of BLAKE3, or the greatest, but where the digits of `--verify` spell fewer
+-- bytes of BLAKE2's
+abbrev pub default_len : Kind → ℕ → Given → ℕ
+default_len kind.Blake3 most g = 32
+default_len kind.Sha256 most g = most
+default_len kind.Sha512 most g = most
+default_len k most g = option_map_or (λ t. min most (max 1 (length t / 2))) (text Verify g) most
 
--- a digest of `most` bytes at most, salt and personalization of n bytes each: the digits of both are judged before the
--- length of either
-abbrev pub blake2 : (ℕ → List ℕ → List ℕ → Hash) → ℕ → ℕ → Given → Result Requested UsageFault
-blake2 hash most n g = do
-  absent (Seek ∷ Parts ∷ []) g
-  may_be_raw g
-  length ← blake2_length most g
+-- the bytes that `-l` and `--seek` say, none of them behind the last one
+abbrev pub stretch : ℕ → ℕ → ℕ → Given → Result Stretch UsageFault
+stretch default least most g = do
+  n ← number Length default least most g
+  position ← number Seek 0 0 (most - n) g
+  Ok (record { position = position; length = n })
+
+-- a salt and a personalization of n bytes each: the digits of both are judged before the length of either
+abbrev pub salts : ℕ → Given → Result (List ℕ × List ℕ) UsageFault
+salts n g = do
   salt ← given_bytes Salt g
   personal ← given_bytes Personal g
   salt ← sized Salt n salt
   personal ← sized Personal n personal
-  Ok (whole (hash length salt personal) g)
+  Ok (salt, personal)
 
--- the label of BLAKE3 stands for the first bytes of its output, its digest
-abbrev pub tagged_blake3 : Given → Result Requested UsageFault
-tagged_blake3 g = do
-  absent (Salt ∷ Personal ∷ []) g
-  may_be_raw g
-  number Length 32 32 32 g
-  number Seek 0 0 0 g
-  Ok (whole (Plain alg.Blake3) g)
+-- the hash, with what BLAKE2 takes besides
+abbrev pub hash_of : Kind → Given → Result Hash UsageFault
+hash_of kind.Sha256 g = Ok hash.Sha256
+hash_of kind.Sha512 g = Ok hash.Sha512
+hash_of kind.Blake2b g = salts 16 g >>= (λ s. Ok (hash.Blake2b s.0 s.1))
+hash_of kind.Blake2s g = salts 8 g >>= (λ s. Ok (hash.Blake2s s.0 s.1))
+hash_of kind.Blake3 g = Ok hash.Blake3
 
--- the bytes that `-l` and `--seek` say, before the end of the output
-abbrev pub stretch_of : Given → Bool → Result Stretch UsageFault
-stretch_of g is_raw = do
-  n ← number Length 32 1 (2 ^ 64 - 1) g
-  position ← number Seek 0 0 (2 ^ 64 - 1 - n) g
-  Ok (record { position = position; length = n; is_raw = is_raw })
-
-abbrev pub blake3_output : Given → Result Requested UsageFault
-blake3_output g = do
-  absent (Salt ∷ Personal ∷ []) g
-  may_be_raw g
-  stretch ← stretch_of g (has_flag (codes "raw") g)
-  Ok (Output stretch)
+-- what is printed of each file, by `-a`
+abbrev pub requested : Given → Result Requested UsageFault
+requested g = do
+  kind ← kind_of g
+  absent (others kind) g
+  form ← form_of g
+  stretch ← stretch (default_len kind (lengths kind form).1 g) (lengths kind form).0 (lengths kind form).1 g
+  hash ← hash_of kind g
+  Ok (record { hash = hash; stretch = stretch; form = form })
 
 -- how many chunks the parts have that files are hashed in, a power of two, where they are asked for
 abbrev pub part_size : ℕ → Result ℕ UsageFault
 part_size n = if count_ones n == 1 then Ok n else Err (OutOfRange Parts)
 
+-- how many chunks `--parts` says
 abbrev pub parts : Given → Result (Option ℕ) UsageFault
 parts g = where_given (λ t. number_in Parts 1 1024 t >>= part_size) (text Parts g)
-
--- by the hash
-abbrev pub requested_of : Given → Kind → Result Requested UsageFault
-requested_of g kind.Sha256 = sha alg.Sha256 g
-requested_of g kind.Sha512 = sha alg.Sha512 g
-requested_of g kind.Blake2b = blake2 Blake2b 64 16 g
-requested_of g kind.Blake2s = blake2 Blake2s 32 8 g
-requested_of g kind.Blake3 = if has_flag (codes "tag") g then tagged_blake3 g else blake3_output g
-
-abbrev pub requested : Given → Result Requested UsageFault
-requested g = kind_of g >>= requested_of g
-
--- how many bytes are printed, or compared
-abbrev pub requested_len : Requested → ℕ
-requested_len (Digest form) = tag_len (alg_of form.hash)
-requested_len (Output stretch) = stretch.length
 
 -- a digest to compare with stands for the digits of one file, and is as long as what would be printed
 abbrev pub of_digits : Given → Result (Unit {0}) UsageFault
@@ -113,5 +104,6 @@ of_digits g = do
   unset (NotWithRaw Verify) (has_flag (codes "raw") g)
   unset (OneFile Verify) (names_several g)
 
-abbrev pub wanted : Requested → Given → Result (Option (List ℕ)) UsageFault
-wanted r g = where_given (λ t. of_digits g >> wanted_bytes (requested_len r) t) (text Verify g)
+-- the digest of `--verify`
+abbrev pub wanted : ℕ → Given → Result (Option (List ℕ)) UsageFault
+wanted n g = where_given (λ t. of_digits g >> wanted_bytes n t) (text Verify g)

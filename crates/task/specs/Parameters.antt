@@ -22,13 +22,14 @@ use Rattle.task.specs.declared.fault.UsageFault.TheVariants.{OutOfRange, WrongLe
 use Rattle.task.specs.declared.parameters.HmacHash.{HmacHash}
 use Rattle.task.specs.declared.parameters.HmacHash.TheVariants as hmac
 
--- the second step, where the first one has no fault
 infixl 10 ◌>>=◌
+-- the second step, where the first one has no fault
 abbrev pub ◌>>=◌ : {A B : Type 0} → Result A UsageFault → (A → Result B UsageFault) → Result B UsageFault
 Ok x >>= f = f x
 Err fault >>= f = Err fault
 
 infixl 10 ◌>>◌
+-- the same, where the first step answers nothing
 abbrev pub ◌>>◌ : {A B : Type 0} → Result A UsageFault → Result B UsageFault → Result B UsageFault
 first >> second = first >>= (λ _. second)
 
@@ -105,6 +106,7 @@ abbrev pub kinds : List (Text × Kind)
 kinds = (codes "sha256", kind.Sha256) ∷ (codes "sha512", kind.Sha512) ∷ (codes "blake2b", kind.Blake2b)
     ∷ (codes "blake2s", kind.Blake2s) ∷ (codes "blake3", kind.Blake3) ∷ []
 
+-- the hash of `-a`, which is needed
 abbrev pub kind_of : Given → Result Kind UsageFault
 kind_of g = needed Algorithm g >>= named Algorithm kinds
 

@@ -5,7 +5,7 @@ use Rattle.std.specs.Option.{option_map_or}
 use Rattle.sumlist.specs.declared.kind.Kind.{Kind}
 use Rattle.sumlist.specs.declared.kind.Kind.TheVariants as kind
 use Rattle.request.specs.CommandLine.{Given}
-use Rattle.task.specs.Hashing.{stretch_of}
+use Rattle.task.specs.Hashing.{stretch}
 use Rattle.task.specs.Parameters.{◌>>=◌, ◌>>◌, given_number, kind_of, needed, number, number_in, text, unset}
 use Rattle.task.specs.declared.fault.Setting.TheVariants.{Algorithm, Bytes, Chunks, First}
 use Rattle.task.specs.declared.fault.UsageFault.{UsageFault}
@@ -17,6 +17,7 @@ abbrev pub has_parts : Kind → Result (Unit {0}) UsageFault
 has_parts kind.Blake3 = Ok tt
 has_parts k = Err (NotForCommand Algorithm)
 
+-- that `-a` says so
 abbrev pub names_blake3 : Given → Result (Unit {0}) UsageFault
 names_blake3 g = kind_of g >>= has_parts
 
@@ -48,6 +49,6 @@ listed_chunks g = do
 abbrev pub joined : Given → Result (Stretch × Option ℕ) UsageFault
 joined g = do
   names_blake3 g
-  stretch ← stretch_of g false
+  stretch ← stretch 32 1 (2 ^ 64 - 1) g
   bytes ← given_number Bytes 0 (2 ^ 64 - 1) g
   Ok (stretch, bytes)

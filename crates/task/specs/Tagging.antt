@@ -27,6 +27,7 @@ macs = (codes "hmac-sha256", hmac hash.Sha256) ∷ (codes "hmac-sha512", hmac ha
     ∷ (codes "blake2s", with_length Blake2s 32 1 32)
     ∷ (codes "blake3", with_length Blake3 32 1 (2 ^ 64 - 1)) ∷ []
 
+-- the keyed function of `-a`, with its length
 abbrev pub mac : Given → Result Mac UsageFault
 mac g = needed setting.Algorithm g >>= named setting.Algorithm macs >>= (λ f. f g)
 

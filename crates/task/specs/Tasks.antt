@@ -60,11 +60,12 @@ hash g = do
   parts ← parts g
   names ← one_source (text_of (codes "files0-from") g) (files g)
   name ← input_name g
-  digest ← hashing.wanted wanted g
+  digest ← hashing.wanted wanted.stretch.length g
   Ok (if is_some name || is_some digest
       then prints wanted parts digest (unwrap_or name (file_or_input g)) (file_or_input g)
       else hashes wanted parts names)
 
+-- that of `mac`
 abbrev pub mac : Given → Result Asked UsageFault
 mac g = do
   function ← tagging.mac g
@@ -72,12 +73,14 @@ mac g = do
   wanted ← tagging.wanted function g
   Ok (tags function (has_flag (codes "raw") g) key wanted (file_or_input g))
 
+-- that of `kdf`
 abbrev pub kdf : Given → Result Asked UsageFault
 kdf g = do
   derived ← derivation g
   material ← needed IkmFile g
   Ok (derives derived (has_flag (codes "raw") g) material)
 
+-- that of `check`
 abbrev pub check : Given → Result Asked UsageFault
 check g = given_kind g >>= (λ kind. Ok (checks kind (has_flag (codes "summary") g) (names_of (files g))))
 
@@ -88,10 +91,12 @@ starts g = do
   unset (FileOnly Starts) (bytes_eq (file_or_input g) (codes "-"))
   Ok (divides chunks (file_or_input g))
 
+-- that of `part`
 abbrev pub part : Given → Result Asked UsageFault
 part g = if has_flag (codes "list") g then starts g
     else place g >>= (λ place. Ok (cuts place.0 place.1 (file_or_input g)))
 
+-- that of `join`
 abbrev pub join : Given → Result Asked UsageFault
 join g = joined g >>= (λ wanted.
     Ok (joins wanted.0 wanted.1 (unwrap_or (text_of (codes "name") g) (codes "-")) (names_of (files g))))

@@ -2,4 +2,3 @@
 pub mod Seen
 pub mod Possible
 pub mod Views
-pub mod Salted

@@ -1,11 +1,10 @@
 // What `kdf` is to print.
 
-ghost use Rattle.std.specs.Prelude.{◌≡◌};
+ghost use Rattle.std.specs.Prelude.{◌≡◌, ◌*◌, ◌≤◌};
 ghost use Rattle.request.specs.CommandLine.{given_of};
 ghost use Rattle.task.specs.Deriving as spec;
-ghost use Rattle.task.specs.Parameters.{IsAsDefined};
+ghost use Rattle.task.specs.Parameters.{IsAsDefined, hmac_len};
 ghost use Rattle.task.specs.inside.Seen.{seen};
-ghost use Rattle.task.specs.inside.Views.{derivation_shown};
 
 use crate::fault::{Setting, TaskFault, UsageFault};
 use crate::parameters::{HmacHash, given_bytes, kind_of, needed, number_in, refused};
@@ -29,50 +28,53 @@ pub struct Hkdf {
     pub length: usize,
     pub salt: Option<Vec<u8>>,
     pub info: Vec<u8>,
+    ghost most: { length ≤ 255 * hmac_len hash },
 }
 
 impl<'a> Derivation<'a> {
+    ghost use Rattle.task.specs.inside.Views.{derivation_shown};
+
     /// The derivation that a request of `kdf` names, or the first fault of its settings.
     pub(crate) fn of(alloc: Global, request: &Request<'a>) -> Result<Derivation<'a>, TaskFault>
         ensures { IsAsDefined derivation_shown (spec.derivation (given_of request.now)) result }
     {
         match kind_of(request)? {
-            Kind::Sha256 => with_hkdf(alloc, request, HmacHash::Sha256),
-            Kind::Sha512 => with_hkdf(alloc, request, HmacHash::Sha512),
-            Kind::Blake2b => with_hkdf(alloc, request, HmacHash::Blake2b),
-            Kind::Blake2s => with_hkdf(alloc, request, HmacHash::Blake2s),
-            Kind::Blake3 => Ok(with_blake3(request)?),
+            Kind::Sha256 => Derivation::hkdf(alloc, request, HmacHash::Sha256),
+            Kind::Sha512 => Derivation::hkdf(alloc, request, HmacHash::Sha512),
+            Kind::Blake2b => Derivation::hkdf(alloc, request, HmacHash::Blake2b),
+            Kind::Blake2s => Derivation::hkdf(alloc, request, HmacHash::Blake2s),
+            Kind::Blake3 => Ok(Derivation::blake3(request)?),
         }
     }
-}
 
-fn with_hkdf<'a>(
-    alloc: Global,
-    request: &Request<'a>,
-    hash: HmacHash,
-) -> Result<Derivation<'a>, TaskFault>
-    ensures { IsAsDefined derivation_shown (spec.hkdf hash (given_of request.now)) result }
-{
-    refused(request, &[Setting::Context])?;
-    let length = needed(request, Setting::Length)?;
-    let most = 255 * hash.digest_len();
-    let length = number_in(Setting::Length, 1, most, length)? as usize;
-    let salt = given_bytes(alloc, request, Setting::Salt)?;
-    let info = given_bytes(alloc, request, Setting::Info)?;
-    Ok(Derivation::Hkdf(Hkdf {
-        hash,
-        length,
-        salt,
-        info: info.unwrap_or(Vec::new(alloc)),
-    }))
-}
+    fn hkdf(
+        alloc: Global,
+        request: &Request<'a>,
+        hash: HmacHash,
+    ) -> Result<Derivation<'a>, TaskFault>
+        ensures { IsAsDefined derivation_shown (spec.hkdf hash (given_of request.now)) result }
+    {
+        refused(request, &[Setting::Context])?;
+        let length = needed(request, Setting::Length)?;
+        let most = 255 * hash.digest_len();
+        let length = number_in(Setting::Length, 1, most, length)? as usize;
+        let salt = given_bytes(alloc, request, Setting::Salt)?;
+        let info = given_bytes(alloc, request, Setting::Info)?;
+        Ok(Derivation::Hkdf(Hkdf {
+            hash,
+            length,
+            salt,
+            info: info.unwrap_or(Vec::new(alloc)),
+        }))
+    }
 
-fn with_blake3<'a>(request: &Request<'a>) -> Result<Derivation<'a>, UsageFault>
-    ensures { seen derivation_shown result ≡ spec.blake3 (given_of request.now) }
-{
-    refused(request, &[Setting::Salt, Setting::Info])?;
-    let context = needed(request, Setting::Context)?;
-    let length = needed(request, Setting::Length)?;
-    let length = number_in(Setting::Length, 1, u64::MAX, length)?;
-    Ok(Derivation::Blake3 { context, length })
+    fn blake3(request: &Request<'a>) -> Result<Derivation<'a>, UsageFault>
+        ensures { seen derivation_shown result ≡ spec.blake3 (given_of request.now) }
+    {
+        refused(request, &[Setting::Salt, Setting::Info])?;
+        let context = needed(request, Setting::Context)?;
+        let length = needed(request, Setting::Length)?;
+        let length = number_in(Setting::Length, 1, u64::MAX, length)?;
+        Ok(Derivation::Blake3 { context, length })
+    }
 }

@@ -3,8 +3,9 @@
 
 pub use derivation::{Derivation, Hkdf};
 pub use fault::{Setting, TaskFault, UsageFault};
-pub use hashing::{Form, Hash, Requested, Stretch};
+pub use hashing::{Form, Hash, Hashing, Requested, Stretch};
 pub use parameters::HmacHash;
+pub use parting::{Joining, PartLength, Place};
 pub use tagging::{Key, Mac, TagForm};
 pub use tasks::{Names, Task};
 

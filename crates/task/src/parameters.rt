@@ -1,7 +1,7 @@
 // The texts of settings as names, numbers and bytes, and which fault each can be.
 
-ghost use Rattle.std.specs.Prelude.{◌≡◌, ◌≢◌, ◌&&◌, Err, IsSomeAnd, MatchResult, Ok, if◌then◌else◌, length, nat_le};
-ghost use Rattle.std.specs.Prelude.{Some, option_map, replicate, unwrap_or};
+ghost use Rattle.std.specs.Prelude.{◌≡◌, ◌≢◌, ◌≤◌, ◌&&◌, Err, IfOk, IfSome, IsSomeAnd, MatchResult, Ok};
+ghost use Rattle.std.specs.Prelude.{if◌then◌else◌, length, nat_le, Some, option_map, replicate, unwrap_or};
 ghost use Rattle.request.specs.CommandLine.{given_of};
 ghost use Rattle.task.specs.Parameters as spec;
 ghost use Rattle.task.specs.Parameters.{IsAsDefined};
@@ -130,7 +130,8 @@ pub(crate) fn number(
     least: u64,
     most: u64,
 ) -> Result<u64, UsageFault>
-    ensures { result ≡ spec.number setting default least most (given_of request.now) }
+    ensures value { result ≡ spec.number setting default least most (given_of request.now) }
+    ensures range { least ≤ default → default ≤ most → IfOk result (λ n. (least ≤ n) × (n ≤ most)) }
 {
     Ok(given_number(request, setting, least, most)?.unwrap_or(default))
 }
@@ -142,7 +143,8 @@ pub(crate) fn given_number(
     least: u64,
     most: u64,
 ) -> Result<Option<u64>, UsageFault>
-    ensures { result ≡ spec.given_number setting least most (given_of request.now) }
+    ensures value { result ≡ spec.given_number setting least most (given_of request.now) }
+    ensures range { IfOk result (λ m. IfSome m (λ n. (least ≤ n) × (n ≤ most))) }
 {
     match text_of(request, setting) {
         Some(text) => Ok(Some(number_in(setting, least, most, text)?)),
@@ -157,7 +159,8 @@ pub(crate) fn number_in(
     most: u64,
     text: &str,
 ) -> Result<u64, UsageFault>
-    ensures { result ≡ spec.number_in setting least most text.now }
+    ensures value { result ≡ spec.number_in setting least most text.now }
+    ensures range { IfOk result (λ n. (least ≤ n) × (n ≤ most)) }
 {
     match text.parse::<u64>() {
         Ok(value) => within(setting, least, most, value),
@@ -166,8 +169,9 @@ pub(crate) fn number_in(
 }
 
 fn within(setting: Setting, least: u64, most: u64, value: u64) -> Result<u64, UsageFault>
-    ensures { result
+    ensures value { result
         ≡ (if nat_le least value && nat_le value most then Ok value else Err (OutOfRange setting)) }
+    ensures range { IfOk result (λ n. (least ≤ n) × (n ≤ most)) }
 {
     if least <= value && value <= most {
         Ok(value)

@@ -1,10 +1,10 @@
 // What `mac` is to print.
 
-ghost use Rattle.std.specs.Prelude.{◌≡◌, option_map};
+ghost use Rattle.std.specs.Prelude.{◌≡◌, ◌≤◌, IfOk, option_map};
 ghost use Rattle.request.specs.CommandLine.{given_of};
 ghost use Rattle.task.specs.Parameters.{IsAsDefined, number};
 ghost use Rattle.task.specs.Tagging as spec;
-ghost use Rattle.task.specs.inside.Views.{key_shown};
+ghost use Rattle.task.specs.inside.Possible.{HasTag};
 
 use crate::fault::{Setting, TaskFault, UsageFault};
 use crate::parameters::{
@@ -34,6 +34,7 @@ pub struct TagForm {
     pub mac: Mac,
     /// The bytes of the tag alone are printed, and no line.
     pub is_raw: bool,
+    ghost has: { HasTag mac },
 }
 
 /// A key.
@@ -48,7 +49,8 @@ pub enum Key<'a> {
 impl Mac {
     /// The keyed function that a request of `mac` names, or the first fault of its settings.
     pub(crate) fn of(request: &Request<'_>) -> Result<Mac, UsageFault>
-        ensures { result ≡ spec.mac (given_of request.now) }
+        ensures value { result ≡ spec.mac (given_of request.now) }
+        ensures has { IfOk result HasTag }
     {
         match needed(request, Setting::Algorithm)? {
             "hmac-sha256" => hmac(request, HmacHash::Sha256),
@@ -97,7 +99,8 @@ impl Mac {
 }
 
 fn hmac(request: &Request<'_>, hash: HmacHash) -> Result<Mac, UsageFault>
-    ensures { result ≡ spec.hmac hash (given_of request.now) }
+    ensures value { result ≡ spec.hmac hash (given_of request.now) }
+    ensures has { IfOk result HasTag }
 {
     let whole = hash.digest_len();
     let length = number(request, Setting::Length, whole, whole / 2, whole)?;
@@ -105,12 +108,15 @@ fn hmac(request: &Request<'_>, hash: HmacHash) -> Result<Mac, UsageFault>
 }
 
 fn tag_len(request: &Request<'_>, most: u64) -> Result<u64, UsageFault>
-    ensures { result ≡ number Setting.Length most 1 most (given_of request.now) }
+    ensures value { result ≡ number Setting.Length most 1 most (given_of request.now) }
+    ensures range { 1 ≤ most → IfOk result (λ n. (1 ≤ n) × (n ≤ most)) }
 {
     number(request, Setting::Length, most, 1, most)
 }
 
 impl<'a> Key<'a> {
+    ghost use Rattle.task.specs.inside.Views.{key_shown};
+
     /// The key of a request of `mac`, which gives it in one of the two ways. The digits of `--key`
     /// are judged first.
     pub(crate) fn of(alloc: Global, request: &Request<'a>) -> Result<Key<'a>, TaskFault>

@@ -6,14 +6,13 @@ ghost use Rattle.task.specs.Parameters.{IsAsDefined, files};
 ghost use Rattle.task.specs.Tasks as spec;
 ghost use Rattle.task.specs.Tasks.{asked};
 ghost use Rattle.task.specs.inside.Seen.{seen};
-ghost use Rattle.task.specs.inside.Possible.{IsPossible};
 ghost use Rattle.task.specs.inside.Views.{names_shown, task_shown, texts_of};
 
 use crate::derivation::Derivation;
 use crate::fault::{Setting, TaskFault, UsageFault};
-use crate::hashing::{Requested, Stretch, names_several, parts_of};
+use crate::hashing::{Hashing, Requested, names_several, parts_of};
 use crate::parameters::{file_count, given_kind, needed, refused_flag};
-use crate::parting::{joined_of, listed_chunks, place_of};
+use crate::parting::{Joining, PartLength, Place, joined_of, listed_chunks, place_of};
 use crate::tagging::{Key, Mac, TagForm};
 use request::Request;
 use std::alloc::{AllocError, Global};
@@ -32,36 +31,32 @@ pub enum Names<'a> {
 pub enum Task<'a> {
     /// Print this of each file, which is hashed in parts of so many chunks where that is asked for.
     Hash {
-        requested: Requested,
-        parts: Option<u64>,
+        hashing: Hashing,
         names: Names<'a>,
     },
     /// Print this of one file under this name, or whether it is the digest that is wanted, of as many
     /// bytes; the file is hashed in such parts.
     Line {
-        requested: Requested,
-        parts: Option<u64>,
+        hashing: Hashing,
         wanted: Option<Vec<u8>>,
         name: &'a str,
         file: &'a str,
     },
     /// Print the part of a file's bytes from that chunk on, to their end or so many chunks of them.
     Part {
-        first: u64,
-        chunks: Option<u64>,
+        place: Place,
         file: &'a str,
     },
     /// Print the first chunk of each part of a file, where each but the last has so many chunks. It is
     /// not standard input.
     Starts {
-        chunks: u64,
+        parts: PartLength,
         file: &'a str,
     },
     /// Print these bytes of the output of the parts in the lists, one at least, which have so many
     /// bytes in all where that is asked for; the line has this name.
     Join {
-        stretch: Stretch,
-        bytes: Option<u64>,
+        joining: Joining,
         name: &'a str,
         lists: Vec<&'a str>,
     },
@@ -92,8 +87,7 @@ impl<'a> Task<'a> {
     /// The task that a request asks for, or what is wrong with the first of its settings: each
     /// command has an order in which it judges them.
     pub fn of(alloc: Global, request: Request<'a>) -> Result<Task<'a>, TaskFault>
-        ensures judged { IsAsDefined task_shown (asked (given_of request.entry)) result }
-        ensures possible { IfOk result (λ task. IsPossible (task_shown task)) }
+        ensures { IsAsDefined task_shown (asked (given_of request.entry)) result }
     {
         task_of(alloc, &request)
     }
@@ -121,21 +115,17 @@ fn hash<'a>(alloc: Global, request: &Request<'a>) -> Result<Task<'a>, TaskFault>
     let names = one_source(alloc, request)?;
     let name = input_name(request)?;
     let wanted = requested.wanted(alloc, request)?;
+    let hashing = Hashing { requested, parts };
     if name.is_some() || wanted.is_some() {
         let file = file_or_input(request);
         return Ok(Task::Line {
-            requested,
-            parts,
+            hashing,
             wanted,
             name: name.unwrap_or(file),
             file,
         });
     }
-    Ok(Task::Hash {
-        requested,
-        parts,
-        names,
-    })
+    Ok(Task::Hash { hashing, names })
 }
 
 // The name of standard input, where it alone is read.
@@ -221,32 +211,28 @@ fn part<'a>(request: &Request<'a>) -> Result<Task<'a>, UsageFault>
     if request.has("list") {
         return starts(request);
     }
-    let (first, chunks) = place_of(request)?;
-    Ok(Task::Part {
-        first,
-        chunks,
-        file: file_or_input(request),
-    })
+    let place = place_of(request)?;
+    let file = file_or_input(request);
+    Ok(Task::Part { place, file })
 }
 
 fn starts<'a>(request: &Request<'a>) -> Result<Task<'a>, UsageFault>
     ensures { seen task_shown result ≡ spec.starts (given_of request.now) }
 {
-    let chunks = listed_chunks(request)?;
+    let parts = listed_chunks(request)?;
     let file = file_or_input(request);
     refused_flag(UsageFault::FileOnly(Setting::Starts), file == "-")?;
-    Ok(Task::Starts { chunks, file })
+    Ok(Task::Starts { parts, file })
 }
 
 fn join<'a>(alloc: Global, request: &Request<'a>) -> Result<Task<'a>, TaskFault>
     ensures { IsAsDefined task_shown (spec.join (given_of request.now)) result }
 {
-    let (stretch, bytes) = joined_of(request)?;
+    let joining = joined_of(request)?;
     let name = request.text("name").unwrap_or("-");
     let lists = names_of(alloc, request)?;
     Ok(Task::Join {
-        stretch,
-        bytes,
+        joining,
         name,
         lists,
     })

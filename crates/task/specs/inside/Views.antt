@@ -33,12 +33,12 @@ derivation_shown (derivation.Hkdf by) =
 derivation_shown (derivation.Blake3 context n) = by_blake3 context.now n
 
 abbrev pub task_shown : Task → Asked
-task_shown (code.Hash wanted parts names) = hashes wanted parts (names_shown names)
-task_shown (code.Line requested parts wanted name content) =
-    prints requested parts (option_map (λ v. v.items) wanted) name.now content.now
-task_shown (code.Part first chunks name) = cuts first chunks name.now
-task_shown (code.Starts chunks name) = divides chunks name.now
-task_shown (code.Join stretch count name lists) = joins stretch count name.now (texts_of lists)
+task_shown (code.Hash hashing names) = hashes hashing.requested hashing.parts (names_shown names)
+task_shown (code.Line hashing wanted name content) =
+    prints hashing.requested hashing.parts (option_map (λ v. v.items) wanted) name.now content.now
+task_shown (code.Part place name) = cuts place.first place.chunks name.now
+task_shown (code.Starts parts name) = divides parts.chunks name.now
+task_shown (code.Join joining name lists) = joins joining.stretch joining.bytes name.now (texts_of lists)
 task_shown (code.Mac form key wanted name) =
     tags form.mac form.is_raw (key_shown key) (option_map (λ v. v.items) wanted) name.now
 task_shown (code.Kdf derivation is_raw material) = derives (derivation_shown derivation) is_raw material.now

@@ -1,13 +1,14 @@
-use Rattle.std.proofs.Common.{refl, ap, sym, map}
+use Rattle.std.proofs.Common.{refl, ap, map}
 use Rattle.std.proofs.Common.{arith}
 use Rattle.std.proofs.Common.{take_all}
+use Rattle.std.proofs.lemmas.List.{drop_all}
 use Rattle.std.specs.List.{sum_by}
-use Rattle.command.specs.Lines.{digest_line}
+use Rattle.command.specs.Lines.{digest_line, is_input}
 use Rattle.command.specs.Streams.{opens_of}
 use Rattle.command.specs.inside.Streams.{seen_of}
-use Rattle.command.proofs.Given.{goes-end, goes-next, goes-start, goes-stop}
-use Rattle.command.proofs.Going.{Same-trans}
-use Rattle.command.proofs.Names.{all_names, one_more}
+use Rattle.command.proofs.Given.{line_whole, name_runs}
+use Rattle.command.proofs.Going.{Same-trans, goes-end, goes-next, goes-start, goes-stop}
+use Rattle.command.proofs.Names.{next_name}
 use Rattle.command.proofs.Opening.{opens_all, opens_more}
 use Rattle.command.proofs.session.Session.print_digests.Goals as goal
 
@@ -15,44 +16,52 @@ pub loop-name-init : goal.loop-name-init
 loop-name-init g c =
     let see = seen_of g.L.Feed.remaining g.L.Feed.failure_count g.T.Tree.files g.T.Tree.failure_count
     g.T.Tree.opens g.W.Sink.shown in
+    let l = digest_line c.args.hashing.requested in
     record {
       same = record { input = refl; tree = refl; out = refl };
       opens = omega arith;
-      goes = goes-start (digest_line c.args.requested) (see c.args.self.now) (g.E.Sink.shown c.args.err.now);
+      goes = goes-start is_input (name_runs l) (line_whole l)
+          _ (see c.args.self.now) _;
     }
 
 pub returns-in_err-print_digest-clause-run : goal.returns-in_err-print_digest-clause-run
 returns-in_err-print_digest-clause-run g c =
     let see = seen_of g.L.Feed.remaining g.L.Feed.failure_count g.T.Tree.files g.T.Tree.failure_count
     g.T.Tree.opens g.W.Sink.shown in
-    goes-stop (digest_line c.args.requested) (see c.args.self.now) (g.E.Sink.shown c.args.err.now)
-    (see c.loop-name.self) (see c.print_digest.new.self) _ _ _ _ _ _ _ _ _
-    (all_names c.args.names.now c.loop-name.name-index _ c.loop-name-test.true) c.from_residual.ensures.1
-    c.loop-name.invariant.goes c.in_err-print_digest.ensures.name
+    let l = digest_line c.args.hashing.requested in
+    goes-stop is_input (name_runs l)
+    (line_whole l) _ c.loop-name.status (see c.args.self.now) (see c.loop-name.self)
+    (g.E.Sink.shown c.args.err.now) (g.E.Sink.shown c.loop-name.err) _ _ _ (see c.print_digest.new.self) _
+    (next_name c.args.names.now c.loop-name.name-index _ c.loop-name-test.true) c.loop-name.invariant.goes _ _
+    c.from_residual.ensures.1 c.in_err-print_digest.ensures.name
 
 pub loop-name-preserved : goal.loop-name-preserved
 loop-name-preserved g c =
     let see = seen_of g.L.Feed.remaining g.L.Feed.failure_count g.T.Tree.files g.T.Tree.failure_count
     g.T.Tree.opens g.W.Sink.shown in
+    let l = digest_line c.args.hashing.requested in
     let most = c.max-status.ensures in
     record {
       same = Same-trans _ _ _ c.loop-name.invariant.same c.print_digest.ensures.same;
       opens = opens_more c.args.names.now c.loop-name.name-index _ c.loop-name-test.true (see c.args.self.now)
           (see c.loop-name.self) (see c.print_digest.new.self) c.loop-name.invariant.opens
-          c.in_ok-print_digest.ensures.name.read.opens;
-      goes = goes-next (digest_line c.args.requested) (see c.args.self.now) (g.E.Sink.shown c.args.err.now)
-          (see c.loop-name.self) (see c.print_digest.new.self) _ _ _ _ _ _ _ _
-          (one_more c.args.names.now c.loop-name.name-index _ c.loop-name-test.true) (omega (arith, most))
-          c.loop-name.invariant.goes c.in_ok-print_digest.ensures.name;
+          c.print_digest.ensures.opens;
+      goes = goes-next is_input (name_runs l)
+          (line_whole l) _ c.loop-name.status (see c.args.self.now) (see c.loop-name.self)
+          (g.E.Sink.shown c.args.err.now) (g.E.Sink.shown c.loop-name.err) _ _ _ (see c.print_digest.new.self) _
+          (next_name c.args.names.now c.loop-name.name-index _ c.loop-name-test.true) c.loop-name.invariant.goes _ _
+          (omega (arith, most)) c.in_ok-print_digest.ensures.name;
     }
 
 pub returns-clause-run : goal.returns-clause-run
 returns-clause-run g c =
     let see = seen_of g.L.Feed.remaining g.L.Feed.failure_count g.T.Tree.files g.T.Tree.failure_count
     g.T.Tree.opens g.W.Sink.shown in
-    goes-end (digest_line c.args.requested) (see c.args.self.now) (g.E.Sink.shown c.args.err.now)
-    (see c.loop-name.self) _ _ _ _
-    (ap (map (λ n. n.now)) (sym (take_all c.loop-name.name-index c.args.names.now c.loop-name-test.false)))
+    let l = digest_line c.args.hashing.requested in
+    goes-end is_input (name_runs l)
+    (line_whole l) _ c.loop-name.status (see c.args.self.now) (see c.loop-name.self)
+    (g.E.Sink.shown c.args.err.now) (g.E.Sink.shown c.loop-name.err) _
+    (ap (map (λ n. n.now)) (drop_all c.loop-name.name-index c.args.names.now c.loop-name-test.false))
     c.loop-name.invariant.goes
 
 pub returns-in_err-print_digest-clause-opens : goal.returns-in_err-print_digest-clause-opens
@@ -61,7 +70,7 @@ returns-in_err-print_digest-clause-opens g c =
     g.T.Tree.opens g.W.Sink.shown in
     opens_all c.args.names.now c.loop-name.name-index _ c.loop-name-test.true (see c.args.self.now)
     (see c.loop-name.self) (see c.print_digest.new.self) c.loop-name.invariant.opens
-    c.in_err-print_digest.ensures.name.read.opens
+    c.print_digest.ensures.opens
 
 pub returns-clause-opens : goal.returns-clause-opens
 returns-clause-opens g c =

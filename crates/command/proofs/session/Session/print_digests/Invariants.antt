@@ -1,9 +1,10 @@
-use Rattle.std.proofs.Common.{map, take}
+use Rattle.std.proofs.Common.{drop, map, take}
 use Rattle.std.specs.List.{sum_by}
-use Rattle.command.specs.Lines.{digest_line}
+use Rattle.command.specs.Lines.{digest_line, is_input}
 use Rattle.command.specs.Streams.{OpensAtMost, opens_of}
 use Rattle.command.specs.inside.Streams.{SameStreams, seen_of}
-use Rattle.command.proofs.Given.{Goes}
+use Rattle.command.proofs.Given.{line_whole, name_runs}
+use Rattle.command.proofs.Going.{Goes}
 use Rattle.command.proofs.session.Session.print_digests.Given as goal
 
 abbrev pub invariant-loop-name : goal.invariant-loop-name
@@ -14,6 +15,8 @@ invariant-loop-name g l =
       same : SameStreams l.initial.self l.self;
       opens : OpensAtMost (sum_by opens_of (map (λ n. n.now) (take l.name-index l.names)))
           (see l.initial.self) (see l.self);
-      goes : Goes (digest_line l.requested) (see l.initial.self) (g.E.Sink.shown l.initial.err)
-          (map (λ n. n.now) (take l.name-index l.names)) l.status (see l.self) (g.E.Sink.shown l.err);
+      goes : Goes is_input (name_runs (digest_line l.hashing.requested))
+          (line_whole (digest_line l.hashing.requested))
+          (map (λ n. n.now) l.names) (map (λ n. n.now) (drop l.name-index l.names)) l.status (see l.initial.self)
+          (see l.self) (g.E.Sink.shown l.initial.err) (g.E.Sink.shown l.err);
     }

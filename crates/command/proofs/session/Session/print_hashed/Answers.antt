@@ -5,6 +5,7 @@ use Rattle.command.proofs.session.Session.print_hashed.Goals as goal
 
 pub returns-clause-run : goal.returns-clause-run
 returns-clause-run g c =
-    line_run (option_map (λ v. v.items) c.args.wanted) (digest_line c.args.requested) c.args.name.now c.args.file.now
+    line_run (option_map (λ v. v.items) c.args.wanted) (digest_line c.args.hashing.requested)
+    c.args.name.now c.args.file.now
     _ _ _ _ _ _ _ _ _
     (rw c.bytes_of.ensures at c.print_compared.ensures.answer) c.print_compared.ensures.read.counted

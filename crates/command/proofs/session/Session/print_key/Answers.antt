@@ -1,5 +1,5 @@
 use Rattle.std.proofs.Common.{refl}
-use Rattle.command.specs.Keying.{line_end}
+use Rattle.command.specs.inside.Printing.{line_end}
 use Rattle.command.proofs.Deriving.{derives_printed, derives_stopped}
 use Rattle.command.proofs.Printing.{unwritten}
 use Rattle.command.proofs.session.Session.print_key.Goals as goal

@@ -8,7 +8,6 @@ returns-in-Ok-clause-report g c = record {
   run = c.in-Ok.ensures.run;
   gave = c.in-Ok.ensures.gave;
   files = c.in-Ok.ensures.files;
-  opens = c.in-Ok.ensures.opens;
   answers = (refl, refl);
 }
 
@@ -19,6 +18,5 @@ returns-in-Err-clause-report g c = record {
   run = c.in-Err.ensures.run;
   gave = c.in-Err.ensures.gave;
   files = c.in-Err.ensures.files;
-  opens = c.in-Err.ensures.opens;
   answers = c.settle.ensures;
 }

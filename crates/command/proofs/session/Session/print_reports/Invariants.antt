@@ -1,10 +1,9 @@
-use Rattle.std.proofs.Common.{ℕ, Result, drop, length, map}
+use Rattle.std.proofs.Common.{drop, length, map}
 use Rattle.std.specs.Prelude.{nat_lt}
-use Rattle.source.specs.Written.{Shown}
-use Rattle.command.specs.Streams.{Seen}
-use Rattle.command.specs.declared.fault.Fault.{Fault}
+use Rattle.command.specs.Lines.{is_input}
 use Rattle.command.specs.inside.Streams.{SameStreams, seen_of}
-use Rattle.command.proofs.Reporting.{Checks, raised}
+use Rattle.command.proofs.Going.{Goes}
+use Rattle.command.proofs.Reporting.{OpensOn, list_runs, list_whole}
 use Rattle.command.proofs.session.Session.print_reports.Given as goal
 
 abbrev pub invariant-loop-name : goal.invariant-loop-name
@@ -14,9 +13,9 @@ invariant-loop-name g l =
     let are_named = nat_lt 1 (length (map (λ n. n.now) l.lists)) in
     record {
       same : SameStreams l.initial.self l.self;
-      goes : (r : Result ℕ Fault) (end : Seen) (err : Shown)
-          → Checks l.is_summed l.kind are_named (map (λ n. n.now) (drop l.name-index l.lists)) r (see l.self) end
-          (g.E.Sink.shown l.err) err
-          → Checks l.is_summed l.kind are_named (map (λ n. n.now) l.lists) (raised l.status r) (see l.initial.self) end
-          (g.E.Sink.shown l.initial.err) err;
+      opens : OpensOn (map (λ n. n.now) l.lists) (map (λ n. n.now) (drop l.name-index l.lists)) (see l.initial.self)
+          (see l.self);
+      goes : Goes is_input (list_runs l.is_summed l.kind are_named) (list_whole l.is_summed l.kind are_named)
+          (map (λ n. n.now) l.lists) (map (λ n. n.now) (drop l.name-index l.lists)) l.status (see l.initial.self)
+          (see l.self) (g.E.Sink.shown l.initial.err) (g.E.Sink.shown l.err);
     }
