@@ -1,6 +1,6 @@
 #!/usr/bin/env python3
 """Writes the completions for bash, zsh and fish from completion/options.table.
-usage: tools/completions.py          writes completion/sums.bash, completion/_sums and completion/sums.fish
+usage: tools/completions.py          writes those of sums and of sums-parallel into completion/
        tools/completions.py check    tells where they differ from what would be written; status 1 where they do
 """
 
@@ -217,10 +217,8 @@ def fish_option(begin, option):
     return f"{begin} {name}{takes} -d {quoted(option.text)}\n"
 
 
-def fish_command(command, commands):
-    if command.takes == "commands":
-        return f"complete -c sums -n '__sums_is_behind {command.name}' -a {quoted(names(commands))}\n"
-    begin = f"complete -c sums -n '__sums_command_is {command.name}'"
+def fish_command(begin, command):
+    """the lines of a command, which have this beginning"""
     text = "".join(fish_option(begin, option) for option in command.options)
     text += f"{begin} -s h -l help -d 'print help'\n"
     return text + (f"{begin} -F\n" if command.takes else "")
@@ -230,10 +228,97 @@ def fish(commands):
     text = FISH_HEAD.format(written=WRITTEN)
     for command in commands:
         text += f"complete -c sums -n __sums_is_first -a {command.name} -d {quoted(command.text)}\n"
-    return text + "".join(fish_command(command, commands) for command in commands)
+    for command in commands:
+        if command.takes == "commands":
+            text += f"complete -c sums -n '__sums_is_behind {command.name}' -a {quoted(names(commands))}\n"
+        else:
+            text += fish_command(f"complete -c sums -n '__sums_command_is {command.name}'", command)
+    return text
 
 
-FILES = {"completion/sums.bash": bash, "completion/_sums": zsh, "completion/sums.fish": fish}
+# ---- sums-parallel: its own options, one of its commands, and then the words of sums
+
+BASH_PARALLEL = """\
+# Completion for bash of the program sums-parallel. {written}
+
+_sums_parallel() {{
+    local word=${{COMP_WORDS[COMP_CWORD]}} i=1
+    declare -F _sums > /dev/null || _completion_loader sums
+    COMPREPLY=()
+    while ((i < COMP_CWORD)); do
+        case ${{COMP_WORDS[i]}} in
+            {valued})
+                # --by=VALUE comes as three words
+                [[ ${{COMP_WORDS[i + 1]}} != = ]] || ((i += 1))
+                ((i += 2)) ;;
+            -*) ((i += 1)) ;;
+            *) break ;;
+        esac
+    done
+    # the value of an option is nothing that anybody could guess
+    if ((i == COMP_CWORD)); then
+        _sums_words '{words}' "$word"
+    elif ((i < COMP_CWORD)); then
+        COMP_WORDS=(sums "${{COMP_WORDS[@]:i}}")
+        ((COMP_CWORD -= i - 1))
+        _sums
+    fi
+}}
+
+complete -F _sums_parallel sums-parallel
+"""
+
+ZSH_PARALLEL = """\
+#compdef sums-parallel
+# Completion for zsh of the program sums-parallel. {written}
+
+_sums_parallel() {{
+    local curcontext=$curcontext state state_descr line
+    typeset -A opt_args
+    _arguments -C -S {options} \\
+        '(- *)'{{-h,--help}}'[print help]' '1:command:({commands})' '*::word:->words' && return
+    if [[ $state == words ]]; then
+        words=(sums "${{words[@]}}")
+        ((CURRENT += 1))
+        _sums
+    fi
+}}
+
+_sums_parallel "$@"
+"""
+
+
+def bash_parallel(front):
+    return BASH_PARALLEL.format(written=WRITTEN, valued=" | ".join(option.name for option in front.options),
+                                words=f"{front.takes} {names(front.options)} -h --help")
+
+
+def zsh_parallel(front):
+    return ZSH_PARALLEL.format(written=WRITTEN, commands=front.takes,
+                               options=" \\\n        ".join(zsh_option(option) for option in front.options))
+
+
+def fish_parallel(front, commands):
+    begin = f"complete -c sums-parallel -n 'not __fish_seen_subcommand_from {front.takes}'"
+    text = f"# Completion for fish of the program sums-parallel. {WRITTEN}\n\ncomplete -c sums-parallel -f\n"
+    text += "".join(fish_option(begin, option) for option in front.options)
+    text += f"{begin} -s h -l help -d 'print help'\n{begin} -a '{front.takes}'\n"
+    for command in commands:
+        if command.name in front.takes.split():
+            text += fish_command(f"complete -c sums-parallel -n '__fish_seen_subcommand_from {command.name}'", command)
+    return text
+
+
+# ---- all of them
+
+
+def texts():
+    """what each file has to hold"""
+    *commands, front = read_table()
+    return {"completion/sums.bash": bash(commands), "completion/_sums": zsh(commands),
+            "completion/sums.fish": fish(commands), "completion/sums-parallel.bash": bash_parallel(front),
+            "completion/_sums-parallel": zsh_parallel(front),
+            "completion/sums-parallel.fish": fish_parallel(front, commands)}
 
 
 def differences(path, wanted):
@@ -247,16 +332,15 @@ def main(words):
         sys.stderr.write(__doc__)
         return 2
     os.chdir(os.path.join(os.path.dirname(os.path.abspath(__file__)), ".."))
-    commands = read_table()
     differs = False
-    for path, written in FILES.items():
+    for path, text in texts().items():
         if words:
-            lines = differences(path, written(commands))
+            lines = differences(path, text)
             sys.stdout.writelines(lines)
             differs = differs or bool(lines)
         else:
             with open(path, "w") as file:
-                file.write(written(commands))
+                file.write(text)
     return 1 if differs else 0
 
 

@@ -62,7 +62,7 @@ functions() {
     sed -n 's/^\(uint32_t\|void\) \(sums_[a-z0-9_]*\)(.*/\2/p' bindings/c/sums_hash.h
 }
 
-# Each of the next three calls DO MODE FILE PLACE for each file that belongs to it, and DO link TARGET PLACE for each
+# Each of the next four calls DO MODE FILE PLACE for each file that belongs to it, and DO link TARGET PLACE for each
 # link. PLACE is below the prefix.
 
 # program_texts DO [ZSH]: the program's manual pages and completions; ZSH is the folder for those of zsh
@@ -73,6 +73,15 @@ program_texts() {
     "$1" 644 completion/sums.bash share/bash-completion/completions/sums
     "$1" 644 completion/_sums "${2:-share/zsh/site-functions}/_sums"
     "$1" 644 completion/sums.fish share/fish/vendor_completions.d/sums.fish
+}
+
+# parallel_files DO [ZSH]: sums-parallel, which stands beside the program, with its manual page and completions
+parallel_files() {
+    "$1" 755 parallel/sums-parallel bin/sums-parallel
+    "$1" 644 man/sums-parallel.1 share/man/man1/sums-parallel.1
+    "$1" 644 completion/sums-parallel.bash share/bash-completion/completions/sums-parallel
+    "$1" 644 completion/_sums-parallel "${2:-share/zsh/site-functions}/_sums-parallel"
+    "$1" 644 completion/sums-parallel.fish share/fish/vendor_completions.d/sums-parallel.fish
 }
 
 # library_texts DO: what a caller of the C library reads
@@ -91,10 +100,11 @@ library_files() {
     library_texts "$1"
 }
 
-# program_files DO: the program
+# program_files DO: the program, and sums-parallel
 program_files() {
     "$1" 755 bin/sums bin/sums
     program_texts "$1"
+    parallel_files "$1"
 }
 
 # each_file DO [LIBDIR]: all of an installation
