@@ -21,13 +21,16 @@ from harness import judge, same
 
 FRONT = os.path.join(os.path.dirname(harness.HERE), "parallel/sums-parallel")
 MIB = 1 << 20
-NAMES = ["plain", "a b", " a  b ", 'it\'s "so"', "$(touch PWNED)", "`touch PWNED`", "x;touch PWNED;", "x&touch PWNED|c>d",
-         "a{}b", "{}", "{3}{#}{.}", '{= system("touch PWNED") =}', "-dash", "--help", "--name=x", "a\nb", "a\rb", "a\\b",
+NAMES = ["plain", "a b", " a  b ", 'it\'s "so"', "$(touch PWNED)", "`touch PWNED`", "x;touch PWNED;",
+         "x&touch PWNED|c>d",
+         "a{}b", "{}", "{3}{#}{.}", '{= system("touch PWNED") =}', "-dash", "--help", "--name=x", "a\nb", "a\rb",
+         "a\\b",
          "\\n", "*", "~", "#x", "%s", "!x", "größe", "\x1b[31m", "\u202eright", "-a", "x\nline 3: MALFORMED", "line 3",
          "sums: 1 OK, ", "x (y) = z", "name 3: bad name"]
-FEW = [f"f{number}" for number in range(300)]
+FEW = [f"f{number}" for number in range(120)]
 MANY = [f"many/{number}" for number in range(20000)]
-LISTS = ("good", "tagged", "mixed", "none", "comments", "no-end", "one", "endless", "list\n\x1b[1m\\", "missing", "folder",
+LISTS = ("good", "tagged", "mixed", "none", "comments", "no-end", "one", "endless", "list\n\x1b[1m\\", "missing",
+         "folder",
          "", "/dev/null")
 WAYS = ([], ["-j1", "--block=3000"], ["-j", "13", "--block", "1"], ["--by", "env A=b", "--block", "50000"])
 
@@ -60,16 +63,18 @@ def fill(name, size):
 
 def lists(program):
     names = [*NAMES, *FEW]
-    good = harness.run(program, ["hash", "-a", "sha256", "--", *names, "large"]).out
+    good = harness.run(program, ["hash", "-a", "sha256", "--", *names, "just"]).out
     tagged = harness.run(program, ["hash", "-a", "blake3", "--tag", "--", *names]).out
     lines = good.splitlines(keepends=True)
     for at in range(0, len(lines), 7):
         lines[at:at] = [[b"\n", b"# a comment\n", b"no line\n", b"0" * 64 + b"  f1\n", b"1" * 64 + b"  missing\n",
-                         b"2" * 64 + b"  folder\n", lines[at][:-1] + b"\r\n", b"x" * 70000 + b"\n", b"#" * 70000 + b"\n",
+                         b"2" * 64 + b"  folder\n", lines[at][:-1] + b"\r\n", b"x" * 70000 + b"\n",
+                         b"#" * 70000 + b"\n",
                          b"a\0b\n", b"3" * 64 + b"  a\xff\n", b"\\" + b"4" * 64 + b"  a\\x\n"][at // 7 % 12]]
     names = [*map(os.fsencode, names), b"", b"-", b"a\xff", b"x" * 65537, b"missing", b"folder", b"large"]
     names += [*map(os.fsencode, FEW), b"", b"-", b"b\xff", b"y" * 200000, b"more", b"missing"]
-    for name, data in (("good", good), ("tagged", tagged), ("mixed", b"".join(lines)), ("none", b""), ("comments", b"#\n\n"),
+    for name, data in (("good", good), ("tagged", tagged), ("mixed", b"".join(lines)), ("none", b""), ("comments",
+                                                                                                       b"#\n\n"),
                        ("no-end", good[:-1]), ("one", good[:good.index(b"\n") + 1]), ("endless", b"y" * 300000),
                        ("list\n\x1b[1m\\", b"".join(lines[:40])), ("all", good + tagged + b"".join(lines)),
                        ("names", b"\0".join(names) + b"\0"), ("names-no-end", b"\0".join(names)),
@@ -90,7 +95,8 @@ def of_files():
     for alg in ("sha256", "sha512", "blake2b", "blake2s", "blake3"):
         yield f"every name by {alg}", ["hash", "-a", alg, "--", *NAMES], b""
     yield "the names before the options", ["hash", *[n for n in NAMES if n[0] != "-"], "-ablake2b", "-l20"], b""
-    yield "many, large ones among them", ["hash", "-a", "blake3", "f1", "large", *FEW, "more", "just", "less", "f2", "link",
+    yield "many, large ones among them", ["hash", "-a", "blake3", "f1", "large", *FEW, "more", "just", "less", "f2",
+                                          "link",
                                           "--", "-large", "large\n\\{}"], b""
     yield "the same file often", ["hash", "-a", "blake3", *["more"] * 3, *["f1"] * 40], b""
     yield "large ones by another hash", ["hash", "-a", "blake2b", "just", "f1", "more"], b""
@@ -120,10 +126,13 @@ def of_names():
 
 
 def of_words():
-    for words in (["-a", "md5"], [], ["-a", "blake3", "-l", "0"], ["-a", "sha256", "-l", "5"], ["-a", "blake3", "--none"],
+    for words in (["-a", "md5"], [], ["-a", "blake3", "-l", "0"], ["-a", "sha256", "-l", "5"], ["-a", "blake3",
+                                                                                                "--none"],
                   ["-a"], ["-a", "blake3", "--salt", "0"], ["-a", "blake2b", "--personal", "xx"], ["-a=blake3"],
-                  ["-a", "sha256", "--verify", "00"], ["-a", "sha256", "--raw"], ["-a", "sha256", "--name", "x"], ["--help"],
-                  ["-a", "blake3", "-a", "sha256"], ["-a", "blake3", "--tag", "--tag"], ["-a", "blake3", "--parts", "3"],
+                  ["-a", "sha256", "--verify", "00"], ["-a", "sha256", "--raw"], ["-a", "sha256", "--name", "x"],
+                  ["--help"],
+                  ["-a", "blake3", "-a", "sha256"], ["-a", "blake3", "--tag", "--tag"], ["-a", "blake3", "--parts",
+                                                                                         "3"],
                   ["-a", "blake3", "--progress"], ["-a", "blake3", "--tag=x"], ["-a", "blake3", "--seek", str(2**64)],
                   ["-a", "blake3", "--prog"], ["-a", "blake3", "--tag", "-l", "5"]):
         yield f"the words {words}", ["hash", *words, "f1", "more"], b""
@@ -137,7 +146,8 @@ def of_lists():
     for path in LISTS:
         for words in ([], ["-a", "sha256"], ["-a", "sha256", "--summary"]):
             yield f"check {path} {words}", ["check", *words, "--", path], b""
-    yield "check several", ["check", "-a", "sha256", "--summary", "good", "missing", "list\n\x1b[1m\\", "none", "folder",
+    yield "check several", ["check", "-a", "sha256", "--summary", "good", "missing", "list\n\x1b[1m\\", "none",
+                            "folder",
                             "mixed", "tagged", "all"], b""
     for name in ("mixed", "none", "good"):
         yield f"check standard input, {name}", ["check", "-a", "sha256", "--summary"], content(name)
@@ -185,7 +195,8 @@ def killed(program, own):
     run = front(path, [*own, "hash", "-a", "sha256", *FEW], PATH=os.path.dirname(path) + ":" + os.environ["PATH"])
     lines = [line for line in whole.out.splitlines(True) if not line.endswith(b"  f100\n")]
     same(f"{own} a killed run", (run.status, run.out), (3, b"".join(lines)))
-    judge(f"{own} a killed run is told", re.search(b"(by signal 9|with status 137); lines are missing", run.err), run.err)
+    judge(f"{own} a killed run is told", re.search(b"(by signal 9|with status 137); lines are missing", run.err),
+          run.err)
     good = harness.run(program, ["check", "-a", "sha256", "good"])
     path = faulty(program, 'case $1 in check) head -n 1 > line; if grep -q "  f100$" line; then kill -9 $$; fi; '
                   'exec "$sums" "$@" < line ;; esac')
@@ -211,13 +222,16 @@ def not_begun(program):
     """What begins the runs is not there, or the words are wrong."""
     many = ["hash", "-a", "sha256", *FEW]
     for own, status, text in ((["--by", "/nothing/there"], 127, b"/nothing/there: No such file or directory"),
-                              (["--by", "/nothing/there", "--block=1"], 3, b"/nothing/there: No such file or directory"),
-                              (["--by=x", "-S", "y"], 2, b"give only one of -S and --by"), (["-j", "0"], 2, b"-j: out of range"),
+                              (["--by", "/nothing/there", "--block=1"], 3,
+                               b"/nothing/there: No such file or directory"),
+                              (["--by=x", "-S", "y"], 2, b"give only one of -S and --by"), (["-j", "0"], 2,
+                                                                                            b"-j: out of range"),
                               (["-jx"], 2, b"-j: out of range"), (["--block="], 2, b"--block: out of range"),
                               (["-x"], 2, b"-x: neither hash nor check, nor an option")):
         run = front(program, [*own, *many])
         judge(f"{own}: the status and the text", run.status == status and b"sums-parallel: " + text in run.err, run)
-    for words, text in ((["-j"], b"-j: needed"), ([], b"hash or check: needed"), (["mac"], b"mac: neither hash nor check")):
+    for words, text in ((["-j"], b"-j: needed"), ([], b"hash or check: needed"), (["mac"],
+                                                                                  b"mac: neither hash nor check")):
         run = front(program, words)
         judge(f"{words}: the status and the text", run.status == 2 and b"sums-parallel: " + text in run.err, run)
     for words in (many, ["--block=1", *many]):
@@ -251,13 +265,15 @@ def broken_input(program):
         master, slave = pty.openpty()
         os.write(slave, data)
         os.close(slave)
-        done = subprocess.run([*command, *words], stdin=master, capture_output=True, env={**os.environ, "SUMS": program})
+        done = subprocess.run([*command, *words], stdin=master, capture_output=True, env={**os.environ,
+                                                                                          "SUMS": program})
         os.close(master)
         return done.returncode, done.stdout, done.stderr
 
     for words, data in ((["hash", "-a", "sha256", "--files0-from", "-"], b"f1\0f2\0"),
                         (["check", "-a", "sha256", "--summary", "-"], content("good")[:300])):
-        same(f"broken input {words}", run([sys.executable, FRONT, "--block=1"], words, data), run([program], words, data))
+        same(f"broken input {words}", run([sys.executable, FRONT, "--block=1"], words, data), run([program], words,
+                                                                                                  data))
 
 
 def signals(program, own):
@@ -266,9 +282,10 @@ def signals(program, own):
         begun = os.path.abspath("begun")
         with open(begun, "wb"), contextlib.suppress(FileExistsError):
             os.mkdir("temporary")
-        path = faulty(program, f'case " $* " in *" f200 "*) echo $$ > "{begun}"; sleep 60 ;; esac')
-        run = subprocess.Popen([sys.executable, FRONT, *own, "hash", "-a", "sha256", *FEW], stdout=subprocess.PIPE,
-                               stderr=subprocess.DEVNULL, env={**os.environ, "SUMS": path, "TMPDIR": os.path.abspath("temporary"),
+        path = faulty(program, f'case " $* " in *" f9 "*) echo $$ > "{begun}"; sleep 60 ;; esac')
+        run = subprocess.Popen([sys.executable, FRONT, *own, "hash", "-a", "sha256", *FEW[:20]], stdout=subprocess.PIPE,
+                               stderr=subprocess.DEVNULL, env={**os.environ, "SUMS": path,
+                                                               "TMPDIR": os.path.abspath("temporary"),
                                                                "PATH": os.path.dirname(path) + ":" + os.environ["PATH"]})
         wait_for(lambda: content(begun))
         run.send_signal(number)
@@ -342,7 +359,8 @@ def dead_hosts(program):
     for host in ("dead", "breaks"):
         run = front(program, ["-S", f"2/{host}", "--block=1", *words], **ssh)
         same(f"a host alone that is {host}", (run.status, run.out), (3, b""))
-        judge(f"a host alone that is {host} is told", run.err.count(b"a run of sums ended with status 255") == 9, run.err)
+        judge(f"a host alone that is {host} is told", run.err.count(b"a run of sums ended with status 255") == 9,
+              run.err)
 
 
 def main():
