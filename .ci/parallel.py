@@ -73,8 +73,8 @@ def lists(program):
                          b"a\0b\n", b"3" * 64 + b"  a\xff\n", b"\\" + b"4" * 64 + b"  a\\x\n"][at // 7 % 12]]
     names = [*map(os.fsencode, names), b"", b"-", b"a\xff", b"x" * 65537, b"missing", b"folder", b"large"]
     names += [*map(os.fsencode, FEW), b"", b"-", b"b\xff", b"y" * 200000, b"more", b"missing"]
-    for name, data in (("good", good), ("tagged", tagged), ("mixed", b"".join(lines)), ("none", b""), ("comments",
-                                                                                                       b"#\n\n"),
+    for name, data in (("good", good), ("tagged", tagged), ("mixed", b"".join(lines)), ("none", b""),
+                       ("comments", b"#\n\n"),
                        ("no-end", good[:-1]), ("one", good[:good.index(b"\n") + 1]), ("endless", b"y" * 300000),
                        ("list\n\x1b[1m\\", b"".join(lines[:40])), ("all", good + tagged + b"".join(lines)),
                        ("names", b"\0".join(names) + b"\0"), ("names-no-end", b"\0".join(names)),
@@ -126,13 +126,13 @@ def of_names():
 
 
 def of_words():
-    for words in (["-a", "md5"], [], ["-a", "blake3", "-l", "0"], ["-a", "sha256", "-l", "5"], ["-a", "blake3",
-                                                                                                "--none"],
+    for words in (["-a", "md5"], [], ["-a", "blake3", "-l", "0"], ["-a", "sha256", "-l", "5"],
+                  ["-a", "blake3", "--none"],
                   ["-a"], ["-a", "blake3", "--salt", "0"], ["-a", "blake2b", "--personal", "xx"], ["-a=blake3"],
                   ["-a", "sha256", "--verify", "00"], ["-a", "sha256", "--raw"], ["-a", "sha256", "--name", "x"],
                   ["--help"],
-                  ["-a", "blake3", "-a", "sha256"], ["-a", "blake3", "--tag", "--tag"], ["-a", "blake3", "--parts",
-                                                                                         "3"],
+                  ["-a", "blake3", "-a", "sha256"], ["-a", "blake3", "--tag", "--tag"],
+                  ["-a", "blake3", "--parts", "3"],
                   ["-a", "blake3", "--progress"], ["-a", "blake3", "--tag=x"], ["-a", "blake3", "--seek", str(2**64)],
                   ["-a", "blake3", "--prog"], ["-a", "blake3", "--tag", "-l", "5"]):
         yield f"the words {words}", ["hash", *words, "f1", "more"], b""
@@ -165,7 +165,7 @@ def of_many():
 
 
 def front(program, words, given=b"", **variables):
-    return harness.run(sys.executable, ["-ISXutf8", FRONT, *words], given, timeout=120,
+    return harness.run(sys.executable, ["-ISXutf8", FRONT, *words], given, timeout=600,
                        env={**os.environ, "SUMS": program, **variables})
 
 
@@ -224,14 +224,14 @@ def not_begun(program):
     for own, status, text in ((["--by", "/nothing/there"], 127, b"/nothing/there: No such file or directory"),
                               (["--by", "/nothing/there", "--block=1"], 3,
                                b"/nothing/there: No such file or directory"),
-                              (["--by=x", "-S", "y"], 2, b"give only one of -S and --by"), (["-j", "0"], 2,
-                                                                                            b"-j: out of range"),
+                              (["--by=x", "-S", "y"], 2, b"give only one of -S and --by"),
+                              (["-j", "0"], 2, b"-j: out of range"),
                               (["-jx"], 2, b"-j: out of range"), (["--block="], 2, b"--block: out of range"),
                               (["-x"], 2, b"-x: neither hash nor check, nor an option")):
         run = front(program, [*own, *many])
         judge(f"{own}: the status and the text", run.status == status and b"sums-parallel: " + text in run.err, run)
-    for words, text in ((["-j"], b"-j: needed"), ([], b"hash or check: needed"), (["mac"],
-                                                                                  b"mac: neither hash nor check")):
+    for words, text in ((["-j"], b"-j: needed"), ([], b"hash or check: needed"),
+                        (["mac"], b"mac: neither hash nor check")):
         run = front(program, words)
         judge(f"{words}: the status and the text", run.status == 2 and b"sums-parallel: " + text in run.err, run)
     for words in (many, ["--block=1", *many]):
@@ -265,15 +265,15 @@ def broken_input(program):
         master, slave = pty.openpty()
         os.write(slave, data)
         os.close(slave)
-        done = subprocess.run([*command, *words], stdin=master, capture_output=True, env={**os.environ,
-                                                                                          "SUMS": program})
+        done = subprocess.run([*command, *words], stdin=master, capture_output=True,
+                              env={**os.environ, "SUMS": program})
         os.close(master)
         return done.returncode, done.stdout, done.stderr
 
     for words, data in ((["hash", "-a", "sha256", "--files0-from", "-"], b"f1\0f2\0"),
                         (["check", "-a", "sha256", "--summary", "-"], content("good")[:300])):
-        same(f"broken input {words}", run([sys.executable, FRONT, "--block=1"], words, data), run([program], words,
-                                                                                                  data))
+        same(f"broken input {words}", run([sys.executable, FRONT, "--block=1"], words, data),
+             run([program], words, data))
 
 
 def signals(program, own):
@@ -283,10 +283,10 @@ def signals(program, own):
         with open(begun, "wb"), contextlib.suppress(FileExistsError):
             os.mkdir("temporary")
         path = faulty(program, f'case " $* " in *" f9 "*) echo $$ > "{begun}"; sleep 60 ;; esac')
+        variables = {"SUMS": path, "TMPDIR": os.path.abspath("temporary"),
+                     "PATH": os.path.dirname(path) + ":" + os.environ["PATH"]}
         run = subprocess.Popen([sys.executable, FRONT, *own, "hash", "-a", "sha256", *FEW[:20]], stdout=subprocess.PIPE,
-                               stderr=subprocess.DEVNULL, env={**os.environ, "SUMS": path,
-                                                               "TMPDIR": os.path.abspath("temporary"),
-                                                               "PATH": os.path.dirname(path) + ":" + os.environ["PATH"]})
+                               stderr=subprocess.DEVNULL, env={**os.environ, **variables})
         wait_for(lambda: content(begun))
         run.send_signal(number)
         out = run.communicate(timeout=30)[0]
