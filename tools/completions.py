@@ -1,6 +1,7 @@
 #!/usr/bin/env python3
-"""Writes the completions of the program sums for bash, zsh and fish, from what its help says of commands and options.
-usage: tools/completions.py PROGRAM FOLDER     writes sums.bash, _sums and sums.fish into FOLDER
+"""Writes the completions of sums and of sums-parallel for bash, zsh and fish, from what their help says of commands and
+options.
+usage: tools/completions.py PROGRAM FOLDER     writes them into FOLDER; PROGRAM is a sums
 """
 
 import os
@@ -12,6 +13,9 @@ import sys
 WORDS = {"--parts": " ".join(str(1 << exponent) for exponent in range(11))}
 # what the help calls a file that is the value of an option
 FILE = "<F>"
+# the program over sums, and which commands it has
+PARALLEL = os.path.join(os.path.dirname(os.path.realpath(__file__)), "../parallel/sums-parallel")
+PARALLEL_COMMANDS = "hash check"
 
 
 class Command:
@@ -278,14 +282,92 @@ def fish(program, commands):
     return text
 
 
+# ---- sums-parallel: its own options, one of its commands, and then the words of sums
+
+BASH_PARALLEL = """\
+# Completion for bash of the program sums-parallel.
+
+_sums_parallel() {{
+    local word=${{COMP_WORDS[COMP_CWORD]}} i=1
+    declare -F _sums > /dev/null || _completion_loader sums
+    COMPREPLY=()
+    while ((i < COMP_CWORD)); do
+        case ${{COMP_WORDS[i]}} in
+            {valued})
+                # --by=VALUE comes as three words
+                [[ ${{COMP_WORDS[i + 1]}} != = ]] || ((i += 1))
+                ((i += 2)) ;;
+            -*) ((i += 1)) ;;
+            *) break ;;
+        esac
+    done
+    # the value of an option is nothing that anybody could guess
+    if ((i == COMP_CWORD)); then
+        _sums_words '{words}' "$word"
+    elif ((i < COMP_CWORD)); then
+        COMP_WORDS=(sums "${{COMP_WORDS[@]:i}}")
+        ((COMP_CWORD -= i - 1))
+        _sums
+    fi
+}}
+
+complete -F _sums_parallel sums-parallel
+"""
+
+ZSH_PARALLEL = """\
+#compdef sums-parallel
+# Completion for zsh of the program sums-parallel.
+
+_sums_parallel() {{
+    local curcontext=$curcontext state state_descr line
+    typeset -A opt_args
+    _arguments -C -S {options} \\
+        '1:command:({commands})' '*::word:->words' && return
+    if [[ $state == words ]]; then
+        words=(sums "${{words[@]}}")
+        ((CURRENT += 1))
+        _sums
+    fi
+}}
+
+_sums_parallel "$@"
+"""
+
+
+def bash_parallel(front, commands):
+    valued = " | ".join(name for option in front.options for name in option.names if option.takes)
+    return BASH_PARALLEL.format(valued=valued, words=f"{PARALLEL_COMMANDS} {option_names(front)}")
+
+
+def zsh_parallel(front, commands):
+    return ZSH_PARALLEL.format(commands=PARALLEL_COMMANDS, options=" \\\n        ".join(zsh_options(front)))
+
+
+def fish_parallel(front, commands):
+    begin = f"complete -c sums-parallel -n 'not __fish_seen_subcommand_from {PARALLEL_COMMANDS}'"
+    text = "# Completion for fish of the program sums-parallel.\n\ncomplete -c sums-parallel -f\n"
+    text += "".join(fish_option(begin, option) for option in front.options)
+    text += f"{begin} -a '{PARALLEL_COMMANDS}'\n"
+    for command in commands:
+        if command.name in PARALLEL_COMMANDS.split():
+            text += fish_command(f"complete -c sums-parallel -n '__fish_seen_subcommand_from {command.name}'", command)
+    return text
+
+
 def main(words):
     if len(words) != 2:
-        sys.exit(__doc__.splitlines()[1])
+        sys.exit(__doc__.splitlines()[2])
     program, commands = read_program(words[0])
+    front = read_command("sums-parallel", help_of(PARALLEL), "")
+    texts = {
+        "sums.bash": bash(program, commands), "_sums": zsh(program, commands), "sums.fish": fish(program, commands),
+        "sums-parallel.bash": bash_parallel(front, commands), "_sums-parallel": zsh_parallel(front, commands),
+        "sums-parallel.fish": fish_parallel(front, commands),
+    }
     os.makedirs(words[1], exist_ok=True)
-    for name, written in (("sums.bash", bash), ("_sums", zsh), ("sums.fish", fish)):
+    for name, text in texts.items():
         with open(os.path.join(words[1], name), "w", encoding="utf-8") as file:
-            file.write(written(program, commands))
+            file.write(text)
 
 
 if __name__ == "__main__":

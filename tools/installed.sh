@@ -132,6 +132,15 @@ program_texts() {
     "$1" 644 "$completions/sums.fish" share/fish/vendor_completions.d/sums.fish
 }
 
+# parallel_files DO [ZSH]: sums-parallel, which stands beside the program, with its manual page and completions
+parallel_files() {
+    "$1" 755 parallel/sums-parallel bin/sums-parallel
+    "$1" 644 man/sums-parallel.1 share/man/man1/sums-parallel.1
+    "$1" 644 "$completions/sums-parallel.bash" share/bash-completion/completions/sums-parallel
+    "$1" 644 "$completions/_sums-parallel" "${2:-share/zsh/site-functions}/_sums-parallel"
+    "$1" 644 "$completions/sums-parallel.fish" share/fish/vendor_completions.d/sums-parallel.fish
+}
+
 # library_texts DO [LIBDIR]: what a caller of the C library and his tools read
 library_texts() {
     "$1" 644 bindings/c/sums_hash.h include/sums_hash.h
@@ -150,10 +159,11 @@ library_files() {
     library_texts "$1" "${2-}"
 }
 
-# program_files DO: the program
+# program_files DO: the program, and sums-parallel
 program_files() {
     "$1" 755 bin/sums bin/sums
     program_texts "$1"
+    parallel_files "$1"
 }
 
 # each_file DO [LIBDIR]: all of an installation

@@ -23,13 +23,13 @@ import tempfile
 import time
 
 HERE = os.path.dirname(os.path.dirname(os.path.abspath(__file__)))
-# A shell, xargs, GNU parallel or sums that takes one of these for anything but a name makes a file PWNED, or fails.
+# A shell, xargs, GNU parallel, sums-parallel or sums that takes one of these for anything but a name makes a file PWNED, or fails.
 NAMES = ["big", "a b", " a  b ", 'it\'s "so"', "$(touch PWNED)", "`touch PWNED`", "x;touch PWNED;", "x&touch PWNED|c>d",
          "a{}b", "{}", "{3}{#}{.}", '{= system("touch PWNED") =}', "-dash", "--help", "--name=x", "a\nb", "a\rb", "a\\b",
          "\\n", "*", "~", "#x", "%s", "!x", "größe"]
 CHUNK = 1024
 PIECE = os.urandom(1 << 20)
-IS_COMMAND = re.compile(r"(?<![/\w])(sums (hash|mac|kdf|check|part|join)|rt (try|check)|sudo |tools/\w+|bench/\w+)")
+IS_COMMAND = re.compile(r"(?<![/\w])(sums (hash|mac|kdf|check|part|join)|sums-parallel -|rt (try|check)|sudo |tools/\w+|bench/\w+)")
 
 
 # ---- The documents
@@ -105,6 +105,7 @@ class Bench:
         bin_ = os.path.join(work, "bin")
         os.mkdir(bin_)
         shutil.copy(program, os.path.join(bin_, "sums"))
+        shutil.copy(os.path.join(HERE, "parallel/sums-parallel"), bin_)
         # a cargo of rustup finds its toolchain in the home of whoever runs this
         rustup = os.environ.get("RUSTUP_HOME", os.path.expanduser("~/.rustup"))
         self.environment = {"PATH": bin_ + ":" + os.environ["PATH"] + ":/usr/sbin:/sbin", "HOME": work,
@@ -272,13 +273,6 @@ def device(bench):
     bench.run(f"losetup --detach {place}", folder)
 
 
-def scale_parallel(bench):
-    if bench.there("parallel", "its recipes were not run"):
-        for name in ["parallel", "pipepart"]:
-            in_parts(bench, f"docs/SCALE.md {name}", behind_file(bench, name))
-        with_hosts(bench)
-
-
 def scale_own(bench):
     """The part of a file that a machine has, and the lines of parts in files."""
     folder = bench.folder()
@@ -342,9 +336,9 @@ def answers(port):
         return caller.connect_ex(("127.0.0.1", port)) == 0
 
 
-def with_hosts(bench):
+def scale_hosts(bench):
     """GNU parallel over ssh to a server of our own on this machine, which the recipe's three hosts are."""
-    if not bench.there("sshd", "parallel was not run over ssh") or not bench.there("ssh", "parallel was not run over ssh"):
+    if not all(bench.there(command, "no run was begun over ssh") for command in ["parallel", "sshd", "ssh"]):
         return
     folder, port = bench.folder(), free_port()
     for key in ["host", "user"]:
@@ -377,7 +371,7 @@ LogLevel ERROR
     sshd = shutil.which("sshd", path=bench.environment["PATH"])
     server = started([sshd, "-D", "-e", "-f", os.path.join(folder, "server")], lambda: answers(port), stderr=log)
     if server is None:
-        bench.missing("sshd did not start: parallel was not run over ssh")
+        bench.missing("sshd did not start: no run was begun over ssh")
         return
     try:
         over_ssh(bench, f"ssh -F {folder}/client")
@@ -386,15 +380,21 @@ LogLevel ERROR
 
 
 def over_ssh(bench, ssh):
-    text = behind_file(bench, "hosts")
-    for name in NAMES:
-        def case():
-            folder = bench.folder()
-            path = os.path.join(folder, name)
-            fill(path, 2500)
-            got = bench.run(named(text, path, 1), folder, PARALLEL_SSH=ssh)
-            ends(got, 0, bench.sums(folder, "hash", "-a", "blake3", "--", path))
-        bench.judge(f"docs/SCALE.md hosts, {name!r}", case)
+    folder, names = large_files(bench)
+    text = bench.text("docs/SCALE.md", "hosts")
+    for name in names:
+        wanted = bench.sums(folder, "hash", "-a", "blake3", "--", name)
+        bench.judge(f"docs/SCALE.md hosts, {name!r}",
+                    lambda: ends(bench.run(text, folder, f=name, PARALLEL_SSH=ssh), 0, wanted))
+
+
+def large_files(bench):
+    """A folder with a file that is cut on other machines too, under each name."""
+    folder = bench.folder()
+    fill(os.path.join(folder, NAMES[0]), 300000001)
+    for name in NAMES[1:]:
+        os.link(os.path.join(folder, NAMES[0]), os.path.join(folder, name))
+    return folder, NAMES
 
 
 def write(folder, name, text, mode=0o644):
@@ -417,6 +417,7 @@ def scale_slurm(bench):
     try:
         if cluster(bench, children):
             arrays(bench)
+            steps(bench)
         else:
             bench.missing("Slurm did not start: its recipe was not run")
     finally:
@@ -498,6 +499,20 @@ def arrays(bench):
                 same(file.read(), bench.sums(folder, "hash", "-a", "blake3", "--", name), "the output of the job")
         bench.judge(f"docs/SCALE.md slurm, {name!r}", case)
     bench.judge("docs/SCALE.md slurm, a task that fails", lambda: failing(bench, text))
+
+
+def steps(bench):
+    """The runs of sums-parallel that srun begins, for a file of each name."""
+    text = bench.text("docs/SCALE.md", "srun")
+    folder, names = large_files(bench)
+    jobs = [(name, bench.run(text, folder, f=name)) for name in names]
+    waited(bench, 900)
+    for name, got in jobs:
+        def case():
+            same((got[0], got[2]), (0, b""), "status and standard error")
+            with open(os.path.join(folder, f"slurm-{got[1].split()[-1].decode()}.out"), "rb") as file:
+                same(file.read(), bench.sums(folder, "hash", "-a", "blake3", "--", name), "the output of the job")
+        bench.judge(f"docs/SCALE.md srun, {name!r}", case)
 
 
 def waited(bench, seconds):
@@ -797,29 +812,26 @@ def folders(bench):
     bench.judge("sums(1) folder, an empty one", lambda: case(False))
 
 
-def scale_folder(bench):
-    page = "docs/SCALE.md"
-    making, pieces = bench.text(page, "folder"), bench.text(page, "pieces")
+def scale_cores(bench):
+    """A file of each name and a folder, hashed and checked."""
+    text = bench.text("docs/SCALE.md", "cores")
 
-    def case(fills):
-        above = bench.folder()
-        here = os.path.join(above, "folder")
-        os.mkdir(here)
-        names = ["folder/" + name for name in tree(here)] if fills else []
-        wanted = bench.sums(above, "hash", "-a", "blake3", "--", *names) if fills else b""
-        ends(bench.run(making, above), 0, b"")
-        for name in ["list", "sorted"]:
-            with open(os.path.join(above, name), "rb") as file:
-                same(sorted(file.read().splitlines()), sorted(wanted.splitlines()), "the list")
-        report = sorted(shown_name(name) + b": OK" for name in names)
-        got = bench.run(pieces, above)
-        same((got[0], sorted(got[1].splitlines()), got[2]), (0, report, b""), "the report")
-        if fills:
-            fill(os.path.join(here, "a b"), 999)
-            same(bench.run(pieces, above)[0], 123, "the status of a wrong file")
+    def case(name, size):
+        folder = bench.folder()
+        below = os.path.join(folder, "folder")
+        os.mkdir(below)
+        names = ["folder/" + each for each in tree(below)]
+        fill(os.path.join(folder, name), size)
+        listed = bench.sums(folder, "hash", "-a", "blake3", "--", name, *names)
+        report = [shown_name(each) + b": OK" for each in [name, *names]]
+        got = bench.run(text, folder, f=name)
+        same((got[0], sorted(got[1].splitlines()), got[2]), (0, sorted(report), b""), "the report")
+        with open(os.path.join(folder, "LIST"), "rb") as file:
+            same(sorted(file.read().splitlines()), sorted(listed.splitlines()), "the list")
 
-    bench.judge(f"{page} folder and pieces", lambda: case(True))
-    bench.judge(f"{page} folder and pieces, an empty folder", lambda: case(False))
+    bench.judge("docs/SCALE.md cores", lambda: case("big", 200000001))
+    for name in NAMES:
+        bench.judge(f"docs/SCALE.md cores, {name!r}", lambda: case(name, 4321))
 
 
 # ---- Builds, packages and measurements
@@ -911,10 +923,9 @@ LONG = {
 # each recipe of each page, and what runs it
 RUNS = {
     "README.md": {"download": readme_download, "some": readme_download, "use": readme_use},
-    "docs/SCALE.md": {"folder": scale_folder, "pieces": scale_folder, "file": scale_parts, "device": scale_parts,
-                      "parts": scale_parts, "parallel": scale_parallel, "pipepart": scale_parallel,
-                      "hosts": scale_parallel, "own": scale_own, "lines": scale_own, "job.sh": scale_slurm,
-                      "join.sh": scale_slurm, "slurm": scale_slurm, "spark": scale_spark},
+    "docs/SCALE.md": {"cores": scale_cores, "hosts": scale_hosts, "srun": scale_slurm, "file": scale_parts,
+                      "device": scale_parts, "parts": scale_parts, "own": scale_own, "lines": scale_own,
+                      "job.sh": scale_slurm, "join.sh": scale_slurm, "slurm": scale_slurm, "spark": scale_spark},
     "man/sums.1": {"lines": lambda bench: lines_of(bench, "man/sums.1"), "folder": folders},
     "man/sums-hash.1": {"lines": hash_page},
     "man/sums-mac.1": {"lines": lambda bench: lines_of(bench, "man/sums-mac.1"), "tag": tags},
@@ -923,6 +934,7 @@ RUNS = {
                          "signed": signed_lists},
     "man/sums-part.1": {"lines": lambda bench: lines_of(bench, "man/sums-part.1"), "list": part_page},
     "man/sums-join.1": {"parts": join_page},
+    "man/sums-parallel.1": {"lines": lambda bench: lines_of(bench, "man/sums-parallel.1")},
 }
 
 

@@ -1,0 +1,391 @@
+#!/usr/bin/env python3
+"""Compares sums-parallel with sums, byte for byte: both streams and the status, for names, lists and faults of every
+kind, by one run at a time and many, in small and large blocks, by a command that begins the runs and, where it is
+installed, through GNU parallel. Then runs that are killed, hosts that are dead, streams that take nothing, signals, and
+what a terminal shows.
+usage: .ci/parallel.py PROGRAM
+"""
+
+import contextlib
+import os
+import pty
+import re
+import shutil
+import signal
+import subprocess
+import sys
+import time
+
+import harness
+from harness import judge, same
+
+FRONT = os.path.join(os.path.dirname(harness.HERE), "parallel/sums-parallel")
+MIB = 1 << 20
+NAMES = ["plain", "a b", " a  b ", 'it\'s "so"', "$(touch PWNED)", "`touch PWNED`", "x;touch PWNED;",
+         "x&touch PWNED|c>d",
+         "a{}b", "{}", "{3}{#}{.}", '{= system("touch PWNED") =}', "-dash", "--help", "--name=x", "a\nb", "a\rb",
+         "a\\b",
+         "\\n", "*", "~", "#x", "%s", "!x", "größe", "\x1b[31m", "\u202eright", "-a", "x\nline 3: MALFORMED", "line 3",
+         "sums: 1 OK, ", "x (y) = z", "name 3: bad name"]
+FEW = [f"f{number}" for number in range(120)]
+MANY = [f"many/{number}" for number in range(20000)]
+LISTS = ("good", "tagged", "mixed", "none", "comments", "no-end", "one", "endless", "list\n\x1b[1m\\", "missing",
+         "folder",
+         "", "/dev/null")
+WAYS = ([], ["-j1", "--block=3000"], ["-j", "13", "--block", "1"], ["--by", "env A=b", "--block", "50000"])
+
+
+# ---- the files
+
+
+def files():
+    for number, name in enumerate(NAMES):
+        fill(name, number * 100)
+    os.mkdir("many")
+    for name in FEW + MANY:
+        with open(name, "w") as file:
+            file.write(name)
+    for name, size in (("just", 32 * MIB), ("less", 32 * MIB - 1), ("more", 32 * MIB + 1), ("large", 70 * MIB + 12345),
+                       ("large\n\\{}", 33 * MIB), ("-large", 48 * MIB)):
+        fill(name, size)
+    os.mkdir("folder")
+    os.symlink("large", "link")
+    os.symlink("nothing", "dangling")
+
+
+def fill(name, size):
+    with open(name, "wb") as file:
+        file.truncate(size)
+        for place in range(0, size, 7 * MIB):
+            file.seek(place)
+            file.write(os.urandom(min(1 << 16, size - place)))
+
+
+def lists(program):
+    names = [*NAMES, *FEW]
+    good = harness.run(program, ["hash", "-a", "sha256", "--", *names, "just"]).out
+    tagged = harness.run(program, ["hash", "-a", "blake3", "--tag", "--", *names]).out
+    lines = good.splitlines(keepends=True)
+    for at in range(0, len(lines), 7):
+        lines[at:at] = [[b"\n", b"# a comment\n", b"no line\n", b"0" * 64 + b"  f1\n", b"1" * 64 + b"  missing\n",
+                         b"2" * 64 + b"  folder\n", lines[at][:-1] + b"\r\n", b"x" * 70000 + b"\n",
+                         b"#" * 70000 + b"\n",
+                         b"a\0b\n", b"3" * 64 + b"  a\xff\n", b"\\" + b"4" * 64 + b"  a\\x\n"][at // 7 % 12]]
+    names = [*map(os.fsencode, names), b"", b"-", b"a\xff", b"x" * 65537, b"missing", b"folder", b"large"]
+    names += [*map(os.fsencode, FEW), b"", b"-", b"b\xff", b"y" * 200000, b"more", b"missing"]
+    for name, data in (("good", good), ("tagged", tagged), ("mixed", b"".join(lines)), ("none", b""),
+                       ("comments", b"#\n\n"),
+                       ("no-end", good[:-1]), ("one", good[:good.index(b"\n") + 1]), ("endless", b"y" * 300000),
+                       ("list\n\x1b[1m\\", b"".join(lines[:40])), ("all", good + tagged + b"".join(lines)),
+                       ("names", b"\0".join(names) + b"\0"), ("names-no-end", b"\0".join(names)),
+                       ("names-many", b"".join(os.fsencode(name) + b"\0" for name in MANY))):
+        with open(name, "wb") as file:
+            file.write(data)
+
+
+# ---- the cases: a name, the words, and standard input
+
+
+def content(path):
+    with open(path, "rb") as file:
+        return file.read()
+
+
+def of_files():
+    for alg in ("sha256", "sha512", "blake2b", "blake2s", "blake3"):
+        yield f"every name by {alg}", ["hash", "-a", alg, "--", *NAMES], b""
+    yield "the names before the options", ["hash", *[n for n in NAMES if n[0] != "-"], "-ablake2b", "-l20"], b""
+    yield "many, large ones among them", ["hash", "-a", "blake3", "f1", "large", *FEW, "more", "just", "less", "f2",
+                                          "link",
+                                          "--", "-large", "large\n\\{}"], b""
+    yield "the same file often", ["hash", "-a", "blake3", *["more"] * 3, *["f1"] * 40], b""
+    yield "large ones by another hash", ["hash", "-a", "blake2b", "just", "f1", "more"], b""
+    yield "tagged", ["hash", "-a", "blake3", "--tag", "large", "f1", "--", "large\n\\{}", "a\nb"], b""
+    yield "-l and --seek", ["hash", "-a", "blake3", "-l", "99", "--seek=1000", "more", "f1", "just"], b""
+    yield "-l 1000", ["hash", "-a", "blake3", "-l", "1000", "more", "f1"], b""
+    yield "--parts", ["hash", "-a", "blake3", "--parts", "64", "more", "f1"], b""
+    yield "a salt", ["hash", "-a", "blake2b", "-l", "20", "--salt", "00" * 16, *FEW], b""
+    yield "what is no file", ["hash", "-a", "blake3", "f1", "missing", "folder", "dangling", "/dev/null", "f2", "f1/x",
+                              *FEW, "gone"], b""
+    yield "bad names", ["hash", "-a", "blake3", "f1", "", "x" * 65537, "f2", "y" * 4000, "large"], b""
+    yield "a name that is not UTF-8", ["hash", "-a", "blake3", "f1", os.fsdecode(b"a\xff"), "f2"], b""
+    yield "standard input among them", ["hash", "-a", "blake3", "f1", "-", "f2", "-"], b"given"
+    yield "standard input alone", ["hash", "-a", "blake3"], b"given"
+    yield "a file alone", ["hash", "-a", "sha256", "f1"], b""
+    yield "a large file alone", ["hash", "-a", "blake3", "more"], b""
+
+
+def of_names():
+    for name in ("names", "names-no-end", "none", "missing", "folder", "", "endless", "f1"):
+        yield f"--files0-from {name}", ["hash", "-a", "blake3", "--files0-from", name], b""
+    for name in ("names", "names-no-end", "none"):
+        yield f"--files0-from - < {name}", ["hash", "-a", "sha256", "--files0-from=-"], content(name)
+    yield "--files0-from and names", ["hash", "-a", "sha256", "--files0-from", "names", "f1"], b""
+    yield "--files0-from twice", ["hash", "-a", "sha256", "--files0-from", "names", "--files0-from", "none"], b""
+    yield "--files0-from, tagged", ["hash", "-a", "blake3", "--tag", "--files0-from", "names"], b""
+
+
+def of_words():
+    for words in (["-a", "md5"], [], ["-a", "blake3", "-l", "0"], ["-a", "sha256", "-l", "5"],
+                  ["-a", "blake3", "--none"],
+                  ["-a"], ["-a", "blake3", "--salt", "0"], ["-a", "blake2b", "--personal", "xx"], ["-a=blake3"],
+                  ["-a", "sha256", "--verify", "00"], ["-a", "sha256", "--raw"], ["-a", "sha256", "--name", "x"],
+                  ["--help"],
+                  ["-a", "blake3", "-a", "sha256"], ["-a", "blake3", "--tag", "--tag"],
+                  ["-a", "blake3", "--parts", "3"],
+                  ["-a", "blake3", "--progress"], ["-a", "blake3", "--tag=x"], ["-a", "blake3", "--seek", str(2**64)],
+                  ["-a", "blake3", "--prog"], ["-a", "blake3", "--tag", "-l", "5"]):
+        yield f"the words {words}", ["hash", *words, "f1", "more"], b""
+    yield "an option without its value", ["hash", "-a", "blake3", "f1", "more", "-l"], b""
+    yield "check by no hash", ["check", "-a", "md5", "good"], b""
+    yield "check with a wrong option", ["check", "-l", "5", "good"], b""
+    yield "a list that is not UTF-8", ["check", os.fsdecode(b"a\xff"), "good"], b""
+
+
+def of_lists():
+    for path in LISTS:
+        for words in ([], ["-a", "sha256"], ["-a", "sha256", "--summary"]):
+            yield f"check {path} {words}", ["check", *words, "--", path], b""
+    yield "check several", ["check", "-a", "sha256", "--summary", "good", "missing", "list\n\x1b[1m\\", "none",
+                            "folder",
+                            "mixed", "tagged", "all"], b""
+    for name in ("mixed", "none", "good"):
+        yield f"check standard input, {name}", ["check", "-a", "sha256", "--summary"], content(name)
+    yield "check -", ["check", "-a", "sha256", "-"], content("mixed")
+    yield "check - and more", ["check", "-a", "sha256", "one", "-", "good"], content("mixed")
+
+
+def of_many():
+    """20,000 files, which no way cuts into one run each."""
+    for alg in ("sha256", "blake3"):
+        yield f"20,000 files by {alg}", ["hash", "-a", alg, *MANY], b""
+    yield "20,000 files by --files0-from", ["hash", "-a", "sha256", "--files0-from", "names-many"], b""
+    yield "20,000 files by --files0-from -", ["hash", "-a", "sha256", "--files0-from", "-"], content("names-many")
+    yield "20,000 files that are checked", ["check", "-a", "sha256", "--summary", "good-many"], b""
+
+
+def front(program, words, given=b"", **variables):
+    return harness.run(sys.executable, ["-ISXutf8", FRONT, *words], given, timeout=600,
+                       env={**os.environ, "SUMS": program, **variables})
+
+
+def compare(program, ways, cases):
+    for name, words, given in cases:
+        wanted = harness.run(program, words, given)
+        for own in ways:
+            same(f"{' '.join(own)} {name}", front(program, [*own, *words], given), wanted)
+
+
+# ---- runs that fail
+
+
+def faulty(program, how):
+    """A program that is sums, but for what lines of sh do first."""
+    path = os.path.abspath("faulty/sums")
+    os.makedirs("faulty", exist_ok=True)
+    with open(path, "w") as file:
+        file.write(f"#!/bin/sh\nsums={program}\n{how}\nexec \"$sums\" \"$@\"\n")
+    os.chmod(path, 0o755)
+    return path
+
+
+def killed(program, own):
+    whole = harness.run(program, ["hash", "-a", "sha256", *FEW])
+    path = faulty(program, 'case " $* " in *" f100 "*) printf "half a line"; kill -9 $$ ;; esac')
+    run = front(path, [*own, "hash", "-a", "sha256", *FEW], PATH=os.path.dirname(path) + ":" + os.environ["PATH"])
+    lines = [line for line in whole.out.splitlines(True) if not line.endswith(b"  f100\n")]
+    same(f"{own} a killed run", (run.status, run.out), (3, b"".join(lines)))
+    judge(f"{own} a killed run is told", re.search(b"(by signal 9|with status 137); lines are missing", run.err),
+          run.err)
+    good = harness.run(program, ["check", "-a", "sha256", "good"])
+    path = faulty(program, 'case $1 in check) head -n 1 > line; if grep -q "  f100$" line; then kill -9 $$; fi; '
+                  'exec "$sums" "$@" < line ;; esac')
+    run = front(path, ["-j1", "--block=1", "check", "-a", "sha256", "--summary", "good"])
+    lines = [line for line in good.out.splitlines(True) if line != b"f100: OK\n"]
+    same("a killed run of check", (run.status, run.out), (3, b"".join(lines)))
+    judge("no numbers where one is not known", b" OK, " not in run.err, run.err)
+
+
+def parts(program):
+    wanted = harness.run(program, ["hash", "-a", "blake3", "f1", "more", "f2"])
+    for how in ("exit 1", "kill -9 $$", "echo sums-part-1 blake3 0 1 x; exit 0", "exit 0"):
+        path = faulty(program, f'case "$1 $*" in "part "*" 16384 "*) {how} ;; esac')
+        same(f"a part that fails: {how}", front(path, ["-j2", "hash", "-a", "blake3", "f1", "more", "f2"]), wanted)
+    fill("changes", 50 * MIB)
+    for name, does in (("shrinks", "truncate -s 1000 changes"), ("grows", "truncate -s 60000000 changes"),
+                       ("is lost", "rm -f changes")):
+        run = front(faulty(program, f'case $1 in part) {does} ;; esac'), ["hash", "-a", "blake3", "changes"])
+        same(f"a file that {name} meanwhile", run, harness.run(program, ["hash", "-a", "blake3", "changes"]))
+
+
+def not_begun(program):
+    """What begins the runs is not there, or the words are wrong."""
+    many = ["hash", "-a", "sha256", *FEW]
+    for own, status, text in ((["--by", "/nothing/there"], 127, b"/nothing/there: No such file or directory"),
+                              (["--by", "/nothing/there", "--block=1"], 3,
+                               b"/nothing/there: No such file or directory"),
+                              (["--by=x", "-S", "y"], 2, b"give only one of -S and --by"),
+                              (["-j", "0"], 2, b"-j: out of range"),
+                              (["-jx"], 2, b"-j: out of range"), (["--block="], 2, b"--block: out of range"),
+                              (["-x"], 2, b"-x: neither hash nor check, nor an option")):
+        run = front(program, [*own, *many])
+        judge(f"{own}: the status and the text", run.status == status and b"sums-parallel: " + text in run.err, run)
+    for words, text in ((["-j"], b"-j: needed"), ([], b"hash or check: needed"),
+                        (["mac"], b"mac: neither hash nor check")):
+        run = front(program, words)
+        judge(f"{words}: the status and the text", run.status == 2 and b"sums-parallel: " + text in run.err, run)
+    for words in (many, ["--block=1", *many]):
+        same("no sums", front("/nothing/there", words),
+             (127, b"", b"sums-parallel: /nothing/there: No such file or directory\n"))
+    text = front(program, ["--help"])
+    judge("the help", text.status == 0 and not text.err and max(map(len, text.out.splitlines())) <= 80, text)
+    same("-h", front(program, ["-h"]), text)
+
+
+def streams(program):
+    """A full disk, and a pipe whose reader has gone."""
+    for words in (["hash", "-a", "sha256", *FEW], ["hash", "-a", "blake3", "more"], ["check", "-a", "sha256", "good"]):
+        answers = []
+        for command in ([program], [sys.executable, FRONT], [sys.executable, FRONT, "-j2", "--block=1"]):
+            with open("/dev/full", "wb") as full:
+                run = subprocess.run([*command, *words], stdout=full, stderr=subprocess.PIPE,
+                                     env={**os.environ, "SUMS": program})
+            reading, writing = os.pipe()
+            os.close(reading)
+            other = subprocess.run([*command, *words], stdout=writing, stderr=subprocess.PIPE,
+                                   env={**os.environ, "SUMS": program})
+            os.close(writing)
+            answers.append((run.returncode, run.stderr, other.returncode, other.stderr))
+        same(f"streams that take nothing {words[:3]}", answers[1:], answers[:1] * 2)
+
+
+def broken_input(program):
+    """Names and a list that cannot be read to their end: the terminal that they come from is closed."""
+    def run(command, words, data):
+        master, slave = pty.openpty()
+        os.write(slave, data)
+        os.close(slave)
+        done = subprocess.run([*command, *words], stdin=master, capture_output=True,
+                              env={**os.environ, "SUMS": program})
+        os.close(master)
+        return done.returncode, done.stdout, done.stderr
+
+    for words, data in ((["hash", "-a", "sha256", "--files0-from", "-"], b"f1\0f2\0"),
+                        (["check", "-a", "sha256", "--summary", "-"], content("good")[:300])):
+        same(f"broken input {words}", run([sys.executable, FRONT, "--block=1"], words, data),
+             run([program], words, data))
+
+
+def signals(program, own):
+    """Each signal ends the runs, with what they have begun."""
+    for number in (signal.SIGINT, signal.SIGTERM, signal.SIGHUP):
+        begun = os.path.abspath("begun")
+        with open(begun, "wb"), contextlib.suppress(FileExistsError):
+            os.mkdir("temporary")
+        path = faulty(program, f'case " $* " in *" f9 "*) echo $$ > "{begun}"; sleep 60 ;; esac')
+        variables = {"SUMS": path, "TMPDIR": os.path.abspath("temporary"),
+                     "PATH": os.path.dirname(path) + ":" + os.environ["PATH"]}
+        run = subprocess.Popen([sys.executable, FRONT, *own, "hash", "-a", "sha256", *FEW[:20]], stdout=subprocess.PIPE,
+                               stderr=subprocess.DEVNULL, env={**os.environ, **variables})
+        wait_for(lambda: content(begun))
+        run.send_signal(number)
+        out = run.communicate(timeout=30)[0]
+        same(f"{own} signal {number}", (run.returncode, os.listdir("temporary")), (-number, []))
+        judge(f"{own} signal {number}: whole lines alone", out == b"" or out.endswith(b"\n"), out)
+        left = int(content(begun))
+        judge(f"{own} signal {number}: no run is left", wait_for(lambda: not os.path.exists(f"/proc/{left}")), left)
+
+
+def wait_for(holds):
+    for _ in range(200):
+        if holds():
+            return True
+        time.sleep(0.05)
+    return False
+
+
+# ---- a terminal
+
+
+def progress(program):
+    """How many bytes are done, and nothing where it is not asked for."""
+    for words, is_shown in ((["--progress", "just", "f1"], True), (["just", "f1"], False)):
+        master, slave = pty.openpty()
+        path = faulty(program, "case $1 in part) sleep 0.3 ;; esac")
+        run = subprocess.Popen([sys.executable, FRONT, "-j1", "hash", "-a", "blake3", *words], stdout=subprocess.PIPE,
+                               stderr=slave, env={**os.environ, "SUMS": path, "TERM": "xterm"})
+        os.close(slave)
+        out = run.communicate(timeout=60)[0]
+        shown = b""
+        try:
+            while piece := os.read(master, 65536):
+                shown += piece
+        except OSError:  # the terminal was closed
+            pass
+        same(f"progress {words}: the lines", out, harness.run(program, ["hash", "-a", "blake3", "just", "f1"]).out)
+        rows = re.findall(rb"(\d+) of 33554434 bytes, (\d+) %\r\x1b\[K", shown)
+        judge(f"progress {words}: the rows", bool(rows) == is_shown and shown == b"".join(
+            b"%b of 33554434 bytes, %b %%\r\x1b[K" % row for row in rows), shown)
+        same(f"progress {words}: they rise", sorted(map(int, (row[0] for row in rows))), [int(row[0]) for row in rows])
+
+
+# ---- GNU parallel
+
+
+def through_parallel(program):
+    path = faulty(program, "")
+    os.environ["PATH"] = os.path.dirname(path) + ":" + os.environ["PATH"]
+    own = ["-S", "4/:", "--block", "50000"]
+    for cases in (of_files(), of_names(), of_words(), of_lists(), of_many()):
+        compare(program, [own], cases)
+    killed(program, ["-S", "2/:", "--block=1"])
+    signals(program, ["-S", "2/:", "--block=1"])
+    dead_hosts(program)
+
+
+def dead_hosts(program):
+    """A machine that ssh does not reach, one whose connection breaks off, and one that is alive."""
+    words = ["hash", "-a", "sha256", *FEW[:9]]
+    whole = harness.run(program, words)
+    faulty(program, "")
+    with open("ssh", "w") as file:
+        # behind the host and -- stand the words of a command
+        file.write('#!/bin/sh\nhost=$1; shift 2\ncase $host in dead) exit 255 ;; '
+                   'breaks) sh -c "$*" | head -c 60; exit 255 ;; esac\nexec sh -c "$*"\n')
+    os.chmod("ssh", 0o755)
+    ssh = {"PARALLEL_SSH": os.path.abspath("ssh")}
+    same("a host", front(program, ["-S", "2/host", "--block=1", *words], **ssh), whole)
+    same("a dead host beside this machine", front(program, ["-S", "2/dead,2/:", "--block=1", *words], **ssh), whole)
+    for host in ("dead", "breaks"):
+        run = front(program, ["-S", f"2/{host}", "--block=1", *words], **ssh)
+        same(f"a host alone that is {host}", (run.status, run.out), (3, b""))
+        judge(f"a host alone that is {host} is told", run.err.count(b"a run of sums ended with status 255") == 9,
+              run.err)
+
+
+def main():
+    program = harness.program()
+    with harness.folder():
+        files()
+        lists(program)
+        with open("good-many", "wb") as file:
+            file.write(harness.run(program, ["hash", "-a", "sha256", *MANY]).out)
+        for cases in (of_files(), of_names(), of_words(), of_lists()):
+            compare(program, WAYS, cases)
+        compare(program, WAYS[:1] + [["-j3", "--block=9999999"], ["--by", "env A=b", "--block=50000000"]], of_many())
+        killed(program, ["-j", "2", "--block=1"])
+        parts(program)
+        not_begun(program)
+        streams(program)
+        broken_input(program)
+        signals(program, ["-j", "2", "--block=1"])
+        progress(program)
+        if shutil.which("parallel"):
+            through_parallel(program)
+        else:
+            print("GNU parallel is not installed: -S was not tried")
+        judge("nothing that a name spells was run", not os.path.exists("PWNED"))
+    harness.finish()
+
+
+main()
