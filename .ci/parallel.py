@@ -336,7 +336,7 @@ def through_parallel(program):
     path = faulty(program, "")
     os.environ["PATH"] = os.path.dirname(path) + ":" + os.environ["PATH"]
     own = ["-S", "4/:", "--block", "50000"]
-    for cases in (of_files(), of_names(), of_words(), of_lists(), of_many()):
+    for cases in (of_files(), of_names(), of_words(), of_lists()):
         compare(program, [own], cases)
     killed(program, ["-S", "2/:", "--block=1"])
     signals(program, ["-S", "2/:", "--block=1"])
