@@ -68,8 +68,9 @@ fn whole_tags_are_verified(rt: HostRuntime) -> Result<(), Fail> {
         (32, 1, false),
     ] {
         given[31] ^= turned;
+        let tag = given.get(..length).ok_or("too long a row")?;
         let mac = Hmac::<Sha256Stream>::new(b"key")?;
-        assert_eq!(rt; mac.verify(&given[..length]), is_tag, "{length} {turned}");
+        assert_eq!(rt; mac.verify(tag), is_tag, "{length} {turned}");
     }
     Ok(())
 }
