@@ -372,7 +372,7 @@ def main():
             file.write(harness.run(program, ["hash", "-a", "sha256", *MANY]).out)
         for cases in (of_files(), of_names(), of_words(), of_lists()):
             compare(program, WAYS, cases)
-        compare(program, WAYS[:1] + [["-j3", "--block=9999999"], ["--by", "env A=b", "--block=50000000"]], of_many())
+        compare(program, [[], ["-j3", "--block=9999999"], ["--by", "env A=b", "--block=50000000"]], of_many())
         killed(program, ["-j", "2", "--block=1"])
         parts(program)
         not_begun(program)
