@@ -237,6 +237,8 @@ def not_begun(program):
     for words in (many, ["--block=1", *many]):
         same("no sums", front("/nothing/there", words),
              (127, b"", b"sums-parallel: /nothing/there: No such file or directory\n"))
+    same("no GNU parallel", front(program, ["-S", "2/:", "--block=1", *many], PATH="/nothing"),
+         (3, b"", b"sums-parallel: parallel: No such file or directory\n"))
     text = front(program, ["--help"])
     judge("the help", text.status == 0 and not text.err and max(map(len, text.out.splitlines())) <= 80, text)
     same("-h", front(program, ["-h"]), text)
