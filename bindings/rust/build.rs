@@ -74,7 +74,9 @@ fn bundled() {
 fn by_pkg_config() {
     const ADVICE: &str = "install libsums_hash, set SUMS_HASH_LIB_DIR, or take the feature `bundled`";
     let tool = env::var("PKG_CONFIG").unwrap_or_else(|_| "pkg-config".to_owned());
-    let told = Command::new(tool).args(["--libs", concat!("sums_hash >= ", env!("CARGO_PKG_VERSION"))]).output();
+    let told = Command::new(tool)
+        .args(["--libs", concat!("sums_hash >= ", env!("CARGO_PKG_VERSION"))])
+        .output();
     let words = match told {
         Ok(told) if told.status.success() => String::from_utf8_lossy(&told.stdout).into_owned(),
         Ok(told) => panic!("sums-hash: {}{ADVICE}", String::from_utf8_lossy(&told.stderr)),
