@@ -9,7 +9,7 @@ ghost use Rattle.words.specs.Mix.{rotated_xor, round};
 ghost use Rattle.words.specs.inside.Rows.{MixesColumns};
 ghost use Rattle.words.specs.Tables.{permutation};
 ghost use Rattle.words.specs.Words.{words};
-ghost use Rattle.words.specs.inside.Lanes.{lane, lane4, lane8, places_16, places_8, word_at, moved};
+ghost use Rattle.words.specs.inside.Lanes.{lane, lane4, lane8, places_16, places_8, word_at};
 
 use crate::lanes::{block_at, high, load, low};
 use crate::rows::{rotated_xor32, sum32};
@@ -58,26 +58,12 @@ fn words_of(x: u8x16) -> u32x4
     u32x4::from_le_bytes(x)
 }
 
-#[inline(always)]
-fn move16(turns: Turns, x: u8x16) -> u8x16
-    ensures { result ≡ moved (take 16 places_16) x }
-{
-    x.swizzle_dyn_within::<16>(turns.by_16)
-}
-
-#[inline(always)]
-fn move8(turns: Turns, x: u8x16) -> u8x16
-    ensures { result ≡ moved (take 16 places_8) x }
-{
-    x.swizzle_dyn_within::<16>(turns.by_8)
-}
-
 // x xor y, rotated right by 16.
 #[inline(always)]
 fn turn16(turns: Turns, x: u32x4, y: u32x4) -> u32x4
     ensures { (i : ℕ) → i < 4 → slice_index result i ≡ rotated_xor blake2s 0 (slice_index x i) (slice_index y i) }
 {
-    words_of(move16(turns, bytes(xor(x, y))))
+    words_of(bytes(xor(x, y)).swizzle_dyn_within::<16>(turns.by_16))
 }
 
 // x xor y, rotated right by 8.
@@ -85,7 +71,7 @@ fn turn16(turns: Turns, x: u32x4, y: u32x4) -> u32x4
 fn turn8(turns: Turns, x: u32x4, y: u32x4) -> u32x4
     ensures { (i : ℕ) → i < 4 → slice_index result i ≡ rotated_xor blake2s 2 (slice_index x i) (slice_index y i) }
 {
-    words_of(move8(turns, bytes(xor(x, y))))
+    words_of(bytes(xor(x, y)).swizzle_dyn_within::<16>(turns.by_8))
 }
 
 // G in each lane, on one column or diagonal of the state.
@@ -256,7 +242,7 @@ fn transpose(r: [u32x4; 4]) -> [u32x4; 4]
 
 // Four words of a block, from byte `at` on.
 #[inline(always)]
-fn row(block: &[u8], at: usize) -> u32x4
+pub(crate) fn row(block: &[u8], at: usize) -> u32x4
     requires { at + 16 ≤ length block.now }
     ensures { (n : ℕ) → n < 4 → slice_index result n ≡ word_at block.now (at + 4 * n) }
 {
@@ -286,24 +272,28 @@ pub fn message_lanes(bytes: &[u8], starts: &[usize; 4], at: usize) -> [u32x4; 16
 
 // Eight words of two vectors.
 #[inline(always)]
-fn joined(x: u32x4, y: u32x4) -> [u32; 8]
+pub(crate) fn joined(x: u32x4, y: u32x4) -> u32x8
     ensures { result ≡ slice_index x 0 ∷ slice_index x 1 ∷ slice_index x 2 ∷ slice_index x 3
         ∷ slice_index y 0 ∷ slice_index y 1 ∷ slice_index y 2 ∷ slice_index y 3 ∷ [] }
 {
-    x.shuffle(y, [0, 1, 2, 3, 4, 5, 6, 7]).to_array()
+    x.shuffle(y, [0, 1, 2, 3, 4, 5, 6, 7])
 }
 
-/// The words in each lane, as a row.
+/// The words in each lane, as a row. There are as many rows as of eight lanes, and the others are of no meaning.
 #[inline(always)]
-pub fn lane_rows(h: [u32x4; 8]) -> [[u32; 8]; 4]
+pub fn lane_rows(h: [u32x4; 8]) -> [[u32; 8]; 8]
     ensures { (i : ℕ) → i < 4 → slice_index_or result i [] ≡ lane8 i h }
 {
     let [a0, a1, a2, a3] = transpose([h[0], h[1], h[2], h[3]]);
     let [b0, b1, b2, b3] = transpose([h[4], h[5], h[6], h[7]]);
     [
-        joined(a0, b0),
-        joined(a1, b1),
-        joined(a2, b2),
-        joined(a3, b3),
+        joined(a0, b0).to_array(),
+        joined(a1, b1).to_array(),
+        joined(a2, b2).to_array(),
+        joined(a3, b3).to_array(),
+        [0; 8],
+        [0; 8],
+        [0; 8],
+        [0; 8],
     ]
 }
