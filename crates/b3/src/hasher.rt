@@ -1,7 +1,8 @@
 // The hasher (the BLAKE3 paper, section 5.1).
 
 ghost use Rattle.std.specs.Prelude.{◌≡◌, ℕ, ◌+◌, ◌-◌, ◌*◌, ◌%◌, ◌^◌, ◌<◌, ◌≤◌, List, [], ◌∷◌, ◌++◌, length};
-ghost use Rattle.std.specs.Prelude.{slice_index_or, take, count_ones};
+ghost use Rattle.std.specs.Prelude.{slice_index_or, take, drop, count_ones, Some};
+ghost use Rattle.b3.specs.inside.Chunks.{IsChunkValue};
 
 use crate::chunk::{CHUNK_LEN, Chunk};
 use crate::lanes::{chunk_values, open_lefts, subtree_of};
@@ -63,7 +64,11 @@ pub struct Blake3 {
     // the closed chunks; their number is that of the open one
     pub(crate) stack: Stack,
     pub(crate) chunk: Chunk,
+    // the chaining value of the open chunk, where it was made with those of the chunks before it
+    pub(crate) made: Option<[u32; 8]>,
     ghost length_fits: { 1024 * stack.closed + chunk.len ≤ 2 ^ 64 - 1 },
+    ghost made_fits: { (v : List ℕ) → made ≡ Some v
+        → IsChunkValue stack.parameters.key stack.parameters.flags stack.closed chunk v },
 }
 
 impl Blake3 {
@@ -72,7 +77,7 @@ impl Blake3 {
     ghost use Rattle.b3.specs.Modes.{hash_parameters, keyed_parameters, derive_parameters, root_of};
     ghost use Rattle.b3.specs.Tree.{chunk_count, tree};
     ghost use Rattle.b3.specs.Node.{cv};
-    ghost use Rattle.b3.specs.Chunk.{value_before};
+    ghost use Rattle.b3.specs.Chunk.{chunk, value_before};
     ghost use Rattle.b3.specs.inside.Runs.{run_cv};
 
     /// A hasher of the empty input in the mode `hash` (section 2.3).
@@ -113,6 +118,7 @@ impl Blake3 {
         Blake3 {
             stack: Stack::new(parameters),
             chunk: Chunk::new(&parameters.key),
+            made: None,
         }
     }
 
@@ -140,12 +146,23 @@ impl Blake3 {
             → output_root result ≡ root_of (⟦<Blake3 as Absorb>⟧.parameters self.now) m }
         ensures position { output_position result ≡ 0 }
     {
-        let flags = self.stack.parameters.flags;
-        let node = self.chunk.node(self.stack.closed, flags);
         if self.stack.closed == 0 {
-            return Output::of(node);
+            let flags = self.stack.parameters.flags;
+            return Output::of(self.chunk.node(self.stack.closed, flags));
         }
-        Output::of(self.stack.fold(&node.chaining_value()))
+        Output::of(self.stack.fold(&self.chunk_value()))
+    }
+
+    // The chaining value of the open chunk.
+    fn chunk_value(&self) -> [u32; 8]
+        ensures { IsChunkValue self.now.stack.parameters.key self.now.stack.parameters.flags self.now.stack.closed
+            self.now.chunk result }
+    {
+        if let Some(value) = self.made {
+            return value;
+        }
+        let flags = self.stack.parameters.flags;
+        self.chunk.node(self.stack.closed, flags).chaining_value()
     }
 
     /// Closes the open chunk where it is full, since more bytes follow.
@@ -159,10 +176,10 @@ impl Blake3 {
         if self.chunk.len() < CHUNK_LEN {
             return;
         }
-        let flags = self.stack.parameters.flags;
-        let node = self.chunk.node(self.stack.closed, flags);
-        self.stack.push(1, node.chaining_value());
+        let value = self.chunk_value();
+        self.stack.push(1, value);
         self.chunk = Chunk::new(&self.stack.parameters.key);
+        self.made = None;
     }
 
     // Adds a subtree of 2 ^ level chunks by its chaining value; more bytes follow it.
@@ -179,6 +196,7 @@ impl Blake3 {
             → IsSplit self.new (m ++ y) }
     {
         self.stack.push(subtree_chunks(level), value);
+        self.made = None;
     }
 
     // Adds a run of 8 * 2 ^ level chunks; more bytes follow it.
@@ -209,7 +227,7 @@ impl Blake3 {
             left -= 1;
             self.push_value(left, lefts[left as usize]);
         }
-        self.open_chunk(before, &bytes[bytes.len() - CHUNK_LEN..]);
+        self.open_chunk(before, None, &bytes[bytes.len() - CHUNK_LEN..]);
     }
 
     // Adds the first `n` of at most eight whole chunks by their chaining values; more bytes follow them.
@@ -231,10 +249,15 @@ impl Blake3 {
         }
     }
 
-    // Adds a whole chunk, which stays open, by the chaining value before its last block.
-    fn open_chunk(&mut self, before: [u32; 8], bytes: &[u8])
+    // Adds a whole chunk, which stays open, by the chaining value before its last block, and the chunk's own where it
+    // is made.
+    fn open_chunk(&mut self, before: [u32; 8], made: Option<[u32; 8]>, bytes: &[u8])
         requires empty { self.old.chunk.len ≡ 0 }
         requires whole { length bytes.now ≡ 1024 }
+        requires made { (v : List ℕ) → made ≡ Some v → (before ≡ value_before self.old.stack.parameters.key
+            self.old.stack.parameters.flags self.old.stack.closed bytes.now 15)
+            × (v ≡ cv (chunk self.old.stack.parameters.key self.old.stack.parameters.flags self.old.stack.closed
+            bytes.now)) }
         requires bound { 1024 * self.old.stack.closed + 1024 < 2 ^ 64 }
         ensures parameters { self.new.stack.parameters ≡ self.old.stack.parameters }
         ensures closed { self.new.stack.closed ≡ self.old.stack.closed }
@@ -245,6 +268,7 @@ impl Blake3 {
             → IsSplit self.new (m ++ bytes.now) }
     {
         self.chunk = Chunk::full(before, &bytes[CHUNK_LEN - BLOCK_LEN..]);
+        self.made = made;
     }
 
     // Adds at most eight whole chunks; more bytes follow them.
@@ -272,7 +296,7 @@ impl Blake3 {
         let (values, before) = chunk_values(&self.stack.parameters, self.stack.closed, bytes);
         let last = bytes.len() / CHUNK_LEN - 1;
         self.push_values(&values, last);
-        self.open_chunk(before[last], &bytes[CHUNK_LEN * last..]);
+        self.open_chunk(before[last], Some(values[last]), &bytes[CHUNK_LEN * last..]);
     }
 
     /// Takes a beginning of `rest`, and answers its length: whole chunks, where no chunk is begun and
@@ -313,6 +337,7 @@ impl Blake3 {
         let n = (CHUNK_LEN - self.chunk.len()).min(rest.len());
         let flags = self.stack.parameters.flags;
         self.chunk.update(self.stack.closed, flags, &rest[..n]);
+        self.made = None;
         n
     }
 }

@@ -47,15 +47,6 @@ fn numbers<const N: usize>(first: u64) -> [u64; N]
     from_fn(|i| first + i as u64)
 }
 
-// Four rows, and four more of no meaning. Written out, since a copy into zeros is slower.
-fn padded(rows: [[u32; 8]; 4]) -> [[u32; 8]; 8]
-    ensures { (i : ℕ) → i < 4 → slice_index_or result i [] ≡ slice_index_or rows i [] }
-{
-    [
-        rows[0], rows[1], rows[2], rows[3], [0; 8], [0; 8], [0; 8], [0; 8],
-    ]
-}
-
 // The chaining values of at most four whole chunks, and those before the last block of each.
 fn few_chunk_values(
     parameters: &Parameters,
@@ -81,10 +72,7 @@ fn few_chunk_values(
         before = values;
         values = next;
     }
-    (
-        padded(four::lane_rows(values)),
-        padded(four::lane_rows(before)),
-    )
+    (four::lane_rows(values), four::lane_rows(before))
 }
 
 // The chaining values of two whole chunks, and those before the last block of each.
@@ -100,21 +88,19 @@ fn two_chunk_values(
     ensures before { (i : ℕ) → i < 2
         → slice_index_or result.1 i [] ≡ value_before_last parameters.now.key parameters.now.flags first bytes.now i }
 {
-    let counters = [first, first + 1];
-    let mut values = [parameters.key; 2];
+    let counters = numbers(first);
+    let starts = lane_starts(CHUNK_LEN);
+    let turns = Turns::known();
+    let mut values = two::same_halves(&parameters.key);
     let mut before = values;
     'each_block: for j in 0..16 {
-        let left = two::block_words(bytes, BLOCK_LEN * j);
-        let right = two::block_words(bytes, CHUNK_LEN + BLOCK_LEN * j);
+        let message = two::message_halves(bytes, &starts, BLOCK_LEN * j);
         let d = block_flags(parameters.flags, j);
-        let next = two::next_two(&values, &[left, right], &counters, 64, d);
+        let next = two::next_halves(turns, values, message, &counters, 64, d);
         before = values;
         values = next;
     }
-    (
-        padded([values[0], values[1], [0; 8], [0; 8]]),
-        padded([before[0], before[1], [0; 8], [0; 8]]),
-    )
+    (two::half_rows(values), two::half_rows(before))
 }
 
 // The chaining values of at most eight whole chunks, by lanes; `before` takes those before the last block of

@@ -86,6 +86,7 @@ impl Blake3State {
                 block: self.block,
                 len: self.len as usize,
             },
+            made: None,
         }
     }
 

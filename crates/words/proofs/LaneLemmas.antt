@@ -10,6 +10,12 @@ use Rattle.std.specs.Int.{Width, rotate_right}
 use Rattle.words.specs.inside.Lanes.{word_at, lane8, transposed8}
 use Rattle.words.specs.Words.{words}
 
+-- what holds of both halves
+pub below_two : (P : ℕ → Type 0) → P 0 → P 1 → (i : ℕ) → i < 2 → P i
+below_two P p0 p1 zero h = p0
+below_two P p0 p1 (suc zero) h = p1
+below_two P p0 p1 (suc (suc n)) h = absurd (omega arith)
+
 -- what holds of each of the eight lanes
 pub below_eight : (P : ℕ → Type 0) → P 0 → P 1 → P 2 → P 3 → P 4 → P 5 → P 6 → P 7 → (i : ℕ) → i < 8 → P i
 below_eight P p0 p1 p2 p3 p4 p5 p6 p7 zero h = p0

@@ -6,9 +6,10 @@ ghost use Rattle.words.specs.Blake3.{words_in_order, working_words3, rounds3, fo
 ghost use Rattle.words.specs.Mix.{word_sum, rotated_xor, g, round};
 ghost use Rattle.words.specs.Tables.{permutation};
 ghost use Rattle.words.specs.Blake2.{schedule, blake2s};
+ghost use Rattle.std.specs.Int.{rotate_right, w32};
 ghost use Rattle.std.specs.Simd.Lanes.{number_l, chunk};
 ghost use Rattle.words.specs.inside.Lanes.{lane, lane4, lane8, rows_lane, OnLanes, transposed8, places_16, places_8};
-ghost use Rattle.words.specs.inside.Lanes.{word_at, lane_column, lane_at, moved};
+ghost use Rattle.words.specs.inside.Lanes.{word_at, lane_column, lane_at};
 ghost use Rattle.words.specs.Words.{words};
 
 use crate::tables::IV32;
@@ -27,18 +28,18 @@ macro_rules! permuted {
 // The seven rounds, each on the message words in its order.
 macro_rules! seven_rounds {
     ($round:ident, $permute:ident, $turns:ident, $v:ident, $m:ident) => {{
-        let m1 = $permute($m);
-        let m2 = $permute(m1);
-        let m3 = $permute(m2);
-        let m4 = $permute(m3);
-        let m5 = $permute(m4);
-        let m6 = $permute(m5);
         let v = $round($turns, $v, $m);
+        let m1 = $permute($m);
         let v = $round($turns, v, m1);
+        let m2 = $permute(m1);
         let v = $round($turns, v, m2);
+        let m3 = $permute(m2);
         let v = $round($turns, v, m3);
+        let m4 = $permute(m3);
         let v = $round($turns, v, m4);
+        let m5 = $permute(m4);
         let v = $round($turns, v, m5);
+        let m6 = $permute(m5);
         $round($turns, v, m6)
     }};
 }
@@ -75,6 +76,12 @@ impl Turns {
     /// The places. A call, so that the compiler does not know them and leaves each turn as one shuffle.
     #[inline(never)]
     pub fn new() -> Turns {
+        Turns::known()
+    }
+
+    /// The same places, known to the compiler: it turns by what the processor level has.
+    #[inline(always)]
+    pub fn known() -> Turns {
         Turns {
             by_16: u8x32::from_array([
                 2, 3, 0, 1, 6, 7, 4, 5, 10, 11, 8, 9, 14, 15, 12, 13, 2, 3, 0, 1, 6, 7, 4, 5, 10,
@@ -104,6 +111,17 @@ fn add(x: u32x8, y: u32x8) -> u32x8
     x + y
 }
 
+// Each word of x xor y, rotated right.
+#[inline(always)]
+fn rotated(x: u32x8, y: u32x8, r: u32) -> u32x8
+    requires { (0 < r) × (r < 32) }
+    ensures { (i : ℕ) → i < 8
+        → slice_index result i ≡ rotate_right w32 (bit_xor (slice_index x i) (slice_index y i)) r }
+{
+    let z = x ^ y;
+    (z >> u32x8::splat(r)) | (z << u32x8::splat(32 - r))
+}
+
 // The bytes of eight words.
 #[inline(always)]
 fn bytes(x: u32x8) -> u8x32
@@ -120,37 +138,12 @@ fn words_of(x: u8x32) -> u32x8
     u32x8::from_le_bytes(x)
 }
 
-// The bytes of words that turn by 16.
-#[inline(always)]
-fn move16(turns: Turns, x: u8x32) -> u8x32
-    ensures { result ≡ moved places_16 x }
-{
-    x.swizzle_dyn_within::<16>(turns.by_16)
-}
-
-// The bytes of words that turn by 8.
-#[inline(always)]
-fn move8(turns: Turns, x: u8x32) -> u8x32
-    ensures { result ≡ moved places_8 x }
-{
-    x.swizzle_dyn_within::<16>(turns.by_8)
-}
-
 // x xor y, rotated right by 16.
 #[inline(always)]
 fn turn16(turns: Turns, x: u32x8, y: u32x8) -> u32x8
     ensures { (i : ℕ) → i < 8 → slice_index result i ≡ rotated_xor blake2s 0 (slice_index x i) (slice_index y i) }
 {
-    words_of(move16(turns, bytes(xor(x, y))))
-}
-
-// x xor y, rotated right by 12.
-#[inline(always)]
-fn turn12(x: u32x8, y: u32x8) -> u32x8
-    ensures { (i : ℕ) → i < 8 → slice_index result i ≡ rotated_xor blake2s 1 (slice_index x i) (slice_index y i) }
-{
-    let z = x ^ y;
-    (z >> u32x8::splat(12)) | (z << u32x8::splat(20))
+    words_of(bytes(xor(x, y)).swizzle_dyn_within::<16>(turns.by_16))
 }
 
 // x xor y, rotated right by 8.
@@ -158,16 +151,7 @@ fn turn12(x: u32x8, y: u32x8) -> u32x8
 fn turn8(turns: Turns, x: u32x8, y: u32x8) -> u32x8
     ensures { (i : ℕ) → i < 8 → slice_index result i ≡ rotated_xor blake2s 2 (slice_index x i) (slice_index y i) }
 {
-    words_of(move8(turns, bytes(xor(x, y))))
-}
-
-// x xor y, rotated right by 7.
-#[inline(always)]
-fn turn7(x: u32x8, y: u32x8) -> u32x8
-    ensures { (i : ℕ) → i < 8 → slice_index result i ≡ rotated_xor blake2s 3 (slice_index x i) (slice_index y i) }
-{
-    let z = x ^ y;
-    (z >> u32x8::splat(7)) | (z << u32x8::splat(25))
+    words_of(bytes(xor(x, y)).swizzle_dyn_within::<16>(turns.by_8))
 }
 
 // The same of four words in each lane.
@@ -196,14 +180,15 @@ fn turned16(turns: Turns, x: [u32x8; 4], y: [u32x8; 4]) -> [u32x8; 4]
 }
 
 #[inline(always)]
-fn turned12(x: [u32x8; 4], y: [u32x8; 4]) -> [u32x8; 4]
-    ensures { OnLanes 8 (rotated_xor blake2s 1) x y result }
+fn all_rotated(x: [u32x8; 4], y: [u32x8; 4], r: u32) -> [u32x8; 4]
+    requires { (0 < r) × (r < 32) }
+    ensures { OnLanes 8 (λ v w. rotate_right w32 (bit_xor v w) r) x y result }
 {
     [
-        turn12(x[0], y[0]),
-        turn12(x[1], y[1]),
-        turn12(x[2], y[2]),
-        turn12(x[3], y[3]),
+        rotated(x[0], y[0], r),
+        rotated(x[1], y[1], r),
+        rotated(x[2], y[2], r),
+        rotated(x[3], y[3], r),
     ]
 }
 
@@ -219,18 +204,6 @@ fn turned8(turns: Turns, x: [u32x8; 4], y: [u32x8; 4]) -> [u32x8; 4]
     ]
 }
 
-#[inline(always)]
-fn turned7(x: [u32x8; 4], y: [u32x8; 4]) -> [u32x8; 4]
-    ensures { OnLanes 8 (rotated_xor blake2s 3) x y result }
-{
-    [
-        turn7(x[0], y[0]),
-        turn7(x[1], y[1]),
-        turn7(x[2], y[2]),
-        turn7(x[3], y[3]),
-    ]
-}
-
 // G on the four columns of the state, step by step side by side.
 #[inline(always)]
 fn four_g(turns: Turns, rows: [[u32x8; 4]; 4], x: [u32x8; 4], y: [u32x8; 4]) -> [[u32x8; 4]; 4]
@@ -241,11 +214,11 @@ fn four_g(turns: Turns, rows: [[u32x8; 4]; 4], x: [u32x8; 4], y: [u32x8; 4]) -> 
     let a1 = sums(sums(a, b), x);
     let d1 = turned16(turns, d, a1);
     let c1 = sums(c, d1);
-    let b1 = turned12(b, c1);
+    let b1 = all_rotated(b, c1, 12);
     let a2 = sums(sums(a1, b1), y);
     let d2 = turned8(turns, d1, a2);
     let c2 = sums(c1, d2);
-    let b2 = turned7(b1, c2);
+    let b2 = all_rotated(b1, c2, 7);
     [a2, b2, c2, d2]
 }
 
@@ -350,31 +323,17 @@ fn transpose(r: [u32x8; 8]) -> [u32x8; 8]
     ensures { result ≡ transposed8 r }
 {
     let [r0, r1, r2, r3, r4, r5, r6, r7] = r;
-    let ab_0145 = unpack_low(r0, r1);
-    let ab_2367 = unpack_high(r0, r1);
-    let cd_0145 = unpack_low(r2, r3);
-    let cd_2367 = unpack_high(r2, r3);
-    let ef_0145 = unpack_low(r4, r5);
-    let ef_2367 = unpack_high(r4, r5);
-    let gh_0145 = unpack_low(r6, r7);
-    let gh_2367 = unpack_high(r6, r7);
-    let abcd_04 = pairs_low(ab_0145, cd_0145);
-    let abcd_15 = pairs_high(ab_0145, cd_0145);
-    let abcd_26 = pairs_low(ab_2367, cd_2367);
-    let abcd_37 = pairs_high(ab_2367, cd_2367);
-    let efgh_04 = pairs_low(ef_0145, gh_0145);
-    let efgh_15 = pairs_high(ef_0145, gh_0145);
-    let efgh_26 = pairs_low(ef_2367, gh_2367);
-    let efgh_37 = pairs_high(ef_2367, gh_2367);
+    let [low04, low15, low26, low37] = quads(r0, r1, r2, r3);
+    let [high04, high15, high26, high37] = quads(r4, r5, r6, r7);
     [
-        halves_low(abcd_04, efgh_04),
-        halves_low(abcd_15, efgh_15),
-        halves_low(abcd_26, efgh_26),
-        halves_low(abcd_37, efgh_37),
-        halves_high(abcd_04, efgh_04),
-        halves_high(abcd_15, efgh_15),
-        halves_high(abcd_26, efgh_26),
-        halves_high(abcd_37, efgh_37),
+        halves_low(low04, high04),
+        halves_low(low15, high15),
+        halves_low(low26, high26),
+        halves_low(low37, high37),
+        halves_high(low04, high04),
+        halves_high(low15, high15),
+        halves_high(low26, high26),
+        halves_high(low37, high37),
     ]
 }
 
@@ -388,25 +347,6 @@ pub(crate) fn load(bytes: &[u8], at: usize) -> u8x16
     u8x16::from_slice(&bytes[at..at + 16])
 }
 
-// Bytes, one after the other.
-#[inline(always)]
-fn beside(x: u8x16, y: u8x16) -> u8x32
-    ensures { result ≡ slice_index x 0 ∷ slice_index x 1 ∷ slice_index x 2 ∷ slice_index x 3 ∷ slice_index x 4
-        ∷ slice_index x 5 ∷ slice_index x 6 ∷ slice_index x 7 ∷ slice_index x 8 ∷ slice_index x 9 ∷ slice_index x 10
-        ∷ slice_index x 11 ∷ slice_index x 12 ∷ slice_index x 13 ∷ slice_index x 14 ∷ slice_index x 15 ∷ slice_index y 0
-        ∷ slice_index y 1 ∷ slice_index y 2 ∷ slice_index y 3 ∷ slice_index y 4 ∷ slice_index y 5 ∷ slice_index y 6
-        ∷ slice_index y 7 ∷ slice_index y 8 ∷ slice_index y 9 ∷ slice_index y 10 ∷ slice_index y 11 ∷ slice_index y 12
-        ∷ slice_index y 13 ∷ slice_index y 14 ∷ slice_index y 15 ∷ [] }
-{
-    x.shuffle(
-        y,
-        [
-            0, 1, 2, 3, 4, 5, 6, 7, 8, 9, 10, 11, 12, 13, 14, 15, 16, 17, 18, 19, 20, 21, 22, 23,
-            24, 25, 26, 27, 28, 29, 30, 31,
-        ],
-    )
-}
-
 // Four words of one block and four of another, from byte `at` on.
 #[inline(always)]
 fn quad(x: &[u8], y: &[u8], at: usize) -> u32x8
@@ -415,7 +355,7 @@ fn quad(x: &[u8], y: &[u8], at: usize) -> u32x8
     ensures low { (n : ℕ) → n < 4 → slice_index result n ≡ word_at x.now (at + 4 * n) }
     ensures high { (n : ℕ) → n < 4 → slice_index result (4 + n) ≡ word_at y.now (at + 4 * n) }
 {
-    words_of(beside(load(x, at), load(y, at)))
+    four::joined(four::row(x, at), four::row(y, at))
 }
 
 // Four message words, of the quads of the lanes 0 and 4, 1 and 5, 2 and 6, 3 and 7.

@@ -1,5 +1,5 @@
 -- Eight compressions side by side: each word is a vector, with one lane for each of them.
-use Rattle.std.specs.Prelude.{◌≡◌, ℕ, ◌<◌, drop, suc, ◌+◌, ◌*◌, ◌/◌, List, [], ◌∷◌, slice_index, slice_index_or}
+use Rattle.std.specs.Prelude.{◌≡◌, ℕ, ◌<◌, drop, List, [], ◌∷◌, slice_index, slice_index_or}
 use Rattle.byteorder.specs.Endian.{little_number}
 
 -- lane i of vector k
@@ -43,14 +43,6 @@ places_16 = 2 ∷ 3 ∷ 0 ∷ 1 ∷ 6 ∷ 7 ∷ 4 ∷ 5 ∷ 10 ∷ 11 ∷ 8 ∷ 
 abbrev pub places_8 : List ℕ
 places_8 = 1 ∷ 2 ∷ 3 ∷ 0 ∷ 5 ∷ 6 ∷ 7 ∷ 4 ∷ 9 ∷ 10 ∷ 11 ∷ 8 ∷ 13 ∷ 14 ∷ 15 ∷ 12 ∷ 1 ∷ 2 ∷ 3 ∷ 0 ∷ 5 ∷ 6 ∷ 7 ∷ 4 ∷ 9 ∷ 10
     ∷ 11 ∷ 8 ∷ 13 ∷ 14 ∷ 15 ∷ 12 ∷ []
-
--- the numbers at places in a list, each in the block of 16 in which it stands
-abbrev pub moved_from : ℕ → List ℕ → List ℕ → List ℕ
-moved_from i [] x = []
-moved_from i (p ∷ ps) x = slice_index x (16 * (i / 16) + p) ∷ moved_from (suc i) ps x
-
-abbrev pub moved : List ℕ → List ℕ → List ℕ
-moved ps x = moved_from 0 ps x
 
 -- the word in lane i of vector j of row r
 abbrev pub row_lane_at : List (List (List ℕ)) → ℕ → ℕ → ℕ → ℕ

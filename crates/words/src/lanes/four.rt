@@ -1,15 +1,15 @@
 //! The same on four inputs side by side, for the few chunks of a short message.
 
-ghost use Rattle.std.specs.Prelude.{◌≡◌, ℕ, ◌<◌, ◌+◌, ◌*◌, ◌/◌, ◌%◌, ◌^◌, slice_index, slice_index_or, [], ◌∷◌, take};
-ghost use Rattle.std.specs.Prelude.{drop, length, bit_xor, ◌≤◌};
+ghost use Rattle.std.specs.Prelude.{◌≡◌, ℕ, ◌<◌, ◌+◌, ◌*◌, ◌/◌, ◌%◌, ◌^◌, slice_index, slice_index_or, [], ◌∷◌};
+ghost use Rattle.std.specs.Prelude.{List, drop, length, take, bit_xor, ◌≤◌};
 ghost use Rattle.std.specs.Simd.Lanes.{number_l, chunk};
 ghost use Rattle.words.specs.Blake2.{schedule, blake2s};
 ghost use Rattle.words.specs.Blake3.{words_in_order, working_words3, rounds3, folded_halves3, compress3};
-ghost use Rattle.words.specs.Mix.{rotated_xor, round};
-ghost use Rattle.words.specs.inside.Rows.{MixesColumns};
+ghost use Rattle.words.specs.Mix.{g, rotated_xor, round};
+ghost use Rattle.words.specs.inside.Rows.{column, half_g};
 ghost use Rattle.words.specs.Tables.{permutation};
 ghost use Rattle.words.specs.Words.{words};
-ghost use Rattle.words.specs.inside.Lanes.{lane, lane4, lane8, places_16, places_8, word_at, moved};
+ghost use Rattle.words.specs.inside.Lanes.{lane, lane4, lane8, places_16, places_8, word_at};
 
 use crate::lanes::{block_at, high, load, low};
 use crate::rows::{rotated_xor32, sum32};
@@ -58,26 +58,12 @@ fn words_of(x: u8x16) -> u32x4
     u32x4::from_le_bytes(x)
 }
 
-#[inline(always)]
-fn move16(turns: Turns, x: u8x16) -> u8x16
-    ensures { result ≡ moved (take 16 places_16) x }
-{
-    x.swizzle_dyn_within::<16>(turns.by_16)
-}
-
-#[inline(always)]
-fn move8(turns: Turns, x: u8x16) -> u8x16
-    ensures { result ≡ moved (take 16 places_8) x }
-{
-    x.swizzle_dyn_within::<16>(turns.by_8)
-}
-
 // x xor y, rotated right by 16.
 #[inline(always)]
 fn turn16(turns: Turns, x: u32x4, y: u32x4) -> u32x4
     ensures { (i : ℕ) → i < 4 → slice_index result i ≡ rotated_xor blake2s 0 (slice_index x i) (slice_index y i) }
 {
-    words_of(move16(turns, bytes(xor(x, y))))
+    words_of(bytes(xor(x, y)).swizzle_dyn_within::<16>(turns.by_16))
 }
 
 // x xor y, rotated right by 8.
@@ -85,39 +71,58 @@ fn turn16(turns: Turns, x: u32x4, y: u32x4) -> u32x4
 fn turn8(turns: Turns, x: u32x4, y: u32x4) -> u32x4
     ensures { (i : ℕ) → i < 4 → slice_index result i ≡ rotated_xor blake2s 2 (slice_index x i) (slice_index y i) }
 {
-    words_of(move8(turns, bytes(xor(x, y))))
+    words_of(bytes(xor(x, y)).swizzle_dyn_within::<16>(turns.by_8))
 }
 
-// G in each lane, on one column or diagonal of the state.
+// The first half of G on a column or diagonal of the state in each lane.
 #[inline(always)]
-fn mix(turns: Turns, rows: [u32x4; 4], x: u32x4, y: u32x4) -> [u32x4; 4]
-    ensures { MixesColumns blake2s x y rows result }
+fn begin_mix(turns: Turns, rows: [u32x4; 4], x: u32x4) -> [u32x4; 4]
+    ensures { (i : ℕ) → i < 4 → column result i ≡ half_g blake2s 0 (column rows i) (slice_index x i) }
 {
     let [a, b, c, d] = rows;
-    let a1 = sum32(sum32(a, b), x);
-    let d1 = turn16(turns, d, a1);
-    let c1 = sum32(c, d1);
-    let b1 = rotated_xor32(b, c1, 12);
-    let a2 = sum32(sum32(a1, b1), y);
-    let d2 = turn8(turns, d1, a2);
-    let c2 = sum32(c1, d2);
-    let b2 = rotated_xor32(b1, c2, 7);
-    [a2, b2, c2, d2]
+    let a = sum32(sum32(a, b), x);
+    let d = turn16(turns, d, a);
+    let c = sum32(c, d);
+    let b = rotated_xor32(b, c, 12);
+    [a, b, c, d]
 }
 
-// One round.
+// The second half of G, where the first was on `v`.
+#[inline(always)]
+fn end_mix(turns: Turns, rows: [u32x4; 4], y: u32x4) -> [u32x4; 4]
+    ensures { (i : ℕ) → i < 4 → (v : List ℕ) (x : ℕ) → column rows i ≡ half_g blake2s 0 v x
+        → column result i ≡ g blake2s v x (slice_index y i) }
+{
+    let [a, b, c, d] = rows;
+    let a = sum32(sum32(a, b), y);
+    let d = turn8(turns, d, a);
+    let c = sum32(c, d);
+    let b = rotated_xor32(b, c, 7);
+    [a, b, c, d]
+}
+
+// One round: G down the columns, and then down the diagonals. Four halves of G stand side by side, since each step of
+// one waits for the step before it.
 #[inline(always)]
 fn round_lanes(turns: Turns, v: [u32x4; 16], m: [u32x4; 16]) -> [u32x4; 16]
     ensures { (i : ℕ) → i < 4 → lane i result ≡ round blake2s (lane i v) (lane i m) (schedule 0) }
 {
-    let [a0, b0, c0, d0] = mix(turns, [v[0], v[4], v[8], v[12]], m[0], m[1]);
-    let [a1, b1, c1, d1] = mix(turns, [v[1], v[5], v[9], v[13]], m[2], m[3]);
-    let [a2, b2, c2, d2] = mix(turns, [v[2], v[6], v[10], v[14]], m[4], m[5]);
-    let [a3, b3, c3, d3] = mix(turns, [v[3], v[7], v[11], v[15]], m[6], m[7]);
-    let [a0, b1, c2, d3] = mix(turns, [a0, b1, c2, d3], m[8], m[9]);
-    let [a1, b2, c3, d0] = mix(turns, [a1, b2, c3, d0], m[10], m[11]);
-    let [a2, b3, c0, d1] = mix(turns, [a2, b3, c0, d1], m[12], m[13]);
-    let [a3, b0, c1, d2] = mix(turns, [a3, b0, c1, d2], m[14], m[15]);
+    let p0 = begin_mix(turns, [v[0], v[4], v[8], v[12]], m[0]);
+    let p1 = begin_mix(turns, [v[1], v[5], v[9], v[13]], m[2]);
+    let p2 = begin_mix(turns, [v[2], v[6], v[10], v[14]], m[4]);
+    let p3 = begin_mix(turns, [v[3], v[7], v[11], v[15]], m[6]);
+    let [a0, b0, c0, d0] = end_mix(turns, p0, m[1]);
+    let [a1, b1, c1, d1] = end_mix(turns, p1, m[3]);
+    let [a2, b2, c2, d2] = end_mix(turns, p2, m[5]);
+    let [a3, b3, c3, d3] = end_mix(turns, p3, m[7]);
+    let q0 = begin_mix(turns, [a0, b1, c2, d3], m[8]);
+    let q1 = begin_mix(turns, [a1, b2, c3, d0], m[10]);
+    let q2 = begin_mix(turns, [a2, b3, c0, d1], m[12]);
+    let q3 = begin_mix(turns, [a3, b0, c1, d2], m[14]);
+    let [a0, b1, c2, d3] = end_mix(turns, q0, m[9]);
+    let [a1, b2, c3, d0] = end_mix(turns, q1, m[11]);
+    let [a2, b3, c0, d1] = end_mix(turns, q2, m[13]);
+    let [a3, b0, c1, d2] = end_mix(turns, q3, m[15]);
     [
         a0, a1, a2, a3, b0, b1, b2, b3, c0, c1, c2, c3, d0, d1, d2, d3,
     ]
@@ -256,7 +261,7 @@ fn transpose(r: [u32x4; 4]) -> [u32x4; 4]
 
 // Four words of a block, from byte `at` on.
 #[inline(always)]
-fn row(block: &[u8], at: usize) -> u32x4
+pub(crate) fn row(block: &[u8], at: usize) -> u32x4
     requires { at + 16 ≤ length block.now }
     ensures { (n : ℕ) → n < 4 → slice_index result n ≡ word_at block.now (at + 4 * n) }
 {
@@ -286,24 +291,28 @@ pub fn message_lanes(bytes: &[u8], starts: &[usize; 4], at: usize) -> [u32x4; 16
 
 // Eight words of two vectors.
 #[inline(always)]
-fn joined(x: u32x4, y: u32x4) -> [u32; 8]
+pub(crate) fn joined(x: u32x4, y: u32x4) -> u32x8
     ensures { result ≡ slice_index x 0 ∷ slice_index x 1 ∷ slice_index x 2 ∷ slice_index x 3
         ∷ slice_index y 0 ∷ slice_index y 1 ∷ slice_index y 2 ∷ slice_index y 3 ∷ [] }
 {
-    x.shuffle(y, [0, 1, 2, 3, 4, 5, 6, 7]).to_array()
+    x.shuffle(y, [0, 1, 2, 3, 4, 5, 6, 7])
 }
 
-/// The words in each lane, as a row.
+/// The words in each lane, as a row. There are as many rows as of eight lanes, and the others are of no meaning.
 #[inline(always)]
-pub fn lane_rows(h: [u32x4; 8]) -> [[u32; 8]; 4]
+pub fn lane_rows(h: [u32x4; 8]) -> [[u32; 8]; 8]
     ensures { (i : ℕ) → i < 4 → slice_index_or result i [] ≡ lane8 i h }
 {
     let [a0, a1, a2, a3] = transpose([h[0], h[1], h[2], h[3]]);
     let [b0, b1, b2, b3] = transpose([h[4], h[5], h[6], h[7]]);
     [
-        joined(a0, b0),
-        joined(a1, b1),
-        joined(a2, b2),
-        joined(a3, b3),
+        joined(a0, b0).to_array(),
+        joined(a1, b1).to_array(),
+        joined(a2, b2).to_array(),
+        joined(a3, b3).to_array(),
+        [0; 8],
+        [0; 8],
+        [0; 8],
+        [0; 8],
     ]
 }

@@ -1,74 +1,193 @@
-//! BLAKE3's compression of two inputs, each in rows of its own, which take their rounds in turn: for the two chunks
-//! of a short message, where half of four lanes would do nothing.
+//! The same on two inputs in the halves of rows of eight words, for the two chunks of a short message, where half of
+//! four lanes would do nothing.
 
-ghost use Rattle.std.specs.Prelude.{◌≡◌, ℕ, ◌<◌, ◌+◌, slice_index, slice_index_or, [], take, drop, length, ◌≤◌};
-ghost use Rattle.words.specs.Blake3.{compress3, permuted_words, rounds3};
+ghost use Rattle.std.specs.Prelude.{◌≡◌, ℕ, ◌<◌, ◌+◌, slice_index, slice_index_or, [], ◌∷◌, take, drop, length, ◌≤◌};
+ghost use Rattle.words.specs.Blake2.{schedule, blake2s};
+ghost use Rattle.words.specs.Blake3.{words_in_order, working_words3, rounds3, folded_halves3, compress3};
+ghost use Rattle.words.specs.Mix.{g, round};
+ghost use Rattle.words.specs.Tables.{permutation};
 ghost use Rattle.words.specs.Words.{words};
+ghost use Rattle.words.specs.inside.Halves.{half8, half16, half_message};
+ghost use Rattle.words.specs.inside.Rows.{column};
 
-use crate::blake3::working;
-use crate::lanes::block_at;
-use crate::reading::words32;
-use crate::rows::round32;
-use crate::tables::PERMUTED;
+use crate::lanes::{
+    Turns, add, block_at, halves_high, halves_low, high, low, quad, rotated, turn8, turn16, xor,
+};
+use crate::tables::IV32;
+use std::simd::prelude::*;
 
-// The first eight words of output.
-macro_rules! halves_xored {
-    ($v:ident) => {
-        [
-            $v[0] ^ $v[8],
-            $v[1] ^ $v[9],
-            $v[2] ^ $v[10],
-            $v[3] ^ $v[11],
-            $v[4] ^ $v[12],
-            $v[5] ^ $v[13],
-            $v[6] ^ $v[14],
-            $v[7] ^ $v[15],
-        ]
-    };
-}
-
-/// The words of the block at `at`.
+// G down the eight columns.
 #[inline(always)]
-pub fn block_words(bytes: &[u8], at: usize) -> [u32; 16]
-    requires { at + 64 ≤ length bytes.now }
-    ensures { result ≡ words 4 16 (take 64 (drop at bytes.now)) }
+fn mix(turns: Turns, rows: [u32x8; 4], x: u32x8, y: u32x8) -> [u32x8; 4]
+    ensures { (j : ℕ) → j < 8 → column result j ≡ g blake2s (column rows j) (slice_index x j) (slice_index y j) }
 {
-    let mut block = [0; 64];
-    block.copy_from_slice(block_at(bytes, at));
-    words32(&block)
+    let [a, b, c, d] = rows;
+    let a1 = add(add(a, b), x);
+    let d1 = turn16(turns, d, a1);
+    let c1 = add(c, d1);
+    let b1 = rotated(b, c1, 12);
+    let a2 = add(add(a1, b1), y);
+    let d2 = turn8(turns, d1, a2);
+    let c2 = add(c1, d2);
+    let b2 = rotated(b1, c2, 7);
+    [a2, b2, c2, d2]
 }
 
-/// The first eight words of `compress_3` of each of two inputs. A call, so that the words of the blocks lie in rows
-/// in memory, from which the compiler picks them by shuffles.
-#[inline(never)]
-#[tactic(auto, unfolding(crate::specs::Blake3::compress3, crate::specs::Blake3::rounds3, crate::specs::Blake3::permuted_words, crate::specs::Mix::round))]
-pub fn next_two(
-    h: &[[u32; 8]; 2],
-    m: &[[u32; 16]; 2],
+// Each half turned left by one word.
+#[inline(always)]
+fn turned_by_1(x: u32x8) -> u32x8
+    ensures { result ≡ slice_index x 1 ∷ slice_index x 2 ∷ slice_index x 3 ∷ slice_index x 0 ∷ slice_index x 5
+        ∷ slice_index x 6 ∷ slice_index x 7 ∷ slice_index x 4 ∷ [] }
+{
+    x.swizzle([1, 2, 3, 0, 5, 6, 7, 4])
+}
+
+#[inline(always)]
+fn turned_by_2(x: u32x8) -> u32x8
+    ensures { result ≡ slice_index x 2 ∷ slice_index x 3 ∷ slice_index x 0 ∷ slice_index x 1 ∷ slice_index x 6
+        ∷ slice_index x 7 ∷ slice_index x 4 ∷ slice_index x 5 ∷ [] }
+{
+    x.swizzle([2, 3, 0, 1, 6, 7, 4, 5])
+}
+
+#[inline(always)]
+fn turned_by_3(x: u32x8) -> u32x8
+    ensures { result ≡ slice_index x 3 ∷ slice_index x 0 ∷ slice_index x 1 ∷ slice_index x 2 ∷ slice_index x 7
+        ∷ slice_index x 4 ∷ slice_index x 5 ∷ slice_index x 6 ∷ [] }
+{
+    x.swizzle([3, 0, 1, 2, 7, 4, 5, 6])
+}
+
+// One round: G down the columns, and then down the diagonals, which are columns of turned rows. The second row is the
+// last that G makes, and turning it would cost time.
+#[inline(always)]
+fn round_halves(turns: Turns, rows: [u32x8; 4], m: [u32x8; 4]) -> [u32x8; 4]
+    ensures { (i : ℕ) → i < 2 → half16 i result ≡ round blake2s (half16 i rows) (half_message i m) (schedule 0) }
+{
+    let [a, b, c, d] = mix(turns, rows, m[0], m[1]);
+    let turned = [turned_by_3(a), b, turned_by_1(c), turned_by_2(d)];
+    let [a, b, c, d] = mix(turns, turned, m[2], m[3]);
+    [turned_by_1(a), b, turned_by_3(c), turned_by_2(d)]
+}
+
+// The message words in the order of the next round, a row each: seven shuffles, of which the first three gather what
+// no one shuffle of two rows can.
+#[inline(always)]
+fn permuted(x: u32x8, y: u32x8, z: u32x8, w: u32x8) -> [u32x8; 4]
+    ensures { (i : ℕ) → i < 2
+        → half_message i result ≡ words_in_order (half_message i (x ∷ y ∷ z ∷ w ∷ [])) permutation }
+{
+    let of_zw = z.shuffle(w, [0, 2, 0, 11, 4, 6, 4, 15]);
+    let of_yz = y.shuffle(z, [0, 0, 11, 0, 4, 4, 15, 4]);
+    let of_wy = w.shuffle(y, [0, 2, 10, 0, 4, 6, 14, 4]);
+    [
+        x.shuffle(y, [1, 9, 11, 2, 5, 13, 15, 6]),
+        x.shuffle(of_zw, [3, 9, 0, 11, 7, 13, 4, 15]),
+        w.shuffle(of_yz, [0, 9, 10, 1, 4, 13, 14, 5]),
+        z.shuffle(of_wy, [1, 9, 10, 0, 5, 13, 14, 4]),
+    ]
+}
+
+// The message words in the order of the next round.
+#[inline(always)]
+#[tactic(auto, unfolding(crate::specs::inside::Halves::half_message))]
+fn permute_halves(m: [u32x8; 4]) -> [u32x8; 4]
+    ensures { (i : ℕ) → i < 2 → half_message i result ≡ words_in_order (half_message i m) permutation }
+{
+    permuted(m[0], m[1], m[2], m[3])
+}
+
+// The seven rounds.
+#[inline(always)]
+#[tactic(auto, unfolding(crate::specs::Blake3::rounds3, crate::specs::Blake3::permuted_words))]
+fn rounds_halves(turns: Turns, rows: [u32x8; 4], m: [u32x8; 4]) -> [u32x8; 4]
+    ensures { (i : ℕ) → i < 2 → half16 i result ≡ rounds3 (half16 i rows) (half_message i m) 7 }
+{
+    seven_rounds!(round_halves, permute_halves, turns, rows, m)
+}
+
+// The working words before the first round.
+#[inline(always)]
+#[tactic(auto, unfolding(crate::specs::inside::Halves::half16))]
+fn working_halves(h: [u32x8; 2], t: &[u64; 2], b: u32, d: u32) -> [u32x8; 4]
+    ensures { (i : ℕ) → i < 2 → half16 i result ≡ working_words3 (half8 i h) (slice_index t.now i) b d }
+{
+    let [i0, i1, i2, i3, _, _, _, _] = IV32;
+    [
+        h[0],
+        h[1],
+        u32x8::from_array([i0, i1, i2, i3, i0, i1, i2, i3]),
+        u32x8::from_array([low(t[0]), high(t[0]), b, d, low(t[1]), high(t[1]), b, d]),
+    ]
+}
+
+/// The first eight words of `compress_3` in each half.
+#[inline(always)]
+#[tactic(auto, unfolding(crate::specs::Blake3::compress3))]
+pub fn next_halves(
+    turns: Turns,
+    h: [u32x8; 2],
+    m: [u32x8; 4],
     t: &[u64; 2],
     b: u32,
     d: u32,
-) -> [[u32; 8]; 2]
-    ensures first { slice_index_or result 0 []
-        ≡ take 8 (compress3 (slice_index_or h.now 0 []) (slice_index_or m.now 0 []) (slice_index t.now 0) b d) }
-    ensures second { slice_index_or result 1 []
-        ≡ take 8 (compress3 (slice_index_or h.now 1 []) (slice_index_or m.now 1 []) (slice_index t.now 1) b d) }
+) -> [u32x8; 2]
+    ensures { (i : ℕ) → i < 2
+        → half8 i result ≡ take 8 (compress3 (half8 i h) (half_message i m) (slice_index t.now i) b d) }
 {
-    let mut v = working(&h[0], t[0], b, d);
-    let mut w = working(&h[1], t[1], b, d);
-    round32(&mut v, &m[0], &PERMUTED[0]);
-    round32(&mut w, &m[1], &PERMUTED[0]);
-    round32(&mut v, &m[0], &PERMUTED[1]);
-    round32(&mut w, &m[1], &PERMUTED[1]);
-    round32(&mut v, &m[0], &PERMUTED[2]);
-    round32(&mut w, &m[1], &PERMUTED[2]);
-    round32(&mut v, &m[0], &PERMUTED[3]);
-    round32(&mut w, &m[1], &PERMUTED[3]);
-    round32(&mut v, &m[0], &PERMUTED[4]);
-    round32(&mut w, &m[1], &PERMUTED[4]);
-    round32(&mut v, &m[0], &PERMUTED[5]);
-    round32(&mut w, &m[1], &PERMUTED[5]);
-    round32(&mut v, &m[0], &PERMUTED[6]);
-    round32(&mut w, &m[1], &PERMUTED[6]);
-    [halves_xored!(v), halves_xored!(w)]
+    let [a, b, c, d] = rounds_halves(turns, working_halves(h, t, b, d), m);
+    [xor(a, c), xor(b, d)]
+}
+
+/// The same words in both halves.
+#[inline(always)]
+pub fn same_halves(h: &[u32; 8]) -> [u32x8; 2]
+    ensures { (i : ℕ) → i < 2 → half8 i result ≡ h.now }
+{
+    let [a, b, c, d, e, f, g, h] = *h;
+    [
+        u32x8::from_array([a, b, c, d, a, b, c, d]),
+        u32x8::from_array([e, f, g, h, e, f, g, h]),
+    ]
+}
+
+// The words of rows, in the order in which G takes them.
+#[inline(always)]
+fn by_columns(x: u32x8, y: u32x8, z: u32x8, w: u32x8) -> [u32x8; 4]
+    ensures { (i : ℕ) → i < 2 → half_message i result ≡ half16 i (x ∷ y ∷ z ∷ w ∷ []) }
+{
+    [
+        x.shuffle(y, [0, 2, 8, 10, 4, 6, 12, 14]),
+        x.shuffle(y, [1, 3, 9, 11, 5, 7, 13, 15]),
+        z.shuffle(w, [10, 0, 2, 8, 14, 4, 6, 12]),
+        z.shuffle(w, [11, 1, 3, 9, 15, 5, 7, 13]),
+    ]
+}
+
+/// The words of two blocks, by halves: half i has those of the block that begins `at` bytes after its start.
+#[inline(always)]
+pub fn message_halves(bytes: &[u8], starts: &[usize; 2], at: usize) -> [u32x8; 4]
+    requires { (i : ℕ) → i < 2 → slice_index starts.now i + at + 64 ≤ length bytes.now }
+    ensures { (i : ℕ) → i < 2
+        → half_message i result ≡ words 4 16 (take 64 (drop (slice_index starts.now i + at) bytes.now)) }
+{
+    let b0 = block_at(bytes, starts[0] + at);
+    let b1 = block_at(bytes, starts[1] + at);
+    by_columns(
+        quad(b0, b1, 0),
+        quad(b0, b1, 16),
+        quad(b0, b1, 32),
+        quad(b0, b1, 48),
+    )
+}
+
+/// The words in each half, as a row. There are as many rows as of eight lanes, and the others are of no meaning.
+#[inline(always)]
+pub fn half_rows(h: [u32x8; 2]) -> [[u32; 8]; 8]
+    ensures { (i : ℕ) → i < 2 → slice_index_or result i [] ≡ half8 i h }
+{
+    let first = halves_low(h[0], h[1]).to_array();
+    let second = halves_high(h[0], h[1]).to_array();
+    let none = [0; 8];
+    [first, second, none, none, none, none, none, none]
 }

@@ -14,9 +14,7 @@ each_block-preserved c =
     c.block_flags-d.ensures.last
 
 pub returns-clause-values : goal.returns-clause-values
-returns-clause-values c = λ k h w.
-    c.padded.ensures k h ∙ c.lane_rows.ensures k h ∙ (c.each_block.invariant k h w).2 (omega arith)
+returns-clause-values c = λ k h w. c.lane_rows.ensures k h ∙ (c.each_block.invariant k h w).2 (omega arith)
 
 pub returns-clause-before : goal.returns-clause-before
-returns-clause-before c = λ k h w.
-    c.padded-2.ensures k h ∙ c.lane_rows-2.ensures k h ∙ (c.each_block.invariant k h w).1 (omega arith)
+returns-clause-before c = λ k h w. c.lane_rows-2.ensures k h ∙ (c.each_block.invariant k h w).1 (omega arith)

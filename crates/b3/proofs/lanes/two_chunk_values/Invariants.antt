@@ -1,8 +1,7 @@
-use Rattle.std.proofs.Common.{[], slice_index_or}
+use Rattle.words.specs.inside.Halves.{half8}
 use Rattle.b3.proofs.Lanes8.{AreAtBlock}
 use Rattle.b3.proofs.lanes.two_chunk_values.Given as goal
 
 abbrev pub invariant-each_block : goal.invariant-each_block
 invariant-each_block l =
-    AreAtBlock l.parameters.key l.parameters.flags l.first l.bytes 2 (λ k. slice_index_or l.values k [])
-    (λ k. slice_index_or l.before k []) l.j
+    AreAtBlock l.parameters.key l.parameters.flags l.first l.bytes 2 (λ k. half8 k l.values) (λ k. half8 k l.before) l.j

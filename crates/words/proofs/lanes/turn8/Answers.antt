@@ -7,4 +7,4 @@ pub returns : goal.returns
 returns c =
     words_turned 8 1 2 3 0 8 _ _ _ _ _ _ turned_8 (omega arith, omega arith, omega arith, omega arith)
     c.bytes.ensures c.xor.ensures.fit c.xor.ensures.lanes
-    (rw c.move8.ensures (below_eight _ refl refl refl refl refl refl refl refl)) c.words_of.ensures
+    (rw c.args.turns.eight (below_eight _ refl refl refl refl refl refl refl refl)) c.words_of.ensures

@@ -1,10 +1,26 @@
 use Rattle.std.proofs.Common.{◌≡◌, ℕ, ◌+◌, ◌-◌, ◌*◌, ◌/◌, List, ◌++◌, length, take, drop, refl, sym, ap, ◌∙◌, arith}
-use Rattle.std.proofs.Common.{length-take-le}
+use Rattle.std.proofs.Common.{[], Option, length-take-le}
+use Rattle.std.specs.Option.{unwrap_or}
 use Rattle.std.proofs.lemmas.List.{take_all}
+use Rattle.b3.proofs.Folding.{run_chunk}
 use Rattle.b3.proofs.Holding.{IsSplit_alike, IsSplit_same}
 use Rattle.b3.proofs.Pieces.{take_further}
 use Rattle.b3.proofs.Runs.{run_part}
 use Rattle.b3.proofs.hasher.Blake3.open_chunks.Goals as goal
+
+pub open_chunk-requires-clause-made : goal.open_chunk-requires-clause-made
+open_chunk-requires-clause-made c = λ v is.
+    let stack = c.args.self.now.stack in
+    let bytes : List ℕ = c.args.bytes.now in
+    let n : ℕ = length bytes / 1024 - 1 in
+    let one : length bytes - 1024 * n ≡ 1024 = omega arith in
+    let last : take (length bytes - 1024 * n) (drop (1024 * n) bytes) ≡ take 1024 (drop (1024 * n) bytes)
+    = ap (λ (k : ℕ). take k (drop (1024 * n) bytes)) one in
+    rw (c.push_values.ensures.parameters, c.push_values.ensures.closed, last) (
+      c.chunk_values.ensures.before n (omega arith) (omega arith),
+      sym (ap (λ (o : Option (List ℕ)). unwrap_or o []) is) ∙ c.chunk_values.ensures.values n (omega arith) (omega arith)
+          ∙ run_chunk stack.parameters.key stack.parameters.flags stack.closed bytes n (omega arith),
+    )
 
 pub returns : goal.returns
 returns c =
