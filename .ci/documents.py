@@ -1,14 +1,17 @@
 #!/usr/bin/env python3
-"""Checks the documents: each link leads somewhere, sentences are short, nothing is dated, README is short, quotes code
-that is there, and has the options and statuses of the program's help and manual pages.
+"""Checks the documents: each link leads somewhere, here and where they are installed, sentences are short, nothing is
+dated, README is short, quotes code that is there, and has the options and statuses of the program's help and manual
+pages.
 usage: .ci/documents.py PROGRAM
 """
 
 import glob
 import os
 import re
+import subprocess
 
 import harness
+import links
 
 ROOT = os.path.dirname(harness.HERE)
 README_LINES = 190
@@ -21,8 +24,7 @@ PROGRAM = harness.program()
 
 
 def read(path):
-    with open(os.path.join(ROOT, path), encoding="utf-8") as file:
-        return file.read()
+    return links.read(os.path.join(ROOT, path))
 
 
 def found(*patterns):
@@ -37,32 +39,20 @@ LEADING = PAGES + found("CHANGELOG.md", "bindings/*/README.md", "crates/*/CALLIN
 # ---- the text of a page
 
 
-def without_code(text):
-    """A page without its fenced and indented blocks."""
-    return re.sub(r"^    .*$", "", re.sub(r"^```.*?^```$", "", text, flags=re.M | re.S), flags=re.M)
-
-
 def sentences(text):
     """The sentences of a page, but for headings and tables. A piece of code counts as a word."""
-    text = re.sub(r"^[|#].*$", "", without_code(text), flags=re.M)
+    text = re.sub(r"^[|#].*$", "", links.without_code(text), flags=re.M)
     text = re.sub(r"`+[^`]+`+", "code", text)
     text = re.sub(r"\[([^\]]*)\]\([^)]*\)", r"\1", text)
     for block in re.split(r"\n\s*\n|^\s*(?:-|[0-9]+\.) ", text, flags=re.M):
         yield from re.split(r"(?<=[.?!])[)*\"]*\s+", block.strip())
 
 
-def anchors(text):
-    """What links can name of a page: its headings, as they are shown on the web."""
-    for heading in re.findall(r"^#+ (.*)$", without_code(text), re.M):
-        yield re.sub(r"[^\w -]", "", heading.lower()).replace(" ", "-")
-
-
-def leads(page, link):
-    """Whether a link of a page leads to a file, and to a heading where it names one; those of the web are not asked."""
-    path, _, anchor = link.partition("#")
-    target = os.path.normpath(os.path.join(os.path.dirname(page), path)) if path else page
-    is_there = os.path.exists(os.path.join(ROOT, target))
-    return ":" in path or is_there and (not anchor or anchor in anchors(read(target)))
+def installed():
+    """The files that an installation has in share/doc/sums."""
+    script = '. tools/installed.sh; place() { echo "$3"; }; documents place'
+    told = subprocess.run(["sh", "-c", script], cwd=ROOT, check=True, capture_output=True, text=True).stdout
+    return [path.removeprefix("share/doc/sums/") for path in told.splitlines()]
 
 
 def none(name, wrong):
@@ -73,8 +63,23 @@ def none(name, wrong):
 def check_page(page):
     text = read(page)
     none(f"{page}: long sentences", [part for part in sentences(text) if len(part.split()) > SENTENCE_WORDS])
-    links = re.findall(r"\]\(([^)\s]+)\)", without_code(text))
-    none(f"{page}: links to nothing", [link for link in links if not leads(page, link)])
+    none(f"{page}: links to nothing", links.lost(ROOT, page))
+
+
+def folders_of(path):
+    """The folders above a path."""
+    while path := os.path.dirname(path):
+        yield path
+
+
+def check_installed():
+    """An installation has each page whose links are tried, and what they lead to."""
+    files = installed()
+    none("pages that are not installed", sorted(set(LEADING) - set(files)))
+    folders = {folder for path in files for folder in folders_of(path)}
+    for page in LEADING:
+        targets = {links.target(page, link) for link in links.links(read(page))}
+        none(f"{page}: links to what is not installed", sorted(targets - set(files) - folders))
 
 
 def check_diary(page):
@@ -139,6 +144,7 @@ def check_quotes():
 def main():
     for page in LEADING:
         check_page(page)
+    check_installed()
     for page in PAGES:
         check_diary(page)
     count = len(read("README.md").splitlines())

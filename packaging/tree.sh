@@ -60,6 +60,7 @@ tree() {
     tools/completions.py "$sums" "$completions"
     prefix=${3:-\${pcfiledir\}/../..} libdir=$4
     program_texts put "$5"
+    documents put
     library_texts put "$libdir"
 }
 
