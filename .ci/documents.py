@@ -1,7 +1,7 @@
 #!/usr/bin/env python3
 """Checks the documents: each link leads somewhere, here and where they are installed, sentences are short, nothing is
-dated, README is short, quotes code that is there, and has the options and statuses of the program's help and manual
-pages.
+dated, quoted code is there, README is short, begins with what somebody without the kit asks first, has two commands for
+those with it, and has the options and statuses of the program's help and manual pages.
 usage: .ci/documents.py PROGRAM
 """
 
@@ -14,7 +14,8 @@ import harness
 import links
 
 ROOT = os.path.dirname(harness.HERE)
-README_LINES = 190
+README_LINES = 160
+FIRST_LINES = 30
 SENTENCE_WORDS = 40
 DIARY = re.compile(r"20[0-9]{2}-|November|was seen|beside other")
 # the one line that tells when and on what was measured
@@ -135,10 +136,24 @@ def check_statuses():
         harness.same(f"status {number} in sums(1)", of_page.get(number), text)
 
 
+def check_first_screen():
+    """The first lines show what is printed, how to get it and why; the commands for those with the kit come last."""
+    readme = read("README.md")
+    first = "".join(readme.splitlines(keepends=True)[:FIRST_LINES])
+    for text in ["sums check -a ", "sums hash -a ", " --verify ", ": OK\n", "apt install", "tar -xf", "pip install", "**Why"]:
+        harness.judge(f"README.md has '{text.strip()}' in its first lines", text in first)
+    before, kit = readme.split("\n## With the kit\n")
+    none("README.md: the kit's commands before its section", re.findall(r"\brt (?:try|check|ci)\b.*|tools/test.*", before))
+    commands = [line for block in re.findall(r"^```\w+ \w+\n(.*?)^```$", kit, re.M | re.S)
+                for line in block.splitlines() if line.startswith(("$ ", "tools/"))]
+    harness.judge("README.md has two commands for those with the kit", len(commands) == 2, *commands)
+
+
 def check_quotes():
     sources = " ".join(" ".join(read(path).split()) for path in found("crates/*/src/*.rt"))
-    for quote in re.findall(r"^```rust\n(.*?)^```$", read("README.md"), re.M | re.S):
-        harness.judge("README.md quotes code that is there", " ".join(quote.split()) in sources, quote)
+    for page in PAGES:
+        for quote in re.findall(r"^```rust\n(.*?)^```$", read(page), re.M | re.S):
+            harness.judge(f"{page} quotes code that is there", " ".join(quote.split()) in sources, quote)
 
 
 def main():
@@ -149,6 +164,7 @@ def main():
         check_diary(page)
     count = len(read("README.md").splitlines())
     harness.judge(f"README.md has {count} lines", count <= README_LINES)
+    check_first_screen()
     check_commands()
     check_statuses()
     check_quotes()
