@@ -16,6 +16,8 @@ import links
 ROOT = os.path.dirname(harness.HERE)
 README_LINES = 160
 FIRST_LINES = 30
+FIRST_TEXTS = ["sums check -a ", "sums hash -a ", " --verify ", ": OK\n", "apt install", "tar -xf", "pip install",
+               "**Why"]
 SENTENCE_WORDS = 40
 DIARY = re.compile(r"20[0-9]{2}-|November|was seen|beside other")
 # the one line that tells when and on what was measured
@@ -140,10 +142,11 @@ def check_first_screen():
     """The first lines show what is printed, how to get it and why; the commands for those with the kit come last."""
     readme = read("README.md")
     first = "".join(readme.splitlines(keepends=True)[:FIRST_LINES])
-    for text in ["sums check -a ", "sums hash -a ", " --verify ", ": OK\n", "apt install", "tar -xf", "pip install", "**Why"]:
+    for text in FIRST_TEXTS:
         harness.judge(f"README.md has '{text.strip()}' in its first lines", text in first)
     before, kit = readme.split("\n## With the kit\n")
-    none("README.md: the kit's commands before its section", re.findall(r"\brt (?:try|check|ci)\b.*|tools/test.*", before))
+    early = re.findall(r"\brt (?:try|check|ci)\b.*|tools/test.*", before)
+    none("README.md: the kit's commands before its section", early)
     commands = [line for block in re.findall(r"^```\w+ \w+\n(.*?)^```$", kit, re.M | re.S)
                 for line in block.splitlines() if line.startswith(("$ ", "tools/"))]
     harness.judge("README.md has two commands for those with the kit", len(commands) == 2, *commands)

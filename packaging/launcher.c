@@ -1,7 +1,7 @@
 // sums: begins the build of the program for the highest level of x86-64 that this processor has.
 //
-// The builds are PREFIX/libexec/sums/LEVEL/sums for a launcher PREFIX/bin/sums. PREFIX is where this file is, so that an
-// installation may be moved: /proc/self/exe says it, and without /proc the name that the system began this file by.
+// The builds are PREFIX/libexec/sums/LEVEL/sums for a launcher PREFIX/bin/sums. PREFIX is where this file is, so that
+// an installation may be moved: /proc/self/exe says it, and without /proc the name that the system began this file by.
 // Where no builds are there, LIBEXEC is the folder that was named when this was compiled, or empty where none was. What
 // is begun takes the place of this process: words, environment, streams, status and signals are the program's own.
 // SUMS_LEVEL=x86-64-v2 asks for a build by its level.

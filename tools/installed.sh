@@ -141,7 +141,7 @@ parallel_files() {
     "$1" 644 "$completions/sums-parallel.fish" share/fish/vendor_completions.d/sums-parallel.fish
 }
 
-# documents DO: the pages with all that they link, each in the folder that it has here, so that the links hold there too:
+# documents DO: the pages with all that they link, each in the folder that it has here, so that links hold there too:
 # the definitions that a reader of the proofs has to believe, and the lines of code that ask the system
 documents() {
     for document in README.md CHANGELOG.md LICENSE-MIT LICENSE-APACHE THIRD-PARTY docs/*.md bindings/*/README.md \
