@@ -1,17 +1,23 @@
 #!/usr/bin/env python3
-"""Checks the documents: each link leads somewhere, sentences are short, nothing is dated, README is short, quotes code
-that is there, and has the options and statuses of the program's help and manual pages.
+"""Checks the documents: each link leads somewhere, here and where they are installed, sentences are short, nothing is
+dated, quoted code is there, README is short, begins with what somebody without the kit asks first, has two commands for
+those with it, and has the options and statuses of the program's help and manual pages.
 usage: .ci/documents.py PROGRAM
 """
 
 import glob
 import os
 import re
+import subprocess
 
 import harness
+import links
 
 ROOT = os.path.dirname(harness.HERE)
-README_LINES = 190
+README_LINES = 160
+FIRST_LINES = 30
+FIRST_TEXTS = ["sums check -a ", "sums hash -a ", " --verify ", ": OK\n", "apt install", "tar -xf", "pip install",
+               "**Why"]
 SENTENCE_WORDS = 40
 DIARY = re.compile(r"20[0-9]{2}-|November|was seen|beside other")
 # the one line that tells when and on what was measured
@@ -21,8 +27,7 @@ PROGRAM = harness.program()
 
 
 def read(path):
-    with open(os.path.join(ROOT, path), encoding="utf-8") as file:
-        return file.read()
+    return links.read(os.path.join(ROOT, path))
 
 
 def found(*patterns):
@@ -37,32 +42,20 @@ LEADING = PAGES + found("CHANGELOG.md", "bindings/*/README.md", "crates/*/CALLIN
 # ---- the text of a page
 
 
-def without_code(text):
-    """A page without its fenced and indented blocks."""
-    return re.sub(r"^    .*$", "", re.sub(r"^```.*?^```$", "", text, flags=re.M | re.S), flags=re.M)
-
-
 def sentences(text):
     """The sentences of a page, but for headings and tables. A piece of code counts as a word."""
-    text = re.sub(r"^[|#].*$", "", without_code(text), flags=re.M)
+    text = re.sub(r"^[|#].*$", "", links.without_code(text), flags=re.M)
     text = re.sub(r"`+[^`]+`+", "code", text)
     text = re.sub(r"\[([^\]]*)\]\([^)]*\)", r"\1", text)
     for block in re.split(r"\n\s*\n|^\s*(?:-|[0-9]+\.) ", text, flags=re.M):
         yield from re.split(r"(?<=[.?!])[)*\"]*\s+", block.strip())
 
 
-def anchors(text):
-    """What links can name of a page: its headings, as they are shown on the web."""
-    for heading in re.findall(r"^#+ (.*)$", without_code(text), re.M):
-        yield re.sub(r"[^\w -]", "", heading.lower()).replace(" ", "-")
-
-
-def leads(page, link):
-    """Whether a link of a page leads to a file, and to a heading where it names one; those of the web are not asked."""
-    path, _, anchor = link.partition("#")
-    target = os.path.normpath(os.path.join(os.path.dirname(page), path)) if path else page
-    is_there = os.path.exists(os.path.join(ROOT, target))
-    return ":" in path or is_there and (not anchor or anchor in anchors(read(target)))
+def installed():
+    """The files that an installation has in share/doc/sums."""
+    script = '. tools/installed.sh; place() { echo "$3"; }; documents place'
+    told = subprocess.run(["sh", "-c", script], cwd=ROOT, check=True, capture_output=True, text=True).stdout
+    return [path.removeprefix("share/doc/sums/") for path in told.splitlines()]
 
 
 def none(name, wrong):
@@ -73,8 +66,23 @@ def none(name, wrong):
 def check_page(page):
     text = read(page)
     none(f"{page}: long sentences", [part for part in sentences(text) if len(part.split()) > SENTENCE_WORDS])
-    links = re.findall(r"\]\(([^)\s]+)\)", without_code(text))
-    none(f"{page}: links to nothing", [link for link in links if not leads(page, link)])
+    none(f"{page}: links to nothing", links.lost(ROOT, page))
+
+
+def folders_of(path):
+    """The folders above a path."""
+    while path := os.path.dirname(path):
+        yield path
+
+
+def check_installed():
+    """An installation has each page whose links are tried, and what they lead to."""
+    files = installed()
+    none("pages that are not installed", sorted(set(LEADING) - set(files)))
+    folders = {folder for path in files for folder in folders_of(path)}
+    for page in LEADING:
+        targets = {links.target(page, link) for link in links.links(read(page))}
+        none(f"{page}: links to what is not installed", sorted(targets - set(files) - folders))
 
 
 def check_diary(page):
@@ -130,19 +138,36 @@ def check_statuses():
         harness.same(f"status {number} in sums(1)", of_page.get(number), text)
 
 
+def check_first_screen():
+    """The first lines show what is printed, how to get it and why; the commands for those with the kit come last."""
+    readme = read("README.md")
+    first = "".join(readme.splitlines(keepends=True)[:FIRST_LINES])
+    for text in FIRST_TEXTS:
+        harness.judge(f"README.md has '{text.strip()}' in its first lines", text in first)
+    before, kit = readme.split("\n## With the kit\n")
+    early = re.findall(r"\brt (?:try|check|ci)\b.*|tools/test.*", before)
+    none("README.md: the kit's commands before its section", early)
+    commands = [line for block in re.findall(r"^```\w+ \w+\n(.*?)^```$", kit, re.M | re.S)
+                for line in block.splitlines() if line.startswith(("$ ", "tools/"))]
+    harness.judge("README.md has two commands for those with the kit", len(commands) == 2, *commands)
+
+
 def check_quotes():
     sources = " ".join(" ".join(read(path).split()) for path in found("crates/*/src/*.rt"))
-    for quote in re.findall(r"^```rust\n(.*?)^```$", read("README.md"), re.M | re.S):
-        harness.judge("README.md quotes code that is there", " ".join(quote.split()) in sources, quote)
+    for page in PAGES:
+        for quote in re.findall(r"^```rust\n(.*?)^```$", read(page), re.M | re.S):
+            harness.judge(f"{page} quotes code that is there", " ".join(quote.split()) in sources, quote)
 
 
 def main():
     for page in LEADING:
         check_page(page)
+    check_installed()
     for page in PAGES:
         check_diary(page)
     count = len(read("README.md").splitlines())
     harness.judge(f"README.md has {count} lines", count <= README_LINES)
+    check_first_screen()
     check_commands()
     check_statuses()
     check_quotes()

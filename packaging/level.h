@@ -35,8 +35,8 @@ static int keeps_avx(void) {
     return (low & 6) == 6;
 }
 
-// 1, 2 or 3
-static int processor_level(void) {
+// 1, 2 or 3. It is inline, since an archive of one level asks for none, and the compilers tell of what is not called.
+static inline int processor_level(void) {
     struct features found = features();
     if (!has_level_2(found)) return 1;
     return has_level_3(found) && keeps_avx() ? 3 : 2;

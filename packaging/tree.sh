@@ -4,7 +4,7 @@
 # BUILT/LEVEL/libhash_c.a are there for each of $levels, which are named lowest first.
 
 # launcher FILE LIBEXEC: the program that begins the build for this processor; LIBEXEC is where the builds are if they
-# are not beside it
+# are not beside it, and empty where there is no such place
 launcher() {
     # shellcheck disable=SC2086 # CC and the flags are words
     ${CC:-cc} -std=gnu11 ${CFLAGS:--O2 -fstack-protector-strong -fcf-protection -D_FORTIFY_SOURCE=2} -fPIE -pie \
@@ -15,7 +15,7 @@ launcher() {
 # program_builds BUILT ROOT PREFIX: the launcher, and the program for each level
 program_builds() {
     mkdir -p "$2/bin"
-    launcher "$2/bin/sums" "$3/libexec/sums"
+    launcher "$2/bin/sums" "${3:+$3/libexec/sums}"
     chmod 755 "$2/bin/sums"
     for level in $levels; do
         mkdir -p "$2/libexec/sums/$level"
@@ -60,6 +60,7 @@ tree() {
     tools/completions.py "$sums" "$completions"
     prefix=${3:-\${pcfiledir\}/../..} libdir=$4
     program_texts put "$5"
+    documents put
     library_texts put "$libdir"
 }
 

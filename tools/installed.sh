@@ -119,7 +119,7 @@ functions() {
     sed -n 's/^\(uint32_t\|void\) \(sums_[a-z0-9_]*\)(.*/\2/p' bindings/c/sums_hash.h
 }
 
-# Each of the next four calls DO MODE FILE PLACE for each file that belongs to it, DO link TARGET PLACE for each link,
+# Each of the next six calls DO MODE FILE PLACE for each file that belongs to it, DO link TARGET PLACE for each link,
 # and DO text - PLACE for each file that text_for writes. PLACE is below the prefix.
 
 # program_texts DO [ZSH]: the program's manual pages and completions; ZSH is the folder for those of zsh
@@ -141,6 +141,17 @@ parallel_files() {
     "$1" 644 "$completions/sums-parallel.fish" share/fish/vendor_completions.d/sums-parallel.fish
 }
 
+# documents DO: the pages with all that they link, each in the folder that it has here, so that links hold there too:
+# the definitions that a reader of the proofs has to believe, and the lines of code that ask the system
+documents() {
+    for document in README.md CHANGELOG.md LICENSE-MIT LICENSE-APACHE THIRD-PARTY docs/*.md bindings/*/README.md \
+        bindings/c/sums_hash.h crates/*/CALLING.md crates/source/src/device.rt crates/sumlist/src/files.rt \
+        crates/sums/src/main.rt crates/sums/src/progress.rt crates/sums/src/watched.rt \
+        $(find crates/*/specs -type f); do
+        "$1" 644 "$document" "share/doc/sums/$document"
+    done
+}
+
 # library_texts DO [LIBDIR]: what a caller of the C library and his tools read
 library_texts() {
     "$1" 644 bindings/c/sums_hash.h include/sums_hash.h
@@ -159,11 +170,12 @@ library_files() {
     library_texts "$1" "${2-}"
 }
 
-# program_files DO: the program, and sums-parallel
+# program_files DO: the program, sums-parallel and the documents
 program_files() {
     "$1" 755 bin/sums bin/sums
     program_texts "$1"
     parallel_files "$1"
+    documents "$1"
 }
 
 # each_file DO [LIBDIR]: all of an installation

@@ -647,8 +647,19 @@ def session(bench, page, name):
         bench.judge(f"{page} {name}: {command}", lambda: ends(bench.run(command, folder), 0, wanted))
 
 
+def readme_first(bench):
+    session(bench, "README.md", "first")
+
+
 def readme_use(bench):
     session(bench, "README.md", "use")
+
+
+def readme_checks(bench):
+    """The run of all checks, which a release has before this: here it is only looked whether it is there."""
+    words = bench.text("README.md", "checks").split()
+    bench.judge("README.md checks", lambda: same((words, os.access(os.path.join(HERE, words[0]), os.X_OK)),
+                                                 (["tools/test"], True), "the command, and whether it can be run"))
 
 
 def readme_download(bench):
@@ -663,12 +674,6 @@ def readme_download(bench):
     got = bench.run(text, folder)
     bench.judge("README.md download, a wrong file",
                 lambda: same((got[0], b"two.iso: FAILED\n" in got[1]), (1, True), "status and report"))
-    some = bench.text("README.md", "some")
-    bench.judge("README.md some, wrong", lambda: ends(bench.run(some, folder), 1, b"two.iso: FAILED\n"))
-    fill(os.path.join(folder, "two.iso"), 100 + len(NAMES) + 1)
-    bench.judge("README.md some", lambda: ends(bench.run(some, folder), 0, b"two.iso: OK\n"))
-    write(folder, "SHA256SUMS", "")
-    bench.judge("README.md some, none", lambda: ends(bench.run(some, folder), 1, b""))
 
 
 def hash_page(bench):
@@ -867,14 +872,15 @@ def readme_try(bench):
     bench.judge("README.md try", lambda: same(bench.run(command, clone(bench), "bash")[:2], (0, printed.encode()), "output"))
 
 
-def readme_build(bench):
-    """A build that is installed, here and in another folder, and taken back."""
+def source_build(bench):
+    """A build that is installed, here and in another folder, and removed."""
     if not bench.there("sudo", "nothing was built and installed"):
         return
-    works(bench, "README.md", "build", clone(bench))
-    works(bench, "README.md", "build, installed", bench.folder(), "printf abc | /usr/local/bin/sums hash -a blake2s -")
+    page = "docs/CONTRIBUTING.md"
+    works(bench, page, "build", clone(bench))
+    works(bench, page, "build, installed", bench.folder(), "printf abc | /usr/local/bin/sums hash -a blake2s -")
     works(bench, "docs/RELEASING.md", "staged", clone(bench))
-    works(bench, "README.md", "build, taken back", clone(bench), "sudo tools/uninstall && rm -r /tmp/staged")
+    works(bench, page, "build, undone", clone(bench), "sudo tools/uninstall && rm -r /tmp/staged")
 
 
 def packages():
@@ -909,10 +915,10 @@ def second_builder(bench):
 
 
 LONG = {
-    "README.md": {"try": readme_try, "build": readme_build, "languages": in_clone("README.md", "languages"),
-                  "package": readme_package},
-    "docs/CONTRIBUTING.md": {"crate": in_clone("docs/CONTRIBUTING.md", "crate")},
-    "docs/RELEASING.md": {"staged": readme_build, "second": second_builder},
+    "README.md": {"try": readme_try, "package": readme_package},
+    "docs/CONTRIBUTING.md": {"build": source_build, "languages": in_clone("docs/CONTRIBUTING.md", "languages"),
+                             "crate": in_clone("docs/CONTRIBUTING.md", "crate")},
+    "docs/RELEASING.md": {"staged": source_build, "second": second_builder},
     "docs/BENCHMARKS.md": {name: in_clone("docs/BENCHMARKS.md", name)
                            for name in ["speed", "speed-parts", "speed-hashers", "speed-library", "speed-languages"]},
 }
@@ -922,7 +928,7 @@ LONG = {
 
 # each recipe of each page, and what runs it
 RUNS = {
-    "README.md": {"download": readme_download, "some": readme_download, "use": readme_use},
+    "README.md": {"first": readme_first, "download": readme_download, "use": readme_use, "checks": readme_checks},
     "docs/SCALE.md": {"cores": scale_cores, "hosts": scale_hosts, "srun": scale_slurm, "file": scale_parts,
                       "device": scale_parts, "parts": scale_parts, "own": scale_own, "lines": scale_own,
                       "job.sh": scale_slurm, "join.sh": scale_slurm, "slurm": scale_slurm, "spark": scale_spark},

@@ -134,7 +134,7 @@ uint32_t sums_hkdf_expand_blake2s(uint8_t *out, size_t out_len, const uint8_t *p
  *           HMAC a block less than the hash
  * finish    writes the digest or the tag; answers SUMS_OK, SUMS_NOT_BEGUN, or else SUMS_DIGEST_LENGTH */
 
-/* BLAKE2. finish wants the out_len that init was given as digest_len. */
+/* BLAKE2. finish needs the out_len that init was given as digest_len. */
 typedef struct {
     uint64_t h[8];
     uint64_t compressed_low, compressed_high, used, digest_length;

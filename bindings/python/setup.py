@@ -24,7 +24,7 @@ def check_python():
     if sys.implementation.name != "cpython":
         refuse(f"it is an extension of CPython, and this is {sys.implementation.name}")
     if sys.version_info < (3, 11):
-        refuse(f"it wants Python 3.11 or later, and this is {platform.python_version()}")
+        refuse(f"it needs Python 3.11 or later, and this is {platform.python_version()}")
     if sysconfig.get_config_var("Py_GIL_DISABLED"):
         refuse("it has no build for a free-threaded CPython, which has no limited API")
     if platform.libc_ver()[0] != "glibc" or platform.machine() != "x86_64":
@@ -55,6 +55,6 @@ native = Extension(
     extra_compile_args=FLAGS + told.pop("extra_compile_args", []),
     extra_link_args=LINKED + told.pop("extra_link_args", []), **told,
 )
-# of glibc it wants what 2.14 has, so that it runs where 2.17 is
+# of glibc it needs what 2.14 has, so that it runs where 2.17 is
 setup(ext_modules=[native],
       options={"bdist_wheel": {"plat_name": "manylinux2014_x86_64", "py_limited_api": "cp311"}})

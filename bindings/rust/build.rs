@@ -24,7 +24,7 @@ fn link(folder: &str, kind: &str) {
 }
 
 /// The workspace, of which no variable tells: the lowest folder above OUT_DIR that has a manifest, since OUT_DIR is in
-/// its folder `target`, if nothing else is told to cargo.
+/// its folder `target`, if cargo is given no other.
 fn workspace() -> PathBuf {
     let out = PathBuf::from(env::var_os("OUT_DIR").expect("cargo sets it"));
     let found = out.ancestors().find(|above| above.join("Cargo.toml").exists());

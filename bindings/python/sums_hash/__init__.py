@@ -27,7 +27,7 @@ try:
 except ImportError as _fault:
     _tried = ", ".join(f"_native{suffix}" for suffix in EXTENSION_SUFFIXES)
     raise ImportError(
-        f"sums_hash wants its extension for CPython 3.11 or later, on Linux on x86-64 with glibc: {_fault} "
+        f"sums_hash needs its extension for CPython 3.11 or later, on Linux on x86-64 with glibc: {_fault} "
         f"(tried {_tried} in {__path__[0]})", name="sums_hash._native", path=__path__[0],
     ) from _fault
 

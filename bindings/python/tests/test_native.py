@@ -27,7 +27,7 @@ LONG = 2**16  # bytes of a piece that lets other threads run
 
 
 def fresh(kind, data=b""):
-    """An object of the message, under an empty key where the kind wants one."""
+    """An object of the message, under an empty key where the kind needs one."""
     return kind(b"", data) if "hmac" in kind.__mro__[-2].__name__ else kind(data)
 
 
@@ -280,7 +280,7 @@ try:
 except ImportError as fault:
     print(fault)
 """)
-        self.assertIn("wants its extension for CPython 3.11 or later", text)
+        self.assertIn("needs its extension for CPython 3.11 or later", text)
         for suffix in importlib.machinery.EXTENSION_SUFFIXES:
             self.assertIn(f"_native{suffix}", text)
         self.assertIn(package, text)

@@ -63,7 +63,7 @@ macro_rules! blake2 {
                 Ok(Self(state))
             }
 
-            /// The digest of the message so far, which can go on. `out` has to be as long as `new` was told.
+            /// The digest of the message so far, which can go on. `out` has to be as long as `new` was given.
             pub fn finish(&self, out: &mut [u8]) -> Result<(), Refusal> {
                 checked(unsafe { native::$c_finish(&self.0, out.as_mut_ptr(), out.len()) })
             }

@@ -8,7 +8,7 @@
 //! ```
 //!
 //! What is generic over `Digest`, `Mac` or `KeyInit` takes them, as do `SimpleHmac` of the crate `hmac` 0.12 and
-//! `SimpleHkdf` of `hkdf` 0.12. `Hmac` and `Hkdf` of these crates do not, nor what is built on them, since they want
+//! `SimpleHkdf` of `hkdf` 0.12. `Hmac` and `Hkdf` of these crates do not, nor what is built on them, since they need
 //! the blocks of a hash (`CoreProxy`): take [`HmacSha256`] and its like, and [`hkdf_sha256`](crate::hkdf_sha256).
 //!
 //! These traits have no refusals: `update` panics where the message would be longer than the function takes, which is
