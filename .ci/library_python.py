@@ -145,7 +145,9 @@ def told_by_rust():
         lines += [("hmac " + name, hmac.new(key, data, name).digest())]
         lines += [("hkdf " + name, key_of), ("extract " + name, prk), ("hkdf " + name, key_of)]
     lines += [("hmac " + name, hmac.new(key, data, name).digest()) for name in sums_hash.DIGEST_SIZES]
-    refusals = ["DigestLength", "KeyLength", "EndOfOutput", "KeyLength"]
+    lines += of_pieces(data, 77, 20)
+    refusals = ["DigestLength", "KeyLength", "EndOfOutput", "KeyLength", "PieceLength", "OutputLength", "DigestLength",
+                "OutputLength"]
     return [f"{name} {value.hex()}" for name, value in lines] + ["refused " + name for name in refusals]
 
 
