@@ -235,6 +235,25 @@ def b3sum():
                 same(f"blake3 of {length} bytes by b3sum, {words}", got.hex(), digits.decode())
 
 
+# ---- the pieces of a buffer
+
+def pieces():
+    """About blocks, chunks and groups of eight chunks, of each function: whole pieces, and a short one behind them."""
+    shorter = (1, 63, 64, 65, 127, 128, 129, 1023, 1024, 1025)
+    alone = {
+        "sha256": (shorter, lambda piece: hashlib.sha256(piece).digest()),
+        "blake2b": (shorter, lambda piece: blake2("blake2b", piece, 64)),
+        "blake2s": (shorter, lambda piece: blake2("blake2s", piece, 32)),
+        "blake3": ((*shorter, 8191, 8192, 8193), lambda piece: output(tree(mode_of(), 0, piece), 0, 32)),
+    }
+    for name, (lengths, digest) in alone.items():
+        for length in lengths:
+            for rest in {0, 1, length - 1}:
+                data = cycle(9 * length + rest)
+                got, want = getattr(sums_hash, name + "_pieces")(data, length), b"".join(map(digest, cut(data, length)))
+                same(f"{name} of {len(data)} bytes in pieces of {length}, each alone", got, want)
+
+
 # ---- HMAC and HKDF
 
 def keyed_lengths():
@@ -365,6 +384,7 @@ def main():
     blake3_positions()
     blake3_digests()
     b3sum()
+    pieces()
     keyed_lengths()
     harness.finish()
 

@@ -120,6 +120,21 @@ text() {
     "$here/tables.py" text "$1"
 }
 
+# make_trees: files whose Merkle trees have one leaf or some, short ones and leaves of zeros; $work/roots is what
+# .ci/merkle.py prints of them
+make_trees() {
+    mkdir "$work/trees"
+    for case_size in 1 16383 16384 16385 49153 131072 1000000; do
+        seq 1000000 | head -c $case_size > "$work/trees/$case_size"
+    done
+    "$here/merkle.py" "$work/trees"/* > "$work/roots"
+}
+
+# each_tree COMMAND..: the command with each of those files
+each_tree() {
+    for case_file in "$work/trees"/*; do "$@" "$case_file" || return; done
+}
+
 # finish: what was not tried, and the last line with its status
 finish() {
     printf '%s' "$missing"

@@ -29,7 +29,7 @@ static int ends(const char *program) {
     return wrong != 0;
 }
 
-enum { PAGE = 4096, ROOM = 64 * PAGE };
+enum { PAGE = 4096, ROOM = 352 * PAGE };
 
 // An area of ROOM bytes with a page on each side that ends the program where it is touched.
 static uint8_t *area(void) {

@@ -271,6 +271,31 @@ static void blake3_round(const uint8_t *text, size_t length) {
     }
 }
 
+// ---- the pieces of a buffer
+
+// The digests of up to 200 pieces, of `count` bytes each, beside the peer's of each piece alone.
+#define PIECES(function, count, call, peer)                                                            \
+    static void function##_pieces_round(const uint8_t *text, size_t length) {                          \
+        size_t piece_len = 1 + length / 200 + below(below(2) ? 300 : 9000), digest_len = count;        \
+        size_t pieces = length / piece_len + (length % piece_len != 0), out_len = pieces * digest_len; \
+        uint8_t *out = output(out_len), want[64];                                                      \
+        status(#function "_pieces", call, 0);                                                          \
+        for (size_t at = 0; at < length; at += piece_len, out += digest_len) {                         \
+            size_t piece = length - at < piece_len ? length - at : piece_len;                          \
+            peer;                                                                                      \
+            same(#function "_pieces", piece, out, want, digest_len);                                   \
+        }                                                                                              \
+    }
+
+PIECES(sha256, 32, sums_sha256_pieces(out, out_len, text, length, piece_len),
+       digest(EVP_sha256(), want, text + at, piece))
+PIECES(blake2b, 1 + below(64), sums_blake2b_pieces(out, out_len, digest_len, text, length, piece_len),
+       must(blake2b(want, text + at, NULL, digest_len, piece, 0) == 0, "blake2b"))
+PIECES(blake2s, 1 + below(32), sums_blake2s_pieces(out, out_len, digest_len, text, length, piece_len),
+       must(blake2s(want, text + at, NULL, digest_len, piece, 0) == 0, "blake2s"))
+PIECES(blake3, 32, sums_blake3_pieces(out, out_len, text, length, piece_len),
+       peer_blake3(HASH, want, 32, 0, text + at, piece, NULL, NULL, 0))
+
 int main(int count, char **words) {
     int rounds = count > 1 ? atoi(words[1]) : 3000;
     if (count > 2) seed = strtoull(words[2], NULL, 10) * 2 + 1;
@@ -299,6 +324,10 @@ int main(int count, char **words) {
         hkdf_sha512_round(text, length);
         hkdf_blake2b_round(text, length);
         hkdf_blake2s_round(text, length);
+        sha256_pieces_round(text, length);
+        blake2b_pieces_round(text, length);
+        blake2s_pieces_round(text, length);
+        blake3_pieces_round(text, length);
     }
     return ends("peers");
 }

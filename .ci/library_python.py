@@ -59,6 +59,20 @@ def random_message():
         same("expand " + name, sums_hash.hkdf_expand(name, prk, length, info=info), want)
     output = in_pieces(sums_hash.blake3(), data)
     same("blake3", output.digest(100, seek=7), output.digest(200)[7:107])
+    length, size = random.randrange(1, 400), random.randrange(1, 33)
+    for name, want in of_pieces(data, length, size):
+        settings = {"digest_size": size} if "blake2" in name else {}
+        same(name, getattr(sums_hash, name)(data, length, **settings), want)
+
+
+def of_pieces(data, length, size):
+    """For each call on the pieces of a buffer the digests of the pieces, of BLAKE2 with so many bytes, by hashlib, and
+    BLAKE3 by an object for each."""
+    pieces = [data[at : at + length] for at in range(0, len(data), length)]
+    yield "sha256_pieces", b"".join(hashlib.sha256(piece).digest() for piece in pieces)
+    yield "blake3_pieces", b"".join(sums_hash.blake3(piece).digest() for piece in pieces)
+    yield "blake2b_pieces", b"".join(hashlib.blake2b(piece, digest_size=size).digest() for piece in pieces)
+    yield "blake2s_pieces", b"".join(hashlib.blake2s(piece, digest_size=size).digest() for piece in pieces)
 
 
 def refusals():
@@ -84,6 +98,11 @@ def refusals():
             same("output", "taken", "refused")
         except sums_hash.Refused as refused:
             same("output", refused.status, 5)
+    try:
+        sums_hash.sha256_pieces(b"abc", 0)
+        same("pieces of no bytes", "taken", "refused")
+    except sums_hash.Refused as refused:
+        same("pieces of no bytes", refused.status, 6)
     for call in (
         lambda: sums_hash.blake3(key=b"short"), lambda: sums_hash.blake2b(salt=bytes(17)),
         lambda: sums_hash.blake3().digest(-1), lambda: sums_hash.hkdf("md5", b"", 1),
@@ -126,7 +145,9 @@ def told_by_rust():
         lines += [("hmac " + name, hmac.new(key, data, name).digest())]
         lines += [("hkdf " + name, key_of), ("extract " + name, prk), ("hkdf " + name, key_of)]
     lines += [("hmac " + name, hmac.new(key, data, name).digest()) for name in sums_hash.DIGEST_SIZES]
-    refusals = ["DigestLength", "KeyLength", "EndOfOutput", "KeyLength"]
+    lines += of_pieces(data, 77, 20)
+    refusals = ["DigestLength", "KeyLength", "EndOfOutput", "KeyLength", "PieceLength", "OutputLength", "DigestLength",
+                "OutputLength"]
     return [f"{name} {value.hex()}" for name, value in lines] + ["refused " + name for name in refusals]
 
 

@@ -7,6 +7,33 @@ fn told(name: &str, bytes: &[u8]) {
     println!("{name} {digits}");
 }
 
+/// Compares the digests of up to 20 pieces of each length, and of a short one behind them, with those of each alone.
+fn pieces_of_each_length() -> Result<(), Refusal> {
+    let data: Vec<u8> = (0..21 * 65537u32).map(|i| (i.wrapping_mul(2654435761) >> 24) as u8).collect();
+    let about = [1024, 4096, 65536].into_iter().flat_map(|middle| middle - 1..=middle + 1);
+    for length in (1..=300).chain(about) {
+        for end in (0..=20).flat_map(|count| [0, 1, length / 2, length - 1].map(|rest| count * length + rest)) {
+            let of_each = |alone: fn(&mut [u8], &[u8]) -> Result<(), Refusal>, out: &[u8]| {
+                let mut want = vec![0; out.len()];
+                let pieces = data[..end].chunks(length);
+                want.chunks_mut(32).zip(pieces).try_for_each(|(digest, piece)| alone(digest, piece))?;
+                assert_eq!(out, want, "{end} bytes in pieces of {length}");
+                Ok(())
+            };
+            let mut out = vec![0; 32 * data[..end].chunks(length).len()];
+            sha256_pieces(&mut out, &data[..end], length)?;
+            of_each(|digest, piece| Ok(digest.copy_from_slice(&sha256(piece))), &out)?;
+            blake2b_pieces(&mut out, 32, &data[..end], length)?;
+            of_each(|digest, piece| blake2b(digest, piece, b""), &out)?;
+            blake2s_pieces(&mut out, 32, &data[..end], length)?;
+            of_each(|digest, piece| blake2s(digest, piece, b""), &out)?;
+            blake3_pieces(&mut out, &data[..end], length)?;
+            of_each(|digest, piece| blake3(digest, 0, piece), &out)?;
+        }
+    }
+    Ok(())
+}
+
 fn main() -> Result<(), Refusal> {
     let input: Vec<u8> = (0..1000).map(|i| (i % 251) as u8).collect();
     let (key, salt, personal) = (&input[..32], &input[40..56], &input[60..76]);
@@ -94,11 +121,26 @@ fn main() -> Result<(), Refusal> {
     keyed_pieces!("blake2b", HmacBlake2b, 64);
     keyed_pieces!("blake2s", HmacBlake2s, 32);
 
+    let mut digests = [0; 32 * 13];
+    sha256_pieces(&mut digests, &input, 77)?;
+    told("sha256_pieces", &digests);
+    blake3_pieces(&mut digests, &input, 77)?;
+    told("blake3_pieces", &digests);
+    blake2b_pieces(&mut digests[..20 * 13], 20, &input, 77)?;
+    told("blake2b_pieces", &digests[..20 * 13]);
+    blake2s_pieces(&mut digests[..20 * 13], 20, &input, 77)?;
+    told("blake2s_pieces", &digests[..20 * 13]);
+    pieces_of_each_length()?;
+
     for refusal in [
         Blake2b::new(65, b"").err(),
         Blake2s::new(32, &input[..33]).err(),
         Blake3::new().output(u64::MAX, &mut out).err(),
         hkdf_expand_sha256(&mut out, &key[1..], b"").err(),
+        sha256_pieces(&mut digests, &input, 0).err(),
+        blake3_pieces(&mut digests, &input, 76).err(),
+        blake2b_pieces(&mut digests, 65, &input, 0).err(),
+        blake2s_pieces(&mut digests, 20, &input, 77).err(),
     ] {
         println!("refused {}", refusal.map_or("nothing".into(), |refusal| format!("{refusal:?}")));
     }

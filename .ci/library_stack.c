@@ -62,6 +62,18 @@ static void keyed(void) {
     {KEYED_PIECES(blake2s, 32)}
 }
 
+// Pieces of one block, of a few and of some chunks, the last of them short.
+static void pieces(void) {
+    static const size_t lengths[] = {64, 1000, 10000};
+    for (size_t i = 0; i < 3; i++) {
+        size_t length = 100 * lengths[i] - 1;
+        sums_sha256_pieces(out, 100 * 32, text, length, lengths[i]);
+        sums_blake2b_pieces(out, 100 * 64, 64, text, length, lengths[i]);
+        sums_blake2s_pieces(out, 100 * 32, 32, text, length, lengths[i]);
+        sums_blake3_pieces(out, 100 * 32, text, length, lengths[i]);
+    }
+}
+
 static void *called(void *calls) {
     if (calls) (*(void (**)(void))calls)();
     return NULL;
@@ -85,10 +97,10 @@ static size_t touched(void (**calls)(void)) {
 }
 
 int main(void) {
-    static const char *names[] = {"blake2", "blake3", "sha2", "hmac and hkdf"};
-    static void (*calls[])(void) = {blake2, blake3, sha2, keyed};
+    static const char *names[] = {"blake2", "blake3", "sha2", "hmac and hkdf", "pieces"};
+    static void (*calls[])(void) = {blake2, blake3, sha2, keyed, pieces};
     size_t thread = touched(NULL);
-    for (int i = 0; i < 4; i++) {
+    for (int i = 0; i < 5; i++) {
         size_t taken = touched(&calls[i]) - thread;
         printf("stack of %s: %zu bytes\n", names[i], taken);
         judged(names[i], LENGTH, taken <= MOST);

@@ -72,9 +72,21 @@ each_level() {
     for level in "$@"; do "$do" "$level"; done
 }
 
+# The crates of Debian.
+registry=/usr/share/cargo/registry
+
+# crates_of_blake2 LEVEL: builds blake2b_simd and blake2s_simd for it, as $folder/simd/target/release/libsimd.a
+crates_of_blake2() {
+    mkdir -p "$folder/simd/.cargo"
+    cp -R "$bench/memory/simd/." "$folder/simd"
+    printf '[source.crates-io]\nreplace-with = "debian"\n[source.debian]\ndirectory = "%s"\n' $registry \
+        > "$folder/simd/.cargo/config.toml"
+    (cd "$folder/simd" && RUSTFLAGS="-C target-cpu=$1" cargo build --quiet --release --offline)
+}
+
 # sources_of_blake3: sets `c` to the sources of the C library of BLAKE3
 sources_of_blake3() {
-    c=$(echo /usr/share/cargo/registry/blake3-1*/c)
+    c=$(echo $registry/blake3-1*/c)
     needs librust-blake3-dev "$c"
 }
 

@@ -30,7 +30,9 @@ enum {
     SUMS_KEY_LENGTH = 2,     /* the function takes no key or salt of that length */
     SUMS_INPUT_TOO_LONG = 3, /* the message is longer than the function takes */
     SUMS_NOT_BEGUN = 4,      /* the state was never begun, or holds numbers that no call leaves */
-    SUMS_END_OF_OUTPUT = 5   /* the output has no such bytes */
+    SUMS_END_OF_OUTPUT = 5,  /* the output has no such bytes */
+    SUMS_PIECE_LENGTH = 6,   /* the function takes no pieces of that length */
+    SUMS_OUTPUT_LENGTH = 7   /* the output is not as long as the digests of all pieces */
 };
 
 /* ---- BLAKE2, whole messages
@@ -64,6 +66,21 @@ uint32_t sums_blake3_derive(uint8_t *out, size_t out_len, uint64_t position,
 /* ---- SHA-2, whole messages. Write a digest, and refuse nothing. */
 void sums_sha256(uint8_t out[32], const uint8_t *input, size_t input_len);
 void sums_sha512(uint8_t out[64], const uint8_t *input, size_t input_len);
+
+/* ---- The pieces of a buffer, each a whole message: SHA-256, BLAKE2 and BLAKE3, without a key
+ *
+ * Write the digests of the pieces of the input, one behind the other. Every piece has piece_len bytes, and the last may
+ * have fewer; no input has no piece. A digest is the one that the function has of the piece alone: 32 bytes of SHA-256
+ * (FIPS 180-4, 6.2) and of BLAKE3 (its paper, 2), digest_len of BLAKE2 (RFC 7693, 3), which are 1 to 64 of BLAKE2b and
+ * 1 to 32 of BLAKE2s. Several pieces are hashed side by side, which takes less time than a call for each.
+ * Answer SUMS_OK, SUMS_DIGEST_LENGTH, or else SUMS_PIECE_LENGTH where piece_len is 0, or else SUMS_OUTPUT_LENGTH where
+ * out_len is not the length of a digest times the number of pieces: input_len / piece_len, rounded up. */
+uint32_t sums_sha256_pieces(uint8_t *out, size_t out_len, const uint8_t *input, size_t input_len, size_t piece_len);
+uint32_t sums_blake2b_pieces(uint8_t *out, size_t out_len, size_t digest_len,
+                             const uint8_t *input, size_t input_len, size_t piece_len);
+uint32_t sums_blake2s_pieces(uint8_t *out, size_t out_len, size_t digest_len,
+                             const uint8_t *input, size_t input_len, size_t piece_len);
+uint32_t sums_blake3_pieces(uint8_t *out, size_t out_len, const uint8_t *input, size_t input_len, size_t piece_len);
 
 /* ---- HMAC, whole messages, over SHA-256, SHA-512, BLAKE2b of 64 bytes and BLAKE2s of 32
  *

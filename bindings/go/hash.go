@@ -23,15 +23,18 @@ var (
 	ErrInputTooLong = errors.New("sums: the message is longer than the function takes")
 	ErrNotBegun     = errors.New("sums: the message was never begun")
 	ErrEndOfOutput  = errors.New("sums: the output has no such bytes")
+	ErrPieceLength  = errors.New("sums: the function takes no pieces of that length")
 	ErrCopied       = errors.New("sums: a copy of a message's struct is no message: Clone makes one")
 )
 
+// SUMS_OUTPUT_LENGTH never comes: an output is made as long as the digests of all pieces.
 var refusals = [...]error{
 	C.SUMS_DIGEST_LENGTH:  ErrDigestLength,
 	C.SUMS_KEY_LENGTH:     ErrKeyLength,
 	C.SUMS_INPUT_TOO_LONG: ErrInputTooLong,
 	C.SUMS_NOT_BEGUN:      ErrNotBegun,
 	C.SUMS_END_OF_OUTPUT:  ErrEndOfOutput,
+	C.SUMS_PIECE_LENGTH:   ErrPieceLength,
 }
 
 func checked(status C.uint32_t) error { return refusals[status] }

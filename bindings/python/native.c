@@ -686,9 +686,9 @@ static int describe(PyObject *type, const struct kind *kind)
     return set(type, "name", PyUnicode_FromString(kind->name));
 }
 
-// ---- calls on whole messages: HMAC and HKDF
+// ---- calls on whole messages: HMAC, HKDF and the pieces of a buffer
 
-// A hash under them.
+// A hash under HMAC and HKDF.
 static const struct inner {
     const char *name;
     size_t digest_size;
@@ -712,6 +712,7 @@ struct whole {
     uint32_t (*run)(const struct whole *whole);
     uint8_t *out;
     size_t length;
+    size_t digest_size, piece_length; // where the input is hashed in pieces
     Py_buffer in[INPUTS];
 };
 
@@ -737,6 +738,32 @@ static uint32_t run_expand(const struct whole *whole)
     return whole->hash->expand(whole->out, whole->length, IN(0), IN(1));
 }
 
+static uint32_t run_sha256_pieces(const struct whole *whole)
+{
+    return sums_sha256_pieces(whole->out, whole->length, IN(0), whole->piece_length);
+}
+
+static uint32_t run_blake2b_pieces(const struct whole *whole)
+{
+    return sums_blake2b_pieces(whole->out, whole->length, whole->digest_size, IN(0), whole->piece_length);
+}
+
+static uint32_t run_blake2s_pieces(const struct whole *whole)
+{
+    return sums_blake2s_pieces(whole->out, whole->length, whole->digest_size, IN(0), whole->piece_length);
+}
+
+static uint32_t run_blake3_pieces(const struct whole *whole)
+{
+    return sums_blake3_pieces(whole->out, whole->length, IN(0), whole->piece_length);
+}
+
+static uint32_t run_zeroed(const struct whole *whole)
+{
+    memset(whole->out, 0, whole->length); // the library writes into initialised memory
+    return whole->run(whole);
+}
+
 static int find_inner(PyObject *name, struct whole *whole)
 {
     for (size_t i = 0; i < sizeof inners / sizeof *inners; i++) {
@@ -757,12 +784,11 @@ static PyObject *written(struct whole *whole)
     if (!bytes) return NULL;
     uint32_t status;
     whole->out = (uint8_t *)PyBytes_AsString(bytes);
-    memset(whole->out, 0, whole->length);
     if (longest < LONG) {
-        status = whole->run(whole);
+        status = run_zeroed(whole);
     } else {
         Py_BEGIN_ALLOW_THREADS
-        status = whole->run(whole);
+        status = run_zeroed(whole);
         Py_END_ALLOW_THREADS
     }
     if (judged(status) < 0) Py_CLEAR(bytes);
@@ -830,7 +856,62 @@ static PyObject *hkdf_expand(PyObject *Py_UNUSED(module), PyObject *args, PyObje
     return written_of(&whole, in);
 }
 
+// The bytes of the digests of all pieces. Where C refuses the lengths there are none. A bytes object takes no more than
+// PY_SSIZE_T_MAX.
+static int measure(struct whole *whole, size_t most)
+{
+    size_t length = (size_t)whole->in[0].len, size = whole->digest_size;
+    if (size == 0 || size > most || whole->piece_length == 0) return 0;
+    size_t pieces = length / whole->piece_length + (length % whole->piece_length != 0);
+    whole->length = pieces * size;
+    if (pieces <= PY_SSIZE_T_MAX / size) return 0;
+    PyErr_NoMemory();
+    return -1;
+}
+
+// The digests of the pieces, of which each has as many bytes as the kind's longest where no other number is given.
+static PyObject *digests(struct whole *whole, const struct kind *kind, PyObject *data, PyObject *piece, PyObject *size)
+{
+    whole->digest_size = (size_t)kind->digest_size;
+    if (length_of(piece, &whole->piece_length) < 0) return NULL;
+    if (size && length_of(size, &whole->digest_size) < 0) return NULL;
+    if (lend(data, &whole->in[0]) < 0) return NULL;
+    PyObject *bytes = measure(whole, (size_t)kind->digest_size) == 0 ? written(whole) : NULL;
+    PyBuffer_Release(&whole->in[0]);
+    return bytes;
+}
+
+#define PIECES(hash, row) \
+    static PyObject *hash##_pieces(PyObject *Py_UNUSED(module), PyObject *args, PyObject *words) \
+    { \
+        static char *names[] = {"data", "piece_len", NULL}; \
+        PyObject *data, *piece; \
+        struct whole whole = {.run = run_##hash##_pieces}; \
+        if (!PyArg_ParseTupleAndKeywords(args, words, "OO", names, &data, &piece)) return NULL; \
+        return digests(&whole, &kinds[row], data, piece, NULL); \
+    }
+
+#define PIECES_OF_SIZE(hash, row) \
+    static PyObject *hash##_pieces(PyObject *Py_UNUSED(module), PyObject *args, PyObject *words) \
+    { \
+        static char *names[] = {"data", "piece_len", "digest_size", NULL}; \
+        PyObject *data, *piece, *size = NULL; \
+        struct whole whole = {.run = run_##hash##_pieces}; \
+        if (!PyArg_ParseTupleAndKeywords(args, words, "OO|O", names, &data, &piece, &size)) return NULL; \
+        return digests(&whole, &kinds[row], data, piece, size); \
+    }
+
+PIECES(sha256, SHA256)
+PIECES_OF_SIZE(blake2b, BLAKE2B)
+PIECES_OF_SIZE(blake2s, BLAKE2S)
+PIECES(blake3, BLAKE3)
+
 // ---- the module
+
+#define DOC_OF_PIECES(hash, words, title, size) \
+    #hash "_pieces(data, piece_len" words ")\n--\n\nThe digests of the pieces of data by " title ", of " size \
+    " bytes each, one behind the other.\nEvery piece has piece_len bytes, and the last may have fewer; no data has " \
+    "no piece."
 
 static PyMethodDef functions[] = {
     {"hmac_digest", WITH_WORDS(hmac_digest),
@@ -844,6 +925,12 @@ static PyMethodDef functions[] = {
     {"hkdf_expand", WITH_WORDS(hkdf_expand),
      "hkdf_expand(name, prk, length, *, info=b'')\n--\n\nA key of so many bytes, of a pseudorandom key that is as long "
      "as a digest or longer."},
+    {"sha256_pieces", WITH_WORDS(sha256_pieces), DOC_OF_PIECES(sha256, "", "SHA-256 (FIPS 180-4)", "32")},
+    {"blake2b_pieces", WITH_WORDS(blake2b_pieces),
+     DOC_OF_PIECES(blake2b, ", digest_size=64", "BLAKE2b (RFC 7693)", "digest_size")},
+    {"blake2s_pieces", WITH_WORDS(blake2s_pieces),
+     DOC_OF_PIECES(blake2s, ", digest_size=32", "BLAKE2s (RFC 7693)", "digest_size")},
+    {"blake3_pieces", WITH_WORDS(blake3_pieces), DOC_OF_PIECES(blake3, "", "BLAKE3", "32")},
     {0},
 };
 

@@ -21,8 +21,8 @@ if "t" in getattr(sys, "abiflags", ""):
     raise ImportError("sums_hash has no build for a free-threaded CPython")
 try:
     from ._native import (
-        blake2b, blake2s, blake3, hkdf, hkdf_expand, hkdf_extract, hmac_blake2b, hmac_blake2s, hmac_digest,
-        hmac_sha256, hmac_sha512, sha256, sha512,
+        blake2b, blake2b_pieces, blake2s, blake2s_pieces, blake3, blake3_pieces, hkdf, hkdf_expand, hkdf_extract,
+        hmac_blake2b, hmac_blake2s, hmac_digest, hmac_sha256, hmac_sha512, sha256, sha256_pieces, sha512,
     )
 except ImportError as _fault:
     _tried = ", ".join(f"_native{suffix}" for suffix in EXTENSION_SUFFIXES)
@@ -42,6 +42,7 @@ __all__ = [
     "blake2b", "blake2s", "blake3", "sha256", "sha512",
     "hmac_sha256", "hmac_sha512", "hmac_blake2b", "hmac_blake2s", "hmac_digest",
     "hkdf", "hkdf_extract", "hkdf_expand",
+    "sha256_pieces", "blake2b_pieces", "blake2s_pieces", "blake3_pieces",
 ]
 
 _REFUSALS = {
@@ -50,6 +51,8 @@ _REFUSALS = {
     3: "the message is longer than the function takes",
     4: "the state was never begun",
     5: "the output has no such bytes",
+    6: "the function takes no pieces of that length",
+    7: "the output is not as long as the digests of all pieces",
 }
 
 # The bytes of a digest under HMAC and HKDF.

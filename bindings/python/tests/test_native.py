@@ -3,9 +3,11 @@
 python3 -m unittest discover bindings/python/tests    with sums_hash on the path; a debug build counts references"""
 
 import copy
+import ctypes
 import gc
 import importlib
 import inspect
+import mmap
 import multiprocessing
 import os
 import pickle
@@ -103,6 +105,17 @@ class Lengths(unittest.TestCase):
         finally:
             sums_hash.blake3.key_size = 32
 
+    def test_of_many_pieces(self):
+        """Digests for which there is no room are refused, and so are those whose bytes no number counts."""
+        with mmap.mmap(-1, 2**40, flags=mmap.MAP_PRIVATE | mmap.MAP_ANONYMOUS, prot=mmap.PROT_READ) as data:
+            self.assertRaises(MemoryError, sums_hash.sha256_pieces, data, 1)
+            self.assertRaises(MemoryError, sums_hash.blake2b_pieces, data, 2)
+        # memory that is not there, and is never read
+        for power in (57, 58, 59, 60, 62):
+            data = (ctypes.c_ubyte * 2**power).from_address(id(None))
+            for pieces in (sums_hash.sha256_pieces, sums_hash.blake2b_pieces, sums_hash.blake3_pieces):
+                self.assertRaises((MemoryError, OverflowError), pieces, data, 1)
+
     def test_of_another_class(self):
         for hasher in every_object():
             for kind in KINDS:
@@ -132,6 +145,9 @@ class Words(unittest.TestCase):
             "blake3": "(data=b'', /, *, key=None, derive_key_context=None, usedforsecurity=True)",
             "hmac_sha256": "(key, msg=None, *, usedforsecurity=True)",
             "hkdf": "(name, material, length, *, salt=b'', info=b'')",
+            "sha256_pieces": "(data, piece_len)",
+            "blake2b_pieces": "(data, piece_len, digest_size=64)",
+            "blake2s_pieces": "(data, piece_len, digest_size=32)",
         }
         for name, text in want.items():
             self.assertEqual(str(inspect.signature(getattr(sums_hash, name))), text)
@@ -289,18 +305,19 @@ except ImportError as fault:
 class Buffers(unittest.TestCase):
     def test_held_for_the_call(self):
         """What is hashed cannot be resized meanwhile, and can be afterwards."""
-        data, hasher, faults = bytearray(2**25), sums_hash.sha256(), []
-        thread = threading.Thread(target=hasher.update, args=(data,))
-        thread.start()
-        while thread.is_alive():
-            try:
-                data.append(0)
-                data.pop()
-            except BufferError:
-                faults.append(1)
-        thread.join()
-        self.assertTrue(faults)
-        data.append(0)
+        for work in (sums_hash.sha256().update, lambda data: sums_hash.sha256_pieces(data, 64)):
+            data, faults = bytearray(2**25), []
+            thread = threading.Thread(target=work, args=(data,))
+            thread.start()
+            while thread.is_alive():
+                try:
+                    data.append(0)
+                    data.pop()
+                except BufferError:
+                    faults.append(1)
+            thread.join()
+            self.assertTrue(faults)
+            data.append(0)
 
     def test_released_view(self):
         view = memoryview(bytearray(DATA))
@@ -336,6 +353,7 @@ class Buffers(unittest.TestCase):
             lambda: sums_hash.hkdf("sha256", data, 9, salt=data, info="text"),
             lambda: sums_hash.hkdf("sha256", data, 2**20, salt=data, info=data),
             lambda: sums_hash.hmac_sha256(data, "text"), lambda: sums_hash.hmac_digest(data, data, "md5"),
+            lambda: sums_hash.sha256_pieces(data, 0), lambda: sums_hash.blake2s_pieces(data, 9, 33),
             lambda: sums_hash.sha256.__new__(sums_hash.sha256).update(data),
         ):
             self.assertRaises((ValueError, TypeError), call)
@@ -552,7 +570,10 @@ def every_call():
         lambda: sums_hash.hkdf("sha256", b"m", 2**40), lambda: sums_hash.hkdf("sha256", b"m", 5, info="text"),
         lambda: sums_hash.hkdf("md5", b"m", 5), lambda: sums_hash.hkdf_extract("blake2b", bytes(9000)),
         lambda: sums_hash.hkdf_expand("sha512", b"m", 3), lambda: sums_hash.new("sha256", b"a"),
-        lambda: sums_hash.new("md5"),
+        lambda: sums_hash.new("md5"), lambda: sums_hash.sha256_pieces(DATA, 9), lambda: sums_hash.blake3_pieces(b"", 9),
+        lambda: sums_hash.blake2b_pieces(bytearray(5000), 700, digest_size=9), lambda: sums_hash.sha256_pieces("", 9),
+        lambda: sums_hash.sha256_pieces(DATA, 0), lambda: sums_hash.sha256_pieces(DATA, "9"),
+        lambda: sums_hash.blake2s_pieces(DATA, 9, 33), lambda: sums_hash.blake2s_pieces(DATA, 9, -1),
     )
 
 

@@ -8,6 +8,7 @@ import hashlib
 import hmac
 import io
 import pickle
+import random
 import re
 import subprocess
 import sys
@@ -167,6 +168,16 @@ class Threads(unittest.TestCase):
         self.assertGreater(steps, 1000)
         self.assertEqual(digests, [hashlib.sha512(data).digest()] * 2)
 
+    def test_others_run_beside_pieces(self):
+        data, done, steps = bytes(2**26), [], 0
+        thread = threading.Thread(target=lambda: done.append(sums_hash.sha256_pieces(data, 64)))
+        thread.start()
+        while not done:
+            steps += 1
+        thread.join()
+        self.assertGreater(steps, 1000)
+        self.assertEqual(done, [hashlib.sha256(bytes(64)).digest() * 2**20])
+
     def test_one_object(self):
         """Pieces of many threads are each taken whole."""
         for hasher in (sums_hash.sha256(), sums_hash.blake3(), sums_hash.hmac_blake2b(b"key")):
@@ -228,6 +239,76 @@ class Keys(unittest.TestCase):
                 self.assertRaises(sums_hash.Refused, sums_hash.hkdf, name, b"", length)
             self.assertRaises(sums_hash.Refused, sums_hash.hkdf_expand, name, prk[1:], 1)
         self.assertRaises(ValueError, sums_hash.hkdf, "blake3", b"", 1)
+
+
+# for each call on pieces: the call, and the digest of a piece alone, of so many bytes where that is a choice
+OF_PIECES = {
+    "sha256": (lambda data, length, _: sums_hash.sha256_pieces(data, length),
+               lambda piece, _: hashlib.sha256(piece).digest()),
+    "blake2b": (sums_hash.blake2b_pieces, lambda piece, size: hashlib.blake2b(piece, digest_size=size).digest()),
+    "blake2s": (sums_hash.blake2s_pieces, lambda piece, size: hashlib.blake2s(piece, digest_size=size).digest()),
+    "blake3": (lambda data, length, _: sums_hash.blake3_pieces(data, length),
+               lambda piece, _: sums_hash.blake3(piece).digest()),
+}
+
+
+class Pieces(unittest.TestCase):
+    def test_each_length(self):
+        """From 1 to 300 bytes, and about 1,024, 4,096 and 65,536: up to 20 pieces, and a short one behind them."""
+        data = memoryview(random.Random(1).randbytes(21 * 65537))
+        about = [middle + step for middle in (1024, 4096, 65536) for step in (-1, 0, 1)]
+        for length in (*range(1, 301), *about):
+            size = 1 + length % 32
+            for name, (pieces, alone) in OF_PIECES.items():
+                whole = [alone(data[i * length:(i + 1) * length], size) for i in range(20)]
+                for count in range(21):
+                    end = count * length
+                    for rest in {0, 1, length // 2, length - 1} - {length}:
+                        want = whole[:count] + [alone(data[end:end + rest], size)] * (rest > 0)
+                        if pieces(data[:end + rest], length, size) != b"".join(want):
+                            self.fail(f"{name}: {count} pieces of {length} bytes, and {rest}")
+
+    def test_each_size(self):
+        for size in range(1, 65):
+            want = [hashlib.blake2b(DATA[i:i + 100], digest_size=size).digest() for i in range(0, len(DATA), 100)]
+            self.assertEqual(sums_hash.blake2b_pieces(DATA, 100, size), b"".join(want))
+        self.assertEqual(sums_hash.blake2b_pieces(DATA, 640), sums_hash.blake2b_pieces(DATA, 640, digest_size=64))
+        self.assertEqual(sums_hash.blake2s_pieces(DATA, 640), sums_hash.blake2s_pieces(DATA, 640, digest_size=32))
+
+    def test_longer_than_the_data(self):
+        for pieces, alone in OF_PIECES.values():
+            for length in (len(DATA), len(DATA) + 1, 2**31, 2**32 + 1, 2**63 - 1):
+                self.assertEqual(pieces(DATA, length, 32), alone(DATA, 32))
+                self.assertEqual(pieces(b"", length, 32), b"")
+
+    def test_refusals(self):
+        for name, (pieces, _) in OF_PIECES.items():
+            for data in (b"", DATA):
+                with self.assertRaises(sums_hash.Refused) as caught:
+                    pieces(data, 0, 20)
+                self.assertEqual(str(caught.exception), "the function takes no pieces of that length")
+                self.assertEqual(caught.exception.status, 6)
+                for length in (-1, -2**70, 2**63):
+                    self.assertRaises(ValueError, pieces, data, length, 20)
+                for length in (None, 1.0, "1", b"1"):
+                    self.assertRaises(TypeError, pieces, data, length, 20)
+                if name.startswith("blake2"):
+                    for size in (0, 33 if name == "blake2s" else 65, 2**62):
+                        for length in (0, 1):
+                            with self.assertRaises(sums_hash.Refused) as caught:
+                                pieces(data, length, size)
+                            self.assertEqual(caught.exception.status, 1)
+                    self.assertRaises(ValueError, pieces, data, 1, -1)
+
+    def test_buffers(self):
+        for pieces, alone in OF_PIECES.values():
+            want = alone(DATA[:1000], 20) + alone(DATA[1000:], 20)
+            data = bytearray(DATA)
+            for given in (data, memoryview(DATA), array.array("B", DATA), memoryview(DATA).cast("B", (5, 256))):
+                self.assertEqual(pieces(given, 1000, 20), want)
+            data.append(0)
+            self.assertRaises(BufferError, pieces, memoryview(DATA)[::2], 9, 20)
+            self.assertRaises(TypeError, pieces, "text", 9, 20)
 
 
 if __name__ == "__main__":

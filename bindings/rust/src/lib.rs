@@ -32,6 +32,7 @@ mod blake2;
 mod blake3;
 mod keyed;
 mod message;
+mod pieces;
 mod refusal;
 mod sha2;
 #[cfg(feature = "digest")]
@@ -40,5 +41,6 @@ pub mod traits;
 pub use self::blake2::*;
 pub use self::blake3::*;
 pub use self::keyed::*;
+pub use self::pieces::*;
 pub use self::refusal::Refusal;
 pub use self::sha2::*;

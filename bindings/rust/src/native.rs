@@ -85,6 +85,36 @@ extern "C" {
     ) -> u32;
     pub fn sums_sha256(out: *mut [u8; 32], input: *const u8, input_len: usize);
     pub fn sums_sha512(out: *mut [u8; 64], input: *const u8, input_len: usize);
+    pub fn sums_sha256_pieces(
+        out: *mut u8,
+        out_len: usize,
+        input: *const u8,
+        input_len: usize,
+        piece_len: usize,
+    ) -> u32;
+    pub fn sums_blake2b_pieces(
+        out: *mut u8,
+        out_len: usize,
+        digest_len: usize,
+        input: *const u8,
+        input_len: usize,
+        piece_len: usize,
+    ) -> u32;
+    pub fn sums_blake2s_pieces(
+        out: *mut u8,
+        out_len: usize,
+        digest_len: usize,
+        input: *const u8,
+        input_len: usize,
+        piece_len: usize,
+    ) -> u32;
+    pub fn sums_blake3_pieces(
+        out: *mut u8,
+        out_len: usize,
+        input: *const u8,
+        input_len: usize,
+        piece_len: usize,
+    ) -> u32;
     pub fn sums_hmac_sha256(
         out: *mut u8,
         out_len: usize,

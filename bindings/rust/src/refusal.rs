@@ -13,6 +13,10 @@ pub enum Refusal {
     InputTooLong,
     /// The output has no such bytes.
     EndOfOutput,
+    /// The function takes no pieces of that length.
+    PieceLength,
+    /// The output is not as long as the digests of all pieces.
+    OutputLength,
     /// A status that this version of the crate does not know.
     Other(u32),
 }
@@ -24,6 +28,8 @@ impl fmt::Display for Refusal {
             Refusal::KeyLength => write!(f, "the function takes no key or salt of that length"),
             Refusal::InputTooLong => write!(f, "the message is longer than the function takes"),
             Refusal::EndOfOutput => write!(f, "the output has no such bytes"),
+            Refusal::PieceLength => write!(f, "the function takes no pieces of that length"),
+            Refusal::OutputLength => write!(f, "the output is not as long as the digests of all pieces"),
             Refusal::Other(status) => write!(f, "status {status}"),
         }
     }
@@ -47,6 +53,8 @@ pub(crate) fn checked(status: u32) -> Result<(), Refusal> {
         2 => Err(Refusal::KeyLength),
         3 => Err(Refusal::InputTooLong),
         5 => Err(Refusal::EndOfOutput),
+        6 => Err(Refusal::PieceLength),
+        7 => Err(Refusal::OutputLength),
         _ => Err(Refusal::Other(status)),
     }
 }
