@@ -18,7 +18,8 @@ open_chunk-requires-clause-made c = λ v is.
     = ap (λ (k : ℕ). take k (drop (1024 * n) bytes)) one in
     rw (c.push_values.ensures.parameters, c.push_values.ensures.closed, last) (
       c.chunk_values.ensures.before n (omega arith) (omega arith),
-      sym (ap (λ (o : Option (List ℕ)). unwrap_or o []) is) ∙ c.chunk_values.ensures.values n (omega arith) (omega arith)
+      sym (ap (λ (o : Option (List ℕ)). unwrap_or o []) is)
+          ∙ c.chunk_values.ensures.values n (omega arith) (omega arith)
           ∙ run_chunk stack.parameters.key stack.parameters.flags stack.closed bytes n (omega arith),
     )
 
