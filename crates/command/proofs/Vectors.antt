@@ -17,16 +17,23 @@ visible_controls : visible (97 ∷ 10 ∷ 13 ∷ 92 ∷ 27 ∷ 9 ∷ 127 ∷ 98 
 unfolding visible chars encode_with encode_utf8
 visible_controls = refl
 
--- U+0080, U+009F, U+202A, U+202E, U+2066 and U+2069
-visible_wide : visible ((0xc2 ∷ 0x80 ∷ 0xc2 ∷ 0x9f ∷ 0xe2 ∷ 0x80 ∷ 0xaa ∷ 0xe2 ∷ 0x80 ∷ 0xae ∷ [])
-    ++ (0xe2 ∷ 0x81 ∷ 0xa6 ∷ 0xe2 ∷ 0x81 ∷ 0xa9 ∷ []))
-    ≡ codes "\\x80\\x9f\\u{202a}\\u{202e}\\u{2066}\\u{2069}"
+-- U+0080, U+009F, U+2028, U+2029, U+202A, U+202E, U+2066 and U+2069
+visible_wide : visible ((0xc2 ∷ 0x80 ∷ 0xc2 ∷ 0x9f ∷ 0xe2 ∷ 0x80 ∷ 0xa8 ∷ 0xe2 ∷ 0x80 ∷ 0xa9 ∷ [])
+    ++ (0xe2 ∷ 0x80 ∷ 0xaa ∷ 0xe2 ∷ 0x80 ∷ 0xae ∷ 0xe2 ∷ 0x81 ∷ 0xa6 ∷ 0xe2 ∷ 0x81 ∷ 0xa9 ∷ []))
+    ≡ codes "\\x80\\x9f\\u{2028}\\u{2029}\\u{202a}\\u{202e}\\u{2066}\\u{2069}"
 unfolding visible chars encode_with encode_utf8
 visible_wide = refl
 
--- what stands beside those stays: U+00A0, U+2029, U+202F, U+2065, U+206A, and a character of four bytes
-visible_plain : (let name : List ℕ = (32 ∷ 126 ∷ 0xc2 ∷ 0xa0 ∷ 0xe2 ∷ 0x80 ∷ 0xa9 ∷ 0xe2 ∷ 0x80 ∷ 0xaf ∷ [])
-    ++ (0xe2 ∷ 0x81 ∷ 0xa5 ∷ 0xe2 ∷ 0x81 ∷ 0xaa ∷ 0xf0 ∷ 0x9f ∷ 0xa6 ∷ 0x80 ∷ []) in visible name ≡ name)
+-- U+061C, U+200E and U+200F
+visible_marks : visible (0xd8 ∷ 0x9c ∷ 0xe2 ∷ 0x80 ∷ 0x8e ∷ 0xe2 ∷ 0x80 ∷ 0x8f ∷ [])
+    ≡ codes "\\u{061c}\\u{200e}\\u{200f}"
+unfolding visible chars encode_with encode_utf8
+visible_marks = refl
+
+-- what stands beside those stays: U+00A0, U+061B, U+200D, U+2027, U+202F, U+2065, U+206A, and a character of four bytes
+visible_plain : (let name : List ℕ = (32 ∷ 126 ∷ 0xc2 ∷ 0xa0 ∷ 0xd8 ∷ 0x9b ∷ 0xe2 ∷ 0x80 ∷ 0x8d ∷ [])
+    ++ (0xe2 ∷ 0x80 ∷ 0xa7 ∷ 0xe2 ∷ 0x80 ∷ 0xaf ∷ 0xe2 ∷ 0x81 ∷ 0xa5 ∷ [])
+    ++ (0xe2 ∷ 0x81 ∷ 0xaa ∷ 0xf0 ∷ 0x9f ∷ 0xa6 ∷ 0x80 ∷ []) in visible name ≡ name)
 unfolding visible chars encode_utf8
 visible_plain = refl
 
