@@ -33,12 +33,14 @@ OUTCOMES = ("OK", "failed", "missing", "unreadable", "too long", "malformed", "s
 
 
 def check(name, alg, given, report, numbers=None):
-    """Checks a list, with --summary where its numbers are named."""
+    """Checks a list, with --summary where its numbers are named. What has no report has no entries."""
     told = b""
     words = ["check", "-a", alg, "-"]
     if numbers is not None:
         words.insert(3, "--summary")
         told = ("sums: " + ", ".join(f"{n} {what}" for n, what in zip(numbers, OUTCOMES)) + "\n").encode()
+    if not report:
+        told += b"sums: -: no entries\n"
     status = 0 if all(line.endswith(b": OK") for line in report.split(b"\n")[:-1]) else 1
     same(sized(name), run(*words, given=given), (status, report, told))
 

@@ -25,8 +25,9 @@ NAMES = ["plain", "a b", " a  b ", 'it\'s "so"', "$(touch PWNED)", "`touch PWNED
          "x&touch PWNED|c>d",
          "a{}b", "{}", "{3}{#}{.}", '{= system("touch PWNED") =}', "-dash", "--help", "--name=x", "a\nb", "a\rb",
          "a\\b",
-         "\\n", "*", "~", "#x", "%s", "!x", "größe", "\x1b[31m", "\u202eright", "-a", "x\nline 3: MALFORMED", "line 3",
-         "sums: 1 OK, ", "x (y) = z", "name 3: bad name"]
+         "\\n", "*", "~", "#x", "%s", "!x", "größe", "\x1b[31m", "\u202eright",
+         "\u2028\u2029\u200e\u200f\u061c", "-a", "x\nline 3: MALFORMED", "line 3", "sums: 1 OK, ",
+         "x (y) = z", "name 3: bad name"]
 FEW = [f"f{number}" for number in range(120)]
 MANY = [f"many/{number}" for number in range(20000)]
 LISTS = ("good", "tagged", "mixed", "none", "comments", "no-end", "one", "endless", "list\n\x1b[1m\\", "missing",

@@ -6,8 +6,9 @@ use Rattle.std.specs.Fmt.{digits}
 use Rattle.std.specs.Str.{chars}
 use Rattle.hex.specs.Hex.{encode_with}
 use Rattle.command.specs.Cutting.{part_count, start_lines}
-use Rattle.sumlist.specs.Report.{malformed, no_lines, report_from}
-use Rattle.command.specs.Checking.{noted}
+use Rattle.sumlist.specs.Report.{no_lines, report_from, summary_of, untagged, skipped, malformed}
+use Rattle.sumlist.specs.declared.summary.Summary.{Summary}
+use Rattle.command.specs.Checking.{hinted, noted}
 use Rattle.command.specs.Run.{Run, ends, followed, no_failures, refused_by}
 use Rattle.command.specs.Troubles.{cannot_read, told}
 use Rattle.command.specs.Visible.{visible}
@@ -17,16 +18,23 @@ visible_controls : visible (97 ∷ 10 ∷ 13 ∷ 92 ∷ 27 ∷ 9 ∷ 127 ∷ 98 
 unfolding visible chars encode_with encode_utf8
 visible_controls = refl
 
--- U+0080, U+009F, U+202A, U+202E, U+2066 and U+2069
-visible_wide : visible ((0xc2 ∷ 0x80 ∷ 0xc2 ∷ 0x9f ∷ 0xe2 ∷ 0x80 ∷ 0xaa ∷ 0xe2 ∷ 0x80 ∷ 0xae ∷ [])
-    ++ (0xe2 ∷ 0x81 ∷ 0xa6 ∷ 0xe2 ∷ 0x81 ∷ 0xa9 ∷ []))
-    ≡ codes "\\x80\\x9f\\u{202a}\\u{202e}\\u{2066}\\u{2069}"
+-- U+0080, U+009F, U+2028, U+2029, U+202A, U+202E, U+2066 and U+2069
+visible_wide : visible ((0xc2 ∷ 0x80 ∷ 0xc2 ∷ 0x9f ∷ 0xe2 ∷ 0x80 ∷ 0xa8 ∷ 0xe2 ∷ 0x80 ∷ 0xa9 ∷ [])
+    ++ (0xe2 ∷ 0x80 ∷ 0xaa ∷ 0xe2 ∷ 0x80 ∷ 0xae ∷ 0xe2 ∷ 0x81 ∷ 0xa6 ∷ 0xe2 ∷ 0x81 ∷ 0xa9 ∷ []))
+    ≡ codes "\\x80\\x9f\\u{2028}\\u{2029}\\u{202a}\\u{202e}\\u{2066}\\u{2069}"
 unfolding visible chars encode_with encode_utf8
 visible_wide = refl
 
--- what stands beside those stays: U+00A0, U+2029, U+202F, U+2065, U+206A, and a character of four bytes
-visible_plain : (let name : List ℕ = (32 ∷ 126 ∷ 0xc2 ∷ 0xa0 ∷ 0xe2 ∷ 0x80 ∷ 0xa9 ∷ 0xe2 ∷ 0x80 ∷ 0xaf ∷ [])
-    ++ (0xe2 ∷ 0x81 ∷ 0xa5 ∷ 0xe2 ∷ 0x81 ∷ 0xaa ∷ 0xf0 ∷ 0x9f ∷ 0xa6 ∷ 0x80 ∷ []) in visible name ≡ name)
+-- U+061C, U+200E and U+200F
+visible_marks : visible (0xd8 ∷ 0x9c ∷ 0xe2 ∷ 0x80 ∷ 0x8e ∷ 0xe2 ∷ 0x80 ∷ 0x8f ∷ [])
+    ≡ codes "\\u{061c}\\u{200e}\\u{200f}"
+unfolding visible chars encode_with encode_utf8
+visible_marks = refl
+
+-- what stands beside those stays: U+00A0, U+061B, U+200D, U+2027, U+202F, U+2065, U+206A, and a character of four bytes
+visible_plain : (let name : List ℕ = (32 ∷ 126 ∷ 0xc2 ∷ 0xa0 ∷ 0xd8 ∷ 0x9b ∷ 0xe2 ∷ 0x80 ∷ 0x8d ∷ [])
+    ++ (0xe2 ∷ 0x80 ∷ 0xa7 ∷ 0xe2 ∷ 0x80 ∷ 0xaf ∷ 0xe2 ∷ 0x81 ∷ 0xa5 ∷ [])
+    ++ (0xe2 ∷ 0x81 ∷ 0xaa ∷ 0xf0 ∷ 0x9f ∷ 0xa6 ∷ 0x80 ∷ []) in visible name ≡ name)
 unfolding visible chars encode_utf8
 visible_plain = refl
 
@@ -58,13 +66,23 @@ starts_of_all : start_lines (2 ^ 54) (part_count (2 ^ 54) (replicate 3000 0)) �
 unfolding digits
 starts_of_all = refl
 
--- a list that is not there, and behind it one with a malformed line, of which the numbers are told
+-- a list that is not there, and behind it one with an untagged line, of which the numbers are told
 followed_example : (let last : Run = ends [] [] (Ok 0) no_failures in
-    let list : Run = ends (report_from (Some (codes "l")) 1 (malformed ∷ []))
-    (noted true (Some (codes "l")) (record no_lines { malformed = 1 })) (Ok 1) no_failures in
+    let numbers : Summary = record no_lines { malformed = 1; needs_kind = true } in
+    let list : Run = ends (report_from (Some (codes "l")) 1 (untagged ∷ []))
+    (noted true (Some (codes "l")) numbers ++ hinted (codes "l") numbers) (Ok 1) no_failures in
     followed (refused_by (cannot_read (codes "none")) no_failures) (followed list last))
     ≡ ends (codes "l: line 1: MALFORMED\n") (codes "sums: none: cannot read\n"
-    ∷ codes "sums: l: 0 OK, 0 failed, 0 missing, 0 unreadable, 0 too long, 1 malformed, 0 skipped\n" ∷ []) (Ok 1)
-    no_failures
+    ∷ codes "sums: l: 0 OK, 0 failed, 0 missing, 0 unreadable, 0 too long, 1 malformed, 0 skipped\n"
+    ∷ codes "sums: l: untagged lines need -a\n" ∷ []) (Ok 1) no_failures
 unfolding visible chars digits encode_utf8 report_from
 followed_example = refl
+
+-- skipped lines alone are no entries, and beside a malformed line nothing is told of that
+hinted_example : hinted (codes "-") (summary_of (skipped ∷ [])) ≡ codes "sums: -: no entries\n" ∷ []
+unfolding visible chars encode_utf8 summary_of
+hinted_example = refl
+
+hinted_none : hinted (codes "-") (summary_of (skipped ∷ malformed ∷ [])) ≡ []
+unfolding summary_of
+hinted_none = refl

@@ -1,5 +1,5 @@
--- What the visible form of a name comes to: characters that are no command to a terminal and set no direction, and the
--- name itself where it has only such ones and no backslash.
+-- What the visible form of a name comes to: characters that are no command to a terminal, end no line and set no
+-- direction, and the name itself where it has only such ones and no backslash.
 use Rattle.std.proofs.Common.{◌≡◌, ◌∙◌, ℕ, ◌/◌, ◌%◌, ◌<◌, Bool, true, false, cond, ◌&&◌, ◌||◌, List, [], ◌∷◌, ◌++◌}
 use Rattle.std.proofs.Common.{refl, sym, ap, arith, append-nil, codes}
 use Rattle.std.proofs.Math.Utf8.{encodes, scalars}
@@ -15,7 +15,7 @@ use Rattle.std.specs.Prelude.{◌==◌, not, slice_index}
 use Rattle.std.specs.Str.{IsAscii, IsUtf8, chars}
 use Rattle.hex.specs.Hex.{encode_lower, encode_with, lower_digits}
 use Rattle.sumlist.specs.Escape.{escape_of, is_special}
-use Rattle.command.specs.Visible.{is_directional, is_plain, is_quiet, visible, visible_char}
+use Rattle.command.specs.Visible.{is_layout, is_plain, is_quiet, visible, visible_char}
 
 and_true : (a b : Bool) → a ≡ true → b ≡ true → (a && b) ≡ true
 and_true true b p q = q
@@ -103,18 +103,18 @@ quiet_itself c scalar e =
     }
 
 quiet_char : (c : ℕ) → IsScalar c → IsQuiet (visible_char c)
-quiet_char c scalar = by_class (is_special c) (is_control c) (is_directional c) refl refl refl
+quiet_char c scalar = by_class (is_special c) (is_control c) (is_layout c) refl refl refl
   where
-    by_class : (s t d : Bool) → is_special c ≡ s → is_control c ≡ t → is_directional c ≡ d
+    by_class : (s t d : Bool) → is_special c ≡ s → is_control c ≡ t → is_layout c ≡ d
         → IsQuiet (cond s (escape_of c) (cond t (codes "\\x" ++ encode_lower (c ∷ []))
         (cond d (codes "\\u{" ++ (encode_lower (c / 256 ∷ c % 256 ∷ []) ++ codes "}")) (encode_utf8 c))))
-    by_class true t d special control directional = quiet_escape c (c == 92) (c == 10) (c == 13) special
-    by_class false true d special control directional = quiet_number c (grind (arith, nat_tests, control))
-    by_class false false true special control directional =
-        quiet_long_number (c / 256) (c % 256) (grind (arith, nat_tests, directional)) (omega arith)
-    by_class false false false special control directional =
-        quiet_itself c scalar (ap (λ (t : Bool). not (t || is_directional c)) control
-        ∙ ap (λ (d : Bool). not (false || d)) directional)
+    by_class true t d special control layout = quiet_escape c (c == 92) (c == 10) (c == 13) special
+    by_class false true d special control layout = quiet_number c (grind (arith, nat_tests, control))
+    by_class false false true special control layout =
+        quiet_long_number (c / 256) (c % 256) (grind (arith, nat_tests, layout)) (omega arith)
+    by_class false false false special control layout =
+        quiet_itself c scalar (ap (λ (t : Bool). not (t || is_layout c)) control
+        ∙ ap (λ (d : Bool). not (false || d)) layout)
 
 -- ---- what a name is told as
 

@@ -9,9 +9,10 @@ ghost use Rattle.sumlist.specs.Checked.{name_in};
 ghost use Rattle.sumlist.specs.Lines.{lines};
 ghost use Rattle.sumlist.specs.Tally.{summary_text};
 ghost use Rattle.command.specs.Checking.{CheckRuns, ListRuns, heading};
+ghost use Rattle.command.specs.Visible.{visible};
 ghost use Rattle.command.specs.Lines.{content_of, is_input};
 ghost use Rattle.command.specs.Run.{TellsAll};
-ghost use Rattle.command.specs.inside.Faults.{noted_of, of_check};
+ghost use Rattle.command.specs.inside.Faults.{hinted_of, noted_of, of_check};
 ghost use Rattle.command.specs.inside.Listing.{ListTaken};
 ghost use Rattle.command.specs.inside.Reading.{Leaves, failed};
 ghost use Rattle.command.specs.inside.Reported.{PrintsReport};
@@ -19,7 +20,7 @@ ghost use Rattle.command.specs.Streams.{IfTold, OpensAtMost, DoesRun, opens_from
 ghost use Rattle.command.specs.inside.Streams.{SameStreams};
 
 use crate::digests::settle;
-use crate::fault::Fault;
+use crate::fault::{Fault, write_of};
 use crate::session::{Session, Streams, open_file};
 use crate::visible::write_visible;
 use source::{Feed, Sink, WriteFailed, write_all};
@@ -29,7 +30,8 @@ impl<'i, 't, 'o, L: Feed, T: Tree, W: Sink> Session<'i, 't, 'o, L, T, W> {
     /// Prints the report of each list, and goes on with the next after a list that can't be read to its
     /// end, which is told on `err`. Untagged lines are of this kind; without one they are malformed. Of
     /// several lists, a malformed line is told with its list's name. Where it is asked for, tells how many
-    /// lines of each list had each outcome. Answers 0 where every line that is not skipped is OK, else
+    /// lines of each list had each outcome. Of a list with untagged lines and no kind, and of one without an
+    /// entry or a malformed line, tells that. Answers 0 where every line that is not skipped is OK, else
     /// 1. The faults are `CannotWrite` and `OutOfMemory`, after which no further list is read; what was
     /// written before is a beginning of the reports.
     pub fn print_reports<'n, E: Sink>(
@@ -139,6 +141,7 @@ impl<'i, 't, 'o, L: Feed, T: Tree, W: Sink> Session<'i, 't, 'o, L, T, W> {
     {
         let answer = check_list(self.alloc, self.input, form, self.tree, self.out);
         note(form.name, is_summed, &answer, err);
+        hint(name, &answer, err);
         status_of(answer, name)
     }
 }
@@ -181,6 +184,28 @@ fn write_note<E: Sink>(
     write_all(err, b"sums: ")?;
     write_heading(list, err)?;
     write_summary(summary, err)
+}
+
+// Tells what a list lacks, in one text: what is not taken of it is dropped.
+fn hint<E: Sink>(name: &str, answer: &Result<Summary, CheckFault>, err: &mut E)
+    ensures { TellsAll (E.shown err.old) (E.shown err.new) (hinted_of name.now answer.now) }
+{
+    match answer {
+        Ok(summary) if summary.needs_kind => {
+            let _ = write_hint(name, ": untagged lines need -a\n", err);
+        }
+        Ok(summary) if summary.is_empty() => {
+            let _ = write_hint(name, ": no entries\n", err);
+        }
+        _ => {}
+    }
+}
+
+fn write_hint<E: Sink>(name: &str, hint: &str, err: &mut E) -> Result<(), WriteFailed>
+    ensures { Writes result (E.shown err.old) (E.shown err.new) (codes "sums: " ++ (visible name.now ++ hint.now)) }
+{
+    write_all(err, b"sums: ")?;
+    write_of(err, name, hint)
 }
 
 // Writes the name that a list has in its report, where it has one.

@@ -10,8 +10,8 @@ use crate::output::write_digits;
 use source::{Sink, WriteFailed, write_all};
 
 /// Writes a name, whatever it is, as a text of one line without a command to a terminal: in the escaped
-/// form of lists, and beside it each other control character as `\xHH`, and each character that sets
-/// the direction of a text as `\u{HHHH}`.
+/// form of lists, and beside it each other control character as `\xHH`, and each character that
+/// separates lines or sets the direction of a text as `\u{HHHH}`.
 pub fn write_visible<W: Sink>(name: &str, out: &mut W) -> Result<(), WriteFailed>
     ensures { Writes result (W.shown out.old) (W.shown out.new) (visible name.now) }
 {
@@ -29,18 +29,22 @@ fn write_char<W: Sink>(character: char, out: &mut W) -> Result<(), WriteFailed>
         '\n' => write_all(out, b"\\n"),
         '\r' => write_all(out, b"\\r"),
         _ if character.is_control() => write_number("\\x", &[character as u8], "", out),
-        _ if is_directional(character) => {
+        _ if is_layout(character) => {
             write_number("\\u{", &(character as u16).to_be_bytes(), "}", out)
         }
         _ => write_all(out, character.encode_utf8(&mut [0; 4]).as_bytes()),
     }
 }
 
-// Whether a character embeds, overrides or isolates the direction of a text, or ends that.
-fn is_directional(character: char) -> bool
-    ensures { result ≡ spec.is_directional character }
+// Whether a character separates lines, or marks, embeds, overrides or isolates the direction of a text,
+// or ends that.
+fn is_layout(character: char) -> bool
+    ensures { result ≡ spec.is_layout character }
 {
-    matches!(character, '\u{202a}'..='\u{202e}' | '\u{2066}'..='\u{2069}')
+    matches!(
+        character,
+        '\u{061c}' | '\u{200e}'..='\u{200f}' | '\u{2028}'..='\u{202e}' | '\u{2066}'..='\u{2069}'
+    )
 }
 
 // Writes the digits of a number, given by its bytes, between two texts.

@@ -26,10 +26,10 @@ pub use Rattle.std.specs.List.{All}
 pub use Rattle.sumlist.specs.Checked.{ListChecked, name_in}
 pub use Rattle.sumlist.specs.Entry.{Fits, IsEntry, Listing, written}
 pub use Rattle.sumlist.specs.Escape.{SpellsByte, SpellsName, escape_of, escaped, is_special, lead}
-pub use Rattle.sumlist.specs.Line.{HasForm, IsLine, IsMalformed, Parts, Spells, Says, core}
+pub use Rattle.sumlist.specs.Line.{HasForm, IsLine, IsMalformed, IsUntagged, Parts, Spells, Says, core}
 pub use Rattle.sumlist.specs.Lines.{lines}
 pub use Rattle.sumlist.specs.Report.{AllAllowed, Allowed, Files, IsAllowed, Outcome, malformed, no_lines, skipped, text}
-pub use Rattle.sumlist.specs.Report.{told, unreadable_count, with_line}
+pub use Rattle.sumlist.specs.Report.{told, unreadable_count, untagged, with_line}
 pub use Rattle.sumlist.specs.Tagged.{IsLabel, Labelled, label_of, tagged, tagged_len}
 pub use Rattle.sumlist.specs.declared.checking.CheckFault.{CheckFault}
 pub use Rattle.sumlist.specs.declared.checking.ListForm.{ListForm}

@@ -1,5 +1,6 @@
 -- Each line is skipped, spells one entry, or is malformed: every part of the meaning of a line can be decided.
-use Rattle.sumlist.proofs.Common.{◌*◌, ◌+◌, ◌∙◌, ◌≡◌, ◌⊎◌, Fits, IsBlank, IsEntry, IsLine, IsMalformed, IsUtf8, Kind}
+use Rattle.sumlist.proofs.Common.{◌*◌, ◌+◌, ◌∙◌, ◌≡◌, ◌⊎◌, Alg, Fits, HasForm, IsBlank, IsEntry, IsInRange, IsLine}
+use Rattle.sumlist.proofs.Common.{IsMalformed, IsUntagged, IsUtf8, Kind, Says, tag_len}
 use Rattle.sumlist.proofs.Common.{List, Listing, escaped}
 use Rattle.sumlist.proofs.Common.{None, Option, Some, Spells, [], ap, arith, bytes_eq-Decides, core, false}
 use Rattle.sumlist.proofs.Common.{false≢true, inl, inr}
@@ -8,7 +9,10 @@ use Rattle.std.proofs.lemmas.Bool.Decides.{Decides-and, Decides-eqb, Decides-lik
 use Rattle.std.proofs.lemmas.Map.Made.{is_member-Decides}
 use Rattle.std.proofs.lemmas.Option.{none-some, same_Some}
 use Rattle.std.proofs.lemmas.Str.{IsUtf8-from_is_utf8, is_utf8-from_IsUtf8}
+use Rattle.source.specs.declared.alg.Alg.TheVariants.{Blake2b as blake2b}
+use Rattle.sumlist.specs.Entry.{IsSized}
 use Rattle.sumlist.specs.Line.{IsSkipped}
+use Rattle.sumlist.specs.declared.kind.Kind.TheVariants.{Blake2b}
 use Rattle.sumlist.specs.inside.Reading.{IsStated, stated}
 use Rattle.sumlist.proofs.Either.{Either, either_by}
 use Rattle.sumlist.proofs.Stating.{stated-is, stated-some, stated_fit}
@@ -73,3 +77,77 @@ module _ (line : List ℕ) (kind : Option Kind) where
       | inr more ↦ stated_or_not (core line) refl (λ b. absurd (more b)) l (stated kind (core line)) refl
     ]
   ]
+
+-- ---- lines without a kind
+
+-- a text whose digits tell another kind is one of BLAKE2b too
+form_of_any : (text : List ℕ) (kind : Kind) (a : Alg) (tag body : List ℕ) → IsSized a tag
+    → HasForm text (Some kind) a tag body
+    → (b : Alg) × IsSized b tag × HasForm text (Some Blake2b) b tag body
+form_of_any text kind a tag body sized (inl p) =
+    let r : IsInRange (blake2b (tag_len a)) = grind arith in (
+      blake2b (tag_len a),
+      (r, sized.1),
+      inl record {
+        digits = p.digits;
+        mark = p.mark;
+        whole = p.whole;
+        marked = p.marked;
+        kind_is = refl;
+        range = r;
+        sized = p.sized;
+        tag_is = p.tag_is;
+      },
+    )
+form_of_any text kind a tag body sized (inr l) = (a, sized, inr l)
+
+says_any : (k : List ℕ) (kind : Kind) (e : Listing) → IsSized e.alg e.tag → Says k (Some kind) e
+    → (b : Alg) × IsSized b e.tag × Says k (Some Blake2b) (record e { alg = b })
+says_any k kind e sized (inl form) =
+    let f = form_of_any k kind e.alg e.tag e.name sized form in (f.0, f.1, inl f.2)
+says_any k kind e sized (inr s) =
+    let f = form_of_any s.0 kind e.alg e.tag s.1 sized s.3 in
+    (f.0, f.1, inr (s.0, s.1, s.2, f.2, s.4))
+
+-- a line that spells an entry of some kind spells one of BLAKE2b
+spells_any : (line : List ℕ) (kind : Kind) (e : Listing) → Spells line (Some kind) e
+    → (d : Listing) × Spells line (Some Blake2b) d
+spells_any line kind e s =
+    let f = says_any (core line) kind e s.is_entry.sized s.form in (
+      record e { alg = f.0 },
+      record {
+        is_line = s.is_line;
+        not_skipped = s.not_skipped;
+        is_entry = record { text = s.is_entry.text; fits = s.is_entry.fits; sized = f.1; bytes = s.is_entry.bytes };
+        form = f.2;
+      },
+    )
+
+untagged_if : (line : List ℕ) (kind : Option Kind) (e : Listing) → kind ≡ None → IsMalformed line kind
+    → Spells line (Some Blake2b) e → IsUntagged line kind
+untagged_if line kind e none m s =
+    record { is_malformed = m; without_kind = none; some = Blake2b; entry = e; spells = s }
+
+untagged_none : (line : List ℕ) (kind : Option Kind) → ((d : Listing) → Spells line (Some Blake2b) d → ⊥)
+    → IsUntagged line kind → ⊥
+untagged_none line kind none u = let s = spells_any line u.some u.entry u.spells in none s.0 s.1
+
+pub untagged_cases : (line : List ℕ) (kind : Option Kind) → IsMalformed line kind → Either (IsUntagged line kind)
+untagged_cases line (Some k) m = inr (λ u. none-some k (sym u.without_kind))
+untagged_cases line None m = elim (line_cases line (Some Blake2b)) [
+  | inl skipped ↦ absurd (m.not_skipped skipped)
+  | inr (inl s) ↦ inl (untagged_if line None s.0 refl m s.1)
+  | inr (inr bad) ↦ inr (untagged_none line None bad.spells_none)
+]
+
+-- the core of a malformed line states an entry of BLAKE2b where the line is untagged, and only there
+module _ (line : List ℕ) (kind : Option Kind) (k : List ℕ) (is : k ≡ core line) (l : IsLine line)
+    (m : IsMalformed line kind) where
+  more : IsBlank k → false ≡ true
+  more blank = absurd (m.not_skipped (l, subst IsBlank is blank))
+
+  pub untagged_stated : kind ≡ None → (e : Listing) → IsStated (Some Blake2b) k e → IsUntagged line kind
+  untagged_stated none e s = untagged_if line kind e none m (spells_if line (Some Blake2b) k is more l e s)
+
+  pub untagged_unstated : ((e : Listing) → IsStated (Some Blake2b) k e → ⊥) → IsUntagged line kind → ⊥
+  untagged_unstated none = untagged_none line kind (λ e s. none e (stated_if line (Some Blake2b) k is more e s))

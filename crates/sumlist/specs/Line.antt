@@ -1,6 +1,6 @@
 -- What a line of a list means (docs/FORMAT.md, Grammar).
 use Rattle.std.specs.Prelude.{◌⊎◌, ◌≡◌, ℕ, ◌*◌, ◌-◌, ◌≤◌, List, [], ◌∷◌, ◌++◌, length, take, slice_index}
-use Rattle.std.specs.Prelude.{if◌then◌else◌, ◌==◌, Ok, Contains, Option, Some}
+use Rattle.std.specs.Prelude.{if◌then◌else◌, ◌==◌, Ok, Contains, Option, None, Some}
 use Rattle.hex.specs.Hex.{decode_of}
 use Rattle.source.specs.declared.alg.Alg.{Alg}
 use Rattle.source.specs.Digest.{tag_len, IsInRange}
@@ -57,3 +57,11 @@ pub record Spells (line : List ℕ) (kind : Option Kind) (e : Listing) : Type 0 
 pub record IsMalformed (line : List ℕ) (kind : Option Kind) : Type 0 where
   pub not_skipped : IsSkipped line → ⊥
   pub spells_none : (e : Listing) → Spells line kind e → ⊥
+
+-- a line that is malformed only for want of a kind: of some kind it would spell an entry
+pub record IsUntagged (line : List ℕ) (kind : Option Kind) : Type 0 where
+  pub is_malformed : IsMalformed line kind
+  pub without_kind : kind ≡ None
+  pub some : Kind
+  pub entry : Listing
+  pub spells : Spells line (Some some) entry

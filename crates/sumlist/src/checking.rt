@@ -7,12 +7,13 @@ ghost use Rattle.source.specs.Counts.{count_after};
 ghost use Rattle.sumlist.specs.Checked.{CountsOnly, ListChecked, name_in};
 ghost use Rattle.sumlist.specs.Lines.{IsKept, lines};
 ghost use Rattle.sumlist.specs.inside.Ahead.{Checks, OpensEach};
-ghost use Rattle.sumlist.specs.inside.Stepped.{LineChecked, StepCounts, fault_of};
+ghost use Rattle.sumlist.specs.Line.{IsMalformed};
+ghost use Rattle.sumlist.specs.inside.Stepped.{LineChecked, MarksMalformed, StepCounts, fault_of};
 ghost use Rattle.sumlist.specs.Tally.{entries_of};
 ghost use Rattle.sumlist.specs.inside.Marks.{entry_by, lines_of, part};
 ghost use Rattle.sumlist.specs.declared.checking.CheckFault.TheVariants.{OutOfMemory, Write};
 
-use crate::line::read_line;
+use crate::line::{needs_kind, read_line};
 use crate::piece_reader::PieceReader;
 use crate::report::{write_malformed, write_verdict};
 use crate::summary::Mark;
@@ -271,10 +272,23 @@ impl<'n> Checker<'n> {
                 Ok(Mark::Told(verdict))
             }
             Err(LineFault::Malformed) => {
+                let mark = malformed_mark(line, self.form.kind);
                 write_malformed(self.form.name, self.lines + 1, out)?;
-                Ok(Mark::Malformed)
+                Ok(mark)
             }
             Err(LineFault::OutOfMemory) => Err(CheckFault::OutOfMemory),
         }
+    }
+}
+
+// The mark of a malformed line.
+fn malformed_mark(line: &[u8], kind: Option<Kind>) -> Mark
+    requires { IsMalformed line.now kind }
+    ensures { MarksMalformed line.now kind result }
+{
+    if needs_kind(line, kind) {
+        Mark::Untagged
+    } else {
+        Mark::Malformed
     }
 }

@@ -1,10 +1,10 @@
 // Lines as they are read.
 
-ghost use Rattle.std.specs.Prelude.{◌≡◌, ◌≤◌, ◌↔◌, ℕ, List, Some, length, IsTrue, MatchOption};
+ghost use Rattle.std.specs.Prelude.{◌≡◌, ◌≤◌, ◌↔◌, ℕ, List, Some, length, IsTrue, MatchBool, MatchOption};
 ghost use Rattle.sumlist.specs.Entry.{Listing};
 ghost use Rattle.sumlist.specs.inside.Body.{name_of};
 ghost use Rattle.sumlist.specs.inside.Reading.{IsBlank, IsStated, is_slashed, unslashed};
-ghost use Rattle.sumlist.specs.Line.{IsLine, core as core_of};
+ghost use Rattle.sumlist.specs.Line.{IsLine, IsMalformed, IsUntagged, core as core_of};
 ghost use Rattle.sumlist.specs.Parsed.{Answers};
 ghost use Rattle.sumlist.specs.declared.line.LineFault.TheVariants.{OutOfMemory};
 
@@ -76,6 +76,19 @@ pub(crate) fn read_line(alloc: Global, line: &[u8], kind: Option<Kind>) -> Resul
     };
     let name = build_name(alloc, given)?;
     Ok(Line::Entry(Entry::from_parts(name, alg, tag)))
+}
+
+/// Whether a malformed line is so only because there is no kind: of some kind it would spell an entry.
+/// Nothing grows.
+pub(crate) fn needs_kind(line: &[u8], kind: Option<Kind>) -> bool
+    requires { IsMalformed line.now kind }
+    ensures { MatchBool result (IsUntagged line.now kind) (IsUntagged line.now kind → ⊥) }
+{
+    if kind.is_some() || !is_line(line) {
+        return false;
+    }
+    // BLAKE2b has digests of each length that those of another kind have
+    read_core(without_cr(line), Some(Kind::Blake2b)).is_some()
 }
 
 fn is_line(line: &[u8]) -> bool

@@ -6,6 +6,7 @@ use Rattle.source.specs.Written.{AppendsPrefix}
 use Rattle.source.specs.declared.pumping.SourceFault.{SourceFault}
 use Rattle.source.specs.declared.pumping.SourceFault.TheVariants.{Read, TooLong}
 use Rattle.sumlist.specs.Checked.{name_in}
+use Rattle.sumlist.specs.Line.{IsMalformed, IsUntagged}
 use Rattle.sumlist.specs.Report.{Files, Outcome, Allowed, text}
 use Rattle.sumlist.specs.inside.Marks.{mark_of, unreadable_in}
 use Rattle.sumlist.specs.declared.checking.CheckFault.{CheckFault}
@@ -13,6 +14,13 @@ use Rattle.sumlist.specs.declared.checking.CheckFault.TheVariants.{ListRead, Wri
 use Rattle.sumlist.specs.declared.checking.ListForm.{ListForm}
 use Rattle.sumlist.specs.declared.kind.Kind.{Kind}
 use Rattle.sumlist.specs.declared.summary.Mark.{Mark}
+use Rattle.sumlist.specs.declared.summary.Mark.TheVariants.{Malformed, Untagged}
+
+-- the mark of a malformed line
+abbrev pub MarksMalformed : List ℕ → Option Kind → Mark → Type 0
+MarksMalformed line kind Malformed = IsMalformed line kind × (IsUntagged line kind → ⊥)
+MarksMalformed line kind Untagged = IsUntagged line kind
+MarksMalformed line kind _ = ⊥
 
 -- an outcome that may stand for the line, and which the tree counted
 pub record Stepped (files : Files) (kind : Option Kind) (line : List ℕ) (outcome : Outcome) (count_old count_new : ℕ)

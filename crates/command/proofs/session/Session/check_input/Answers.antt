@@ -1,12 +1,14 @@
 use Rattle.sumlist.specs.Checked.{name_in}
 use Rattle.command.proofs.Listing.{list_left, list_taken}
+use Rattle.command.proofs.Telling.{TellsAll-append}
 use Rattle.command.proofs.session.Session.check_input.Goals as goal
 
 pub returns-clause-list : goal.returns-clause-list
 returns-clause-list g c =
     rw c.status_of.ensures (list_taken c.args.is_summed _ _ _ c.args.form.kind (name_in c.args.form) c.args.name
     c.check_list-answer.result _ _ _ _ _ _ c.check_list-answer.ensures.checked c.check_list-answer.ensures.writes
-    c.check_list-answer.ensures.gave c.note.ensures)
+    c.check_list-answer.ensures.gave
+    (TellsAll-append _ _ _ _ _ c.note.ensures c.hint.ensures))
 
 pub returns-clause-gave : goal.returns-clause-gave
 returns-clause-gave g c = rw c.status_of.ensures (list_left _ _ c.check_list-answer.result c.args.name _
