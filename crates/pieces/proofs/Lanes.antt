@@ -1,7 +1,6 @@
 -- SHA-256 in lanes: what an operation on vectors of eight words does to the word in each lane.
-use Rattle.std.proofs.Common.{◌≡◌, ℕ, ◌<◌, ◌+◌, ◌*◌, ◌/◌, ◌%◌, ◌^◌, List, length, slice_index, bit_and, bit_xor, arith}
+use Rattle.std.proofs.Common.{◌≡◌, ℕ, ◌<◌, ◌+◌, ◌*◌, ◌^◌, List, length, slice_index, bit_and, bit_xor, arith}
 use Rattle.std.proofs.Common.{◌∙◌, w8, w32, take, drop, get_or, refl, ap, inl, inr}
-use Rattle.std.specs.Int.{bit_not}
 use Rattle.std.specs.Simd.Lanes.{zip2, Each1}
 use Rattle.std.proofs.lemmas.Simd.{Each1-get_or, below_from_Fits, get_or-zip2, length-zip2}
 use Rattle.words.specs.Words.{words}

@@ -1,4 +1,4 @@
-use Rattle.std.proofs.Common.{◌≡◌, ◌<◌, ◌+◌, ℕ, List, take, drop, slice_index, arith}
+use Rattle.std.proofs.Common.{◌+◌, ℕ, List, take, drop, slice_index, arith}
 use Rattle.sha_blocks.proofs.Lanes.{below_sixteen}
 use Rattle.sha_blocks.proofs.Rounds.{scheduled}
 use Rattle.pieces.proofs.Lanes.{piece_bytes, word_turned}

@@ -1,4 +1,4 @@
-use Rattle.std.proofs.Common.{◌≡◌, ℕ, ◌<◌, ◌+◌, ◌*◌, ◌/◌, ◌%◌, ◌^◌, arith, refl, slice_index}
+use Rattle.std.proofs.Common.{arith}
 use Rattle.words.proofs.LaneLemmas.{below_eight}
 use Rattle.pieces.proofs.lanes256.reverse.Goals as goal
 

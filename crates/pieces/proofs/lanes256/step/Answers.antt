@@ -1,4 +1,4 @@
-use Rattle.std.proofs.Common.{ap, arith, refl, slice_index, ◌∙◌}
+use Rattle.std.proofs.Common.{ap, refl, slice_index, ◌∙◌}
 use Rattle.sha2.specs.Sha256.{add32, round_constants}
 use Rattle.sha_blocks.proofs.Rounds.{round_at}
 use Rattle.pieces.proofs.lanes256.step.Goals as goal

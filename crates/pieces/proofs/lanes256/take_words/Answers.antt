@@ -1,5 +1,5 @@
 use Rattle.std.proofs.Common.{◌≡◌, ◌*◌, ◌+◌, ap, arith, refl}
-use Rattle.sha2.specs.Sha256.{add_state, compress, rounds, schedule}
+use Rattle.sha2.specs.Sha256.{add_state, compress, rounds}
 use Rattle.words.specs.inside.Lanes.{lane8}
 use Rattle.pieces.proofs.lanes256.take_words.Goals as goal
 
