@@ -1,0 +1,4 @@
+pub mod Vectors
+pub mod PieceLemmas
+pub mod Lanes
+pub mod Tails

@@ -1,0 +1,46 @@
+// What a hash function has to bring, so that the pieces of a buffer go side by side.
+
+ghost use Rattle.std.specs.Prelude.{◌≡◌, ◌<◌, ◌≤◌, ◌+◌, [], ℕ, List, length, take, drop, slice_index, slice_index_or};
+
+/// A hash function, with digests of up to `MOST` bytes, that takes `LANES` pieces of one length side by side.
+pub(crate) trait PieceHash<const LANES: usize, const MOST: usize> {
+    // The bytes of a digest.
+    ghost size: { Self → ℕ };
+
+    // The digest of a message.
+    ghost digest: { Self → List ℕ → List ℕ };
+
+    /// The bytes of a digest.
+    fn digest_len(&self) -> usize
+        ensures value { result ≡ size self.now }
+        ensures most { result ≤ MOST };
+
+    /// From how many pieces of `piece_len` bytes on they go side by side: of fewer, each goes by itself.
+    fn fewest(&self, piece_len: usize) -> usize
+        ensures { 0 < result };
+
+    /// The digests of the `LANES` pieces of `piece_len` bytes that begin at `starts`, each at the front of its row. A
+    /// start may stand more than once.
+    fn side_by_side(
+        &self,
+        bytes: &[u8],
+        starts: &[usize; LANES],
+        piece_len: usize,
+    ) -> [[u8; MOST]; LANES]
+        requires some { 0 < piece_len }
+        requires fits { (i : ℕ) → i < LANES → slice_index starts.now i + piece_len ≤ length bytes.now }
+        ensures value { (i : ℕ) → i < LANES → take (size self.now) (slice_index_or result i [])
+            ≡ digest self.now (take piece_len (drop (slice_index starts.now i) bytes.now)) }
+        ensures whole { (i : ℕ) → i < LANES → length (slice_index_or result i []) ≡ MOST };
+
+    /// The digest of one piece, at the front of a row.
+    fn one(&self, piece: &[u8]) -> [u8; MOST]
+        ensures value { take (size self.now) result ≡ digest self.now piece.now }
+        ensures whole { length result ≡ MOST };
+
+    ghost some_lanes: { 0 < LANES };
+
+    ghost few_lanes: { LANES ≤ 8 };
+
+    ghost small: { MOST ≤ 64 };
+}
