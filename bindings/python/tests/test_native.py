@@ -304,7 +304,7 @@ except ImportError as fault:
 
 class Buffers(unittest.TestCase):
     def test_held_for_the_call(self):
-        """What is hashed cannot be resized meanwhile, and can be afterwards."""
+        """What is hashed cannot be resized meanwhile, when this thread runs too, and can be afterwards."""
         for work in (sums_hash.sha256().update, lambda data: sums_hash.sha256_pieces(data, 64)):
             data, faults = bytearray(2**25), []
             thread = threading.Thread(target=work, args=(data,))

@@ -168,16 +168,6 @@ class Threads(unittest.TestCase):
         self.assertGreater(steps, 1000)
         self.assertEqual(digests, [hashlib.sha512(data).digest()] * 2)
 
-    def test_others_run_beside_pieces(self):
-        data, done, steps = bytes(2**26), [], 0
-        thread = threading.Thread(target=lambda: done.append(sums_hash.sha256_pieces(data, 64)))
-        thread.start()
-        while not done:
-            steps += 1
-        thread.join()
-        self.assertGreater(steps, 1000)
-        self.assertEqual(done, [hashlib.sha256(bytes(64)).digest() * 2**20])
-
     def test_one_object(self):
         """Pieces of many threads are each taken whole."""
         for hasher in (sums_hash.sha256(), sums_hash.blake3(), sums_hash.hmac_blake2b(b"key")):
