@@ -2,7 +2,14 @@
 //!
 //! A slice is a pointer and then a length in bytes. A status of `SUMS_OK` says that all was done; any
 //! other says why nothing was, and then what the caller lent is as it was.
-#![tactic(auto, unfolding(crate::specs::Statuses::parameter_status, crate::specs::inside::Pieces::fault_status))]
+#![tactic(
+    auto,
+    unfolding(
+        crate::specs::Statuses::parameter_status,
+        crate::specs::Statuses::piece_status,
+        crate::specs::inside::Pieces::fault_status,
+    ),
+)]
 
 mod blake2_once;
 mod blake2b_pieces;
@@ -12,7 +19,8 @@ mod blake3_pieces;
 mod hkdf_once;
 mod hmac_once;
 mod hmac_pieces;
-mod pieces;
+mod piece_digests;
+mod piecewise;
 mod sha2_once;
 mod sha2_pieces;
 mod statuses;

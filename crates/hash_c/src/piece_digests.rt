@@ -1,0 +1,34 @@
+// The digests of the pieces of a buffer, one behind the other.
+
+ghost use Rattle.std.specs.Prelude.{◌≡◌, ◌≢◌, None, Some, MatchResult, length};
+ghost use Rattle.sha2.specs.Sha256.{sha256};
+ghost use Rattle.pieces.specs.Faults.{piece_fault};
+ghost use Rattle.pieces.specs.Pieces.{digests};
+ghost use Rattle.hash_c.specs.Statuses.{piece_status};
+
+use crate::statuses::{SUMS_DIGEST_LENGTH, SUMS_OK, SUMS_OUTPUT_LENGTH, SUMS_PIECE_LENGTH};
+use pieces::Fault;
+
+// The number of an outcome.
+fn status_of(outcome: Result<(), Fault>) -> u32
+    ensures { MatchResult outcome (λ _. result ≡ SUMS_OK) (λ fault. result ≡ piece_status (Some fault)) }
+{
+    match outcome {
+        Ok(()) => SUMS_OK,
+        Err(Fault::DigestLength) => SUMS_DIGEST_LENGTH,
+        Err(Fault::PieceLength) => SUMS_PIECE_LENGTH,
+        Err(Fault::OutputLength) => SUMS_OUTPUT_LENGTH,
+    }
+}
+
+/// Fills `out` with the SHA-256 digests (FIPS 180-4, section 6.2) of the pieces of `piece_len` bytes that `input` is cut
+/// into, one behind the other; the last piece may be shorter, and no bytes have no piece. `SUMS_PIECE_LENGTH` where
+/// `piece_len` is 0, and else `SUMS_OUTPUT_LENGTH` where `out` has other than 32 bytes a piece.
+#[unsafe(no_mangle)]
+pub extern "C" fn sums_sha256_pieces(out: &mut [u8], input: &[u8], piece_len: usize) -> u32
+    ensures status { result ≡ piece_status (piece_fault 32 piece_len (length input.now) (length out.old)) }
+    ensures digests { result ≡ SUMS_OK → out.new ≡ digests sha256 piece_len input.now }
+    ensures kept { result ≢ SUMS_OK → out.new ≡ out.old }
+{
+    status_of(pieces::sha256(input, piece_len, out))
+}
