@@ -1,1 +1,4 @@
 pub mod Vectors
+pub mod LaneRounds
+pub mod WordTurns
+pub mod LongWords

@@ -7,5 +7,6 @@ pub use sha256_lanes::sha256;
 
 mod digests;
 mod fault;
+mod lanes2;
 mod piece_hash;
 mod sha256_lanes;
