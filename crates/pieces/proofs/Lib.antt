@@ -3,3 +3,4 @@ pub mod LaneRounds
 pub mod WordTurns
 pub mod LongWords
 pub mod PieceChains
+pub mod PieceLemmas

@@ -142,6 +142,10 @@ impl PieceHash<4, 64> for Lanes2b {
     }
 
     ghost some_lanes = { Prim.search rules };
+
+    ghost few_lanes = { Prim.search rules };
+
+    ghost small = { Prim.search rules };
 }
 
 /// Fills `out` with the BLAKE2b digests of `digest_len` bytes, without a key (RFC 7693, section 3.3), of the pieces of

@@ -147,6 +147,10 @@ impl PieceHash<8, 32> for Lanes2s {
     }
 
     ghost some_lanes = { Prim.search rules };
+
+    ghost few_lanes = { Prim.search rules };
+
+    ghost small = { Prim.search rules };
 }
 
 /// Fills `out` with the BLAKE2s digests of `digest_len` bytes, without a key (RFC 7693, section 3.3), of the pieces of

@@ -40,18 +40,15 @@ fn starts_of<const LANES: usize>(
     piece_len: usize,
     len: usize,
 ) -> [usize; LANES]
+    requires piece { 0 < piece_len }
     requires some { 0 < count }
     requires fits { piece_len * (done + count) ≤ len }
     ensures fits { (i : ℕ) → i < LANES → slice_index result i + piece_len ≤ len }
     ensures place { (i : ℕ) → i < count → i < LANES → slice_index result i ≡ piece_len * (done + i) }
 {
     let mut starts = [0; LANES];
-    let mut start = done * piece_len;
     'lanes: for i in 0..LANES {
-        starts[i] = start;
-        if i + 1 < count {
-            start += piece_len;
-        }
+        starts[i] = piece_len * (done + i.min(count - 1));
     }
     starts
 }
@@ -118,9 +115,9 @@ pub(crate) fn write_digests<H: PieceHash<LANES, MOST>, const LANES: usize, const
         done += count;
     }
     'rest: while done < total {
-        let at = piece_len * done;
-        let end = at + piece_len.min(bytes.len() - at);
-        put_digest(&hash.one(&bytes[at..end]), size, out, size * done);
+        let rest = &bytes[piece_len * done..];
+        let digest = hash.one(&rest[..piece_len.min(rest.len())]);
+        put_digest(&digest, size, out, size * done);
         done += 1;
     }
     Ok(())

@@ -12,6 +12,7 @@ mod blake2s_lanes;
 mod digests;
 mod fault;
 mod lanes2;
+mod lanes256;
 mod piece_hash;
 mod sha256_lanes;
 mod tails;

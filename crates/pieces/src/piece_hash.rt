@@ -39,4 +39,8 @@ pub(crate) trait PieceHash<const LANES: usize, const MOST: usize> {
         ensures whole { length result ≡ MOST };
 
     ghost some_lanes: { 0 < LANES };
+
+    ghost few_lanes: { LANES ≤ 8 };
+
+    ghost small: { MOST ≤ 64 };
 }

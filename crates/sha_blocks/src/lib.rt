@@ -11,6 +11,6 @@ mod functions;
 mod message;
 pub mod pieces;
 mod ring;
-mod schedules;
+pub mod schedules;
 mod table;
 mod value;

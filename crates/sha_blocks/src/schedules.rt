@@ -1,4 +1,4 @@
-// The schedules of eight blocks at once (FIPS 180-4, section 6.2.2): a vector has one word of each.
+//! The schedules of eight blocks at once (FIPS 180-4, section 6.2.2): a vector has one word of each.
 
 ghost use Rattle.std.specs.Prelude.{◌≡◌, ◌<◌, ◌≤◌, ◌+◌, ◌*◌, ◌^◌, ◌/◌, ℕ, List, [], slice_index, slice_index_or};
 ghost use Rattle.std.specs.Prelude.{bit_xor};
@@ -13,25 +13,26 @@ use std::simd::prelude::*;
 /// Room for the words of eight schedules: word t of block i stands at t / 16, t % 16 and i.
 pub(crate) type Schedules = [[[u32; 8]; 16]; 4];
 
-// The sums of words.
+/// The sums of words.
 #[inline(always)]
-fn add(x: u32x8, y: u32x8) -> u32x8
+pub fn add(x: u32x8, y: u32x8) -> u32x8
     ensures { (i : ℕ) → i < 8 → slice_index result i ≡ Sha256.add32 (slice_index x i) (slice_index y i) }
 {
     x + y
 }
 
+/// Three words of each, xored.
 #[inline(always)]
-fn xor(x: u32x8, y: u32x8, z: u32x8) -> u32x8
+pub fn xor(x: u32x8, y: u32x8, z: u32x8) -> u32x8
     ensures { (i : ℕ) → i < 8
         → slice_index result i ≡ bit_xor (bit_xor (slice_index x i) (slice_index y i)) (slice_index z i) }
 {
     x ^ y ^ z
 }
 
-// Each word rotated right by r.
+/// Each word rotated right by r.
 #[inline(always)]
-fn rotated(x: u32x8, r: u32) -> u32x8
+pub fn rotated(x: u32x8, r: u32) -> u32x8
     requires low { 0 < r }
     requires high { r < 32 }
     ensures { (i : ℕ) → i < 8 → slice_index result i ≡ rotate_right w32 (slice_index x i) r }
@@ -100,18 +101,18 @@ fn next_sixteen(w: [u32x8; 16]) -> [u32x8; 16]
     ]
 }
 
-// Sixteen words on.
+/// Sixteen words on.
 #[inline(always)]
-fn advance(w: &mut [u32x8; 16])
+pub fn advance(w: &mut [u32x8; 16])
     ensures { (i : ℕ) → i < 8 → (b : List ℕ) (t : ℕ) → t + 32 ≤ 64 → IsWindowAt b t i w.old
         → IsWindowAt b (t + 16) i w.new }
 {
     *w = next_sixteen(*w);
 }
 
-// The words with the constant of round t added.
+/// The words with the constant of round t added.
 #[inline(always)]
-fn keyed(w: u32x8, t: usize) -> [u32; 8]
+pub fn keyed(w: u32x8, t: usize) -> [u32; 8]
     requires { t < 64 }
     ensures { (i : ℕ) → i < 8
         → slice_index result i ≡ Sha256.add32 (slice_index Sha256.round_constants t) (slice_index w i) }

@@ -1,0 +1,57 @@
+use Rattle.std.proofs.Common.{◌≡◌, ◌+◌, ◌*◌, ◌≤◌, [], ap, subst, ◌∙◌, arith, length, take, drop, slice_index, slice_index_or, sym}
+use Rattle.pieces.specs.Pieces.{first_digests}
+use Rattle.pieces.proofs.PieceLemmas.{digest_more, rows_small, start_within}
+use Rattle.pieces.proofs.digests.put_group.Goals as goal
+
+pub starts_of-starts-requires : goal.starts_of-starts-requires
+starts_of-starts-requires g c =
+    (omega (arith, g.met.H.PieceHash.few_lanes), (c.requires.piece, (c.requires.some, c.requires.whole)))
+
+pub side_by_side-rows-requires : goal.side_by_side-rows-requires
+side_by_side-rows-requires g c =
+    let few = g.met.H.PieceHash.few_lanes in
+    let small = g.met.H.PieceHash.small in (
+      omega arith,
+      (
+        rows_small g.row.LANES g.row.LANES g.row.MOST (omega arith) few small,
+        (omega arith, (c.requires.piece, c.starts_of-starts.ensures.fits)),
+      ),
+    )
+
+pub offset_bounds-rows-i : goal.offset_bounds-rows-i
+offset_bounds-rows-i g c =
+    let fits = rows_small c.rows.i g.row.LANES g.row.MOST (omega (arith, c.requires.lanes)) g.met.H.PieceHash.few_lanes
+    g.met.H.PieceHash.small in
+    omega arith
+
+pub put_digest-requires : goal.put_digest-requires
+put_digest-requires g c =
+    let size = c.digest_len-size.result in
+    let room : size * (c.args.done + c.args.count) ≤ length c.args.out.now =
+    subst (λ s. s * (c.args.done + c.args.count) ≤ length c.args.out.now) (sym c.digest_len-size.ensures.value)
+    c.requires.room in
+    let inside = start_within size c.args.done c.args.count c.rows.i (length c.args.out.now) (omega arith) room in (
+      omega (arith, g.met.H.PieceHash.small),
+      (
+        omega (arith, c.digest_len-size.ensures.most, c.side_by_side-rows.ensures.whole c.rows.i (omega arith)),
+        omega (arith, c.rows.invariant.length),
+      ),
+    )
+
+pub rows-preserved : goal.rows-preserved
+rows-preserved g c =
+    let n = c.args.piece_len in
+    let i = c.rows.i in
+    let size = c.digest_len-size.result in
+    let digest = g.H.PieceHash.digest c.args.hash.now in
+    let row = slice_index_or c.side_by_side-rows.result i [] in
+    let at = c.rows.invariant in
+    let made : take size row ≡ digest (take n (drop (slice_index c.starts_of-starts.result i) c.args.bytes.now)) =
+    ap (λ s. take s row) c.digest_len-size.ensures.value ∙ c.side_by_side-rows.ensures.value i (omega arith) in
+    record {
+      length = c.put_digest.ensures.length ∙ at.length;
+      value = subst (λ k. take (size * k) c.put_digest.new.out ≡ first_digests digest n c.args.bytes.now k) (omega arith)
+          (digest_more digest n size (c.args.done + i) c.args.bytes.now _ _ _ _
+          (ap (λ s. take n (drop s c.args.bytes.now)) (c.starts_of-starts.ensures.place i (omega arith) (omega arith)))
+          made at.value c.put_digest.ensures.front);
+    }

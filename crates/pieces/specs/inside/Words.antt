@@ -1,0 +1,6 @@
+-- The bytes of words.
+use Rattle.std.specs.Prelude.{ℕ, ◌+◌, ◌*◌, ◌/◌, ◌%◌, ◌^◌}
+
+-- a word of four bytes, in reverse
+abbrev pub reversed : ℕ → ℕ
+reversed x = x / 256 ^ 3 % 256 + 256 * (x / 256 ^ 2 % 256 + 256 * (x / 256 % 256 + 256 * (x % 256)))
