@@ -1,5 +1,5 @@
 -- Rounds of BLAKE2 in one lane of vectors.
-use Rattle.std.proofs.Common.{◌≡◌, ℕ, zero, suc, ◌<◌, ◌+◌, List, [], ◌∷◌, bit_xor, refl, arith, length, slice_index}
+use Rattle.std.proofs.Common.{◌≡◌, ℕ, zero, suc, ◌<◌, List, [], ◌∷◌, bit_xor, refl, arith, length, slice_index}
 use Rattle.std.proofs.lemmas.Simd.{get_or-zip2, length-zip2}
 use Rattle.std.specs.Simd.Lanes.{zip2}
 use Rattle.words.specs.Blake2.{folded_halves}
@@ -25,23 +25,25 @@ lane_word i m (suc (suc (suc (suc (suc (suc (suc (suc (suc (suc (suc (suc zero))
 lane_word i m (suc (suc (suc (suc (suc (suc (suc (suc (suc (suc (suc (suc (suc zero))))))))))))) h = refl
 lane_word i m (suc (suc (suc (suc (suc (suc (suc (suc (suc (suc (suc (suc (suc (suc zero)))))))))))))) h = refl
 lane_word i m (suc (suc (suc (suc (suc (suc (suc (suc (suc (suc (suc (suc (suc (suc (suc zero))))))))))))))) h = refl
-lane_word i m (suc (suc (suc (suc (suc (suc (suc (suc (suc (suc (suc (suc (suc (suc (suc (suc n)))))))))))))))) h = absurd (omega arith)
+lane_word i m (suc (suc (suc (suc (suc (suc (suc (suc (suc (suc (suc (suc (suc (suc (suc (suc n)))))))))))))))) h =
+    absurd (omega arith)
 
--- G in a lane, on four vectors, with the message words at two places
-abbrev pub Mixed : Variant → ℕ → List (List ℕ) → ℕ → ℕ → ℕ → ℕ → ℕ → ℕ → List (List ℕ) → Type 0
-Mixed k i m a b c d x y p = lane4 i p ≡ g k (a ∷ b ∷ c ∷ d ∷ []) (lane_at m x i) (lane_at m y i)
+-- G in a lane, on four words, with the message words at two places of the schedule s
+abbrev Mixed : Variant → ℕ → List (List ℕ) → List ℕ → ℕ → ℕ → ℕ → ℕ → ℕ → ℕ → List (List ℕ) → Type 0
+Mixed k i m s a b c d x y p =
+    lane4 i p ≡ g k (a ∷ b ∷ c ∷ d ∷ []) (lane_at m (slice_index s x) i) (lane_at m (slice_index s y) i)
 
 -- a round in a lane: G down the columns, and then down the diagonals
 pub round_in_lane : (k : Variant) (i : ℕ) (v m : List (List ℕ)) (s : List ℕ) (p0 p1 p2 p3 q0 q1 q2 q3 : List (List ℕ))
     → ((j : ℕ) → j < 16 → slice_index s j < 16)
-    → Mixed k i m (lane_at v 0 i) (lane_at v 4 i) (lane_at v 8 i) (lane_at v 12 i) (slice_index s 0) (slice_index s 1) p0
-    → Mixed k i m (lane_at v 1 i) (lane_at v 5 i) (lane_at v 9 i) (lane_at v 13 i) (slice_index s 2) (slice_index s 3) p1
-    → Mixed k i m (lane_at v 2 i) (lane_at v 6 i) (lane_at v 10 i) (lane_at v 14 i) (slice_index s 4) (slice_index s 5) p2
-    → Mixed k i m (lane_at v 3 i) (lane_at v 7 i) (lane_at v 11 i) (lane_at v 15 i) (slice_index s 6) (slice_index s 7) p3
-    → Mixed k i m (lane_at p0 0 i) (lane_at p1 1 i) (lane_at p2 2 i) (lane_at p3 3 i) (slice_index s 8) (slice_index s 9) q0
-    → Mixed k i m (lane_at p1 0 i) (lane_at p2 1 i) (lane_at p3 2 i) (lane_at p0 3 i) (slice_index s 10) (slice_index s 11) q1
-    → Mixed k i m (lane_at p2 0 i) (lane_at p3 1 i) (lane_at p0 2 i) (lane_at p1 3 i) (slice_index s 12) (slice_index s 13) q2
-    → Mixed k i m (lane_at p3 0 i) (lane_at p0 1 i) (lane_at p1 2 i) (lane_at p2 3 i) (slice_index s 14) (slice_index s 15) q3
+    → Mixed k i m s (lane_at v 0 i) (lane_at v 4 i) (lane_at v 8 i) (lane_at v 12 i) 0 1 p0
+    → Mixed k i m s (lane_at v 1 i) (lane_at v 5 i) (lane_at v 9 i) (lane_at v 13 i) 2 3 p1
+    → Mixed k i m s (lane_at v 2 i) (lane_at v 6 i) (lane_at v 10 i) (lane_at v 14 i) 4 5 p2
+    → Mixed k i m s (lane_at v 3 i) (lane_at v 7 i) (lane_at v 11 i) (lane_at v 15 i) 6 7 p3
+    → Mixed k i m s (lane_at p0 0 i) (lane_at p1 1 i) (lane_at p2 2 i) (lane_at p3 3 i) 8 9 q0
+    → Mixed k i m s (lane_at p1 0 i) (lane_at p2 1 i) (lane_at p3 2 i) (lane_at p0 3 i) 10 11 q1
+    → Mixed k i m s (lane_at p2 0 i) (lane_at p3 1 i) (lane_at p0 2 i) (lane_at p1 3 i) 12 13 q2
+    → Mixed k i m s (lane_at p3 0 i) (lane_at p0 1 i) (lane_at p1 2 i) (lane_at p2 3 i) 14 15 q3
     → lane_at q0 0 i ∷ lane_at q1 0 i ∷ lane_at q2 0 i ∷ lane_at q3 0 i
     ∷ lane_at q3 1 i ∷ lane_at q0 1 i ∷ lane_at q1 1 i ∷ lane_at q2 1 i
     ∷ lane_at q2 2 i ∷ lane_at q3 2 i ∷ lane_at q0 2 i ∷ lane_at q1 2 i

@@ -1,7 +1,7 @@
 -- Pieces of one buffer that are hashed side by side.
-use Rattle.std.proofs.Common.{◌≡◌, ℕ, zero, suc, false, true, ◌+◌, ◌-◌, ◌*◌, ◌/◌, ◌<◌, ◌≤◌, List, [], ◌∷◌, ◌++◌, length}
-use Rattle.std.proofs.Common.{take, drop, replicate, refl, sym, ap, ◌∙◌, arith, length-append, length-drop, slice_index_or}
-use Rattle.std.proofs.lemmas.List.{take-take, drop-take, drop-drop, take_all, append-nil, length-take-le, take-append-le}
+use Rattle.std.proofs.Common.{◌≡◌, ℕ, zero, suc, false, true, ◌+◌, ◌-◌, ◌*◌, ◌/◌, ◌<◌, ◌≤◌, List, [], ◌++◌, length}
+use Rattle.std.proofs.Common.{◌∷◌, take, drop, replicate, refl, ap, ◌∙◌, arith, length-append, length-drop, slice_index_or}
+use Rattle.std.proofs.lemmas.List.{take-take, drop-take, drop-drop, take_all, append-nil, length-take-le}
 use Rattle.std.proofs.lemmas.List.{take_at, drop_at, length-replicate}
 use Rattle.std.specs.List.{flat_map}
 use Rattle.words.specs.Blake2.{compress}

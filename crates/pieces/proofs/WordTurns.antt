@@ -1,10 +1,11 @@
 -- Words of eight bytes that turn by whole bytes are their bytes in another order.
-use Rattle.std.proofs.Common.{◌≡◌, ℕ, ◌<◌, ◌+◌, ◌*◌, ◌/◌, ◌%◌, ◌^◌, List, length, slice_index, bit_or, bit_xor, arith, ap, ◌∙◌}
-use Rattle.std.proofs.Common.{sym}
+use Rattle.std.proofs.Common.{◌≡◌, ℕ, ◌<◌, ◌+◌, ◌*◌, ◌/◌, ◌%◌, ◌^◌, List, length, slice_index, bit_or, bit_xor, arith}
+use Rattle.std.proofs.Common.{ap, ◌∙◌, sym}
 use Rattle.std.proofs.lemmas.Nat.{or_shifted, or_comm, xor_lt}
 use Rattle.std.proofs.lemmas.Simd.{Each1-get_or, get_or-zip2}
 use Rattle.std.specs.Int.{w64, rotate_right}
 use Rattle.std.specs.Simd.Lanes.{number_l, chunk, zip2, Each1}
+use Rattle.pieces.proofs.LongWords.{word_of}
 
 -- the words of x xor y fit, in n lanes of so many bits
 pub xors_fit : (bits n : ℕ) (x : List ℕ) → length x ≡ n → (y : List ℕ) → length y ≡ n → Each1 (λ v. v < 2 ^ bits) x
@@ -17,42 +18,34 @@ xors_fit bits n x lx y ly fx fy i h =
 -- eight bytes of a word as a word
 abbrev pub bytes_of : ℕ → ℕ → ℕ → ℕ → ℕ → ℕ → ℕ → ℕ → ℕ → ℕ
 bytes_of x a b c d e f g h =
-    x / 256 ^ a % 256 + 256 * (x / 256 ^ b % 256 + 256 * (x / 256 ^ c % 256 + 256 * (x / 256 ^ d % 256 + 256 *
-    (x / 256 ^ e % 256 + 256 * (x / 256 ^ f % 256 + 256 * (x / 256 ^ g % 256 + 256 * (x / 256 ^ h % 256 + 256 * 0)))))))
+    word_of (x / 256 ^ a % 256) (x / 256 ^ b % 256) (x / 256 ^ c % 256) (x / 256 ^ d % 256) (x / 256 ^ e % 256)
+    (x / 256 ^ f % 256) (x / 256 ^ g % 256) (x / 256 ^ h % 256)
+
+-- the low part of a word, moved up by k bits over its high part
+exchanged : (x low k made moved : ℕ) → moved ≡ x % low * 2 ^ k → x / low < 2 ^ k → made ≡ x % low * 2 ^ k + x / low
+    → made ≡ bit_or (x / low) moved
+exchanged x low k made moved up fits parts =
+    parts ∙ sym (or_shifted (x % low) k (x / low) fits) ∙ or_comm (x % low * 2 ^ k) (x / low)
+    ∙ ap (λ (n : ℕ). bit_or (x / low) n) (sym up)
 
 pub turned_32 : (x : ℕ) → x < 2 ^ 64 → bytes_of x 4 5 6 7 0 1 2 3 ≡ rotate_right w64 x 32
 turned_32 x h =
-    let high : x * 4294967296 % 18446744073709551616 ≡ x % 4294967296 * 4294967296 = omega arith in
-    let all : bit_or (x % 4294967296 * 4294967296) (x / 4294967296) ≡ x % 4294967296 * 4294967296 + x / 4294967296
-    = or_shifted (x % 4294967296) 32 (x / 4294967296) (omega arith) in
-    let bytes : bytes_of x 4 5 6 7 0 1 2 3 ≡ x % 4294967296 * 4294967296 + x / 4294967296 = omega arith in
-    bytes ∙ sym all ∙ or_comm (x % 4294967296 * 4294967296) (x / 4294967296)
-    ∙ ap (λ (n : ℕ). bit_or (x / 4294967296) n) (sym high)
+    exchanged x (2 ^ 32) 32 (bytes_of x 4 5 6 7 0 1 2 3) (x * 2 ^ 32 % 2 ^ 64) (omega arith) (omega arith) (omega arith)
 
 pub turned_24 : (x : ℕ) → x < 2 ^ 64 → bytes_of x 3 4 5 6 7 0 1 2 ≡ rotate_right w64 x 24
 turned_24 x h =
-    let high : x * 1099511627776 % 18446744073709551616 ≡ x % 16777216 * 1099511627776 = omega arith in
-    let all : bit_or (x % 16777216 * 1099511627776) (x / 16777216) ≡ x % 16777216 * 1099511627776 + x / 16777216
-    = or_shifted (x % 16777216) 40 (x / 16777216) (omega arith) in
-    let bytes : bytes_of x 3 4 5 6 7 0 1 2 ≡ x % 16777216 * 1099511627776 + x / 16777216 = omega arith in
-    bytes ∙ sym all ∙ or_comm (x % 16777216 * 1099511627776) (x / 16777216)
-    ∙ ap (λ (n : ℕ). bit_or (x / 16777216) n) (sym high)
+    exchanged x (2 ^ 24) 40 (bytes_of x 3 4 5 6 7 0 1 2) (x * 2 ^ 40 % 2 ^ 64) (omega arith) (omega arith) (omega arith)
 
 pub turned_16 : (x : ℕ) → x < 2 ^ 64 → bytes_of x 2 3 4 5 6 7 0 1 ≡ rotate_right w64 x 16
 turned_16 x h =
-    let high : x * 281474976710656 % 18446744073709551616 ≡ x % 65536 * 281474976710656 = omega arith in
-    let all : bit_or (x % 65536 * 281474976710656) (x / 65536) ≡ x % 65536 * 281474976710656 + x / 65536
-    = or_shifted (x % 65536) 48 (x / 65536) (omega arith) in
-    let bytes : bytes_of x 2 3 4 5 6 7 0 1 ≡ x % 65536 * 281474976710656 + x / 65536 = omega arith in
-    bytes ∙ sym all ∙ or_comm (x % 65536 * 281474976710656) (x / 65536)
-    ∙ ap (λ (n : ℕ). bit_or (x / 65536) n) (sym high)
+    exchanged x (2 ^ 16) 48 (bytes_of x 2 3 4 5 6 7 0 1) (x * 2 ^ 48 % 2 ^ 64) (omega arith) (omega arith) (omega arith)
 
 -- eight bytes of word i of z as a word
 abbrev pub picked : List ℕ → ℕ → ℕ → ℕ → ℕ → ℕ → ℕ → ℕ → ℕ → ℕ → ℕ
 picked z i a b c d e f g h =
-    slice_index z (8 * i + a) + 256 * (slice_index z (8 * i + b) + 256 * (slice_index z (8 * i + c) + 256 *
-    (slice_index z (8 * i + d) + 256 * (slice_index z (8 * i + e) + 256 * (slice_index z (8 * i + f) + 256 *
-    (slice_index z (8 * i + g) + 256 * (slice_index z (8 * i + h) + 256 * 0)))))))
+    word_of (slice_index z (8 * i + a)) (slice_index z (8 * i + b)) (slice_index z (8 * i + c))
+    (slice_index z (8 * i + d)) (slice_index z (8 * i + e)) (slice_index z (8 * i + f)) (slice_index z (8 * i + g))
+    (slice_index z (8 * i + h))
 
 -- in n lanes: r has the words of the bytes u, which are those of z in an order in which words turn by k, and z has
 -- the bytes of the words w, which are those of x xor y

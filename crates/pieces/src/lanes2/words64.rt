@@ -1,7 +1,7 @@
 // F of BLAKE2b on four inputs side by side.
 
-ghost use Rattle.std.specs.Prelude.{◌≡◌, ℕ, ◌<◌, ◌+◌, ◌*◌, ◌/◌, ◌%◌, ◌^◌, ◌≤◌, slice_index, slice_index_or, [], ◌∷◌, take, drop, length};
-ghost use Rattle.std.specs.Prelude.{bit_xor};
+ghost use Rattle.std.specs.Prelude.{◌≡◌, ◌<◌, ◌≤◌, ◌+◌, ◌*◌, ◌/◌, ◌%◌, ◌^◌, [], ◌∷◌, ℕ, bit_xor};
+ghost use Rattle.std.specs.Prelude.{slice_index, slice_index_or, take, drop, length};
 ghost use Rattle.std.specs.Simd.Lanes.{number_l, chunk};
 ghost use Rattle.byteorder.specs.Endian.{little_number};
 ghost use Rattle.words.specs.Blake2.{blake2b, compress, folded_halves, rounds, working_words};

@@ -1,4 +1,4 @@
-use Rattle.std.proofs.Common.{◌≡◌, ℕ, ◌+◌, ◌-◌, ◌*◌, ◌/◌, ◌<◌, refl, arith, ap, ◌∙◌, List, take, drop, slice_index}
+use Rattle.std.proofs.Common.{ℕ, refl, arith, ap, ◌∙◌, List, take, drop, slice_index}
 use Rattle.words.specs.Blake2.{blake2b}
 use Rattle.blake2.specs.Blake2.{chain}
 use Rattle.blake2.specs.inside.Lengths.{block_len_2b}
@@ -17,10 +17,10 @@ each_block-preserved c = λ i h.
 
 pub returns : goal.returns
 returns c = λ i h.
+    let piece : List ℕ = take c.args.len (drop (slice_index c.args.starts.now i) c.args.bytes.now) in
     c.lane_rows.ensures i h
     ∙ chain_last blake2b 128 c.args.first.now c.args.bytes.now _ _ _ _ c.args.len block_len_2b (omega arith)
     c.requires.some (c.requires.fits i h)
     (c.each_block.invariant i h
-    ∙ ap (λ (n : ℕ). chain blake2b c.args.first.now (take c.args.len (drop (slice_index c.args.starts.now i) c.args.bytes.now)) n)
-    (omega arith))
+    ∙ ap (λ (n : ℕ). chain blake2b c.args.first.now piece n) (omega arith))
     (c.last_lanes-message.ensures i h) (omega arith) (omega arith) (c.next_lanes.ensures i h)

@@ -11,7 +11,8 @@ returns c i h =
     let row : (j : ℕ) → j < 4
     → words 8 16 (take 128 (drop (128 * j) c.as_flattened.result.now)) ≡ words 8 16 (slice_index_or bs j []) =
     λ j l. ap (λ (ys : List ℕ). words 8 16 (take 128 (drop (128 * j) ys))) c.as_flattened.ensures.value
-    ∙ ap (λ (ys : List ℕ). words 8 16 ys) (row_of 128 bs (λ k m. c.padded_tails-tails.ensures.whole k (omega arith)) j (omega arith)) in
+    ∙ ap (λ (ys : List ℕ). words 8 16 ys)
+    (row_of 128 bs (λ k m. c.padded_tails-tails.ensures.whole k (omega arith)) j (omega arith)) in
     let read : (j : ℕ) → j < 4 → lane j c.message_lanes-2.result ≡ words 8 16 (slice_index_or bs j []) =
     below_four _ (c.message_lanes-2.ensures 0 (omega arith) ∙ row 0 (omega arith))
     (c.message_lanes-2.ensures 1 (omega arith) ∙ row 1 (omega arith))

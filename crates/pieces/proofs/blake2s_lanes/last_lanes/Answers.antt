@@ -11,7 +11,8 @@ returns c i h =
     let row : (j : ℕ) → j < 8
     → words 4 16 (take 64 (drop (64 * j) c.as_flattened.result.now)) ≡ words 4 16 (slice_index_or bs j []) =
     λ j l. ap (λ (ys : List ℕ). words 4 16 (take 64 (drop (64 * j) ys))) c.as_flattened.ensures.value
-    ∙ ap (λ (ys : List ℕ). words 4 16 ys) (row_of 64 bs (λ k m. c.padded_tails-tails.ensures.whole k (omega arith)) j (omega arith)) in
+    ∙ ap (λ (ys : List ℕ). words 4 16 ys)
+    (row_of 64 bs (λ k m. c.padded_tails-tails.ensures.whole k (omega arith)) j (omega arith)) in
     let read : (j : ℕ) → j < 8 → lane j c.message_lanes-2.result ≡ words 4 16 (slice_index_or bs j []) =
     below_eight _ (c.message_lanes-2.ensures 0 (omega arith) ∙ row 0 (omega arith))
     (c.message_lanes-2.ensures 1 (omega arith) ∙ row 1 (omega arith))

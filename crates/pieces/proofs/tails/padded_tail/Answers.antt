@@ -1,5 +1,4 @@
 use Rattle.std.proofs.Common.{◌≡◌, ◌+◌, ◌-◌, ◌∙◌, ap, arith, length, take, drop, List, ℕ}
-use Rattle.words.specs.Words.{padded}
 use Rattle.blake2.proofs.Starting.{padded_from}
 use Rattle.pieces.proofs.PieceChains.{length_padded, length_piece}
 use Rattle.pieces.proofs.tails.padded_tail.Goals as goal

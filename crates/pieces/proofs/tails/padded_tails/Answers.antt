@@ -1,4 +1,4 @@
-use Rattle.std.proofs.Common.{◌≡◌, ◌≢◌, ◌⊎◌, ◌<◌, ◌+◌, [], inl, inr, ℕ, List, arith, length, slice_index_or, slice_set, subst, sym, take, drop}
+use Rattle.std.proofs.Common.{◌≡◌, ◌≢◌, ◌⊎◌, ◌<◌, ◌+◌, [], inl, inr, ℕ, List, arith, length, slice_index_or, slice_set, take, drop}
 use Rattle.std.proofs.Common.{slice_index, ◌∙◌, length-set}
 use Rattle.std.proofs.lemmas.Bool.{cases_eq}
 use Rattle.std.proofs.lemmas.Grind.{get_or-set_at}

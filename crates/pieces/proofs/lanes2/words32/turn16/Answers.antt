@@ -5,5 +5,8 @@ use Rattle.pieces.proofs.lanes2.words32.turn16.Goals as goal
 
 pub returns : goal.returns
 returns c =
-    words_turned 8 2 3 0 1 16 _ _ _ _ _ _ turned_16 (omega arith, omega arith, omega arith, omega arith)
-    c.bytes_of.ensures c.xor.ensures.fit c.xor.ensures.lanes (rw c.move16.ensures (below_eight _ refl refl refl refl refl refl refl refl)) c.words_of.ensures
+    words_turned 8 2 3 0 1 16 _ _ _ _ _ _ turned_16
+    (omega arith, omega arith, omega arith, omega arith)
+    c.bytes_of.ensures c.xor.ensures.fit c.xor.ensures.lanes
+    (rw c.move16.ensures (below_eight _ refl refl refl refl refl refl refl refl))
+    c.words_of.ensures
