@@ -4,3 +4,5 @@ pub mod WordTurns
 pub mod LongWords
 pub mod PieceChains
 pub mod PieceLemmas
+pub mod Lanes
+pub mod Tails

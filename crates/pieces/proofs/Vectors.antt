@@ -1,6 +1,6 @@
 -- Digests of pieces by the definition, computed, where the digest of a message is its length and its bytes.
 use Rattle.std.proofs.Common.{◌≡◌, ℕ, List, [], ◌∷◌, refl, length}
-use Rattle.pieces.specs.Pieces.{piece_count, first_digests, digests}
+use Rattle.pieces.specs.Pieces.{first_digests, digests}
 
 -- a hash function that shows what it was given
 abbrev shown : List ℕ → List ℕ

@@ -1,6 +1,7 @@
 // SHA-256 on a block in each of eight lanes (FIPS 180-4, section 6.2.2): a vector has one word of each.
 
-ghost use Rattle.std.specs.Prelude.{◌≡◌, ◌<◌, ◌≤◌, ◌+◌, ◌*◌, ℕ, List, length, take, drop, slice_index};
+ghost use Rattle.std.specs.Prelude.{◌≡◌, ◌<◌, ◌≤◌, ◌+◌, ◌*◌, ◌/◌, ◌%◌, ◌^◌, ℕ, List, length, take, drop, slice_index, [], ◌∷◌};
+ghost use Rattle.std.specs.Simd.Lanes.{number_l, chunk};
 ghost use Rattle.sha2.specs.Sha256;
 ghost use Rattle.sha_blocks.specs.inside.Schedules.{IsWindowAt};
 ghost use Rattle.words.specs.inside.Lanes.{lane8};
@@ -136,19 +137,48 @@ fn take_words(h: [u32x8; 8], words: [u32x8; 16]) -> [u32x8; 8]
     ]
 }
 
-// The bytes of each word in reverse.
+// The bytes of eight words.
 #[inline(always)]
-fn reverse(x: u32x8) -> u32x8
-    ensures { (i : ℕ) → i < 8 → slice_index result i ≡ reversed (slice_index x i) }
+fn bytes_of(x: u32x8) -> u8x32
+    ensures { (i j : ℕ) → i < 8 → j < 4 → slice_index result (4 * i + j) ≡ slice_index x i / 256 ^ j % 256 }
 {
-    let bytes = x.to_le_bytes();
-    u32x8::from_le_bytes(bytes.shuffle(
-        bytes,
+    x.to_le_bytes()
+}
+
+// The words of bytes.
+#[inline(always)]
+fn words_of(x: u8x32) -> u32x8
+    ensures { (i : ℕ) → i < 8 → slice_index result i ≡ number_l 256 (chunk (4 * i) 4 x) }
+{
+    u32x8::from_le_bytes(x)
+}
+
+// Bytes, the four of each word in reverse.
+#[inline(always)]
+fn turned_round(x: u8x32) -> u8x32
+    ensures { result ≡ slice_index x 3 ∷ slice_index x 2 ∷ slice_index x 1 ∷ slice_index x 0 ∷
+        slice_index x 7 ∷ slice_index x 6 ∷ slice_index x 5 ∷ slice_index x 4 ∷ slice_index x 11 ∷
+        slice_index x 10 ∷ slice_index x 9 ∷ slice_index x 8 ∷ slice_index x 15 ∷ slice_index x 14 ∷
+        slice_index x 13 ∷ slice_index x 12 ∷ slice_index x 19 ∷ slice_index x 18 ∷ slice_index x 17 ∷
+        slice_index x 16 ∷ slice_index x 23 ∷ slice_index x 22 ∷ slice_index x 21 ∷ slice_index x 20 ∷
+        slice_index x 27 ∷ slice_index x 26 ∷ slice_index x 25 ∷ slice_index x 24 ∷ slice_index x 31 ∷
+        slice_index x 30 ∷ slice_index x 29 ∷ slice_index x 28 ∷ [] }
+{
+    x.shuffle(
+        x,
         [
             3, 2, 1, 0, 7, 6, 5, 4, 11, 10, 9, 8, 15, 14, 13, 12, 19, 18, 17, 16, 23, 22, 21, 20,
             27, 26, 25, 24, 31, 30, 29, 28,
         ],
-    ))
+    )
+}
+
+// Words, the bytes of each in reverse.
+#[inline(always)]
+fn reverse(x: u32x8) -> u32x8
+    ensures { (i : ℕ) → i < 8 → slice_index result i ≡ reversed (slice_index x i) }
+{
+    words_of(turned_round(bytes_of(x)))
 }
 
 // The words of the blocks that begin `at` bytes after the starts.

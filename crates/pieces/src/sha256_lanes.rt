@@ -14,8 +14,8 @@ use crate::lanes256::take_blocks;
 use crate::piece_hash::PieceHash;
 use sha_blocks::{Value256, digest256};
 use std::simd::prelude::*;
-use words::IV32;
 use words::lanes::{lane_rows, same_lanes};
+use words::{IV32, write_at};
 
 // How many blocks the last bytes of a message of `len` bytes and its padding fill.
 fn last_blocks(len: usize) -> usize
@@ -30,11 +30,11 @@ fn tail_of(rest: &[u8], len: usize) -> [u8; 128]
     ensures value { take (64 * ((len % 64 + 72) / 64)) result ≡ rest.now ++ Sha256.padding len }
     ensures whole { length result ≡ 128 }
 {
+    let bits = (len as u64).wrapping_mul(8).to_be_bytes();
     let mut tail = [0; 128];
-    tail[..rest.len()].copy_from_slice(rest);
+    write_at(&mut tail, 0, rest);
     tail[rest.len()] = 0x80;
-    let end = 64 * last_blocks(len);
-    tail[end - 8..end].copy_from_slice(&(len as u64).wrapping_mul(8).to_be_bytes());
+    write_at(&mut tail, 64 * last_blocks(len) - 8, &bits);
     tail
 }
 
@@ -78,7 +78,7 @@ fn values_of(bytes: &[u8], starts: &[usize; 8], piece_len: usize) -> [u32x8; 8]
         (Sha256.padded_message (take piece_len (drop (slice_index starts.now i) bytes.now))) (piece_len / 64) }
 {
     let mut values = same_lanes(&IV32);
-    'blocks: for block in 0..piece_len / 64 {
+    'each: for block in 0..piece_len / 64 {
         take_blocks(&mut values, bytes, starts, 64 * block);
     }
     values

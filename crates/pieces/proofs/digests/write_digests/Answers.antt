@@ -1,5 +1,5 @@
-use Rattle.std.proofs.Common.{◌≡◌, ◌≤◌, ◌+◌, ◌*◌, ◌-◌, ℕ, List, ap, sym, subst, refl, ◌∙◌, arith, length, take, drop}
-use Rattle.pieces.specs.Pieces.{first_digests, piece, piece_count}
+use Rattle.std.proofs.Common.{◌≡◌, ◌≤◌, ◌+◌, ◌*◌, ◌-◌, ℕ, List, ap, sym, subst, ◌∙◌, arith, length, take, drop}
+use Rattle.pieces.specs.Pieces.{first_digests, piece}
 use Rattle.pieces.proofs.PieceLemmas.{cut_off, digest_more, room_within, whole_counted}
 use Rattle.pieces.proofs.digests.write_digests.Goals as goal
 
