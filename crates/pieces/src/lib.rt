@@ -13,6 +13,6 @@ mod digests;
 mod fault;
 mod lanes2;
 mod lanes256;
+mod last_blocks;
 mod piece_hash;
 mod sha256_lanes;
-mod tails;

@@ -1,6 +1,6 @@
 use Rattle.std.proofs.Common.{◌≡◌, ◌<◌, ◌+◌, [], ℕ, length, take, drop, slice_index, slice_index_or}
 use Rattle.words.specs.Words.{padded}
-use Rattle.pieces.proofs.tails.padded_tails.Given as goal
+use Rattle.pieces.proofs.last_blocks.padded_tails.Given as goal
 
 abbrev pub invariant-lanes : goal.invariant-lanes
 invariant-lanes g l = record {

@@ -4,7 +4,7 @@ use Rattle.std.proofs.lemmas.Bool.{cases_eq}
 use Rattle.std.proofs.lemmas.Grind.{get_or-set_at}
 use Rattle.std.proofs.lemmas.List.{get_or-set_other}
 use Rattle.words.specs.Words.{padded}
-use Rattle.pieces.proofs.tails.padded_tails.Goals as goal
+use Rattle.pieces.proofs.last_blocks.padded_tails.Goals as goal
 
 -- what holds of the rows so far holds with one row more
 row_more : (P : ℕ → List ℕ → Type 0) (rows : List (List ℕ)) (i : ℕ) (row : List ℕ) → i < length rows → P i row

@@ -1,7 +1,7 @@
 use Rattle.std.proofs.Common.{◌≡◌, ◌+◌, ◌-◌, ◌∙◌, ap, arith, length, take, drop, List, ℕ}
 use Rattle.blake2.proofs.Starting.{padded_from}
 use Rattle.pieces.proofs.PieceChains.{length_padded, length_piece}
-use Rattle.pieces.proofs.tails.padded_tail.Goals as goal
+use Rattle.pieces.proofs.last_blocks.padded_tail.Goals as goal
 
 pub returns-clause-value : goal.returns-clause-value
 returns-clause-value g c =
