@@ -2,11 +2,17 @@
 //! last may be shorter, and some pieces are hashed side by side in the lanes of vectors.
 #![tactic(auto)]
 
+pub use blake2b_lanes::blake2b;
+pub use blake2s_lanes::blake2s;
 pub use fault::Fault;
 pub use sha256_lanes::sha256;
 
+mod blake2b_lanes;
+mod blake2s_lanes;
 mod digests;
 mod fault;
+mod lanes2;
 mod lanes256;
+mod last_blocks;
 mod piece_hash;
 mod sha256_lanes;

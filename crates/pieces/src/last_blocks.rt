@@ -1,0 +1,39 @@
+// The last bytes of pieces.
+
+ghost use Rattle.std.specs.Prelude.{◌≡◌, ◌<◌, ◌≤◌, ◌+◌, [], ℕ, length, take, drop, slice_index, slice_index_or};
+ghost use Rattle.words.specs.Words.{padded};
+
+use words::write_at;
+
+// The `len` bytes at `at`, with zeros after them up to a block of `N` bytes.
+fn padded_tail<const N: usize>(bytes: &[u8], at: usize, len: usize) -> [u8; N]
+    requires fits { at + len ≤ length bytes.now }
+    requires short { len ≤ N }
+    ensures value { result ≡ padded N (take len (drop at bytes.now)) }
+    ensures whole { length result ≡ N }
+{
+    let mut block = [0; N];
+    write_at(&mut block, 0, &bytes[at..at + len]);
+    block
+}
+
+/// The last bytes of pieces, `len` of them, from `at` bytes after each start on, each with zeros after them up to a
+/// block of `N` bytes.
+pub(crate) fn padded_tails<const N: usize, const LANES: usize>(
+    bytes: &[u8],
+    starts: &[usize; LANES],
+    at: usize,
+    len: usize,
+) -> [[u8; N]; LANES]
+    requires fits { (i : ℕ) → i < LANES → slice_index starts.now i + at + len ≤ length bytes.now }
+    requires short { len ≤ N }
+    ensures value { (i : ℕ) → i < LANES → slice_index_or result i []
+        ≡ padded N (take len (drop (slice_index starts.now i + at) bytes.now)) }
+    ensures whole { (i : ℕ) → i < LANES → length (slice_index_or result i []) ≡ N }
+{
+    let mut tails = [[0; N]; LANES];
+    'lanes: for i in 0..LANES {
+        tails[i] = padded_tail(bytes, starts[i] + at, len);
+    }
+    tails
+}
