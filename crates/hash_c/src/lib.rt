@@ -2,14 +2,7 @@
 //!
 //! A slice is a pointer and then a length in bytes. A status of `SUMS_OK` says that all was done; any
 //! other says why nothing was, and then what the caller lent is as it was.
-#![tactic(
-    auto,
-    unfolding(
-        crate::specs::Statuses::parameter_status,
-        crate::specs::Statuses::piece_status,
-        crate::specs::inside::Pieces::fault_status,
-    ),
-)]
+#![tactic(auto, unfolding(crate::specs::Statuses::parameter_status, crate::specs::inside::Pieces::fault_status))]
 
 mod blake2_once;
 mod blake2b_pieces;
