@@ -13,7 +13,7 @@ use Rattle.blake2.specs.Blake2.{unsalted, word_len}
 use Rattle.blake2.proofs.Blocks.{before_last}
 
 -- the bytes of a piece from its byte a on
-piece_from : (x : List ℕ) (s len a : ℕ) → a ≤ len → drop a (take len (drop s x)) ≡ take (len - a) (drop (s + a) x)
+pub piece_from : (x : List ℕ) (s len a : ℕ) → a ≤ len → drop a (take len (drop s x)) ≡ take (len - a) (drop (s + a) x)
 piece_from x s len a h =
     let size : len ≡ a + (len - a) = omega arith in
     ap (λ (n : ℕ). drop a (take n (drop s x))) size ∙ drop-take a (len - a) (drop s x)
