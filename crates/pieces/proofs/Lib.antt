@@ -6,3 +6,4 @@ pub mod PieceChains
 pub mod PieceLemmas
 pub mod Lanes
 pub mod Tails
+pub mod Chunks

@@ -12,8 +12,8 @@ word_of a b c d e f g h =
 -- eight bytes of a list as a word
 le_word : (x : List ℕ) (at p q r s t u v w : ℕ) → p ≡ at → q ≡ at + 1 → r ≡ at + 2 → s ≡ at + 3 → t ≡ at + 4
     → u ≡ at + 5 → v ≡ at + 6 → w ≡ at + 7
-    → word_of (slice_index x p) (slice_index x q) (slice_index x r) (slice_index x s) (slice_index x t) (slice_index x u)
-    (slice_index x v) (slice_index x w) ≡ little_number 8 (drop at x)
+    → word_of (slice_index x p) (slice_index x q) (slice_index x r) (slice_index x s) (slice_index x t)
+    (slice_index x u) (slice_index x v) (slice_index x w) ≡ little_number 8 (drop at x)
 le_word x at p q r s t u v w hp hq hr hs ht hu hv hw =
     let none : at + 0 ≡ at = omega arith in
     rw (
@@ -39,8 +39,9 @@ le_word x at p q r s t u v w hp hq hr hs ht hu hv hw =
 -- four words of 32 bytes, which stand in x from `at` on
 pub words_loaded : (x l : List ℕ) (at : ℕ) → ((n : ℕ) → n < 32 → slice_index l n ≡ slice_index x (at + n))
     → (n : ℕ) → n < 4
-    → word_of (slice_index l (8 * n)) (slice_index l (8 * n + 1)) (slice_index l (8 * n + 2)) (slice_index l (8 * n + 3))
-    (slice_index l (8 * n + 4)) (slice_index l (8 * n + 5)) (slice_index l (8 * n + 6)) (slice_index l (8 * n + 7))
+    → word_of (slice_index l (8 * n)) (slice_index l (8 * n + 1)) (slice_index l (8 * n + 2))
+    (slice_index l (8 * n + 3)) (slice_index l (8 * n + 4)) (slice_index l (8 * n + 5))
+    (slice_index l (8 * n + 6)) (slice_index l (8 * n + 7))
     ≡ little_number 8 (drop (at + 8 * n) x)
 words_loaded x l at loaded n h =
     rw (

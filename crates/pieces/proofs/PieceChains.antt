@@ -1,17 +1,19 @@
 -- Pieces of one buffer that are hashed side by side.
 use Rattle.std.proofs.Common.{◌≡◌, ℕ, zero, suc, false, true, ◌+◌, ◌-◌, ◌*◌, ◌/◌, ◌<◌, ◌≤◌, List, [], ◌++◌, length}
-use Rattle.std.proofs.Common.{◌∷◌, take, drop, replicate, refl, ap, ◌∙◌, arith, length-append, length-drop, slice_index_or}
+use Rattle.std.proofs.Common.{◌∷◌, take, drop, replicate, refl, ap, ◌∙◌, arith, length-append}
+use Rattle.std.proofs.Common.{length-drop, slice_index_or}
 use Rattle.std.proofs.lemmas.List.{take-take, drop-take, drop-drop, take_all, append-nil, length-take-le}
 use Rattle.std.proofs.lemmas.List.{take_at, drop_at, length-replicate}
 use Rattle.std.specs.List.{flat_map}
 use Rattle.words.specs.Blake2.{compress}
 use Rattle.words.specs.Mix.{Variant}
 use Rattle.words.specs.Words.{words, padded, word_bytes}
-use Rattle.blake2.specs.Blake2.{blake2, chain, block_len, key_block, start, unsalted, word_len, block_words, block_count, final_value}
+use Rattle.blake2.specs.Blake2.{blake2, block_count, block_len, block_words, chain, final_value, key_block, start}
+use Rattle.blake2.specs.Blake2.{unsalted, word_len}
 use Rattle.blake2.proofs.Blocks.{before_last}
 
 -- the bytes of a piece from its byte a on
-piece_from : (x : List ℕ) (s len a : ℕ) → a ≤ len → drop a (take len (drop s x)) ≡ take (len - a) (drop (s + a) x)
+pub piece_from : (x : List ℕ) (s len a : ℕ) → a ≤ len → drop a (take len (drop s x)) ≡ take (len - a) (drop (s + a) x)
 piece_from x s len a h =
     let size : len ≡ a + (len - a) = omega arith in
     ap (λ (n : ℕ). drop a (take n (drop s x))) size ∙ drop-take a (len - a) (drop s x)
@@ -92,7 +94,9 @@ row_of n (b ∷ bs) sizes (suc i) h =
 
 -- the length of a padded block
 pub length_padded : (n : ℕ) (x : List ℕ) → length x ≤ n → length (padded n x) ≡ n
-length_padded n x h = omega (arith, length-append x (replicate {A = ℕ} (n - length x) 0), length-replicate {A = ℕ} (n - length x) 0)
+length_padded n x h =
+    let zeros : List ℕ = replicate {A = ℕ} (n - length x) 0 in
+    omega (arith, length-append x zeros, length-replicate {A = ℕ} (n - length x) 0)
 
 -- the digest without a key is made of the final value
 pub digest_of : (k : Variant) (n : ℕ) (first value bytes m : List ℕ) → first ≡ start k (unsalted k n [])

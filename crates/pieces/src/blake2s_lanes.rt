@@ -4,8 +4,6 @@ ghost use Rattle.std.specs.Prelude.{◌≡◌, ◌<◌, ◌≤◌, ◌+◌, [], 
 ghost use Rattle.std.specs.Prelude.{None, Some, MatchResult};
 ghost use Rattle.std.proofs.Common.{rules};
 ghost use Rattle.words.specs.Blake2.{blake2s};
-ghost use Rattle.words.specs.Words.{padded, word_bytes, words};
-ghost use Rattle.words.specs.inside.Lanes.{lane};
 ghost use Rattle.blake2.specs.Blake2.{blake2, final_value, start, unsalted};
 ghost use Rattle.pieces.specs.Pieces.{digests};
 ghost use Rattle.pieces.specs.Faults.{sized_fault};
@@ -13,11 +11,9 @@ ghost use Rattle.pieces.specs.Faults.{sized_fault};
 use crate::digests::write_digests;
 use crate::fault::Fault;
 use crate::lanes2::words32::next_lanes;
-use crate::last_blocks::padded_tails;
+use crate::last_blocks::{last_lanes, value_bytes};
 use crate::piece_hash::PieceHash;
 use blake2::Blake2s;
-use byteorder::{ByteOrder, LittleEndian};
-use std::simd::u32x8;
 use words::lanes::{lane_rows, message_lanes, same_lanes};
 use words::{Absorb, IV32, write_at};
 
@@ -40,21 +36,6 @@ fn start_value(digest_len: usize) -> [u32; 8]
     ]
 }
 
-// The words of the last blocks of eight pieces, which have `len` bytes each, by lanes.
-fn last_lanes(bytes: &[u8], starts: &[usize; 8], at: usize, len: usize) -> [u32x8; 16]
-    requires fits { (i : ℕ) → i < 8 → slice_index starts.now i + at + len ≤ length bytes.now }
-    requires short { len ≤ 64 }
-    ensures { (i : ℕ) → i < 8 → lane i result
-        ≡ words 4 16 (padded 64 (take len (drop (slice_index starts.now i + at) bytes.now))) }
-{
-    if len == 64 {
-        return message_lanes(bytes, starts, at);
-    }
-    let tails = padded_tails::<64, 8>(bytes, starts, at, len);
-    let places = [0, 64, 128, 192, 256, 320, 384, 448];
-    message_lanes(tails.as_flattened(), &places, 0)
-}
-
 // The final chaining values of eight pieces of `len` bytes, from the value `first` on.
 fn final_values(first: &[u32; 8], bytes: &[u8], starts: &[usize; 8], len: usize) -> [[u32; 8]; 8]
     requires some { 0 < len }
@@ -72,15 +53,6 @@ fn final_values(first: &[u32; 8], bytes: &[u8], starts: &[usize; 8], len: usize)
     }
     let message = last_lanes(bytes, starts, at, len - at);
     lane_rows(next_lanes(values, &message, len as u64, true))
-}
-
-// The bytes of a chaining value.
-fn value_bytes(value: &[u32; 8]) -> [u8; 32]
-    ensures { result ≡ word_bytes 4 value.now }
-{
-    let mut bytes = [0; 32];
-    LittleEndian::write_u32_into(value, &mut bytes);
-    bytes
 }
 
 // BLAKE2s with digests of one length, without a key.

@@ -3,7 +3,7 @@ use Rattle.words.specs.Words.{words}
 use Rattle.words.specs.inside.Lanes.{lane}
 use Rattle.words.proofs.LaneLemmas.{below_eight}
 use Rattle.pieces.proofs.PieceChains.{row_of}
-use Rattle.pieces.proofs.blake2s_lanes.last_lanes.Goals as goal
+use Rattle.pieces.proofs.last_blocks.last_lanes.Goals as goal
 
 pub returns : goal.returns
 returns c i h =

@@ -1,5 +1,5 @@
 use Rattle.words.specs.Words.{word_bytes}
-use Rattle.pieces.proofs.blake2s_lanes.value_bytes.Goals as goal
+use Rattle.pieces.proofs.last_blocks.value_bytes.Goals as goal
 
 pub returns : goal.returns
 unfolding word_bytes
