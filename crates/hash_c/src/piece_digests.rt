@@ -4,6 +4,8 @@ ghost use Rattle.std.specs.Prelude.{◌≡◌, ◌≢◌, [], Some, MatchResult,
 ghost use Rattle.sha2.specs.Sha256.{sha256};
 ghost use Rattle.words.specs.Blake2.{blake2b, blake2s};
 ghost use Rattle.blake2.specs.Blake2.{blake2, unsalted};
+ghost use Rattle.b3.specs.Bytes.{slice};
+ghost use Rattle.b3.specs.Modes.{hash_root};
 ghost use Rattle.pieces.specs.Faults.{piece_fault, sized_fault};
 ghost use Rattle.pieces.specs.Pieces.{digests};
 ghost use Rattle.hash_c.specs.Statuses.{piece_status};
@@ -77,4 +79,17 @@ pub extern "C" fn sums_blake2s_pieces(
     ensures kept { result ≢ SUMS_OK → out.new ≡ out.old }
 {
     status_of(pieces::blake2s(digest_len, input, piece_len, out))
+}
+
+/// Fills `out` with BLAKE3's hashes of 32 bytes (the BLAKE3 paper, sections 2.3 and 2.6) of the pieces of `piece_len`
+/// bytes that `input` is cut into, one behind the other; the last piece may be shorter, and no bytes have no piece.
+/// `SUMS_PIECE_LENGTH` where `piece_len` is 0, and else `SUMS_OUTPUT_LENGTH` where `out` has other than 32 bytes a piece.
+#[unsafe(no_mangle)]
+#[tactic(auto, unfolding(crate::specs::Statuses::piece_status))]
+pub extern "C" fn sums_blake3_pieces(out: &mut [u8], input: &[u8], piece_len: usize) -> u32
+    ensures status { result ≡ piece_status (piece_fault 32 piece_len (length input.now) (length out.old)) }
+    ensures digests { result ≡ SUMS_OK → out.new ≡ digests (λ m. slice (hash_root m) 0 32) piece_len input.now }
+    ensures kept { result ≢ SUMS_OK → out.new ≡ out.old }
+{
+    status_of(pieces::blake3(input, piece_len, out))
 }

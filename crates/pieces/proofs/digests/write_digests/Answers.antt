@@ -10,7 +10,7 @@ groups-init g c =
     record {
       counted = omega arith;
       length = omega (arith, c.in_ok-total.ensures.3);
-      value = rw none refl;
+      value = ap (λ n. take n c.args.out.now) none;
     }
 
 pub put_group-requires-clause-room : goal.put_group-requires-clause-room
