@@ -19,3 +19,4 @@ mod lanes256;
 mod last_blocks;
 mod piece_hash;
 mod sha256_lanes;
+mod word_bytes;

@@ -1,13 +1,13 @@
 // F of BLAKE2s on eight inputs side by side. Their words are loaded and their chaining values read as those of BLAKE3.
 
-ghost use Rattle.std.specs.Prelude.{◌≡◌, ℕ, ◌<◌, ◌+◌, ◌*◌, ◌/◌, ◌%◌, ◌^◌, slice_index, bit_xor};
-ghost use Rattle.std.specs.Simd.Lanes.{number_l, chunk};
+ghost use Rattle.std.specs.Prelude.{◌≡◌, ℕ, ◌<◌, ◌^◌, slice_index, bit_xor};
 ghost use Rattle.words.specs.Blake2.{blake2s, compress, folded_halves, rounds, working_words};
 ghost use Rattle.words.specs.Mix.{g, rotated_xor, round, word_sum};
 ghost use Rattle.words.specs.inside.Lanes.{lane, lane4, lane8};
 ghost use Rattle.pieces.specs.inside.Lanes2.{turned_bytes};
 
 use super::SIGMA;
+use crate::word_bytes::{bytes_of, words_of};
 use std::simd::prelude::*;
 use words::IV32;
 
@@ -32,22 +32,6 @@ fn xor3(x: u32x8, y: u32x8, z: u32x8) -> u32x8
         → slice_index result i ≡ bit_xor (bit_xor (slice_index x i) (slice_index y i)) (slice_index z i) }
 {
     x ^ y ^ z
-}
-
-// The bytes of eight words.
-#[inline(always)]
-fn bytes_of(x: u32x8) -> u8x32
-    ensures { (i j : ℕ) → i < 8 → j < 4 → slice_index result (4 * i + j) ≡ slice_index x i / 256 ^ j % 256 }
-{
-    x.to_le_bytes()
-}
-
-// The words of bytes.
-#[inline(always)]
-fn words_of(x: u8x32) -> u32x8
-    ensures { (i : ℕ) → i < 8 → slice_index result i ≡ number_l 256 (chunk (4 * i) 4 x) }
-{
-    u32x8::from_le_bytes(x)
 }
 
 // The bytes of words that turn by 16.
