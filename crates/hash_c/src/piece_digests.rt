@@ -26,9 +26,9 @@ fn status_of(outcome: Result<(), Fault>) -> u32
     }
 }
 
-/// Fills `out` with the SHA-256 digests (FIPS 180-4, section 6.2) of the pieces of `piece_len` bytes that `input` is cut
-/// into, one behind the other; the last piece may be shorter, and no bytes have no piece. `SUMS_PIECE_LENGTH` where
-/// `piece_len` is 0, and else `SUMS_OUTPUT_LENGTH` where `out` has other than 32 bytes a piece.
+/// Fills `out` with the SHA-256 digests (FIPS 180-4, section 6.2) of the pieces of `piece_len` bytes that `input` is
+/// cut into, one behind the other; the last piece may be shorter, and no bytes have no piece. `SUMS_PIECE_LENGTH`
+/// where `piece_len` is 0, and else `SUMS_OUTPUT_LENGTH` where `out` has other than 32 bytes a piece.
 #[unsafe(no_mangle)]
 #[tactic(auto, unfolding(crate::specs::Statuses::piece_status))]
 pub extern "C" fn sums_sha256_pieces(out: &mut [u8], input: &[u8], piece_len: usize) -> u32
@@ -83,7 +83,8 @@ pub extern "C" fn sums_blake2s_pieces(
 
 /// Fills `out` with BLAKE3's hashes of 32 bytes (the BLAKE3 paper, sections 2.3 and 2.6) of the pieces of `piece_len`
 /// bytes that `input` is cut into, one behind the other; the last piece may be shorter, and no bytes have no piece.
-/// `SUMS_PIECE_LENGTH` where `piece_len` is 0, and else `SUMS_OUTPUT_LENGTH` where `out` has other than 32 bytes a piece.
+/// `SUMS_PIECE_LENGTH` where `piece_len` is 0, and else `SUMS_OUTPUT_LENGTH` where `out` has other than 32 bytes a
+/// piece.
 #[unsafe(no_mangle)]
 #[tactic(auto, unfolding(crate::specs::Statuses::piece_status))]
 pub extern "C" fn sums_blake3_pieces(out: &mut [u8], input: &[u8], piece_len: usize) -> u32
