@@ -3,7 +3,9 @@ use Rattle.std.specs.Prelude.{ℕ, Option, Some, None, nat_eq, nat_lt, if◌then
 use Rattle.blake2.specs.declared.fault.ParameterFault.{ParameterFault}
 use Rattle.blake2.specs.declared.fault.ParameterFault.TheVariants.{DigestLength, KeyLength}
 use Rattle.hash_c.specs.declared.statuses.TheConstants.{SUMS_DIGEST_LENGTH, SUMS_END_OF_OUTPUT, SUMS_INPUT_TOO_LONG}
-use Rattle.hash_c.specs.declared.statuses.TheConstants.{SUMS_KEY_LENGTH, SUMS_OK}
+use Rattle.hash_c.specs.declared.statuses.TheConstants.{SUMS_KEY_LENGTH, SUMS_OK, SUMS_OUTPUT_LENGTH, SUMS_PIECE_LENGTH}
+use Rattle.pieces.specs.declared.fault.Fault.{Fault}
+use Rattle.pieces.specs.declared.fault.Fault.TheVariants as pieces
 
 infixr 10 ◌otherwise◌
 -- the first of two statuses that is a refusal
@@ -15,6 +17,13 @@ unfoldable pub parameter_status : Option ParameterFault → ℕ
 parameter_status None = SUMS_OK
 parameter_status (Some DigestLength) = SUMS_DIGEST_LENGTH
 parameter_status (Some KeyLength) = SUMS_KEY_LENGTH
+
+-- of the digests of pieces
+unfoldable pub piece_status : Option Fault → ℕ
+piece_status None = SUMS_OK
+piece_status (Some pieces.DigestLength) = SUMS_DIGEST_LENGTH
+piece_status (Some pieces.PieceLength) = SUMS_PIECE_LENGTH
+piece_status (Some pieces.OutputLength) = SUMS_OUTPUT_LENGTH
 
 -- of a key, where the hash function has inputs of at most `limit` bytes
 abbrev pub key_status : (limit key_length : ℕ) → ℕ

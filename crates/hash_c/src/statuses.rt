@@ -20,6 +20,12 @@ pub const SUMS_NOT_BEGUN: u32 = 4;
 /// The output has no such bytes.
 pub const SUMS_END_OF_OUTPUT: u32 = 5;
 
+/// A piece has 0 bytes.
+pub const SUMS_PIECE_LENGTH: u32 = 6;
+
+/// The output has another length than the digests of the pieces together.
+pub const SUMS_OUTPUT_LENGTH: u32 = 7;
+
 // Does nothing. Its contract says the number of each status, by which a caller in C knows it.
 fn status_laws()
     ensures ok { SUMS_OK ≡ 0 }
@@ -28,4 +34,6 @@ fn status_laws()
     ensures input_too_long { SUMS_INPUT_TOO_LONG ≡ 3 }
     ensures not_begun { SUMS_NOT_BEGUN ≡ 4 }
     ensures end_of_output { SUMS_END_OF_OUTPUT ≡ 5 }
+    ensures piece_length { SUMS_PIECE_LENGTH ≡ 6 }
+    ensures output_length { SUMS_OUTPUT_LENGTH ≡ 7 }
 {}

@@ -7,6 +7,8 @@ mod b3_tests;
 #[cfg(test)]
 mod blake2_tests;
 #[cfg(test)]
+mod blake3_piece_tests;
+#[cfg(test)]
 mod calling;
 #[cfg(test)]
 mod kdf_tests;

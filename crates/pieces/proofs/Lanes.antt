@@ -76,7 +76,8 @@ lane_word : (m : List (List ℕ)) (i : ℕ) (b : List ℕ) → lane i m ≡ word
     → lane_at m k i ≡ little_at b (4 * k)
 unfolding lane words
 lane_word m i b same =
-    let at : (k : ℕ) → slice_index (lane i m) k ≡ slice_index (words 4 16 b) k = λ k. ap (λ xs. slice_index xs k) same in
+    let at : (k : ℕ) → slice_index (lane i m) k ≡ slice_index (words 4 16 b) k =
+    λ k. ap (λ xs. slice_index xs k) same in
     below_sixteen _ (at 0) (at 1) (at 2) (at 3) (at 4) (at 5) (at 6) (at 7)
     (at 8) (at 9) (at 10) (at 11) (at 12) (at 13) (at 14) (at 15)
 

@@ -1,6 +1,7 @@
 -- The last bytes of a piece with the padding of SHA-256 after them, and the blocks before.
-use Rattle.std.proofs.Common.{◌≡◌, ℕ, zero, suc, ◌+◌, ◌-◌, ◌*◌, ◌/◌, ◌%◌, ◌^◌, ◌<◌, ◌≤◌, List, [], ◌∷◌, ◌++◌, length, take, drop}
-use Rattle.std.proofs.Common.{replicate, slice_set, slice_index_or, refl, sym, ap, ◌∙◌, arith, w64, append_assoc, length-append, length-drop}
+use Rattle.std.proofs.Common.{◌≡◌, ℕ, zero, suc, ◌+◌, ◌-◌, ◌*◌, ◌/◌, ◌%◌, ◌^◌, ◌<◌, ◌≤◌}
+use Rattle.std.proofs.Common.{List, [], ◌∷◌, ◌++◌, length, take, drop, replicate, slice_set, slice_index_or}
+use Rattle.std.proofs.Common.{refl, sym, ap, ◌∙◌, arith, w64, append_assoc, length-append, length-drop}
 use Rattle.std.proofs.lemmas.List.{take-append-drop, set-append_right, drop-replicate, drop-append-le, take-append-le}
 use Rattle.std.proofs.lemmas.List.{length-take-le, take-take, drop-take, drop-drop, take_at, drop_at, length-replicate}
 use Rattle.std.proofs.Math.Seq.{take-append-add}
@@ -135,7 +136,9 @@ blocks_of m n size =
     let z : ℕ = (119 - n % 64) % 64 in
     let bits : List ℕ = to_be_bytes w64 (n * 8 % 2 ^ 64) in
     let eight : length bits ≡ 8 = refl in
-    let tail : length (padding n) ≡ z + 9 = omega (arith, length-append (replicate {A = ℕ} z 0) bits, length-replicate {A = ℕ} z 0) in
+    let zeros : List ℕ = replicate z 0 in
+    let tail : length (padding n) ≡ z + 9 =
+    omega (arith, length-append zeros bits, length-replicate {A = ℕ} z 0) in
     rw size (omega (arith, length-append m (padding n)))
 
 -- the digest of a piece

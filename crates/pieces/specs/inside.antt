@@ -1,1 +1,2 @@
+pub mod Lanes2
 pub mod Words

@@ -1,6 +1,6 @@
 // The loop over the pieces of a buffer, for every hash function.
 
-ghost use Rattle.std.specs.Prelude.{◌≡◌, ◌<◌, ◌≤◌, ◌+◌, ◌*◌, ◌/◌, ◌++◌, [], ℕ, length, take, slice_index, slice_index_or};
+ghost use Rattle.std.specs.Prelude.{◌≡◌, ◌<◌, ◌≤◌, ◌+◌, ◌*◌, ◌++◌, ℕ, length, take, slice_index};
 ghost use Rattle.std.specs.Prelude.{None, Some, MatchResult};
 ghost use Rattle.pieces.specs.Pieces.{digests, first_digests, piece_count};
 ghost use Rattle.pieces.specs.Faults.{piece_fault};

@@ -1,12 +1,12 @@
 // SHA-256 on a block in each of eight lanes (FIPS 180-4, section 6.2.2): a vector has one word of each.
 
-ghost use Rattle.std.specs.Prelude.{◌≡◌, ◌<◌, ◌≤◌, ◌+◌, ◌*◌, ◌/◌, ◌%◌, ◌^◌, ℕ, List, length, take, drop, slice_index, [], ◌∷◌};
-ghost use Rattle.std.specs.Simd.Lanes.{number_l, chunk};
+ghost use Rattle.std.specs.Prelude.{◌≡◌, ◌<◌, ◌≤◌, ◌+◌, ◌*◌, ℕ, List, length, take, drop, slice_index, [], ◌∷◌};
 ghost use Rattle.sha2.specs.Sha256;
 ghost use Rattle.sha_blocks.specs.inside.Schedules.{IsWindowAt};
 ghost use Rattle.words.specs.inside.Lanes.{lane8};
 ghost use Rattle.pieces.specs.inside.Words.{reversed};
 
+use crate::word_bytes::{bytes_of, words_of};
 use sha_blocks::schedules::{add, advance, keyed, rotated, xor};
 use std::simd::prelude::*;
 use words::lanes::message_lanes;
@@ -137,22 +137,6 @@ fn take_words(h: [u32x8; 8], words: [u32x8; 16]) -> [u32x8; 8]
     ]
 }
 
-// The bytes of eight words.
-#[inline(always)]
-fn bytes_of(x: u32x8) -> u8x32
-    ensures { (i j : ℕ) → i < 8 → j < 4 → slice_index result (4 * i + j) ≡ slice_index x i / 256 ^ j % 256 }
-{
-    x.to_le_bytes()
-}
-
-// The words of bytes.
-#[inline(always)]
-fn words_of(x: u8x32) -> u32x8
-    ensures { (i : ℕ) → i < 8 → slice_index result i ≡ number_l 256 (chunk (4 * i) 4 x) }
-{
-    u32x8::from_le_bytes(x)
-}
-
 // Bytes, the four of each word in reverse.
 #[inline(always)]
 fn turned_round(x: u8x32) -> u8x32
@@ -164,13 +148,10 @@ fn turned_round(x: u8x32) -> u8x32
         slice_index x 27 ∷ slice_index x 26 ∷ slice_index x 25 ∷ slice_index x 24 ∷ slice_index x 31 ∷
         slice_index x 30 ∷ slice_index x 29 ∷ slice_index x 28 ∷ [] }
 {
-    x.shuffle(
-        x,
-        [
-            3, 2, 1, 0, 7, 6, 5, 4, 11, 10, 9, 8, 15, 14, 13, 12, 19, 18, 17, 16, 23, 22, 21, 20,
-            27, 26, 25, 24, 31, 30, 29, 28,
-        ],
-    )
+    x.swizzle([
+        3, 2, 1, 0, 7, 6, 5, 4, 11, 10, 9, 8, 15, 14, 13, 12, 19, 18, 17, 16, 23, 22, 21, 20, 27,
+        26, 25, 24, 31, 30, 29, 28,
+    ])
 }
 
 // Words, the bytes of each in reverse.

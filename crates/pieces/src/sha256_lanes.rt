@@ -88,7 +88,8 @@ fn values_of(bytes: &[u8], starts: &[usize; 8], piece_len: usize) -> [u32x8; 8]
 fn take_tails(values: &mut [u32x8; 8], tails: &[[u8; 128]; 8], last: usize)
     requires few { last ≤ 2 }
     requires whole { (i : ℕ) → i < 8 → length (slice_index_or tails.now i []) ≡ 128 }
-    ensures { (i : ℕ) → i < 8 → (p : List ℕ) (n : ℕ) → take (64 * last) (slice_index_or tails.now i []) ≡ drop (64 * n) p
+    ensures { (i : ℕ) → i < 8 → (p : List ℕ) (n : ℕ)
+        → take (64 * last) (slice_index_or tails.now i []) ≡ drop (64 * n) p
         → lane8 i values.old ≡ Sha256.hash_after Sha256.initial_hash_256 p n
         → lane8 i values.new ≡ Sha256.hash_after Sha256.initial_hash_256 p (n + last) }
 {
@@ -152,9 +153,10 @@ impl PieceHash<8, 32> for Lanes256 {
     ghost small = { Prim.search rules };
 }
 
-/// Fills `out` with the SHA-256 digests (FIPS 180-4, section 6.2) of the pieces of `piece_len` bytes that `bytes` is cut
-/// into, one behind the other; the last piece may be shorter, and no bytes have no piece. `Fault::PieceLength` where
-/// `piece_len` is 0, and else `Fault::OutputLength` where `out` has other than 32 bytes a piece; nothing is written then.
+/// Fills `out` with the SHA-256 digests (FIPS 180-4, section 6.2) of the pieces of `piece_len` bytes that `bytes` is
+/// cut into, one behind the other; the last piece may be shorter, and no bytes have no piece. `Fault::PieceLength`
+/// where `piece_len` is 0, and else `Fault::OutputLength` where `out` has other than 32 bytes a piece; nothing is
+/// written then.
 pub fn sha256(bytes: &[u8], piece_len: usize, out: &mut [u8]) -> Result<(), Fault>
     ensures { MatchResult result
         (λ _. (piece_fault 32 piece_len (length bytes.now) (length out.old) ≡ None)

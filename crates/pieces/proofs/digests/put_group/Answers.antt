@@ -1,4 +1,5 @@
-use Rattle.std.proofs.Common.{◌≡◌, ◌+◌, ◌*◌, ◌≤◌, [], ap, subst, ◌∙◌, arith, length, take, drop, slice_index, slice_index_or, sym}
+use Rattle.std.proofs.Common.{◌≡◌, ◌+◌, ◌*◌, ◌≤◌, [], ap, subst, ◌∙◌, arith, sym}
+use Rattle.std.proofs.Common.{length, take, drop, slice_index, slice_index_or}
 use Rattle.pieces.specs.Pieces.{first_digests}
 use Rattle.pieces.proofs.PieceLemmas.{digest_more, rows_small, start_within}
 use Rattle.pieces.proofs.digests.put_group.Goals as goal
@@ -44,13 +45,14 @@ rows-preserved g c =
     let i = c.rows.i in
     let size = c.digest_len-size.result in
     let digest = g.H.PieceHash.digest c.args.hash.now in
+    let out = c.put_digest.new.out in
     let row = slice_index_or c.side_by_side-rows.result i [] in
     let at = c.rows.invariant in
     let made : take size row ≡ digest (take n (drop (slice_index c.starts_of-starts.result i) c.args.bytes.now)) =
     ap (λ s. take s row) c.digest_len-size.ensures.value ∙ c.side_by_side-rows.ensures.value i (omega arith) in
     record {
       length = c.put_digest.ensures.length ∙ at.length;
-      value = subst (λ k. take (size * k) c.put_digest.new.out ≡ first_digests digest n c.args.bytes.now k) (omega arith)
+      value = subst (λ k. take (size * k) out ≡ first_digests digest n c.args.bytes.now k) (omega arith)
           (digest_more digest n size (c.args.done + i) c.args.bytes.now _ _ _ _
           (ap (λ s. take n (drop s c.args.bytes.now)) (c.starts_of-starts.ensures.place i (omega arith) (omega arith)))
           made at.value c.put_digest.ensures.front);

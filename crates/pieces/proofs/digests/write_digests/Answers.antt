@@ -9,7 +9,7 @@ groups-init g c =
     let none : c.digest_len-size.result * 0 ≡ 0 = omega arith in
     record {
       counted = omega arith;
-      length = c.in_ok-total.ensures.3;
+      length = omega (arith, c.in_ok-total.ensures.3);
       value = ap (λ n. take n c.args.out.now) none;
     }
 

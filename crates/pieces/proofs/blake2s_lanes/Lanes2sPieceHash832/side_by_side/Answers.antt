@@ -1,0 +1,25 @@
+use Rattle.std.proofs.Common.{arith}
+use Rattle.words.specs.Blake2.{blake2s}
+use Rattle.words.proofs.LaneLemmas.{below_eight}
+use Rattle.pieces.proofs.PieceChains.{digest_of}
+use Rattle.pieces.proofs.blake2s_lanes.Lanes2sPieceHash832.side_by_side.Goals as goal
+
+pub returns-clause-value : goal.returns-clause-value
+returns-clause-value c =
+    below_eight _
+    (digest_of blake2s _ _ _ _ _ c.args.self.now.begun c.value_bytes.ensures
+    (c.final_values-values.ensures 0 (omega arith)))
+    (digest_of blake2s _ _ _ _ _ c.args.self.now.begun c.value_bytes-2.ensures
+    (c.final_values-values.ensures 1 (omega arith)))
+    (digest_of blake2s _ _ _ _ _ c.args.self.now.begun c.value_bytes-3.ensures
+    (c.final_values-values.ensures 2 (omega arith)))
+    (digest_of blake2s _ _ _ _ _ c.args.self.now.begun c.value_bytes-4.ensures
+    (c.final_values-values.ensures 3 (omega arith)))
+    (digest_of blake2s _ _ _ _ _ c.args.self.now.begun c.value_bytes-5.ensures
+    (c.final_values-values.ensures 4 (omega arith)))
+    (digest_of blake2s _ _ _ _ _ c.args.self.now.begun c.value_bytes-6.ensures
+    (c.final_values-values.ensures 5 (omega arith)))
+    (digest_of blake2s _ _ _ _ _ c.args.self.now.begun c.value_bytes-7.ensures
+    (c.final_values-values.ensures 6 (omega arith)))
+    (digest_of blake2s _ _ _ _ _ c.args.self.now.begun c.value_bytes-8.ensures
+    (c.final_values-values.ensures 7 (omega arith)))

@@ -1,0 +1,5 @@
+use Rattle.pieces.proofs.Chunks.{AreDigests}
+use Rattle.pieces.proofs.chunk_lanes.chunk_digests.Given as goal
+
+abbrev pub invariant-lanes : goal.invariant-lanes
+invariant-lanes l = AreDigests l.bytes l.starts l.len l.digests l.i

@@ -1,0 +1,29 @@
+use Rattle.std.proofs.Common.{◌≡◌, ◌≢◌, ◌⊎◌, ◌<◌, ◌+◌, [], inl, inr, ℕ, List, arith, length, slice_index_or}
+use Rattle.std.proofs.Common.{slice_set, take, drop}
+use Rattle.std.proofs.Common.{slice_index, ◌∙◌, length-set}
+use Rattle.std.proofs.lemmas.Bool.{cases_eq}
+use Rattle.std.proofs.lemmas.Grind.{get_or-set_at}
+use Rattle.std.proofs.lemmas.List.{get_or-set_other}
+use Rattle.words.specs.Words.{padded}
+use Rattle.pieces.proofs.last_blocks.padded_tails.Goals as goal
+
+-- what holds of the rows so far holds with one row more
+row_more : (P : ℕ → List ℕ → Type 0) (rows : List (List ℕ)) (i : ℕ) (row : List ℕ) → i < length rows → P i row
+    → ((k : ℕ) → k < i → P k (slice_index_or rows k []))
+    → (k : ℕ) → (k ≡ i) ⊎ (k ≢ i) → k < i + 1 → P k (slice_index_or (slice_set rows i row) k [])
+row_more P rows i row within here before k (inl same) h =
+    rw (get_or-set_at rows i k row [] same within, same) here
+row_more P rows i row within here before k (inr other) h =
+    rw (get_or-set_other rows i k row [] other) (before k (omega (arith, other)))
+
+pub lanes-preserved : goal.lanes-preserved
+lanes-preserved g c = record {
+  size = length-set c.lanes.tails c.lanes.i c.padded_tail.result ∙ c.lanes.invariant.size;
+  value = λ k. row_more
+      (λ j row. row
+      ≡ padded g.row.N (take c.args.len (drop (slice_index c.args.starts.now j + c.args.at) c.args.bytes.now)))
+      c.lanes.tails c.lanes.i c.padded_tail.result (omega arith) c.padded_tail.ensures.value c.lanes.invariant.value k
+      (cases_eq k c.lanes.i);
+  whole = λ k. row_more (λ j row. length row ≡ g.row.N) c.lanes.tails c.lanes.i c.padded_tail.result (omega arith)
+      c.padded_tail.ensures.whole c.lanes.invariant.whole k (cases_eq k c.lanes.i);
+}

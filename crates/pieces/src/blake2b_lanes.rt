@@ -1,0 +1,171 @@
+// The BLAKE2b digests of pieces, four of them side by side.
+
+ghost use Rattle.std.specs.Prelude.{◌≡◌, ◌<◌, ◌≤◌, ◌+◌, [], ℕ, List, length, take, drop, slice_index, slice_index_or};
+ghost use Rattle.std.specs.Prelude.{None, Some, MatchResult};
+ghost use Rattle.std.proofs.Common.{rules};
+ghost use Rattle.words.specs.Blake2.{blake2b};
+ghost use Rattle.words.specs.Words.{padded, word_bytes, words};
+ghost use Rattle.words.specs.inside.Lanes.{lane};
+ghost use Rattle.blake2.specs.Blake2.{blake2, final_value, start, unsalted};
+ghost use Rattle.pieces.specs.Pieces.{digests};
+ghost use Rattle.pieces.specs.Faults.{sized_fault};
+
+use crate::digests::write_digests;
+use crate::fault::Fault;
+use crate::lanes2::words64::{lane_rows, message_lanes, next_lanes, same_lanes};
+use crate::last_blocks::padded_tails;
+use crate::piece_hash::PieceHash;
+use blake2::Blake2b;
+use byteorder::{ByteOrder, LittleEndian};
+use std::simd::u64x4;
+use words::{Absorb, IV64, write_at};
+
+// The chaining value before the first block: the words of the parameter block, which has the digest length, no key,
+// fanout 1 and depth 1, xored into the initial value (RFC 7693, section 2.5).
+fn start_value(digest_len: usize) -> [u64; 8]
+    requires { digest_len ≤ 64 }
+    ensures { result ≡ start blake2b (unsalted blake2b digest_len []) }
+{
+    let [h0, h1, h2, h3, h4, h5, h6, h7] = IV64;
+    [
+        h0 ^ (digest_len as u64 + 0x0101_0000),
+        h1,
+        h2,
+        h3,
+        h4,
+        h5,
+        h6,
+        h7,
+    ]
+}
+
+// The words of the last blocks of four pieces, which have `len` bytes each, by lanes.
+fn last_lanes(bytes: &[u8], starts: &[usize; 4], at: usize, len: usize) -> [u64x4; 16]
+    requires fits { (i : ℕ) → i < 4 → slice_index starts.now i + at + len ≤ length bytes.now }
+    requires short { len ≤ 128 }
+    ensures { (i : ℕ) → i < 4 → lane i result
+        ≡ words 8 16 (padded 128 (take len (drop (slice_index starts.now i + at) bytes.now))) }
+{
+    if len == 128 {
+        return message_lanes(bytes, starts, at);
+    }
+    let tails = padded_tails::<128, 4>(bytes, starts, at, len);
+    let places = [0, 128, 256, 384];
+    message_lanes(tails.as_flattened(), &places, 0)
+}
+
+// The final chaining values of four pieces of `len` bytes, from the value `first` on.
+fn final_values(first: &[u64; 8], bytes: &[u8], starts: &[usize; 4], len: usize) -> [[u64; 8]; 4]
+    requires some { 0 < len }
+    requires fits { (i : ℕ) → i < 4 → slice_index starts.now i + len ≤ length bytes.now }
+    ensures { (i : ℕ) → i < 4 → slice_index_or result i []
+        ≡ final_value blake2b first.now (take len (drop (slice_index starts.now i) bytes.now)) }
+{
+    let whole = (len - 1) / 128;
+    let at = 128 * whole;
+    let mut values = same_lanes(first);
+    'each_block: for j in 0..whole {
+        let message = message_lanes(bytes, starts, 128 * j);
+        let next = next_lanes(values, &message, 128 * (j as u128 + 1), false);
+        values = next;
+    }
+    let message = last_lanes(bytes, starts, at, len - at);
+    lane_rows(next_lanes(values, &message, len as u128, true))
+}
+
+// The bytes of a chaining value.
+fn value_bytes(value: &[u64; 8]) -> [u8; 64]
+    ensures { result ≡ word_bytes 8 value.now }
+{
+    let mut bytes = [0; 64];
+    LittleEndian::write_u64_into(value, &mut bytes);
+    bytes
+}
+
+// BLAKE2b with digests of one length, without a key.
+#[derive(Drop)]
+struct Lanes2b {
+    digest_len: usize,
+    first: [u64; 8],
+    ghost some: { 0 < digest_len },
+    ghost fits: { digest_len ≤ 64 },
+    ghost begun: { first ≡ start blake2b (unsalted blake2b digest_len []) },
+}
+
+impl Lanes2b {
+    fn new(digest_len: usize) -> Lanes2b
+        requires some { 0 < digest_len }
+        requires fits { digest_len ≤ 64 }
+        ensures { result.digest_len ≡ digest_len }
+    {
+        Lanes2b {
+            digest_len,
+            first: start_value(digest_len),
+        }
+    }
+}
+
+impl PieceHash<4, 64> for Lanes2b {
+    ghost size = { λ s. s.digest_len };
+
+    ghost digest = { λ s. blake2 blake2b (unsalted blake2b s.digest_len []) };
+
+    fn digest_len(&self) -> usize {
+        self.digest_len
+    }
+
+    fn fewest(&self, _piece_len: usize) -> usize {
+        4
+    }
+
+    fn side_by_side(&self, bytes: &[u8], starts: &[usize; 4], piece_len: usize) -> [[u8; 64]; 4] {
+        let values = final_values(&self.first, bytes, starts, piece_len);
+        [
+            value_bytes(&values[0]),
+            value_bytes(&values[1]),
+            value_bytes(&values[2]),
+            value_bytes(&values[3]),
+        ]
+    }
+
+    fn one(&self, piece: &[u8]) -> [u8; 64] {
+        let _len = piece.len();
+        let Ok(mut hasher) = Blake2b::new(self.digest_len) else {
+            unreachable!()
+        };
+        let Ok(()) = hasher.update(piece) else {
+            unreachable!()
+        };
+        let mut row = [0; 64];
+        write_at(&mut row, 0, hasher.finish().bytes());
+        row
+    }
+
+    ghost some_lanes = { Prim.search rules };
+
+    ghost few_lanes = { Prim.search rules };
+
+    ghost small = { Prim.search rules };
+}
+
+/// Fills `out` with the BLAKE2b digests of `digest_len` bytes, without a key (RFC 7693, section 3.3), of the pieces of
+/// `piece_len` bytes that `bytes` is cut into, one behind the other; the last piece may be shorter, and no bytes have
+/// no piece. `Fault::DigestLength` where `digest_len` is 0 or above 64, else `Fault::PieceLength` where `piece_len` is
+/// 0, and else `Fault::OutputLength` where `out` has other than `digest_len` bytes a piece; nothing is written then.
+pub fn blake2b(
+    digest_len: usize,
+    bytes: &[u8],
+    piece_len: usize,
+    out: &mut [u8],
+) -> Result<(), Fault>
+    ensures { MatchResult result
+        (λ _. (sized_fault 64 digest_len piece_len (length bytes.now) (length out.old) ≡ None)
+        × (out.new ≡ digests (blake2 blake2b (unsalted blake2b digest_len [])) piece_len bytes.now))
+        (λ e. (sized_fault 64 digest_len piece_len (length bytes.now) (length out.old) ≡ Some e)
+        × (out.new ≡ out.old)) }
+{
+    if digest_len == 0 || digest_len > 64 {
+        return Err(Fault::DigestLength);
+    }
+    write_digests(&Lanes2b::new(digest_len), bytes, piece_len, out)
+}

@@ -1,0 +1,148 @@
+// The BLAKE2s digests of pieces, eight of them side by side.
+
+ghost use Rattle.std.specs.Prelude.{◌≡◌, ◌<◌, ◌≤◌, ◌+◌, [], ℕ, List, length, take, drop, slice_index, slice_index_or};
+ghost use Rattle.std.specs.Prelude.{None, Some, MatchResult};
+ghost use Rattle.std.proofs.Common.{rules};
+ghost use Rattle.words.specs.Blake2.{blake2s};
+ghost use Rattle.blake2.specs.Blake2.{blake2, final_value, start, unsalted};
+ghost use Rattle.pieces.specs.Pieces.{digests};
+ghost use Rattle.pieces.specs.Faults.{sized_fault};
+
+use crate::digests::write_digests;
+use crate::fault::Fault;
+use crate::lanes2::words32::next_lanes;
+use crate::last_blocks::{last_lanes, value_bytes};
+use crate::piece_hash::PieceHash;
+use blake2::Blake2s;
+use words::lanes::{lane_rows, message_lanes, same_lanes};
+use words::{Absorb, IV32, write_at};
+
+// The chaining value before the first block: the words of the parameter block, which has the digest length, no key,
+// fanout 1 and depth 1, xored into the initial value (RFC 7693, section 2.5).
+fn start_value(digest_len: usize) -> [u32; 8]
+    requires { digest_len ≤ 32 }
+    ensures { result ≡ start blake2s (unsalted blake2s digest_len []) }
+{
+    let [h0, h1, h2, h3, h4, h5, h6, h7] = IV32;
+    [
+        h0 ^ (digest_len as u32 + 0x0101_0000),
+        h1,
+        h2,
+        h3,
+        h4,
+        h5,
+        h6,
+        h7,
+    ]
+}
+
+// The final chaining values of eight pieces of `len` bytes, from the value `first` on.
+fn final_values(first: &[u32; 8], bytes: &[u8], starts: &[usize; 8], len: usize) -> [[u32; 8]; 8]
+    requires some { 0 < len }
+    requires fits { (i : ℕ) → i < 8 → slice_index starts.now i + len ≤ length bytes.now }
+    ensures { (i : ℕ) → i < 8 → slice_index_or result i []
+        ≡ final_value blake2s first.now (take len (drop (slice_index starts.now i) bytes.now)) }
+{
+    let whole = (len - 1) / 64;
+    let at = 64 * whole;
+    let mut values = same_lanes(first);
+    'each_block: for j in 0..whole {
+        let message = message_lanes(bytes, starts, 64 * j);
+        let next = next_lanes(values, &message, 64 * (j as u64 + 1), false);
+        values = next;
+    }
+    let message = last_lanes(bytes, starts, at, len - at);
+    lane_rows(next_lanes(values, &message, len as u64, true))
+}
+
+// BLAKE2s with digests of one length, without a key.
+#[derive(Drop)]
+struct Lanes2s {
+    digest_len: usize,
+    first: [u32; 8],
+    ghost some: { 0 < digest_len },
+    ghost fits: { digest_len ≤ 32 },
+    ghost begun: { first ≡ start blake2s (unsalted blake2s digest_len []) },
+}
+
+impl Lanes2s {
+    fn new(digest_len: usize) -> Lanes2s
+        requires some { 0 < digest_len }
+        requires fits { digest_len ≤ 32 }
+        ensures { result.digest_len ≡ digest_len }
+    {
+        Lanes2s {
+            digest_len,
+            first: start_value(digest_len),
+        }
+    }
+}
+
+impl PieceHash<8, 32> for Lanes2s {
+    ghost size = { λ s. s.digest_len };
+
+    ghost digest = { λ s. blake2 blake2s (unsalted blake2s s.digest_len []) };
+
+    fn digest_len(&self) -> usize {
+        self.digest_len
+    }
+
+    fn fewest(&self, _piece_len: usize) -> usize {
+        7
+    }
+
+    fn side_by_side(&self, bytes: &[u8], starts: &[usize; 8], piece_len: usize) -> [[u8; 32]; 8] {
+        let values = final_values(&self.first, bytes, starts, piece_len);
+        [
+            value_bytes(&values[0]),
+            value_bytes(&values[1]),
+            value_bytes(&values[2]),
+            value_bytes(&values[3]),
+            value_bytes(&values[4]),
+            value_bytes(&values[5]),
+            value_bytes(&values[6]),
+            value_bytes(&values[7]),
+        ]
+    }
+
+    fn one(&self, piece: &[u8]) -> [u8; 32] {
+        let _len = piece.len();
+        let Ok(mut hasher) = Blake2s::new(self.digest_len) else {
+            unreachable!()
+        };
+        let Ok(()) = hasher.update(piece) else {
+            unreachable!()
+        };
+        let mut row = [0; 32];
+        write_at(&mut row, 0, hasher.finish().bytes());
+        row
+    }
+
+    ghost some_lanes = { Prim.search rules };
+
+    ghost few_lanes = { Prim.search rules };
+
+    ghost small = { Prim.search rules };
+}
+
+/// Fills `out` with the BLAKE2s digests of `digest_len` bytes, without a key (RFC 7693, section 3.3), of the pieces of
+/// `piece_len` bytes that `bytes` is cut into, one behind the other; the last piece may be shorter, and no bytes have
+/// no piece. `Fault::DigestLength` where `digest_len` is 0 or above 32, else `Fault::PieceLength` where `piece_len` is
+/// 0, and else `Fault::OutputLength` where `out` has other than `digest_len` bytes a piece; nothing is written then.
+pub fn blake2s(
+    digest_len: usize,
+    bytes: &[u8],
+    piece_len: usize,
+    out: &mut [u8],
+) -> Result<(), Fault>
+    ensures { MatchResult result
+        (λ _. (sized_fault 32 digest_len piece_len (length bytes.now) (length out.old) ≡ None)
+        × (out.new ≡ digests (blake2 blake2s (unsalted blake2s digest_len [])) piece_len bytes.now))
+        (λ e. (sized_fault 32 digest_len piece_len (length bytes.now) (length out.old) ≡ Some e)
+        × (out.new ≡ out.old)) }
+{
+    if digest_len == 0 || digest_len > 32 {
+        return Err(Fault::DigestLength);
+    }
+    write_digests(&Lanes2s::new(digest_len), bytes, piece_len, out)
+}

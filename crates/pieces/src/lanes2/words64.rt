@@ -1,0 +1,311 @@
+// F of BLAKE2b on four inputs side by side.
+
+ghost use Rattle.std.specs.Prelude.{◌≡◌, ◌<◌, ◌≤◌, ◌+◌, ◌*◌, ◌/◌, ◌%◌, ◌^◌, [], ◌∷◌, ℕ, bit_xor};
+ghost use Rattle.std.specs.Prelude.{slice_index, slice_index_or, take, drop, length};
+ghost use Rattle.std.specs.Simd.Lanes.{number_l, chunk};
+ghost use Rattle.byteorder.specs.Endian.{little_number};
+ghost use Rattle.words.specs.Blake2.{blake2b, compress, folded_halves, rounds, working_words};
+ghost use Rattle.words.specs.Mix.{g, rotated_xor, round, word_sum};
+ghost use Rattle.words.specs.Words.{words};
+ghost use Rattle.words.specs.inside.Lanes.{lane, lane4, lane8};
+ghost use Rattle.pieces.specs.inside.Lanes2.{turned_bytes};
+
+use super::SIGMA;
+use std::simd::prelude::*;
+use words::IV64;
+
+#[inline(always)]
+fn sum(x: u64x4, y: u64x4) -> u64x4
+    ensures { (i : ℕ) → i < 4 → slice_index result i ≡ word_sum blake2b (slice_index x i) (slice_index y i) }
+{
+    x + y
+}
+
+#[inline(always)]
+fn xor(x: u64x4, y: u64x4) -> u64x4
+    ensures lanes { (i : ℕ) → i < 4 → slice_index result i ≡ bit_xor (slice_index x i) (slice_index y i) }
+    ensures fit { (i : ℕ) → i < 4 → slice_index result i < 2 ^ 64 }
+{
+    x ^ y
+}
+
+#[inline(always)]
+fn xor3(x: u64x4, y: u64x4, z: u64x4) -> u64x4
+    ensures { (i : ℕ) → i < 4
+        → slice_index result i ≡ bit_xor (bit_xor (slice_index x i) (slice_index y i)) (slice_index z i) }
+{
+    x ^ y ^ z
+}
+
+// The bytes of four words.
+#[inline(always)]
+fn bytes_of(x: u64x4) -> u8x32
+    ensures { (i j : ℕ) → i < 4 → j < 8 → slice_index result (8 * i + j) ≡ slice_index x i / 256 ^ j % 256 }
+{
+    x.to_le_bytes()
+}
+
+// The words of bytes.
+#[inline(always)]
+fn words_of(x: u8x32) -> u64x4
+    ensures { (i : ℕ) → i < 4 → slice_index result i ≡ number_l 256 (chunk (8 * i) 8 x) }
+{
+    u64x4::from_le_bytes(x)
+}
+
+// The bytes of words that turn by 32.
+#[inline(always)]
+fn move32(x: u8x32) -> u8x32
+    ensures { result ≡ turned_bytes 8 4 x }
+{
+    x.swizzle([
+        4, 5, 6, 7, 0, 1, 2, 3, 12, 13, 14, 15, 8, 9, 10, 11, 20, 21, 22, 23, 16, 17, 18, 19, 28,
+        29, 30, 31, 24, 25, 26, 27,
+    ])
+}
+
+// The bytes of words that turn by 24.
+#[inline(always)]
+fn move24(x: u8x32) -> u8x32
+    ensures { result ≡ turned_bytes 8 3 x }
+{
+    x.swizzle([
+        3, 4, 5, 6, 7, 0, 1, 2, 11, 12, 13, 14, 15, 8, 9, 10, 19, 20, 21, 22, 23, 16, 17, 18, 27,
+        28, 29, 30, 31, 24, 25, 26,
+    ])
+}
+
+// The bytes of words that turn by 16.
+#[inline(always)]
+fn move16(x: u8x32) -> u8x32
+    ensures { result ≡ turned_bytes 8 2 x }
+{
+    x.swizzle([
+        2, 3, 4, 5, 6, 7, 0, 1, 10, 11, 12, 13, 14, 15, 8, 9, 18, 19, 20, 21, 22, 23, 16, 17, 26,
+        27, 28, 29, 30, 31, 24, 25,
+    ])
+}
+
+// x xor y, rotated right by 32.
+#[inline(always)]
+fn turn32(x: u64x4, y: u64x4) -> u64x4
+    ensures { (i : ℕ) → i < 4 → slice_index result i ≡ rotated_xor blake2b 0 (slice_index x i) (slice_index y i) }
+{
+    words_of(move32(bytes_of(xor(x, y))))
+}
+
+// x xor y, rotated right by 24.
+#[inline(always)]
+fn turn24(x: u64x4, y: u64x4) -> u64x4
+    ensures { (i : ℕ) → i < 4 → slice_index result i ≡ rotated_xor blake2b 1 (slice_index x i) (slice_index y i) }
+{
+    words_of(move24(bytes_of(xor(x, y))))
+}
+
+// x xor y, rotated right by 16.
+#[inline(always)]
+fn turn16(x: u64x4, y: u64x4) -> u64x4
+    ensures { (i : ℕ) → i < 4 → slice_index result i ≡ rotated_xor blake2b 2 (slice_index x i) (slice_index y i) }
+{
+    words_of(move16(bytes_of(xor(x, y))))
+}
+
+// x xor y, rotated right by 63.
+#[inline(always)]
+fn turn63(x: u64x4, y: u64x4) -> u64x4
+    ensures { (i : ℕ) → i < 4 → slice_index result i ≡ rotated_xor blake2b 3 (slice_index x i) (slice_index y i) }
+{
+    let z = x ^ y;
+    (z >> u64x4::splat(63)) | (z << u64x4::splat(1))
+}
+
+#[inline(always)]
+fn mix(column: [u64x4; 4], x: u64x4, y: u64x4) -> [u64x4; 4]
+    ensures { (i : ℕ) → i < 4
+        → lane4 i result ≡ g blake2b (lane4 i column) (slice_index x i) (slice_index y i) }
+{
+    mixed!(column, x, y, [turn32, turn24, turn16, turn63])
+}
+
+// A round under the schedule `s`.
+#[inline(always)]
+#[tactic(auto, unfolding(words::specs::inside::Lanes::lane))]
+fn round(v: [u64x4; 16], m: &[u64x4; 16], s: &[usize; 16]) -> [u64x4; 16]
+    requires { (i : ℕ) → i < 16 → slice_index s.now i < 16 }
+    ensures { (i : ℕ) → i < 4 → lane i result ≡ round blake2b (lane i v) (lane i m.now) s.now }
+{
+    one_round!(v, m, s)
+}
+
+#[inline(always)]
+#[tactic(auto, unfolding(words::specs::Blake2::rounds))]
+fn twelve_rounds(v: [u64x4; 16], m: &[u64x4; 16]) -> [u64x4; 16]
+    ensures { (i : ℕ) → i < 4 → lane i result ≡ rounds blake2b (lane i v) (lane i m.now) 12 }
+{
+    let v = ten_rounds!(v, m);
+    let v = round(v, m, &SIGMA[0]);
+    round(v, m, &SIGMA[1])
+}
+
+#[inline(always)]
+#[tactic(auto, unfolding(words::specs::inside::Lanes::lane))]
+fn working_lanes(h: [u64x4; 8], t: u128, last: bool) -> [u64x4; 16]
+    ensures { (i : ℕ) → i < 4 → lane i result ≡ working_words blake2b (lane8 i h) t last }
+{
+    let low = (t % 0x1_0000_0000_0000_0000) as u64;
+    let high = (t >> 64) as u64;
+    working!(u64x4, h, IV64, low, high, last)
+}
+
+#[inline(always)]
+fn folded_lanes(h: [u64x4; 8], v: [u64x4; 16]) -> [u64x4; 8]
+    ensures { (i : ℕ) → i < 4 → lane8 i result ≡ folded_halves (lane8 i h) (lane i v) }
+{
+    folded!(h, v)
+}
+
+/// F in each of four lanes: takes the blocks `m` into the chaining values `h`, where `t` bytes have come with these
+/// blocks, and `last` marks the last ones (RFC 7693, section 3.2).
+#[tactic(auto, unfolding(words::specs::Blake2::compress))]
+pub(crate) fn next_lanes(h: [u64x4; 8], m: &[u64x4; 16], t: u128, last: bool) -> [u64x4; 8]
+    ensures { (i : ℕ) → i < 4 → lane8 i result ≡ compress blake2b (lane8 i h) (lane i m.now) t last }
+{
+    folded_lanes(h, twelve_rounds(working_lanes(h, t, last), m))
+}
+
+/// The same words in each lane.
+#[inline(always)]
+pub(crate) fn same_lanes(h: &[u64; 8]) -> [u64x4; 8]
+    ensures { (i : ℕ) → i < 4 → lane8 i result ≡ h.now }
+{
+    [
+        u64x4::splat(h[0]),
+        u64x4::splat(h[1]),
+        u64x4::splat(h[2]),
+        u64x4::splat(h[3]),
+        u64x4::splat(h[4]),
+        u64x4::splat(h[5]),
+        u64x4::splat(h[6]),
+        u64x4::splat(h[7]),
+    ]
+}
+
+#[inline(always)]
+fn unpack_low(a: u64x4, b: u64x4) -> u64x4
+    ensures { result ≡ slice_index a 0 ∷ slice_index b 0 ∷ slice_index a 2 ∷ slice_index b 2 ∷ [] }
+{
+    a.shuffle(b, [0, 4, 2, 6])
+}
+
+#[inline(always)]
+fn unpack_high(a: u64x4, b: u64x4) -> u64x4
+    ensures { result ≡ slice_index a 1 ∷ slice_index b 1 ∷ slice_index a 3 ∷ slice_index b 3 ∷ [] }
+{
+    a.shuffle(b, [1, 5, 3, 7])
+}
+
+#[inline(always)]
+fn halves_low(a: u64x4, b: u64x4) -> u64x4
+    ensures { result ≡ slice_index a 0 ∷ slice_index a 1 ∷ slice_index b 0 ∷ slice_index b 1 ∷ [] }
+{
+    a.shuffle(b, [0, 1, 4, 5])
+}
+
+#[inline(always)]
+fn halves_high(a: u64x4, b: u64x4) -> u64x4
+    ensures { result ≡ slice_index a 2 ∷ slice_index a 3 ∷ slice_index b 2 ∷ slice_index b 3 ∷ [] }
+{
+    a.shuffle(b, [2, 3, 6, 7])
+}
+
+// Rows for columns.
+#[inline(always)]
+fn transpose(r: [u64x4; 4]) -> [u64x4; 4]
+    ensures { result ≡ lane4 0 r ∷ lane4 1 r ∷ lane4 2 r ∷ lane4 3 r ∷ [] }
+{
+    let [r0, r1, r2, r3] = r;
+    let x = unpack_low(r0, r1);
+    let y = unpack_high(r0, r1);
+    let z = unpack_low(r2, r3);
+    let w = unpack_high(r2, r3);
+    [
+        halves_low(x, z),
+        halves_low(y, w),
+        halves_high(x, z),
+        halves_high(y, w),
+    ]
+}
+
+// The 32 bytes at `at`.
+#[inline(always)]
+fn load(bytes: &[u8], at: usize) -> u8x32
+    requires { at + 32 ≤ length bytes.now }
+    ensures bytes { (n : ℕ) → n < 32 → slice_index result n ≡ slice_index bytes.now (at + n) }
+    ensures whole { length result ≡ 32 }
+{
+    u8x32::from_slice(&bytes[at..at + 32])
+}
+
+// Four words of a block, from byte `at` on.
+#[inline(always)]
+fn row(block: &[u8], at: usize) -> u64x4
+    requires { at + 32 ≤ length block.now }
+    ensures { (n : ℕ) → n < 4 → slice_index result n ≡ little_number 8 (drop (at + 8 * n) block.now) }
+{
+    words_of(load(block, at))
+}
+
+// The block at `at`.
+#[inline(always)]
+fn block_at(bytes: &[u8], at: usize) -> &[u8]
+    requires { at + 128 ≤ length bytes.now }
+    ensures block { result.now ≡ take 128 (drop at bytes.now) }
+    ensures whole { length result.now ≡ 128 }
+{
+    &bytes[at..at + 128]
+}
+
+/// The words of four blocks, by lanes: lane i has those of the block that begins `at` bytes after its start.
+#[inline(always)]
+#[tactic(auto, unfolding(words::specs::inside::Lanes::lane))]
+pub(crate) fn message_lanes(bytes: &[u8], starts: &[usize; 4], at: usize) -> [u64x4; 16]
+    requires { (i : ℕ) → i < 4 → slice_index starts.now i + at + 128 ≤ length bytes.now }
+    ensures { (i : ℕ) → i < 4
+        → lane i result ≡ words 8 16 (take 128 (drop (slice_index starts.now i + at) bytes.now)) }
+{
+    let b0 = block_at(bytes, starts[0] + at);
+    let b1 = block_at(bytes, starts[1] + at);
+    let b2 = block_at(bytes, starts[2] + at);
+    let b3 = block_at(bytes, starts[3] + at);
+    let [m0, m1, m2, m3] = transpose([row(b0, 0), row(b1, 0), row(b2, 0), row(b3, 0)]);
+    let [m4, m5, m6, m7] = transpose([row(b0, 32), row(b1, 32), row(b2, 32), row(b3, 32)]);
+    let [m8, m9, m10, m11] = transpose([row(b0, 64), row(b1, 64), row(b2, 64), row(b3, 64)]);
+    let [m12, m13, m14, m15] = transpose([row(b0, 96), row(b1, 96), row(b2, 96), row(b3, 96)]);
+    [
+        m0, m1, m2, m3, m4, m5, m6, m7, m8, m9, m10, m11, m12, m13, m14, m15,
+    ]
+}
+
+// Eight words of two vectors.
+#[inline(always)]
+fn joined(x: u64x4, y: u64x4) -> [u64; 8]
+    ensures { result ≡ slice_index x 0 ∷ slice_index x 1 ∷ slice_index x 2 ∷ slice_index x 3
+        ∷ slice_index y 0 ∷ slice_index y 1 ∷ slice_index y 2 ∷ slice_index y 3 ∷ [] }
+{
+    x.shuffle(y, [0, 1, 2, 3, 4, 5, 6, 7]).to_array()
+}
+
+/// The words in each lane, as a row.
+#[inline(always)]
+pub(crate) fn lane_rows(h: [u64x4; 8]) -> [[u64; 8]; 4]
+    ensures { (i : ℕ) → i < 4 → slice_index_or result i [] ≡ lane8 i h }
+{
+    let [a0, a1, a2, a3] = transpose([h[0], h[1], h[2], h[3]]);
+    let [b0, b1, b2, b3] = transpose([h[4], h[5], h[6], h[7]]);
+    [
+        joined(a0, b0),
+        joined(a1, b1),
+        joined(a2, b2),
+        joined(a3, b3),
+    ]
+}
