@@ -33,21 +33,21 @@ fn pieces_are_as_the_hasher_has_them(rt: HostRuntime) -> Result<(), Fail> {
     let lengths = [
         1, 2, 63, 64, 65, 127, 128, 129, 191, 192, 193, 959, 960, 961, 1023, 1024, 1025, 2048, 2049,
     ];
-    let most = 17 * 2049;
-    let input = counting(rt.alloc(), most)?;
+    let input = counting(rt.alloc(), 17 * 2049)?;
     for piece_len in lengths {
         for count in [1, LANES - 1, LANES, LANES + 1, 2 * LANES] {
             for short in [0, 1, piece_len / 2, piece_len - 1] {
-                let len = count * piece_len + short;
-                assert!(rt; len <= most);
+                let whole = count * piece_len;
+                assert!(rt; whole <= input.len() && short <= input.len() - whole);
+                let bytes = &input[..whole + short];
                 let total = count + usize::from(short > 0);
                 let mut out = [0; 17 * 32];
                 assert!(rt; 32 * total <= out.len());
                 let digests = &mut out[..32 * total];
-                assert!(rt; blake3(&input[..len], piece_len, digests).is_ok());
+                assert!(rt; blake3(bytes, piece_len, digests).is_ok());
                 assert!(rt;
-                    are_digests(&input[..len], piece_len, digests),
-                    "{len} bytes in {piece_len}"
+                    are_digests(bytes, piece_len, digests),
+                    "{count} pieces of {piece_len}"
                 );
             }
         }
