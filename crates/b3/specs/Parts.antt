@@ -46,7 +46,7 @@ AreNeighbours c n d k = (e : ℕ) × (n ≡ 1024 * 2 ^ e)
 -- k bytes from chunk d on come next in a row of parts, which begins at chunk c and has n bytes, the
 -- last part of them so many: they begin where the row ends, that part has a power of two of full
 -- chunks, and the bytes of the row and these can be a part
-abbrev pub IsNext : (c n last d k : ℕ) → Type 0
-IsNext c n last d k = (1024 * d ≡ 1024 * c + n)
+abbrev pub IsNextInRow : (c n last d k : ℕ) → Type 0
+IsNextInRow c n last d k = (1024 * d ≡ 1024 * c + n)
     × ((e : ℕ) × (last ≡ 1024 * 2 ^ e))
     × IsPlacedAt c (n + k)

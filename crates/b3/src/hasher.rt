@@ -301,7 +301,7 @@ impl Blake3 {
 
     /// Takes a beginning of `rest`, and answers its length: whole chunks, where no chunk is begun and
     /// two or more have come, or what the open chunk has room for.
-    pub(crate) fn take_some(&mut self, rest: &[u8]) -> usize
+    pub(crate) fn take_front(&mut self, rest: &[u8]) -> usize
         requires some { 0 < length rest.now }
         requires room { self.old.chunk.len < 1024 }
         requires bound { hasher_count self.old + length rest.now < 2 ^ 64 }

@@ -117,7 +117,7 @@ pub struct Row {
 impl Row {
     ghost use Rattle.b3.specs.Modes.{root_of, tree_of};
     ghost use Rattle.b3.specs.inside.Output.{output_root, output_position};
-    ghost use Rattle.b3.specs.Parts.{IsNext, mode_parameters};
+    ghost use Rattle.b3.specs.Parts.{IsNextInRow, mode_parameters};
     ghost use Rattle.b3.specs.Values.{IsValueOf, value_first, value_len};
     ghost use Rattle.b3.specs.inside.Rows.{HoldsRow, row_parameters, row_first, row_count, row_closed, row_open};
 
@@ -151,7 +151,7 @@ impl Row {
     /// ends, where the row's last part has not a power of two of full chunks, or where the bytes of
     /// both can be no part; then nothing changes.
     pub fn push(&mut self, part: PartValue) -> Result<(), NotNext>
-        ensures next { IsOk result ↔ IsNext (row_first self.old) (row_count self.old) (row_open self.old)
+        ensures next { IsOk result ↔ IsNextInRow (row_first self.old) (row_count self.old) (row_open self.old)
             (value_first part) (value_len part) }
         ensures holds { OnOk result ((m x : List ℕ) → HoldsRow self.old m
             → IsValueOf (row_parameters self.old) part x → HoldsRow self.new (m ++ x)) }
@@ -171,7 +171,7 @@ impl Row {
 
     // Whether `part` comes next.
     fn is_next(&self, part: &PartValue) -> bool
-        ensures { IsTrue result ↔ IsNext (row_first self.now) (row_count self.now) (row_open self.now)
+        ensures { IsTrue result ↔ IsNextInRow (row_first self.now) (row_count self.now) (row_open self.now)
             (value_first part.now) (value_len part.now) }
     {
         if CHUNK_LEN as u64 * part.first_chunk
@@ -184,7 +184,7 @@ impl Row {
 
     // Closes the last part, since another one follows it.
     fn close(&mut self, part: &PartValue)
-        requires { IsNext (row_first self.old) (row_count self.old) (row_open self.old)
+        requires { IsNextInRow (row_first self.old) (row_count self.old) (row_open self.old)
             (value_first part.now) (value_len part.now) }
         ensures holds { (m x : List ℕ) → HoldsRow self.old m
             → IsValueOf (row_parameters self.old) part.now x → HoldsRow self.new (m ++ x) }

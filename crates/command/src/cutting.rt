@@ -97,7 +97,7 @@ fn part_of_feed<'n, F: Feed>(
         (λ bytes. F.remaining feed.new ≡ Some (behind_chunks place.chunks bytes))) }
     ensures memory { IsErrOf result Fault.OutOfMemory → ⊥ }
 {
-    let bytes = bytes_of(place.chunks);
+    let bytes = chunk_bytes(place.chunks);
     match part_of(Mode::Hash, place.first, room, bytes, feed, run) {
         Ok(Some(part)) => Ok(part),
         Ok(None) => Err(Fault::NoBytes(name)),
@@ -118,7 +118,7 @@ fn unmade(fault: SourceFault, end: u64, name: &str) -> Fault<'_>
 }
 
 // How many bytes so many chunks have, where that is a number: what is longer is too long.
-fn bytes_of(chunks: Option<u64>) -> Option<u64>
+fn chunk_bytes(chunks: Option<u64>) -> Option<u64>
     ensures { MatchOption chunks (result ≡ None) (λ n. SomeIff result (1024 * n < 2 ^ 64) (1024 * n)) }
 {
     1024_u64.checked_mul(chunks?)

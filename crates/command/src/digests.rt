@@ -6,7 +6,7 @@ ghost use Rattle.std.specs.List.{sum_by};
 ghost use Rattle.b3.specs.Modes.{hash_root};
 ghost use Rattle.b3.specs.inside.Output.{output_root};
 ghost use Rattle.source.specs.Counts.{count_after};
-ghost use Rattle.source.specs.Digest.{IsInRange, digest, input_limit, tag_len};
+ghost use Rattle.source.specs.Digest.{IsInRange, digest, input_limit, digest_len};
 ghost use Rattle.sumlist.specs.Entry.{Fits};
 ghost use Rattle.sumlist.specs.Tagged.{tagged, tagged_len};
 ghost use Rattle.task.specs.inside.Possible.{HasDigest, IsPartSize};
@@ -221,7 +221,7 @@ fn plain_digest<'n, F: Feed>(alg: Alg, name: &'n str, feed: &mut F) -> Result<Ma
     ensures made { IfSome (F.remaining feed.old) (λ bytes. Reads (input_limit alg)
         (λ m made. made_bytes made ≡ digest alg m) name.entry.now (Some bytes) result) }
     ensures has { IfOk result HasBytes }
-    ensures sized { IfOk result (λ made. made_len made ≡ tag_len alg) }
+    ensures sized { IfOk result (λ made. made_len made ≡ digest_len alg) }
     ensures counted { F.failure_count feed.new
         ≡ count_after (F.failure_count feed.old) (failed true (Some []) result).input }
     ensures gave { Leaves true result (F.remaining feed.old) (F.remaining feed.new) }
@@ -293,8 +293,8 @@ fn write_tagged_line<'n, W: Sink>(
     out: &mut W,
 ) -> Result<(), Fault<'n>>
     requires range { IsInRange alg }
-    requires length { length tag ≡ tag_len alg }
-    requires fits { Fits (2 * tag_len alg) name.now }
+    requires length { length tag ≡ digest_len alg }
+    requires fits { Fits (2 * digest_len alg) name.now }
     requires tagged { tagged_len alg name.now ≤ 65536 }
     ensures { PrintsListed result (W.shown out.old) (W.shown out.new)
         (tagged (record { name = name.entry.now; alg = alg; tag = tag })) }

@@ -24,7 +24,7 @@ use crate::fault::{Fault, write_of};
 use crate::session::{Session, Streams, open_file};
 use crate::visible::write_visible;
 use source::{Feed, Sink, WriteFailed, write_all};
-use sumlist::{CheckFault, Kind, ListForm, Summary, Tree, check_list, write_summary};
+use sumlist::{CheckFault, Kind, ListRules, Summary, Tree, check_list, write_summary};
 
 impl<'i, 't, 'o, L: Feed, T: Tree, W: Sink> Session<'i, 't, 'o, L, T, W> {
     /// Prints the report of each list, and goes on with the next after a list that can't be read to its
@@ -54,8 +54,8 @@ impl<'i, 't, 'o, L: Feed, T: Tree, W: Sink> Session<'i, 't, 'o, L, T, W> {
         let are_named = lists.len() > 1;
         let mut status: u8 = 0;
         for name in lists {
-            let form = form_of(kind, are_named, name);
-            status = status.max(self.print_report(form, is_summed, name, err)?);
+            let rules = rules_of(kind, are_named, name);
+            status = status.max(self.print_report(rules, is_summed, name, err)?);
         }
         Ok(status)
     }
@@ -64,12 +64,12 @@ impl<'i, 't, 'o, L: Feed, T: Tree, W: Sink> Session<'i, 't, 'o, L, T, W> {
     // either.
     fn print_report<'f, E: Sink>(
         &mut self,
-        form: ListForm<'_>,
+        rules: ListRules<'_>,
         is_summed: bool,
         name: &str,
         err: &mut E,
     ) -> Result<u8, Fault<'f>>
-        ensures report { PrintsReport is_summed form.entry.kind (name_in form.entry) name.entry.now result
+        ensures report { PrintsReport is_summed rules.entry.kind (name_in rules.entry) name.entry.now result
             (⟦<Self as Streams>⟧.seen self.old) (⟦<Self as Streams>⟧.seen self.new)
             (E.shown err.old) (E.shown err.new) }
         ensures opens { IfTold (⟦<Self as Streams>⟧.seen self.old) (λ bytes files. OpensAtMost
@@ -77,7 +77,7 @@ impl<'i, 't, 'o, L: Feed, T: Tree, W: Sink> Session<'i, 't, 'o, L, T, W> {
             (⟦<Self as Streams>⟧.seen self.old) (⟦<Self as Streams>⟧.seen self.new)) }
         ensures same { SameStreams self.old self.new }
     {
-        match self.check_named(form, is_summed, name, err) {
+        match self.check_named(rules, is_summed, name, err) {
             Ok(status) => Ok(status),
             Err(fault) => settle(err, fault),
         }
@@ -86,12 +86,12 @@ impl<'i, 't, 'o, L: Feed, T: Tree, W: Sink> Session<'i, 't, 'o, L, T, W> {
     // Checks the list of this name.
     fn check_named<'n, E: Sink>(
         &mut self,
-        form: ListForm<'_>,
+        rules: ListRules<'_>,
         is_summed: bool,
         name: &'n str,
         err: &mut E,
     ) -> Result<u8, Fault<'n>>
-        ensures run { DoesRun (λ bytes files. ListRuns is_summed files form.entry.kind (name_in form.entry)
+        ensures run { DoesRun (λ bytes files. ListRuns is_summed files rules.entry.kind (name_in rules.entry)
             name.entry.now (content_of name.entry.now bytes files))
             (λ notes. TellsAll (E.shown err.old) (E.shown err.new) notes)
             result (⟦<Self as Streams>⟧.seen self.old) (⟦<Self as Streams>⟧.seen self.new) }
@@ -104,7 +104,7 @@ impl<'i, 't, 'o, L: Feed, T: Tree, W: Sink> Session<'i, 't, 'o, L, T, W> {
         ensures same { SameStreams self.old self.new }
     {
         if name == "-" {
-            return self.check_input(form, is_summed, name, err);
+            return self.check_input(rules, is_summed, name, err);
         }
         let mut list = open_file(name, 0, self.tree)?;
         let mut listed = Session {
@@ -113,7 +113,7 @@ impl<'i, 't, 'o, L: Feed, T: Tree, W: Sink> Session<'i, 't, 'o, L, T, W> {
             tree: self.tree,
             out: self.out,
         };
-        let answer = listed.check_input(form, is_summed, name, err);
+        let answer = listed.check_input(rules, is_summed, name, err);
         self.tree.close(list);
         answer
     }
@@ -121,13 +121,13 @@ impl<'i, 't, 'o, L: Feed, T: Tree, W: Sink> Session<'i, 't, 'o, L, T, W> {
     // Checks the list of this name, which is the session's input.
     fn check_input<'n, E: Sink>(
         &mut self,
-        form: ListForm<'_>,
+        rules: ListRules<'_>,
         is_summed: bool,
         name: &'n str,
         err: &mut E,
     ) -> Result<u8, Fault<'n>>
         ensures list { IfTold (⟦<Self as Streams>⟧.seen self.old) (λ bytes files. ListTaken
-            (ListRuns is_summed files form.entry.kind (name_in form.entry) name.entry.now (Some bytes))
+            (ListRuns is_summed files rules.entry.kind (name_in rules.entry) name.entry.now (Some bytes))
             name.entry.now bytes result
             (W.shown self.old.out.now) (W.shown self.new.out.now) (E.shown err.old) (E.shown err.new)
             (T.failure_count self.old.tree.now) (T.failure_count self.new.tree.now)) }
@@ -139,20 +139,20 @@ impl<'i, 't, 'o, L: Feed, T: Tree, W: Sink> Session<'i, 't, 'o, L, T, W> {
             (opens_from lines (Some bytes)) (⟦<Self as Streams>⟧.seen self.old) (⟦<Self as Streams>⟧.seen self.new)) }
         ensures same { SameStreams self.old self.new }
     {
-        let answer = check_list(self.alloc, self.input, form, self.tree, self.out);
-        note(form.name, is_summed, &answer, err);
+        let answer = check_list(self.alloc, self.input, rules, self.tree, self.out);
+        note(rules.name, is_summed, &answer, err);
         hint(name, &answer, err);
         status_of(answer, name)
     }
 }
 
 // How a list of this name is read: its report tells the name where there are several lists.
-fn form_of(kind: Option<Kind>, are_named: bool, name: &str) -> ListForm<'_>
+fn rules_of(kind: Option<Kind>, are_named: bool, name: &str) -> ListRules<'_>
     ensures kind { result.kind ≡ kind }
     ensures name { name_in result ≡ (if are_named then Some name.now else None) }
 {
     let name = if are_named { Some(name) } else { None };
-    ListForm { kind, name }
+    ListRules { kind, name }
 }
 
 // Tells the numbers of a list on standard error, in one text: what is not taken of it is dropped.

@@ -28,9 +28,9 @@ fn write_char<W: Sink>(character: char, out: &mut W) -> Result<(), WriteFailed>
         '\\' => write_all(out, b"\\\\"),
         '\n' => write_all(out, b"\\n"),
         '\r' => write_all(out, b"\\r"),
-        _ if character.is_control() => write_number("\\x", &[character as u8], "", out),
+        _ if character.is_control() => write_code("\\x", &[character as u8], "", out),
         _ if is_layout(character) => {
-            write_number("\\u{", &(character as u16).to_be_bytes(), "}", out)
+            write_code("\\u{", &(character as u16).to_be_bytes(), "}", out)
         }
         _ => write_all(out, character.encode_utf8(&mut [0; 4]).as_bytes()),
     }
@@ -48,7 +48,7 @@ fn is_layout(character: char) -> bool
 }
 
 // Writes the digits of a number, given by its bytes, between two texts.
-fn write_number<W: Sink>(
+fn write_code<W: Sink>(
     before: &str,
     number: &[u8],
     after: &str,

@@ -1,6 +1,6 @@
 // What the faults of the libraries say, of which no contract speaks.
 
-use partlist::{EndFault, JoinFault, LineFault as PartFault};
+use partlist::{EndFault, JoinFault, PartFault};
 use source::{ReadFailed, SourceFault, WriteFailed};
 use std::alloc::Global;
 use std::fmt::Display;

@@ -10,7 +10,7 @@ ghost use Rattle.partlist.specs.Joined.{AllTell, AreValuesOf, bytes_of};
 ghost use Rattle.sumlist.specs.Lines.{lines};
 
 use b3::Output;
-use partlist::{JoinFault, Joiner, LineFault};
+use partlist::{JoinFault, Joiner, PartFault};
 use source::{Bytes, Feed};
 use std::test::Fail;
 
@@ -63,19 +63,19 @@ fn the_first_wrong_line_is_told(rt: HostRuntime) -> Result<(), Fail> {
             b"\nsums",
             3,
             1000,
-            Err(JoinFault::Line(1, LineFault::NotAPart)),
+            Err(JoinFault::Line(1, PartFault::NotAPart)),
         ),
         (
             &text,
             100,
             380,
-            Err(JoinFault::Line(2, LineFault::NotAPart)),
+            Err(JoinFault::Line(2, PartFault::NotAPart)),
         ),
         (
             &text,
             100,
             200,
-            Err(JoinFault::Line(1, LineFault::Overlaps)),
+            Err(JoinFault::Line(1, PartFault::Overlaps)),
         ),
     ] {
         let told = joiner.add_lines(&mut Bytes::failing(lines, most, place));

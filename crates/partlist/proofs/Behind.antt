@@ -3,7 +3,7 @@ use Rattle.std.proofs.Common.{◌≡◌, ℕ, ◌+◌, ◌*◌, ◌<◌, List, [
 use Rattle.std.proofs.Common.{append_assoc, append-nil, length-append, subst}
 use Rattle.std.proofs.Math.Nat.{zero-mod}
 use Rattle.b3.specs.Modes.{hash_parameters}
-use Rattle.b3.specs.Parts.{IsNext}
+use Rattle.b3.specs.Parts.{IsNextInRow}
 use Rattle.b3.specs.declared.row.PartValue.{PartValue}
 use Rattle.b3.specs.declared.row.Row.{Row}
 use Rattle.b3.specs.Values.{IsValueOf, value_first, value_len}
@@ -63,7 +63,7 @@ row-first row part parameters first count closed last holds place = record {
 
 -- the row with a part more
 pub row-more : (old new : Row) (parts : List PartValue) (part : PartValue) → IsRowOf old parts
-    → IsNext (row_first old) (row_count old) (row_open old) (value_first part) (value_len part)
+    → IsNextInRow (row_first old) (row_count old) (row_open old) (value_first part) (value_len part)
     → ((m x : List ℕ) → HoldsRow old m → IsValueOf (row_parameters old) part x → HoldsRow new (m ++ x))
     → row_count new ≡ row_count old + value_len part → 0 < row_closed new → row_open new ≡ value_len part
     → row_first new ≡ row_first old → row_parameters new ≡ row_parameters old → IsRowOf new (parts ++ part ∷ [])
@@ -89,7 +89,7 @@ row-more old new parts part is next holds count closed last first kept =
 
 -- a part that begins where a row from the first chunk on ends comes next, if what stands before it is whole
 pub next-is : (first n last : ℕ) (part : PartValue) → first ≡ 0 → 1024 * value_first part ≡ n → IsWhole last
-    → IsNext first n last (value_first part) (value_len part)
+    → IsNextInRow first n last (value_first part) (value_len part)
 next-is first n last part begin place whole =
     let limit = part.placed.1 in
     rw begin (omega (arith, place), whole, ((λ none. refl), omega (arith, limit, place), λ p power. zero-mod p))

@@ -6,8 +6,8 @@ use Rattle.b3.specs.Values.{value_first, value_len}
 use Rattle.partlist.specs.Joined.{AllTell, AreInRow, FollowEachOther, IsWhole, IsWrongBehind, TellsPart}
 use Rattle.partlist.specs.Joined.{bytes_of, last_of}
 use Rattle.partlist.specs.Laws.{NoneStops, OneStop}
-use Rattle.partlist.specs.declared.fault.LineFault.{LineFault}
-use Rattle.partlist.specs.declared.fault.LineFault.TheVariants.{NotAPart, BytesMissing, Overlaps, NotWhole}
+use Rattle.partlist.specs.declared.fault.PartFault.{PartFault}
+use Rattle.partlist.specs.declared.fault.PartFault.TheVariants.{NotAPart, BytesMissing, Overlaps, NotWhole}
 use Rattle.partlist.proofs.Parsing.{one_meaning}
 
 bytes_of-append : (xs ys : List PartValue) → bytes_of (xs ++ ys) ≡ bytes_of xs + bytes_of ys
@@ -57,7 +57,7 @@ tell_split (l ∷ before) line after (x ∷ more) t =
     let rest = tell_split before line after more t.1 in
     (x ∷ rest.0, rest.1, rest.2, ap (λ ps. x ∷ ps) rest.3, (t.0, rest.4), rest.5)
 
-fits : (parts : List PartValue) (line : List ℕ) (p : PartValue) (fault : LineFault) → TellsPart line p
+fits : (parts : List PartValue) (line : List ℕ) (p : PartValue) (fault : PartFault) → TellsPart line p
     → 1024 * value_first p ≡ bytes_of parts → IsWhole (last_of 1024 parts) → IsWrongBehind parts line fault → ⊥
 fits parts line p NotAPart tells place whole wrong = wrong p tells
 fits parts line p BytesMissing tells place whole wrong =
@@ -72,7 +72,7 @@ fits parts line p NotWhole tells place whole wrong = wrong.3 whole
 
 -- a line that can't be joined is not among lines that can
 not_among : (parts told more : List PartValue) (before : List (List ℕ)) (line : List ℕ) (after : List (List ℕ))
-    (fault : LineFault) → AllTell before told → IsWrongBehind (parts ++ told) line fault
+    (fault : PartFault) → AllTell before told → IsWrongBehind (parts ++ told) line fault
     → AllTell (before ++ line ∷ after) more → AreInRow (parts ++ more) → ⊥
 not_among parts told more before line after fault tells wrong all row =
     let cut = tell_split before line after more all in
@@ -111,7 +111,7 @@ places (x ∷ xs) (y ∷ ys) l k cs bs e =
     ]
 
 -- of one line one thing is wrong
-one_fault : (a b : List PartValue) (line : List ℕ) (f g : LineFault) → bytes_of a ≡ bytes_of b
+one_fault : (a b : List PartValue) (line : List ℕ) (f g : PartFault) → bytes_of a ≡ bytes_of b
     → IsWrongBehind a line f → IsWrongBehind b line g → f ≡ g
 one_fault a b line NotAPart NotAPart e u v = refl
 one_fault a b line NotAPart BytesMissing e u v = absurd (u v.0 v.1)

@@ -11,24 +11,24 @@ use Rattle.b3.specs.Parts.{IsPlacedAt}
 use Rattle.b3.specs.declared.row.PartValue.{PartValue}
 use Rattle.b3.specs.Values.{value_first, value_len, value_words}
 use Rattle.words.specs.Words.{words}
-use Rattle.partlist.specs.Laws.{OneMeaning}
-use Rattle.partlist.specs.PartLine.{Tells, part_line}
+use Rattle.partlist.specs.Laws.{OnePart}
+use Rattle.partlist.specs.PartLine.{LineTells, part_line}
 use Rattle.partlist.proofs.Spelling.{cut_number_once}
 
-pub first_fits : (line : List ℕ) (first len : ℕ) (value : List ℕ) → Tells line first len value → first < 2 ^ 64
+pub first_fits : (line : List ℕ) (first len : ℕ) (value : List ℕ) → LineTells line first len value → first < 2 ^ 64
 first_fits line first len value t = let bound = t.placed.1 in omega (arith, bound)
 
-pub len_fits : (line : List ℕ) (first len : ℕ) (value : List ℕ) → Tells line first len value → len < 2 ^ 64
+pub len_fits : (line : List ℕ) (first len : ℕ) (value : List ℕ) → LineTells line first len value → len < 2 ^ 64
 len_fits line first len value t = let bound = t.placed.1 in omega (arith, bound)
 
 -- after the head
-pub told_first : (line rest : List ℕ) (first len : ℕ) (value : List ℕ) → Tells line first len value
+pub told_first : (line rest : List ℕ) (first len : ℕ) (value : List ℕ) → LineTells line first len value
     → line ≡ codes "sums-part-1 blake3 " ++ rest
     → rest ≡ decimal first ++ 32 ∷ (decimal len ++ 32 ∷ encode_lower value)
 told_first line rest first len value t e = append_cancel_left (codes "sums-part-1 blake3 ") _ _ (sym e ∙ t.text)
 
 -- after the first number
-pub told_len : (line rest after : List ℕ) (n first len : ℕ) (value : List ℕ) → Tells line first len value
+pub told_len : (line rest after : List ℕ) (n first len : ℕ) (value : List ℕ) → LineTells line first len value
     → line ≡ codes "sums-part-1 blake3 " ++ rest → n < 2 ^ 64 → rest ≡ decimal n ++ 32 ∷ after
     → (n ≡ first) × (after ≡ decimal len ++ 32 ∷ encode_lower value)
 told_len line rest after n first len value t e h f =
@@ -36,7 +36,7 @@ told_len line rest after n first len value t e h f =
     (sym f ∙ told_first line rest first len value t e)
 
 -- after the second
-pub told_value : (line rest after digits : List ℕ) (n k first len : ℕ) (value : List ℕ) → Tells line first len value
+pub told_value : (line rest after digits : List ℕ) (n k first len : ℕ) (value : List ℕ) → LineTells line first len value
     → line ≡ codes "sums-part-1 blake3 " ++ rest → n < 2 ^ 64 → rest ≡ decimal n ++ 32 ∷ after
     → k < 2 ^ 64 → after ≡ decimal k ++ 32 ∷ digits
     → (n ≡ first) × ((k ≡ len) × (digits ≡ encode_lower value))
@@ -45,7 +45,7 @@ told_value line rest after digits n k first len value t e h f i g =
     let cut = cut_number_once k len digits _ i (len_fits line first len value t) (sym g ∙ told.1) in
     (told.0, cut)
 
-moved : (line v : List ℕ) (a b c d : ℕ) → a ≡ b → c ≡ d → Tells line b d v → Tells line a c v
+moved : (line v : List ℕ) (a b c d : ℕ) → a ≡ b → c ≡ d → LineTells line b d v → LineTells line a c v
 moved line v a b c d e f t = rw (e, f) t
 
 -- the part that the numbers and the value of a line make, or none where it cannot stand there
@@ -53,9 +53,9 @@ pub told_part : {E : Type 0} (r : Result PartValue E) (line bytes : List ℕ) (f
     → (IsOk r ↔ IsPlacedAt first len) → IfOk r (λ p. value_first p ≡ first) → IfOk r (λ p. value_len p ≡ len)
     → IfOk r (λ p. value_words p ≡ words 4 8 bytes) → IsBytes bytes → length bytes ≡ 32
     → line ≡ part_line first len bytes
-    → ((f l : ℕ) (v : List ℕ) → Tells line f l v → (first ≡ f) × (len ≡ l))
-    → MatchOption (result_ok r) ((f l : ℕ) (v : List ℕ) → Tells line f l v → ⊥)
-    (λ p. (v : List ℕ) × Tells line (value_first p) (value_len p) v × (value_words p ≡ words 4 8 v))
+    → ((f l : ℕ) (v : List ℕ) → LineTells line f l v → (first ≡ f) × (len ≡ l))
+    → MatchOption (result_ok r) ((f l : ℕ) (v : List ℕ) → LineTells line f l v → ⊥)
+    (λ p. (v : List ℕ) × LineTells line (value_first p) (value_len p) v × (value_words p ≡ words 4 8 v))
 told_part (Ok p) line bytes first len placed f l w are_bytes sized text same = (
   bytes,
   moved line bytes _ _ _ _ f l
@@ -72,7 +72,7 @@ value_once v w p q m n e =
     ∙ decode_sized-encode_lower w 32 n q in
     cc
 
-pub one_meaning : OneMeaning
+pub one_meaning : OnePart
 one_meaning line a b c d v w t u =
     let first = cut_number_once a c _ _ (first_fits line a b v t) (first_fits line c d w u)
     (append_cancel_left (codes "sums-part-1 blake3 ") _ _ (sym t.text ∙ u.text)) in

@@ -21,8 +21,8 @@ use Rattle.source.specs.Pumped.{Gives}
 use Rattle.sumlist.specs.Lines.{HasNo, lines}
 use Rattle.sumlist.proofs.Cutting.{lines-ended, lines-last}
 use Rattle.partlist.specs.Joined.{AllTell, AreInRow, IsWrongBehind, StopsAt, TellsPart}
-use Rattle.partlist.specs.declared.fault.LineFault.{LineFault}
-use Rattle.partlist.specs.declared.fault.LineFault.TheVariants.{NotAPart}
+use Rattle.partlist.specs.declared.fault.PartFault.{PartFault}
+use Rattle.partlist.specs.declared.fault.PartFault.TheVariants.{NotAPart}
 use Rattle.partlist.specs.declared.joining.Joiner.{Joiner}
 use Rattle.partlist.specs.inside.Few.{most_parts}
 use Rattle.partlist.specs.inside.Joiner.{Halts, HasJoined, JoinedBefore, MayBeRowOf, Partway, joined_count}
@@ -137,7 +137,7 @@ Partway-long whole more parts joiner front long p =
     }
 
 -- bytes of the line were held too, or it is too long
-pub Partway-held : (r : Result (Unit {0}) LineFault) (whole xs more : List ℕ) (parts : List PartValue) (joiner : Joiner)
+pub Partway-held : (r : Result (Unit {0}) PartFault) (whole xs more : List ℕ) (parts : List PartValue) (joiner : Joiner)
     (front items : List ℕ) → HasNo 10 xs → OnOk r ((items ≡ front ++ xs) × (length items ≡ length front + length xs))
     → MatchResult r (λ _. length front + length xs ≤ 256)
     (λ fault. (fault ≡ NotAPart) × (256 < length front + length xs))
@@ -151,7 +151,7 @@ Partway-held (Err fault) whole xs more parts joiner front items free held far p 
     (Partway-more whole xs more parts joiner front free p))
 
 -- the line that is held ends: its part is joined, or it is wrong
-pub Partway-line : (r : Result (Unit {0}) LineFault) (whole rest : List ℕ) (parts : List PartValue) (old new : Joiner)
+pub Partway-line : (r : Result (Unit {0}) PartFault) (whole rest : List ℕ) (parts : List PartValue) (old new : Joiner)
     (front more : List ℕ) → Partway whole parts old front rest → lines (front ++ rest) ≡ front ∷ lines more
     → ((all : List PartValue) → HasJoined old all → MatchResult r
     (λ _. (part : PartValue) × TellsPart front part × HasJoined new (all ++ part ∷ []))
@@ -186,7 +186,7 @@ Partway-end whole parts joiner p =
     (p.told, subst (λ ls. AllTell ls p.told) (sym (p.split ∙ append-nil p.before)) p.tells, p.joined)
 
 -- so it is where a last line without LF was held
-pub Partway-last : (r : Result (Unit {0}) LineFault) (whole : List ℕ) (parts : List PartValue) (old new : Joiner)
+pub Partway-last : (r : Result (Unit {0}) PartFault) (whole : List ℕ) (parts : List PartValue) (old new : Joiner)
     (front : List ℕ) → 0 < length front → Partway whole parts old front []
     → ((all : List PartValue) → HasJoined old all → MatchResult r
     (λ _. (part : PartValue) × TellsPart front part × HasJoined new (all ++ part ∷ []))
@@ -200,7 +200,7 @@ Partway-last r whole parts old new front some p joins kept =
     (λ _ h. Partway-end whole parts new h) (λ _ h. h)
 
 -- the line of this number can't be joined
-module _ (text : List ℕ) (parts : List PartValue) (old joiner : Joiner) (fault : LineFault) (number : ℕ)
+module _ (text : List ℕ) (parts : List PartValue) (old joiner : Joiner) (fault : PartFault) (number : ℕ)
     (joined : HasJoined old parts) (halts : Halts text parts joiner fault)
     (is : number ≡ joined_count joiner - joined_count old + 1) where
   halts-place : number ≡ length halts.before + 1
@@ -247,17 +247,17 @@ Coming-start None joiner = tt
 Coming-start (Some text) joiner = (text, refl, λ parts joined. Partway-start text parts joiner joined)
 
 -- a line of the text can't be joined
-abbrev pub Halting : Option (List ℕ) → Joiner → Joiner → LineFault → Type 0
+abbrev pub Halting : Option (List ℕ) → Joiner → Joiner → PartFault → Type 0
 Halting whole old now fault =
     IfSome whole (λ text. (parts : List PartValue) → HasJoined old parts → Halts text parts now fault)
 
-pub Halting-at : (whole : Option (List ℕ)) (old now : Joiner) (fault : LineFault) → Halting whole old now fault
+pub Halting-at : (whole : Option (List ℕ)) (old now : Joiner) (fault : PartFault) → Halting whole old now fault
     → IfSome whole (λ text. (parts : List PartValue) → HasJoined old parts
     → StopsAt text parts (joined_count now - joined_count old + 1) fault)
 Halting-at whole old now fault halting = IfSome_then whole halting (λ text h parts joined.
     Halts-at text parts old now fault _ joined (h parts joined) refl)
 
-pub Halting-before : (whole : Option (List ℕ)) (old now : Joiner) (fault : LineFault) → Halting whole old now fault
+pub Halting-before : (whole : Option (List ℕ)) (old now : Joiner) (fault : PartFault) → Halting whole old now fault
     → IfSome whole (λ text. (parts : List PartValue) → HasJoined old parts
     → JoinedBefore text parts now (joined_count now - joined_count old + 1))
 Halting-before whole old now fault halting = IfSome_then whole halting (λ text h parts joined.
@@ -268,7 +268,7 @@ coming_read : (rest after : Option (List ℕ)) (more piece : List ℕ) → rest 
     → (left : List ℕ) × (after ≡ Some left) × (more ≡ piece ++ left)
 coming_read rest after more piece is given = grind arith
 
-module _ (whole rest after : Option (List ℕ)) (old new now : Joiner) (front piece : List ℕ) (fault : LineFault)
+module _ (whole rest after : Option (List ℕ)) (old new now : Joiner) (front piece : List ℕ) (fault : PartFault)
     (coming : Coming whole rest old new front) (given : Consumes rest after piece) where
   -- a line of the piece that was read is wrong
   pub Coming-wrong : ((text more : List ℕ) (parts : List PartValue) → Partway text parts new front (piece ++ more)

@@ -6,15 +6,15 @@ use Rattle.b3.specs.declared.row.PartValue.{PartValue}
 use Rattle.b3.specs.Values.{IsValueOf, value_first, value_len, value_words}
 use Rattle.words.specs.Words.{words}
 use Rattle.sumlist.specs.Lines.{lines}
-use Rattle.partlist.specs.PartLine.{Tells}
+use Rattle.partlist.specs.PartLine.{LineTells}
 use Rattle.partlist.specs.declared.fault.EndFault.{EndFault}
 use Rattle.partlist.specs.declared.fault.EndFault.TheVariants.{NoParts, Alone, EndsAfter}
-use Rattle.partlist.specs.declared.fault.LineFault.{LineFault}
-use Rattle.partlist.specs.declared.fault.LineFault.TheVariants.{NotAPart, BytesMissing, Overlaps, NotWhole}
+use Rattle.partlist.specs.declared.fault.PartFault.{PartFault}
+use Rattle.partlist.specs.declared.fault.PartFault.TheVariants.{NotAPart, BytesMissing, Overlaps, NotWhole}
 
 -- the line tells this part
 abbrev pub TellsPart : List ℕ → PartValue → Type 0
-TellsPart line part = (value : List ℕ) × Tells line (value_first part) (value_len part) value
+TellsPart line part = (value : List ℕ) × LineTells line (value_first part) (value_len part) value
     × (value_words part ≡ words 4 8 value)
 
 -- each line tells its part
@@ -53,7 +53,7 @@ AreValuesOf (part ∷ parts) m = (x : List ℕ) × (rest : List ℕ) × (m ≡ x
     × IsValueOf hash_parameters part x × AreValuesOf parts rest
 
 -- what is wrong with a line that comes behind these parts
-abbrev pub IsWrongBehind : List PartValue → List ℕ → LineFault → Type 0
+abbrev pub IsWrongBehind : List PartValue → List ℕ → PartFault → Type 0
 IsWrongBehind parts line NotAPart = (part : PartValue) → TellsPart line part → ⊥
 IsWrongBehind parts line BytesMissing = (part : PartValue) × TellsPart line part
     × (bytes_of parts < 1024 * value_first part)
@@ -63,7 +63,7 @@ IsWrongBehind parts line NotWhole = (part : PartValue) × TellsPart line part
     × (1024 * value_first part ≡ bytes_of parts) × (IsWhole (last_of 1024 parts) → ⊥)
 
 -- behind these parts come lines that tell parts, and then the line of this number, with which this is wrong
-pub record StopsAt (text : List ℕ) (parts : List PartValue) (number : ℕ) (fault : LineFault) : Type 0 where
+pub record StopsAt (text : List ℕ) (parts : List PartValue) (number : ℕ) (fault : PartFault) : Type 0 where
   pub before : List (List ℕ)
   pub line : List ℕ
   pub after : List (List ℕ)

@@ -6,13 +6,13 @@ use Rattle.b3.specs.declared.row.PartValue.{PartValue}
 use Rattle.b3.specs.Values.{IsValueOf, value_first}
 use Rattle.sumlist.specs.Lines.{lines}
 use Rattle.partlist.specs.Joined.{AllTell, AreInRow, StopsAt, TellsPart}
-use Rattle.partlist.specs.declared.fault.LineFault.{LineFault}
-use Rattle.partlist.specs.PartLine.{Tells, line_of}
+use Rattle.partlist.specs.declared.fault.PartFault.{PartFault}
+use Rattle.partlist.specs.PartLine.{LineTells, line_of}
 
 -- a line tells one part
-abbrev pub OneMeaning : Type 0
-OneMeaning = (line : List ℕ) (first len first' len' : ℕ) (value value' : List ℕ)
-    → Tells line first len value → Tells line first' len' value'
+abbrev pub OnePart : Type 0
+OnePart = (line : List ℕ) (first len first' len' : ℕ) (value value' : List ℕ)
+    → LineTells line first len value → LineTells line first' len' value'
     → (first ≡ first') × (len ≡ len') × (value ≡ value')
 
 -- the line of bytes that can stand from a chunk on tells the part of these bytes
@@ -23,11 +23,11 @@ TellsBytes = (c : ℕ) (x : List ℕ) → IsPlacedAt c (length x)
 
 -- a text whose lines tell parts that follow does not stop
 abbrev pub NoneStops : Type 0
-NoneStops = (text : List ℕ) (parts more : List PartValue) (number : ℕ) (fault : LineFault)
+NoneStops = (text : List ℕ) (parts more : List PartValue) (number : ℕ) (fault : PartFault)
     → AllTell (lines text) more → AreInRow (parts ++ more) → StopsAt text parts number fault → ⊥
 
 -- a text stops at one line, and for one reason
 abbrev pub OneStop : Type 0
-OneStop = (text : List ℕ) (parts : List PartValue) (number number' : ℕ) (fault fault' : LineFault)
+OneStop = (text : List ℕ) (parts : List PartValue) (number number' : ℕ) (fault fault' : PartFault)
     → StopsAt text parts number fault → StopsAt text parts number' fault'
     → (number ≡ number') × (fault ≡ fault')

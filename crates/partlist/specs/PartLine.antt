@@ -19,7 +19,7 @@ abbrev pub line_of : ℕ → List ℕ → List ℕ
 line_of first m = part_line first (length m) (word_bytes 4 (cv (tree_of hash_parameters first m)))
 
 -- the line tells that so many bytes from this chunk on, which can stand there, have this chaining value
-pub record Tells (line : List ℕ) (first len : ℕ) (value : List ℕ) : Type 0 where
+pub record LineTells (line : List ℕ) (first len : ℕ) (value : List ℕ) : Type 0 where
   pub placed : IsPlacedAt first len
   pub bytes : IsBytes value
   pub sized : length value ≡ 32

@@ -8,7 +8,7 @@ use thiserror::Error;
 
 /// What is wrong with the line of a part.
 #[derive(Clone, Copy, Debug, PartialEq, Eq, Drop, Error)]
-pub enum LineFault {
+pub enum PartFault {
     /// It is not spelt as `write_part` spells a part.
     #[error("not a part")]
     NotAPart,
@@ -31,7 +31,7 @@ pub enum JoinFault {
     Read,
     /// The line of this number, the first being 1, is wrong.
     #[error("line {0}: {1}")]
-    Line(u64, LineFault),
+    Line(u64, PartFault),
 }
 
 impl From<ReadFailed> for JoinFault {

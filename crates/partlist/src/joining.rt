@@ -12,10 +12,10 @@ ghost use Rattle.source.specs.Pumped.{Gives};
 ghost use Rattle.partlist.specs.Joined.{AllTell, AreValuesOf, EndsWrong, IsAsked, IsWrongBehind, TellsPart, bytes_of};
 ghost use Rattle.sumlist.specs.Lines.{HasNo, lines};
 ghost use Rattle.partlist.specs.declared.fault.JoinFault.TheVariants.{Line};
-ghost use Rattle.partlist.specs.declared.fault.LineFault.TheVariants.{NotAPart};
+ghost use Rattle.partlist.specs.declared.fault.PartFault.TheVariants.{NotAPart};
 ghost use Rattle.partlist.specs.inside.Few.{most_parts};
 
-use crate::{EndFault, JoinFault, LineFault, parse_part};
+use crate::{EndFault, JoinFault, PartFault, parse_part};
 use arrayvec::ArrayVec;
 use b3::{Mode, NotNext, Output, PartValue, Row};
 use source::Feed;
@@ -25,7 +25,7 @@ use sumlist::split_at_byte;
 const CHUNK_LEN: u64 = 1024;
 
 // No line of a part is longer.
-const LINE_LEN: usize = 256;
+const PART_LINE_LIMIT: usize = 256;
 
 /// Parts of one message under the mode `Hash`, each of which begins where the one before it ends, from
 /// the first chunk on. It holds at most 54 chaining values, however many parts there were.
@@ -62,7 +62,7 @@ impl Joiner {
     }
 
     /// Joins the part that comes next. A part that does not is refused, and nothing changes.
-    pub fn add(&mut self, part: PartValue) -> Result<(), LineFault>
+    pub fn add(&mut self, part: PartValue) -> Result<(), PartFault>
         ensures added { (parts : List PartValue) → HasJoined self.old parts → MatchResult result
             (λ _. HasJoined self.new (parts ++ part ∷ []))
             (λ fault. (line : List ℕ) → TellsPart line part → IsWrongBehind parts line fault) }
@@ -72,15 +72,15 @@ impl Joiner {
         let start = CHUNK_LEN * part.first_chunk();
         let end = self.count();
         if start > end {
-            return Err(LineFault::BytesMissing);
+            return Err(PartFault::BytesMissing);
         }
         if start < end {
-            return Err(LineFault::Overlaps);
+            return Err(PartFault::Overlaps);
         }
         if let Some(row) = &mut self.row {
             match row.push(part) {
                 Ok(()) => {}
-                Err(NotNext) => return Err(LineFault::NotWhole),
+                Err(NotNext) => return Err(PartFault::NotWhole),
             }
         } else {
             self.row = Some(Row::of(Mode::Hash, part));
@@ -122,7 +122,7 @@ impl Joiner {
     }
 
     // What is wrong with the next line of a feed before which so many parts were joined.
-    fn fault_of_line(&self, start: u64, fault: LineFault) -> JoinFault
+    fn fault_of_line(&self, start: u64, fault: PartFault) -> JoinFault
         requires { start ≤ joined_count self.now }
         ensures { result ≡ Line (joined_count self.now - start + 1) fault }
     {
@@ -133,8 +133,8 @@ impl Joiner {
     fn add_piece(
         &mut self,
         piece: &[u8],
-        held: &mut ArrayVec<u8, LINE_LEN>,
-    ) -> Result<(), LineFault>
+        held: &mut ArrayVec<u8, PART_LINE_LIMIT>,
+    ) -> Result<(), PartFault>
         requires { array_vec_len held.old ≤ 256 }
         ensures bound { OnOk result (array_vec_len held.new ≤ 256) }
         ensures goes { (whole more : List ℕ) (parts : List PartValue)
@@ -154,7 +154,11 @@ impl Joiner {
     }
 
     // Joins the part of the line that ends with these bytes, behind those that are held.
-    fn add_ended(&mut self, end: &[u8], held: &mut ArrayVec<u8, LINE_LEN>) -> Result<(), LineFault>
+    fn add_ended(
+        &mut self,
+        end: &[u8],
+        held: &mut ArrayVec<u8, PART_LINE_LIMIT>,
+    ) -> Result<(), PartFault>
         requires bound { array_vec_len held.old ≤ 256 }
         requires free { HasNo 10 end.now }
         ensures bound { OnOk result (array_vec_len held.new ≤ 256) }
@@ -176,7 +180,7 @@ impl Joiner {
     }
 
     // Joins the part of a last line that has no LF, if there is one.
-    fn add_last(&mut self, line: &[u8]) -> Result<(), LineFault>
+    fn add_last(&mut self, line: &[u8]) -> Result<(), PartFault>
         ensures goes { (whole : List ℕ) (parts : List PartValue) → Partway whole parts self.old line.now []
             → MatchResult result
             (λ _. (more : List PartValue) × AllTell (lines whole) more × HasJoined self.new (parts ++ more))
@@ -190,7 +194,7 @@ impl Joiner {
     }
 
     // Joins the part that the line tells.
-    fn add_line(&mut self, line: &[u8]) -> Result<(), LineFault>
+    fn add_line(&mut self, line: &[u8]) -> Result<(), PartFault>
         ensures added { (parts : List PartValue) → HasJoined self.old parts → MatchResult result
             (λ _. (part : PartValue) × TellsPart line.now part × HasJoined self.new (parts ++ part ∷ []))
             (λ fault. IsWrongBehind parts line.now fault) }
@@ -199,7 +203,7 @@ impl Joiner {
         ensures refused { OnErr result (self.new ≡ self.old) }
     {
         let Some(part) = parse_part(line) else {
-            return Err(LineFault::NotAPart);
+            return Err(PartFault::NotAPart);
         };
         self.add(part)
     }
@@ -228,7 +232,7 @@ impl Joiner {
 }
 
 // Holds these bytes of a line too, if it is not longer than the line of a part then.
-fn hold(bytes: &[u8], held: &mut ArrayVec<u8, LINE_LEN>) -> Result<(), LineFault>
+fn hold(bytes: &[u8], held: &mut ArrayVec<u8, PART_LINE_LIMIT>) -> Result<(), PartFault>
     ensures held { OnOk result ((held.new.items ≡ held.old.items ++ bytes.now)
         × (array_vec_len held.new ≡ array_vec_len held.old + length bytes.now)) }
     ensures fits { MatchResult result (λ _. array_vec_len held.old + length bytes.now ≤ 256)
@@ -236,6 +240,6 @@ fn hold(bytes: &[u8], held: &mut ArrayVec<u8, LINE_LEN>) -> Result<(), LineFault
 {
     match held.try_extend_from_slice(bytes) {
         Ok(()) => Ok(()),
-        Err(_) => Err(LineFault::NotAPart),
+        Err(_) => Err(PartFault::NotAPart),
     }
 }

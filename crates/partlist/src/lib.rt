@@ -1,7 +1,7 @@
 //! Lines that tell parts of a file, which were hashed apart, by their chaining values.
 #![tactic(auto)]
 
-pub use fault::{EndFault, JoinFault, LineFault};
+pub use fault::{EndFault, JoinFault, PartFault};
 pub use joining::Joiner;
 pub use laws::{join_laws, part_line_laws};
 pub use line::{parse_part, write_part};

@@ -6,7 +6,7 @@ ghost use Rattle.hex.specs.Hex.{IsBytes, encode_lower};
 ghost use Rattle.words.specs.Words.{word_bytes, words};
 ghost use Rattle.b3.specs.Values.{value_first, value_len, value_words};
 ghost use Rattle.source.specs.Written.{Writes};
-ghost use Rattle.partlist.specs.PartLine.{Tells, part_line};
+ghost use Rattle.partlist.specs.PartLine.{LineTells, part_line};
 
 use b3::PartValue;
 use itoa::Buffer;
@@ -40,8 +40,8 @@ fn digits_of(part: &PartValue) -> [u8; 64]
 /// spells a part tells none, and neither does one of bytes that cannot stand where it says.
 pub fn parse_part(line: &[u8]) -> Option<PartValue>
     ensures { MatchOption result
-        ((first len : ℕ) (value : List ℕ) → Tells line.now first len value → ⊥)
-        (λ part. (value : List ℕ) × Tells line.now (value_first part) (value_len part) value
+        ((first len : ℕ) (value : List ℕ) → LineTells line.now first len value → ⊥)
+        (λ part. (value : List ℕ) × LineTells line.now (value_first part) (value_len part) value
         × (value_words part ≡ words 4 8 value)) }
 {
     let rest = line.strip_prefix(&HEAD)?;

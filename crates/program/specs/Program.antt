@@ -3,7 +3,7 @@ use Rattle.std.specs.Prelude.{◌⊎◌, ◌≡◌, ℕ, List, [], MatchResult, 
 use Rattle.source.specs.Written.{Done, Failed, Shown}
 use Rattle.sumlist.specs.Report.{Files}
 use Rattle.request.specs.CommandLine.{ErrorKind, Given, IsAmong, IsWrong, OfProgram, Reads, Text, fault_of}
-use Rattle.task.specs.Tasks.{Asked, asked, checks, cuts, derives, hashes, in_file, joins, prints, tags, these, divides}
+use Rattle.task.specs.Tasks.{Asked, asked, checks, prints_part, derives, hashes, in_file, joins, prints_line, tags, these, prints_starts}
 use Rattle.command.specs.Checking.{CheckRuns}
 use Rattle.command.specs.Run.{Counted, Run, Runs, Tells, no_failures, refused_by}
 use Rattle.command.specs.Cutting.{PartRuns, StartsRuns}
@@ -19,10 +19,10 @@ TaskRuns (hashes wanted parts (these names)) files input run =
     HashesAll (digest_line wanted) files names input run
 TaskRuns (hashes wanted parts (in_file list)) files input run =
     HashesListed (digest_line wanted) files list (content_of list input files) run
-TaskRuns (prints requested parts wanted name file) files input run =
+TaskRuns (prints_line requested parts wanted name file) files input run =
     LineRuns wanted (digest_line requested) name file input files run
-TaskRuns (cuts first chunks name) files input run = PartRuns first chunks name files input run
-TaskRuns (divides chunks name) files input run = StartsRuns chunks name files run
+TaskRuns (prints_part first chunks name) files input run = PartRuns first chunks name files input run
+TaskRuns (prints_starts chunks name) files input run = StartsRuns chunks name files run
 TaskRuns (joins stretch bytes name lists) files input run = JoinRuns stretch bytes name lists files input run
 TaskRuns (tags mac is_raw key wanted name) files input run = MacRuns mac is_raw key wanted name files input run
 TaskRuns (derives derived is_raw name) files input run = KdfRuns derived is_raw name files run

@@ -108,11 +108,11 @@ fn run_request<'n, 'i, 't, 'o, L: Feed, T: Tree, W: Sink, E: Sink>(
             lists,
         } => session.print_joined(joining, name, lists.as_slice()),
         Task::Mac {
-            form,
+            tagging,
             key,
             wanted,
             file,
-        } => session.print_tag(form, key, wanted, file),
+        } => session.print_tag(tagging, key, wanted, file),
         Task::Kdf {
             derivation,
             is_raw,

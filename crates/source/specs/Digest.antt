@@ -16,12 +16,12 @@ IsInRange (Blake2s n) = (1 ≤ n) × (n ≤ 32)
 IsInRange _ = ⊤
 
 -- the length of the digest in bytes; BLAKE3's is 32 where no other is asked for (the BLAKE3 paper, 2.6)
-abbrev pub tag_len : Alg → ℕ
-tag_len Sha256 = 32
-tag_len Sha512 = 64
-tag_len (Blake2b n) = n
-tag_len (Blake2s n) = n
-tag_len Blake3 = 32
+abbrev pub digest_len : Alg → ℕ
+digest_len Sha256 = 32
+digest_len Sha512 = 64
+digest_len (Blake2b n) = n
+digest_len (Blake2s n) = n
+digest_len Blake3 = 32
 
 -- the length of a block in bytes (FIPS 180-4, 1; RFC 7693, 2.1; the BLAKE3 paper, 2.1)
 abbrev pub block_len : Alg → ℕ

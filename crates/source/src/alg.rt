@@ -1,7 +1,7 @@
 // Which hash, and its numbers.
 
 ghost use Rattle.std.specs.Prelude.{◌≡◌, ◌≤◌, ◌↔◌, IsTrue};
-ghost use Rattle.source.specs.Digest.{IsInRange, tag_len};
+ghost use Rattle.source.specs.Digest.{IsInRange, digest_len};
 
 use mac::{BlockHash, Sha256Stream, Sha512Stream, hash_laws};
 
@@ -32,7 +32,7 @@ pub enum Alg {
 impl Alg {
     /// The length of its digests in bytes. None is longer than a `Tag`.
     pub fn digest_len(self) -> usize
-        ensures value { result ≡ tag_len self }
+        ensures value { result ≡ digest_len self }
         ensures bound { IsInRange self → result ≤ 64 }
     {
         hash_laws();

@@ -3,7 +3,7 @@
 ghost use Rattle.std.specs.Prelude.{◌≡◌, ◌+◌, ℕ, List, [], length, MatchResult, IfOk};
 ghost use Rattle.b3.specs.Bytes.{slice};
 ghost use Rattle.b3.specs.Modes.{root_of};
-ghost use Rattle.source.specs.Digest.{IsInRange, digest, input_limit, tag_len};
+ghost use Rattle.source.specs.Digest.{IsInRange, digest, input_limit, digest_len};
 ghost use Rattle.source.specs.inside.AnyHash.{parameters_of};
 
 use crate::{Alg, BLAKE3_LEN};
@@ -53,7 +53,7 @@ impl AnyHash {
         ensures digest { (alg : Alg) (m : List ℕ) → ⟦<AnyHash as Absorb>⟧.parameters self ≡ parameters_of alg
             → ⟦<AnyHash as Absorb>⟧.holds self m → result ≡ digest alg m }
         ensures length { (alg : Alg) → ⟦<AnyHash as Absorb>⟧.parameters self ≡ parameters_of alg
-            → length result ≡ tag_len alg }
+            → length result ≡ digest_len alg }
     {
         match self.inner {
             Inner::Sha256(hasher) => hasher.finish(),

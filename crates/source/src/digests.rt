@@ -3,7 +3,7 @@
 ghost use Rattle.std.specs.Prelude.{◌≡◌, ◌<◌, ◌≤◌, ◌++◌, ◌↔◌, ℕ, List, length, IfOk, IfSome, IsErr, IsErrOf, IsOk};
 ghost use Rattle.std.specs.Prelude.{IsOkUnless, OnOk};
 ghost use Rattle.std.specs.Io.KnownBytes.{IsAtEnd};
-ghost use Rattle.source.specs.Digest.{digest, tag_len};
+ghost use Rattle.source.specs.Digest.{digest, digest_len};
 ghost use Rattle.source.specs.Faults.{PumpCounts};
 ghost use Rattle.source.specs.Pumped.{Appended, Gives, IsLongerThan, joined};
 ghost use Rattle.source.specs.inside.AnyHash.{parameters_of};
@@ -19,7 +19,7 @@ pub fn digest_of<F: Feed>(mut hasher: AnyHash, feed: &mut F) -> Result<Tag, Sour
         → ⟦<AnyHash as Absorb>⟧.parameters hasher ≡ parameters_of alg
         → ⟦<AnyHash as Absorb>⟧.holds hasher m → tag ≡ digest alg (m ++ xs))) }
     ensures length { IfOk result (λ tag. (alg : Alg)
-        → ⟦<AnyHash as Absorb>⟧.parameters hasher ≡ parameters_of alg → length tag ≡ tag_len alg) }
+        → ⟦<AnyHash as Absorb>⟧.parameters hasher ≡ parameters_of alg → length tag ≡ digest_len alg) }
     ensures end { OnOk result (IsAtEnd (F.remaining feed.new)) }
 
     // The refusals.
@@ -41,7 +41,7 @@ pub fn pieces(mut hasher: AnyHash, pieces: &[&[u8]]) -> Result<Tag, SourceFault>
         → ⟦<AnyHash as Absorb>⟧.parameters hasher ≡ parameters_of alg
         → ⟦<AnyHash as Absorb>⟧.holds hasher m → tag ≡ digest alg (m ++ joined pieces.now)) }
     ensures length { IfOk result (λ tag. (alg : Alg)
-        → ⟦<AnyHash as Absorb>⟧.parameters hasher ≡ parameters_of alg → length tag ≡ tag_len alg) }
+        → ⟦<AnyHash as Absorb>⟧.parameters hasher ≡ parameters_of alg → length tag ≡ digest_len alg) }
 
     // The only refusal.
     ensures too_long { IsErr result

@@ -3,7 +3,7 @@ pub use Rattle.hex.proofs.HexLemmas.{decode_of-encode_lower, decode_of-ok, lengt
 pub use Rattle.hex.specs.Hex.{IsBytes, decode_of, encode_lower, lower_digits}
 pub use Rattle.source.proofs.Writing.{Writing}
 pub use Rattle.source.specs.Counts.{count_after}
-pub use Rattle.source.specs.Digest.{IsInRange, digest, input_limit, tag_len}
+pub use Rattle.source.specs.Digest.{IsInRange, digest, input_limit, digest_len}
 pub use Rattle.source.specs.Written.{AppendsPrefix}
 pub use Rattle.source.specs.declared.alg.Alg.{Alg}
 pub use Rattle.std.proofs.Common.{Bool, Contains, Decides, Err, IfSome, IsErr, IsUtf8, List, None, Ok}
@@ -32,7 +32,7 @@ pub use Rattle.sumlist.specs.Report.{AllAllowed, Allowed, Files, IsAllowed, Outc
 pub use Rattle.sumlist.specs.Report.{told, unreadable_count, untagged, with_line}
 pub use Rattle.sumlist.specs.Tagged.{IsLabel, Labelled, label_of, tagged, tagged_len}
 pub use Rattle.sumlist.specs.declared.checking.CheckFault.{CheckFault}
-pub use Rattle.sumlist.specs.declared.checking.ListForm.{ListForm}
+pub use Rattle.sumlist.specs.declared.checking.ListRules.{ListRules}
 pub use Rattle.sumlist.specs.declared.kind.Kind.{Kind}
 pub use Rattle.sumlist.specs.declared.summary.Mark.{Mark}
 pub use Rattle.sumlist.specs.declared.summary.Summary.{Summary}

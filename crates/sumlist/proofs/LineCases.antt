@@ -1,6 +1,6 @@
 -- Each line is skipped, spells one entry, or is malformed: every part of the meaning of a line can be decided.
 use Rattle.sumlist.proofs.Common.{◌*◌, ◌+◌, ◌∙◌, ◌≡◌, ◌⊎◌, Alg, Fits, HasForm, IsBlank, IsEntry, IsInRange, IsLine}
-use Rattle.sumlist.proofs.Common.{IsMalformed, IsUntagged, IsUtf8, Kind, Says, tag_len}
+use Rattle.sumlist.proofs.Common.{IsMalformed, IsUntagged, IsUtf8, Kind, Says, digest_len}
 use Rattle.sumlist.proofs.Common.{List, Listing, escaped}
 use Rattle.sumlist.proofs.Common.{None, Option, Some, Spells, [], ap, arith, bytes_eq-Decides, core, false}
 use Rattle.sumlist.proofs.Common.{false≢true, inl, inr}
@@ -85,8 +85,8 @@ form_of_any : (text : List ℕ) (kind : Kind) (a : Alg) (tag body : List ℕ) �
     → HasForm text (Some kind) a tag body
     → (b : Alg) × IsSized b tag × HasForm text (Some Blake2b) b tag body
 form_of_any text kind a tag body sized (inl p) =
-    let r : IsInRange (blake2b (tag_len a)) = grind arith in (
-      blake2b (tag_len a),
+    let r : IsInRange (blake2b (digest_len a)) = grind arith in (
+      blake2b (digest_len a),
       (r, sized.1),
       inl record {
         digits = p.digits;

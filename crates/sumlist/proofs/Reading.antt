@@ -4,7 +4,7 @@ use Rattle.sumlist.proofs.Common.{IsCut, IsInRange, IsLabel, IsMark, Kind, Label
 use Rattle.sumlist.proofs.Common.{Parts, Some, [], ap}
 use Rattle.sumlist.proofs.Common.{arith, bytes_eq-Decides, closing, codes, cond, decimal, decode_of}
 use Rattle.sumlist.proofs.Common.{drop, false, false≢true, inl, inr, length, length-append, nat_tests, refl, subst}
-use Rattle.sumlist.proofs.Common.{sym, tag_len, take, take-append-drop, take-append_seam, text, true, ℕ}
+use Rattle.sumlist.proofs.Common.{sym, digest_len, take, take-append-drop, take-append_seam, text, true, ℕ}
 use Rattle.std.proofs.Common.{◌==◌, suc, zero}
 use Rattle.std.proofs.Math.Seq.{drop-append-add}
 use Rattle.std.proofs.lemmas.Bool.Decides.{Decides-eqb, Decides-or}
@@ -14,11 +14,11 @@ use Rattle.std.proofs.lemmas.Option.{none-some, option_and_then_some, same_Some}
 use Rattle.std.specs.Option.{option_and_then, option_or}
 use Rattle.source.specs.declared.alg.Alg.TheVariants.{Blake2b, Blake2s}
 use Rattle.source.specs.declared.alg.TheConstants.{BLAKE2B_LEN, BLAKE2S_LEN}
-use Rattle.sumlist.specs.Kinds.{kind_of}
+use Rattle.sumlist.specs.Kinds.{alg_kind}
 use Rattle.sumlist.specs.Lines.{HasNo}
-use Rattle.sumlist.specs.inside.Labels.{IsNumbered, NotEnded, NotNamed, alg_of}
-use Rattle.sumlist.specs.inside.Reading.{Form, alg_labelled, alg_told, alg_whole, bytes_told, cut}
-use Rattle.sumlist.specs.inside.Reading.{end_cut, form_at, form_of, is_mark, with_tag}
+use Rattle.sumlist.specs.inside.Labels.{IsNumbered, NotEnded, NotNamed, sized_alg}
+use Rattle.sumlist.specs.inside.Reading.{TextParts, alg_labelled, alg_told, alg_whole, bytes_told, cut}
+use Rattle.sumlist.specs.inside.Reading.{end_cut, told_at, told_by, is_mark, with_tag}
 use Rattle.sumlist.proofs.Words.{NotSpace, by_label, digits_word, label_word, no_space}
 
 -- what is told by a test
@@ -46,13 +46,13 @@ cut-some (c ∷ text) p e = grind (arith, nat_tests, cut-some text)
 
 -- ---- the number of digits
 
-alg_of-some : (kind : Option Kind) (n : ℕ) (a : Alg) → alg_of kind n ≡ Some a
-    → (kind ≡ Some (kind_of a)) × IsInRange a × (n ≡ 2 * tag_len a)
-alg_of-some kind n a e = grind (arith, nat_tests)
+sized_alg-some : (kind : Option Kind) (n : ℕ) (a : Alg) → sized_alg kind n ≡ Some a
+    → (kind ≡ Some (alg_kind a)) × IsInRange a × (n ≡ 2 * digest_len a)
+sized_alg-some kind n a e = grind (arith, nat_tests)
 
-alg_of-is : (k : Option Kind) (n : ℕ) (a : Alg) → k ≡ Some (kind_of a) → IsInRange a → n ≡ 2 * tag_len a
-    → alg_of k n ≡ Some a
-alg_of-is k n a is r e = rw (is, e) (grind (arith, nat_tests))
+sized_alg-is : (k : Option Kind) (n : ℕ) (a : Alg) → k ≡ Some (alg_kind a) → IsInRange a → n ≡ 2 * digest_len a
+    → sized_alg k n ≡ Some a
+sized_alg-is k n a is r e = rw (is, e) (grind (arith, nat_tests))
 
 -- ---- the label
 
@@ -129,52 +129,52 @@ mark-Decides : (mark : ℕ) → Decides (is_mark mark) (IsMark mark)
 mark-Decides mark = Decides-or _ _ (Decides-eqb mark 32) (Decides-eqb mark 42)
 
 pub plain_form : (kind : Option Kind) (ds : List ℕ) (c : ℕ) (a : Alg) (tag body : List ℕ) → IsMark c
-    → kind ≡ Some (kind_of a) → IsInRange a → length ds ≡ 2 * tag_len a → decode_of ds ≡ Ok tag
+    → kind ≡ Some (alg_kind a) → IsInRange a → length ds ≡ 2 * digest_len a → decode_of ds ≡ Ok tag
     → Parts (ds ++ 32 ∷ c ∷ body) kind a tag body
 plain_form kind ds c a tag body m k r s t =
     record { digits = ds; mark = c; whole = refl; marked = m; kind_is = k; range = r; sized = s; tag_is = t }
 
 pub labelled_form : (l ds : List ℕ) (a : Alg) (tag body : List ℕ) → IsInRange a → IsLabel l a
-    → length ds ≡ 2 * tag_len a → decode_of ds ≡ Ok tag → Labelled (l ++ 32 ∷ 40 ∷ (body ++ closing ds)) a tag body
+    → length ds ≡ 2 * digest_len a → decode_of ds ≡ Ok tag → Labelled (l ++ 32 ∷ 40 ∷ (body ++ closing ds)) a tag body
 labelled_form l ds a tag body r n s t =
     record { label = l; digits = ds; whole = refl; range = r; names = n; sized = s; tag_is = t }
 
 module _ (kind : Option Kind) where
-  with_tag-some : (text : List ℕ) (a : Alg) (digits body : List ℕ) (f : Form)
+  with_tag-some : (text : List ℕ) (a : Alg) (digits body : List ℕ) (f : TextParts)
       → ((t : List ℕ) → decode_of digits ≡ Ok t → HasForm text kind a t body) → with_tag a digits body ≡ Some f
       → HasForm text kind f.0 f.1 f.2
   with_tag-some text a digits body f has e = grind arith
 
-  form_at-some : (word rest : List ℕ) (f : Form) → form_at kind word rest ≡ Some f
+  told_at-some : (word rest : List ℕ) (f : TextParts) → told_at kind word rest ≡ Some f
       → HasForm (word ++ 32 ∷ rest) kind f.0 f.1 f.2
-  form_at-some word [] f e = absurd (none-some f e)
-  form_at-some word (mark ∷ rest) f e =
+  told_at-some word [] f e = absurd (none-some f e)
+  told_at-some word (mark ∷ rest) f e =
       by_test (is_mark mark) (mark-Decides mark) _ _ _ (λ marked is.
-      option_and_then_some _ (alg_of kind (length word)) f is (λ a named.
-      let n = alg_of-some kind (length word) a named in
+      option_and_then_some _ (sized_alg kind (length word)) f is (λ a named.
+      let n = sized_alg-some kind (length word) a named in
       with_tag-some _ a word rest f (λ t ok. inl (plain_form kind word mark a t rest marked n.0 n.1 n.2 ok))))
       (λ unmarked. by_test (mark == 40) (Decides-eqb mark 40) _ _ _ (λ bracket is.
       option_and_then_some _ (alg_labelled word) f is (λ a named more.
-      option_and_then_some _ (end_cut (2 * tag_len a) rest) f more (λ p ends.
+      option_and_then_some _ (end_cut (2 * digest_len a) rest) f more (λ p ends.
       let n = alg_labelled-some word a named in
-      let d = end_cut-some rest (2 * tag_len a) p ends in
+      let d = end_cut-some rest (2 * digest_len a) p ends in
       with_tag-some _ a p.1 p.0 f
       (λ t ok. rw (bracket, d.0) (inr (labelled_form word p.1 a t p.0 n.0 n.1 d.1 ok))))))
       (λ neither is. absurd (none-some f is))) e
 
-  pub form_of-some : (text : List ℕ) (f : Form) → form_of kind text ≡ Some f → HasForm text kind f.0 f.1 f.2
-  form_of-some text f e = option_and_then_some _ (cut text) f e (λ p is found.
-      subst (λ t. HasForm t kind f.0 f.1 f.2) (sym (cut-some text p is)) (form_at-some p.0 p.1 f found))
+  pub told_by-some : (text : List ℕ) (f : TextParts) → told_by kind text ≡ Some f → HasForm text kind f.0 f.1 f.2
+  told_by-some text f e = option_and_then_some _ (cut text) f e (λ p is found.
+      subst (λ t. HasForm t kind f.0 f.1 f.2) (sym (cut-some text p is)) (told_at-some p.0 p.1 f found))
 
   -- a text that is cut at its first space
-  pub form_of-cut : (text word rest : List ℕ) → IsCut 32 text word rest → form_of kind text ≡ form_at kind word rest
-  form_of-cut text word rest c = rw (c.0, cut-at word rest c.1) refl
+  pub told_by-cut : (text word rest : List ℕ) → IsCut 32 text word rest → told_by kind text ≡ told_at kind word rest
+  told_by-cut text word rest c = rw (c.0, cut-at word rest c.1) refl
 
-  pub form_of-is : (text : List ℕ) (a : Alg) (t x : List ℕ) → HasForm text kind a t x
-      → form_of kind text ≡ Some (a, t, x)
-  form_of-is text a t x (inl p) =
-      form_of-cut text p.digits (p.mark ∷ x) (p.whole, no_space _ (digits_word p.digits t p.tag_is))
-      ∙ rw ((mark-Decides _).1 p.marked, alg_of-is kind (length p.digits) a p.kind_is p.range p.sized, p.tag_is) refl
-  form_of-is text a t x (inr q) =
-      form_of-cut text q.label _ (q.whole, no_space _ (label_word q.label a q.range q.names))
+  pub told_by-is : (text : List ℕ) (a : Alg) (t x : List ℕ) → HasForm text kind a t x
+      → told_by kind text ≡ Some (a, t, x)
+  told_by-is text a t x (inl p) =
+      told_by-cut text p.digits (p.mark ∷ x) (p.whole, no_space _ (digits_word p.digits t p.tag_is))
+      ∙ rw ((mark-Decides _).1 p.marked, sized_alg-is kind (length p.digits) a p.kind_is p.range p.sized, p.tag_is) refl
+  told_by-is text a t x (inr q) =
+      told_by-cut text q.label _ (q.whole, no_space _ (label_word q.label a q.range q.names))
       ∙ rw (alg_labelled-is q.label a q.range q.names, end_cut-is _ _ x q.digits (refl, q.sized), q.tag_is) refl

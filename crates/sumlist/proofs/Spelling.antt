@@ -11,7 +11,7 @@ use Rattle.std.proofs.lemmas.List.Elements.{All-contains, All-head}
 use Rattle.std.proofs.lemmas.List.Folds.{list_all-append}
 use Rattle.std.proofs.lemmas.List.Sums.{AllPass-from_list_all, list_all-from_AllPass}
 use Rattle.sumlist.specs.Entry.{written_line}
-use Rattle.sumlist.specs.Kinds.{kind_of}
+use Rattle.sumlist.specs.Kinds.{alg_kind}
 use Rattle.sumlist.specs.Tagged.{tagged_line}
 use Rattle.sumlist.proofs.EscapedNames.{escaped-plain}
 use Rattle.sumlist.proofs.Reading.{labelled_form, plain_form}
@@ -73,13 +73,13 @@ module _ (e : Listing) (kind : Option Kind) (word : List ℕ) (more : List ℕ �
 
 -- ---- the plain line
 
-pub written_spells : (e : Listing) → IsEntry e → Spells (written_line e) (Some (kind_of e.alg)) e
+pub written_spells : (e : Listing) → IsEntry e → Spells (written_line e) (Some (alg_kind e.alg)) e
 written_spells e i =
     let digits = encode_lower e.tag in
     let value = decode_of-encode_lower e.tag i.bytes in
     let word = digits_word digits e.tag value in
     let sized = length-encode_with lower_digits e.tag ∙ ap (λ n. 2 * n) i.sized.1 in
-    spells_by e (Some (kind_of e.alg)) digits (λ body. 32 ∷ body)
+    spells_by e (Some (alg_kind e.alg)) digits (λ body. 32 ∷ body)
     (λ body. inl (plain_form _ digits 32 e.alg e.tag body (inl refl) refl i.sized.0 sized value))
     (needs_escape e.name) refl i word (simp (list_all-append, word_inner digits word, escaped_inner e.name))
     (omega (arith, length-append {A = ℕ}, sized, i.sized.1, i.fits.within))

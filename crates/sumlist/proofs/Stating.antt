@@ -2,25 +2,25 @@
 use Rattle.sumlist.proofs.Common.{◌++◌, ◌∙◌, ◌∷◌, ◌≡◌, ◌≤◌, Alg, Bool, HasForm, IsBytes, IsInRange, Kind, List}
 use Rattle.sumlist.proofs.Common.{Listing, Option, Some, Says, [], ap, arith, closing, core, decode_of-ok}
 use Rattle.sumlist.proofs.Common.{false, inl, inr, length, length-append, name_of, nat_tests, refl, subst}
-use Rattle.sumlist.proofs.Common.{sym, tag_len, text, true, ℕ}
+use Rattle.sumlist.proofs.Common.{sym, digest_len, text, true, ℕ}
 use Rattle.std.proofs.lemmas.List.Elements.{All-head}
 use Rattle.std.proofs.lemmas.Option.{option_and_then_some, same_Some}
-use Rattle.sumlist.specs.inside.Reading.{Form, entry_of, form_of, is_slashed, stated, unslashed}
-use Rattle.sumlist.proofs.Reading.{form_of-is, form_of-some}
+use Rattle.sumlist.specs.inside.Reading.{TextParts, entry_of, told_by, is_slashed, stated, unslashed}
+use Rattle.sumlist.proofs.Reading.{told_by-is, told_by-some}
 use Rattle.sumlist.proofs.Unescaping.{spelled-unescaped, unescaped-spelled}
 use Rattle.sumlist.proofs.Words.{InWord, IsWord, digits_word, label_word}
 
 -- ---- the tag
 
 form_fit : (text : List ℕ) (kind : Option Kind) (a : Alg) (t x : List ℕ) → HasForm text kind a t x
-    → IsInRange a × (length t ≡ tag_len a) × IsBytes t
+    → IsInRange a × (length t ≡ digest_len a) × IsBytes t
 form_fit text kind a t x h = elim h [
   | inl p ↦ let d = decode_of-ok p.digits t p.tag_is in (p.range, omega (arith, p.sized, d.2), d.3)
   | inr p ↦ let d = decode_of-ok p.digits t p.tag_is in (p.range, omega (arith, p.sized, d.2), d.3)
 ]
 
 pub stated_fit : (core : List ℕ) (kind : Option Kind) (e : Listing) → Says core kind e
-    → IsInRange e.alg × (length e.tag ≡ tag_len e.alg) × IsBytes e.tag
+    → IsInRange e.alg × (length e.tag ≡ digest_len e.alg) × IsBytes e.tag
 stated_fit core kind e s = elim s [ inl p ↦ form_fit _ kind _ _ _ p | inr p ↦ form_fit _ kind _ _ _ p.3 ]
 
 pub form_len : {text : List ℕ} {kind : Option Kind} {a : Alg} {t x : List ℕ} → HasForm text kind a t x
@@ -32,7 +32,7 @@ form_len h = grind (arith, length-append {A = ℕ})
 abbrev pub listing : List ℕ → Alg → List ℕ → Listing
 listing name alg tag = record { name = name; alg = alg; tag = tag }
 
-pub entry_of-name : (b : Bool) (f : Form) (e : Listing) → entry_of b f ≡ Some e
+pub entry_of-name : (b : Bool) (f : TextParts) (e : Listing) → entry_of b f ≡ Some e
     → (name_of b f.2 ≡ Some e.name) × (f.1 ≡ e.tag)
 entry_of-name b f e is = grind arith
 
@@ -53,9 +53,9 @@ module _ (kind : Option Kind) where
   pub stated-is : (core : List ℕ) (e : Listing) → Says core kind e → stated kind core ≡ Some e
   stated-is core e (inl p) =
       let plain = not_slashed core e.alg e.tag e.name p in
-      rw (plain, unslashed-plain core plain, form_of-is kind core e.alg e.tag e.name p) refl
+      rw (plain, unslashed-plain core plain, told_by-is kind core e.alg e.tag e.name p) refl
   stated-is core e (inr q) = ap (stated kind) q.2
-      ∙ rw (form_of-is kind q.0 e.alg e.tag q.1 q.3, unescaped-spelled q.1 e.name q.4) refl
+      ∙ rw (told_by-is kind q.0 e.alg e.tag q.1 q.3, unescaped-spelled q.1 e.name q.4) refl
 
   stated_by : (core : List ℕ) (a : Alg) (t x name : List ℕ) → HasForm (unslashed core) kind a t x → (b : Bool)
       → is_slashed core ≡ b → name_of b x ≡ Some name → Says core kind (listing name a t)
@@ -64,12 +64,12 @@ module _ (kind : Option Kind) where
       inl (rw (same_Some x name n) at (rw (unslashed-plain core is) at p))
 
   pub stated-some : (core : List ℕ) (e : Listing) → stated kind core ≡ Some e → Says core kind e
-  stated-some core e s = option_and_then_some _ (form_of kind (unslashed core)) e s (λ f form more.
+  stated-some core e s = option_and_then_some _ (told_by kind (unslashed core)) e s (λ f form more.
       option_and_then_some _ (name_of (is_slashed core) f.2) e more (λ name named same.
       subst (Says core kind) (same_Some (listing name f.0 f.1) e same)
-      (stated_by core f.0 f.1 f.2 name (form_of-some kind (unslashed core) f form) (is_slashed core) refl named)))
+      (stated_by core f.0 f.1 f.2 name (told_by-some kind (unslashed core) f form) (is_slashed core) refl named)))
 
   -- what the reading finds step by step
-  pub stated-form : (core : List ℕ) {text : List ℕ} {b : Bool} {f : Form}
-      → (b ≡ is_slashed core) × (text ≡ unslashed core) → form_of kind text ≡ Some f → stated kind core ≡ entry_of b f
+  pub stated-form : (core : List ℕ) {text : List ℕ} {b : Bool} {f : TextParts}
+      → (b ≡ is_slashed core) × (text ≡ unslashed core) → told_by kind text ≡ Some f → stated kind core ≡ entry_of b f
   stated-form core {b} split e = rw (sym split.0, sym split.1, e) refl

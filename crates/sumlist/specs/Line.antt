@@ -3,11 +3,11 @@ use Rattle.std.specs.Prelude.{◌⊎◌, ◌≡◌, ℕ, ◌*◌, ◌-◌, ◌�
 use Rattle.std.specs.Prelude.{if◌then◌else◌, ◌==◌, Ok, Contains, Option, None, Some}
 use Rattle.hex.specs.Hex.{decode_of}
 use Rattle.source.specs.declared.alg.Alg.{Alg}
-use Rattle.source.specs.Digest.{tag_len, IsInRange}
+use Rattle.source.specs.Digest.{digest_len, IsInRange}
 use Rattle.sumlist.specs.declared.kind.Kind.{Kind}
 use Rattle.sumlist.specs.Entry.{Listing, IsEntry}
 use Rattle.sumlist.specs.Escape.{SpellsName}
-use Rattle.sumlist.specs.Kinds.{kind_of}
+use Rattle.sumlist.specs.Kinds.{alg_kind}
 use Rattle.sumlist.specs.Tagged.{Labelled}
 
 -- bytes that can be a line: no LF among them, and not too many
@@ -30,9 +30,9 @@ pub record Parts (text : List ℕ) (kind : Option Kind) (alg : Alg) (tag body : 
   pub mark : ℕ
   pub whole : text ≡ digits ++ 32 ∷ mark ∷ body
   pub marked : (mark ≡ 32) ⊎ (mark ≡ 42)
-  pub kind_is : kind ≡ Some (kind_of alg)
+  pub kind_is : kind ≡ Some (alg_kind alg)
   pub range : IsInRange alg
-  pub sized : length digits ≡ 2 * tag_len alg
+  pub sized : length digits ≡ 2 * digest_len alg
   pub tag_is : decode_of digits ≡ Ok tag
 
 -- a text without a name's escapes, in one of the two forms

@@ -15,6 +15,6 @@ pub record Reading : Type 0 where
   pub fault : Option SourceFault
 
 -- the first name of some bytes was taken and these are left, or they had none
-abbrev pub IsNext : Bool → Option (List ℕ) → List ℕ → List ℕ → Type 0
-IsNext true kept bytes left = (name : List ℕ) × IsKept kept name × (names bytes ≡ name ∷ names left)
-IsNext false kept bytes left = (bytes ≡ []) × (left ≡ [])
+abbrev pub IsNextName : Bool → Option (List ℕ) → List ℕ → List ℕ → Type 0
+IsNextName true kept bytes left = (name : List ℕ) × IsKept kept name × (names bytes ≡ name ∷ names left)
+IsNextName false kept bytes left = (bytes ≡ []) × (left ≡ [])

@@ -4,7 +4,7 @@ use Rattle.std.specs.Fmt.{decimal}
 use Rattle.hex.specs.Hex.{decode_of, encode_lower}
 use Rattle.source.specs.declared.alg.Alg.{Alg}
 use Rattle.source.specs.declared.alg.Alg.TheVariants.{Sha256, Sha512, Blake2b, Blake2s, Blake3}
-use Rattle.source.specs.Digest.{tag_len, IsInRange}
+use Rattle.source.specs.Digest.{digest_len, IsInRange}
 use Rattle.sumlist.specs.Escape.{escaped, lead}
 use Rattle.sumlist.specs.Entry.{Listing}
 
@@ -29,7 +29,7 @@ pub record Labelled (text : List ℕ) (alg : Alg) (tag body : List ℕ) : Type 0
   pub whole : text ≡ label ++ (codes " (" ++ (body ++ (codes ") = " ++ digits)))
   pub range : IsInRange alg
   pub names : IsLabel label alg
-  pub sized : length digits ≡ 2 * tag_len alg
+  pub sized : length digits ≡ 2 * digest_len alg
   pub tag_is : decode_of digits ≡ Ok tag
 
 -- the tagged line of an entry, without its LF
@@ -43,4 +43,4 @@ tagged e = tagged_line e ++ 10 ∷ []
 
 -- how long the tagged line of an algorithm and a name is
 abbrev pub tagged_len : Alg → List ℕ → ℕ
-tagged_len alg name = length (lead name) + length (label_of alg) + 2 + length (escaped name) + 4 + 2 * tag_len alg
+tagged_len alg name = length (lead name) + length (label_of alg) + 2 + length (escaped name) + 4 + 2 * digest_len alg

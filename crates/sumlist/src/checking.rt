@@ -8,7 +8,7 @@ ghost use Rattle.sumlist.specs.Checked.{CountsOnly, ListChecked, name_in};
 ghost use Rattle.sumlist.specs.Lines.{IsKept, lines};
 ghost use Rattle.sumlist.specs.inside.Ahead.{Checks, OpensEach};
 ghost use Rattle.sumlist.specs.Line.{IsMalformed};
-ghost use Rattle.sumlist.specs.inside.Stepped.{LineChecked, MarksMalformed, StepCounts, fault_of};
+ghost use Rattle.sumlist.specs.inside.Stepped.{LineChecked, MarksMalformed, StepCounts, stop_of};
 ghost use Rattle.sumlist.specs.Tally.{entries_of};
 ghost use Rattle.sumlist.specs.inside.Marks.{entry_by, lines_of, part};
 ghost use Rattle.sumlist.specs.declared.checking.CheckFault.TheVariants.{OutOfMemory, Write};
@@ -42,7 +42,7 @@ pub enum CheckFault {
 }
 
 impl From<SourceFault> for CheckFault {
-    ghost from_gives = { λ fault told. told ≡ fault_of fault };
+    ghost from_gives = { λ fault told. told ≡ stop_of fault };
 
     fn from(fault: SourceFault) -> CheckFault {
         match fault {
@@ -70,7 +70,7 @@ impl From<AllocError> for CheckFault {
 
 /// How a list is read, and what its report tells.
 #[derive(Clone, Copy, Debug, PartialEq, Eq)]
-pub struct ListForm<'a> {
+pub struct ListRules<'a> {
     /// The kind of its untagged lines. Without one they are malformed.
     pub kind: Option<Kind>,
     /// The name of the list, which its report tells of malformed lines: `NAME: line N: MALFORMED`, the name
@@ -114,23 +114,23 @@ pub fn check<L: Feed, T: Tree, W: Sink>(
         × Consumes (L.remaining list.old) (L.remaining list.new) given
         × (IsErrOf result CheckFault.ListTooLong ↔ (2 ^ 64 - 1 < length given))) }
 {
-    let form = ListForm {
+    let rules = ListRules {
         kind: Some(kind),
         name: None,
     };
-    check_list(alloc, list, form, tree, out)
+    check_list(alloc, list, rules, tree, out)
 }
 
 /// The same of a list in any form: its untagged lines may have no kind, and its report may tell its name.
 pub fn check_list<L: Feed, T: Tree, W: Sink>(
     alloc: Global,
     list: &mut L,
-    form: ListForm<'_>,
+    rules: ListRules<'_>,
     tree: &mut T,
     out: &mut W,
 ) -> Result<Summary, CheckFault>
     ensures checked { IfSome (L.remaining list.old) (λ bytes. IfSome (T.files tree.old) (λ files.
-        ListChecked files form.entry.kind (name_in form.entry) bytes result
+        ListChecked files rules.entry.kind (name_in rules.entry) bytes result
         (T.failure_count tree.old) (T.failure_count tree.new)
         (W.shown out.old).contents (W.shown out.new).contents)) }
     ensures unreadable { IfOk result (λ s. T.failure_count tree.new
@@ -151,7 +151,7 @@ pub fn check_list<L: Feed, T: Tree, W: Sink>(
 {
     let mut checker = Checker {
         alloc,
-        form,
+        rules,
         reader: PieceReader::new(alloc)?,
         summary: Summary::new(),
         lines: 0,
@@ -164,7 +164,7 @@ pub fn check_list<L: Feed, T: Tree, W: Sink>(
 #[derive(Drop)]
 struct Checker<'n> {
     alloc: Global,
-    form: ListForm<'n>,
+    rules: ListRules<'n>,
     reader: PieceReader,
     summary: Summary,
     // how many lines were checked
@@ -185,12 +185,12 @@ impl<'n> Checker<'n> {
             (lines_of self.new.summary + length self.new.reader.ahead ≤ self.new.reader.total) }
         ensures checked { MatchResult result
             (λ _. (r : Result Summary CheckFault) (n : ℕ) (c : Option (List ℕ))
-            → Checks (L.remaining list.new) (T.files tree.old) self.old.form self.new.reader.ahead self.new.summary
+            → Checks (L.remaining list.new) (T.files tree.old) self.old.rules self.new.reader.ahead self.new.summary
             r (T.failure_count tree.new) n (W.shown out.new).contents c
-            → Checks (L.remaining list.old) (T.files tree.old) self.old.form self.old.reader.ahead self.old.summary
+            → Checks (L.remaining list.old) (T.files tree.old) self.old.rules self.old.reader.ahead self.old.summary
             r (T.failure_count tree.old) n (W.shown out.old).contents c)
             (λ _. (r : Result Summary CheckFault) → IsErr r
-            → Checks (L.remaining list.old) (T.files tree.old) self.old.form self.old.reader.ahead self.old.summary
+            → Checks (L.remaining list.old) (T.files tree.old) self.old.rules self.old.reader.ahead self.old.summary
             r (T.failure_count tree.old) (T.failure_count tree.new)
             (W.shown out.old).contents (W.shown out.new).contents) }
         ensures unreadable { OnOk result
@@ -203,7 +203,7 @@ impl<'n> Checker<'n> {
             (λ _. (n : ℕ) → OpensEach (L.remaining list.new) self.new.reader.ahead (T.opens tree.new) n
             → OpensEach (L.remaining list.old) self.old.reader.ahead (T.opens tree.old) n)
             (λ _. OpensEach (L.remaining list.old) self.old.reader.ahead (T.opens tree.old) (T.opens tree.new)) }
-        ensures kept { (T.files tree.new ≡ T.files tree.old) × (self.new.form ≡ self.old.form) }
+        ensures kept { (T.files tree.new ≡ T.files tree.old) × (self.new.rules ≡ self.old.rules) }
         ensures end { IfOk result (λ more. more ≡ false
             → (self.new.reader.ahead ≡ []) × IsAtEnd (L.remaining list.new)) }
         ensures forth { IfOk result (λ more. more ≡ true
@@ -228,7 +228,7 @@ impl<'n> Checker<'n> {
     fn check<T: Tree, W: Sink>(&self, tree: &mut T, out: &mut W) -> Result<Mark, CheckFault>
         requires few { lines_of self.now.summary + 1 < 2 ^ 64 }
         ensures checked { IfSome (T.files tree.old) (λ files. (line : List ℕ) → IsKept self.now.reader.kept line
-            → LineChecked files self.now.form line (lines_of self.now.summary + 1) result
+            → LineChecked files self.now.rules line (lines_of self.now.summary + 1) result
             (T.failure_count tree.old) (T.failure_count tree.new)
             (W.shown out.old).contents (W.shown out.new).contents) }
         ensures unreadable { IfOk result (λ mark. T.failure_count tree.new
@@ -239,7 +239,7 @@ impl<'n> Checker<'n> {
         ensures writes { StepCounts result (W.shown out.old).failures (W.shown out.new).failures }
     {
         let Some(line) = self.reader.piece() else {
-            write_malformed(self.form.name, self.lines + 1, out)?;
+            write_malformed(self.rules.name, self.lines + 1, out)?;
             return Ok(Mark::Malformed);
         };
         self.check_line(line, tree, out)
@@ -254,7 +254,7 @@ impl<'n> Checker<'n> {
     ) -> Result<Mark, CheckFault>
         requires few { lines_of self.now.summary + 1 < 2 ^ 64 }
         ensures checked { IfSome (T.files tree.old) (λ files.
-            LineChecked files self.now.form line.now (lines_of self.now.summary + 1) result
+            LineChecked files self.now.rules line.now (lines_of self.now.summary + 1) result
             (T.failure_count tree.old) (T.failure_count tree.new)
             (W.shown out.old).contents (W.shown out.new).contents) }
         ensures unreadable { IfOk result (λ mark. T.failure_count tree.new
@@ -264,7 +264,7 @@ impl<'n> Checker<'n> {
         ensures kept { T.files tree.new ≡ T.files tree.old }
         ensures writes { StepCounts result (W.shown out.old).failures (W.shown out.new).failures }
     {
-        match read_line(self.alloc, line, self.form.kind) {
+        match read_line(self.alloc, line, self.rules.kind) {
             Ok(Line::Skipped) => Ok(Mark::Skipped),
             Ok(Line::Entry(entry)) => {
                 let verdict = check_entry(&entry, tree)?;
@@ -272,8 +272,8 @@ impl<'n> Checker<'n> {
                 Ok(Mark::Told(verdict))
             }
             Err(LineFault::Malformed) => {
-                let mark = malformed_mark(line, self.form.kind);
-                write_malformed(self.form.name, self.lines + 1, out)?;
+                let mark = malformed_mark(line, self.rules.kind);
+                write_malformed(self.rules.name, self.lines + 1, out)?;
                 Ok(mark)
             }
             Err(LineFault::OutOfMemory) => Err(CheckFault::OutOfMemory),

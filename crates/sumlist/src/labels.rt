@@ -2,7 +2,7 @@
 
 ghost use Rattle.std.specs.Prelude.{◌≡◌, ℕ, ◌*◌, ◌+◌, ◌<◌, ◌≤◌, ◌↔◌, ◌++◌, IsTrue, MatchOption, length};
 ghost use Rattle.std.specs.Fmt.{decimal};
-ghost use Rattle.source.specs.Digest.{IsInRange, tag_len};
+ghost use Rattle.source.specs.Digest.{IsInRange, digest_len};
 ghost use Rattle.sumlist.specs.Tagged.{IsLabel, label_of};
 ghost use Rattle.sumlist.specs.inside.Labels.{Ended, IsNumbered, NotEnded, NotNamed, NotNumbered, front_of};
 ghost use Rattle.sumlist.specs.inside.Reading.{alg_whole};
@@ -13,7 +13,7 @@ use source::{Alg, BLAKE2B_LEN, BLAKE2S_LEN};
 // How many digits the tag of an algorithm has.
 pub(crate) fn digits_of(alg: Alg) -> usize
     requires { IsInRange alg }
-    ensures value { result ≡ 2 * tag_len alg }
+    ensures value { result ≡ 2 * digest_len alg }
     ensures bound { result ≤ 128 }
 {
     2 * alg.digest_len()

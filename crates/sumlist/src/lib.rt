@@ -12,10 +12,10 @@
 //! ```
 #![tactic(auto)]
 
-pub use checking::{CheckFault, ListForm, check, check_list};
+pub use checking::{CheckFault, ListRules, check, check_list};
 pub use entry::{Entry, EntryFault};
 pub use files::FileTree;
-pub use fitting::{LINE_LEN, fits, tagged_fits};
+pub use fitting::{LINE_LIMIT, fits, tagged_fits};
 pub use kind::Kind;
 pub use laws::{line_laws, report_laws};
 pub use line::{Line, LineFault, parse_line};

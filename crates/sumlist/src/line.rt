@@ -9,7 +9,7 @@ ghost use Rattle.sumlist.specs.Parsed.{Answers};
 ghost use Rattle.sumlist.specs.declared.line.LineFault.TheVariants.{OutOfMemory};
 
 use crate::body::{NameText, build_name, name_text};
-use crate::fitting::LINE_LEN;
+use crate::fitting::LINE_LIMIT;
 use crate::parts::split_text;
 use crate::{Entry, Kind};
 use source::Alg;
@@ -94,7 +94,7 @@ pub(crate) fn needs_kind(line: &[u8], kind: Option<Kind>) -> bool
 fn is_line(line: &[u8]) -> bool
     ensures { IsTrue result ↔ IsLine line.now }
 {
-    line.len() <= LINE_LEN && !line.contains(&b'\n')
+    line.len() <= LINE_LIMIT && !line.contains(&b'\n')
 }
 
 fn without_cr(line: &[u8]) -> &[u8]
@@ -114,7 +114,7 @@ fn is_blank(core: &[u8]) -> bool
 
 // The algorithm and tag of the entry that a core states, and the text that means its name.
 fn read_core(core: &[u8], kind: Option<Kind>) -> Option<(Alg, Tag, NameText<'_>)>
-    requires { length core.now ≤ LINE_LEN }
+    requires { length core.now ≤ LINE_LIMIT }
     ensures { MatchOption result ((e : Listing) → IsStated kind core.now e → ⊥)
         (λ p. (name : List ℕ) × IsStated kind core.now record { name = name; alg = p.0; tag = p.1 }
         × (name_of p.2.is_escaped p.2.text.now ≡ Some name)) }

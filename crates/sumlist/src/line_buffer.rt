@@ -3,7 +3,7 @@
 ghost use Rattle.std.specs.Prelude.{◌≡◌, ◌≤◌, ◌↔◌, [], Some, None, IsTrue, vec_len, MatchOption, IfOk};
 ghost use Rattle.sumlist.specs.inside.Held.{held_after};
 
-use crate::fitting::LINE_LEN;
+use crate::fitting::LINE_LIMIT;
 use std::alloc::{AllocError, Global};
 use std::marker::Model;
 
@@ -31,7 +31,7 @@ impl LineBuffer {
     pub(crate) fn new(alloc: Global) -> Result<LineBuffer, AllocError>
         ensures { IfOk result (λ b. b ≡ Some []) }
     {
-        let bytes = vec![in alloc; 0u8; LINE_LEN]?;
+        let bytes = vec![in alloc; 0u8; LINE_LIMIT]?;
         Ok(LineBuffer {
             bytes,
             len: 0,
@@ -72,7 +72,7 @@ impl LineBuffer {
         if self.is_overlong {
             return;
         }
-        if piece.len() > LINE_LEN - self.len {
+        if piece.len() > LINE_LIMIT - self.len {
             self.is_overlong = true;
             return;
         }

@@ -5,7 +5,7 @@ ghost use Rattle.std.specs.Prelude.{◌≡◌, ◌≢◌, ◌≤◌, ◌<◌, �
 ghost use Rattle.std.specs.Prelude.{Err, IsErrOf, IsUtf8, MatchOption, None, Some};
 ghost use Rattle.std.specs.Result.{result_err};
 ghost use Rattle.source.specs.Faults.{PumpCounts};
-ghost use Rattle.sumlist.specs.Naming.{IsNext};
+ghost use Rattle.sumlist.specs.Naming.{IsNextName};
 
 use crate::piece_reader::PieceReader;
 use source::{Feed, SourceFault};
@@ -48,7 +48,7 @@ impl NameReader {
     pub fn next<F: Feed>(&mut self, feed: &mut F) -> Result<bool, SourceFault>
         ensures name { IfOk result (λ found. IfSome (F.remaining feed.old) (λ bytes.
             (left : List ℕ) × (F.remaining feed.new ≡ Some left)
-            × IsNext found self.new.name (self.old.ahead ++ bytes) (self.new.ahead ++ left))) }
+            × IsNextName found self.new.name (self.old.ahead ++ bytes) (self.new.ahead ++ left))) }
         ensures fault { self.new.fault ≡ result_err result }
         ensures again { IfSome self.old.fault (λ fault. (result ≡ Err fault) × (self.new ≡ self.old)
             × (feed.new ≡ feed.old)) }

@@ -3,7 +3,7 @@ use Rattle.std.specs.Prelude.{ℕ, ◌*◌, ◌-◌, ◌^◌, List, [], ◌∷�
 use Rattle.request.specs.CommandLine.{Given, Text}
 use Rattle.sumlist.specs.declared.kind.Kind.{Kind}
 use Rattle.sumlist.specs.declared.kind.Kind.TheVariants as kind
-use Rattle.task.specs.Parameters.{◌>>=◌, ◌>>◌, absent, given_bytes, hmac_len, kind_of, needed, number_in}
+use Rattle.task.specs.Parameters.{◌>>=◌, ◌>>◌, absent, given_bytes, hmac_len, needed_kind, needed, number_in}
 use Rattle.task.specs.declared.fault.Setting.TheVariants as setting
 use Rattle.task.specs.declared.fault.UsageFault.{UsageFault}
 use Rattle.task.specs.declared.parameters.HmacHash.{HmacHash}
@@ -43,4 +43,4 @@ derivation_of g kind.Blake3 = blake3 g
 
 -- what is derived, by `-a`
 abbrev pub derivation : Given → Result Derived UsageFault
-derivation g = kind_of g >>= derivation_of g
+derivation g = needed_kind g >>= derivation_of g

@@ -5,7 +5,7 @@ use Rattle.std.specs.Option.{option_map_or}
 use Rattle.sumlist.specs.declared.kind.Kind.{Kind}
 use Rattle.sumlist.specs.declared.kind.Kind.TheVariants as kind
 use Rattle.request.specs.CommandLine.{Given, has_flag, text_of}
-use Rattle.task.specs.Parameters.{◌>>=◌, ◌>>◌, absent, files, given_bytes, kind_of, number, number_in, sized, text}
+use Rattle.task.specs.Parameters.{◌>>=◌, ◌>>◌, absent, files, given_bytes, needed_kind, number, number_in, sized, text}
 use Rattle.task.specs.Parameters.{unset, wanted_bytes, where_given}
 use Rattle.task.specs.declared.fault.Setting.{Setting}
 use Rattle.task.specs.declared.fault.Setting.TheVariants.{Length, Parts, Personal, Salt, Seek, Verify}
@@ -56,8 +56,8 @@ default_len kind.Sha512 most g = most
 default_len k most g = option_map_or (λ t. min most (max 1 (length t / 2))) (text Verify g) most
 
 -- the bytes that `-l` and `--seek` say, none of them behind the last one
-abbrev pub stretch : ℕ → ℕ → ℕ → Given → Result Stretch UsageFault
-stretch default least most g = do
+abbrev pub stretch_of : ℕ → ℕ → ℕ → Given → Result Stretch UsageFault
+stretch_of default least most g = do
   n ← number Length default least most g
   position ← number Seek 0 0 (most - n) g
   Ok (record { position = position; length = n })
@@ -82,10 +82,10 @@ hash_of kind.Blake3 g = Ok hash.Blake3
 -- what is printed of each file, by `-a`
 abbrev pub requested : Given → Result Requested UsageFault
 requested g = do
-  kind ← kind_of g
+  kind ← needed_kind g
   absent (others kind) g
   form ← form_of g
-  stretch ← stretch (default_len kind (lengths kind form).1 g) (lengths kind form).0 (lengths kind form).1 g
+  stretch ← stretch_of (default_len kind (lengths kind form).1 g) (lengths kind form).0 (lengths kind form).1 g
   hash ← hash_of kind g
   Ok (record { hash = hash; stretch = stretch; form = form })
 
@@ -94,8 +94,8 @@ abbrev pub part_size : ℕ → Result ℕ UsageFault
 part_size n = if count_ones n == 1 then Ok n else Err (OutOfRange Parts)
 
 -- how many chunks `--parts` says
-abbrev pub parts : Given → Result (Option ℕ) UsageFault
-parts g = where_given (λ t. number_in Parts 1 1024 t >>= part_size) (text Parts g)
+abbrev pub parts_of : Given → Result (Option ℕ) UsageFault
+parts_of g = where_given (λ t. number_in Parts 1 1024 t >>= part_size) (text Parts g)
 
 -- a digest to compare with stands for the digits of one file, and is as long as what would be printed
 abbrev pub of_digits : Given → Result (Unit {0}) UsageFault

@@ -6,7 +6,7 @@ use Rattle.std.specs.Str.{all_ascii_digits, bytes_eq}
 use Rattle.std.specs.Str.Parse.{digits_value, without_leading_plus}
 use Rattle.request.specs.CommandLine.{Given, Text, all_of, text_of}
 use Rattle.hex.specs.Hex.{decode_of}
-use Rattle.source.specs.Digest.{tag_len}
+use Rattle.source.specs.Digest.{digest_len}
 use Rattle.source.specs.declared.alg.Alg.{Alg}
 use Rattle.source.specs.declared.alg.Alg.TheVariants as alg
 use Rattle.sumlist.specs.declared.kind.Kind.{Kind}
@@ -107,8 +107,8 @@ kinds = (codes "sha256", kind.Sha256) ∷ (codes "sha512", kind.Sha512) ∷ (cod
     ∷ (codes "blake2s", kind.Blake2s) ∷ (codes "blake3", kind.Blake3) ∷ []
 
 -- the hash of `-a`, which is needed
-abbrev pub kind_of : Given → Result Kind UsageFault
-kind_of g = needed Algorithm g >>= named Algorithm kinds
+abbrev pub needed_kind : Given → Result Kind UsageFault
+needed_kind g = needed Algorithm g >>= named Algorithm kinds
 
 -- the hash, where it was given
 abbrev pub given_kind : Given → Result (Option Kind) UsageFault
@@ -123,4 +123,4 @@ hmac_alg hmac.Blake2s = alg.Blake2s 32
 
 -- the length of its digest
 abbrev pub hmac_len : HmacHash → ℕ
-hmac_len h = tag_len (hmac_alg h)
+hmac_len h = digest_len (hmac_alg h)

@@ -7,7 +7,7 @@ ghost use Rattle.task.specs.Parameters.{IsAsDefined, hmac_len};
 ghost use Rattle.task.specs.inside.Seen.{seen};
 
 use crate::fault::{Setting, TaskFault, UsageFault};
-use crate::parameters::{HmacHash, given_bytes, kind_of, needed, number_in, refused};
+use crate::parameters::{HmacHash, absent, given_bytes, needed, needed_kind, number_in};
 use request::Request;
 use std::alloc::Global;
 use sumlist::Kind;
@@ -38,7 +38,7 @@ impl<'a> Derivation<'a> {
     pub(crate) fn of(alloc: Global, request: &Request<'a>) -> Result<Derivation<'a>, TaskFault>
         ensures { IsAsDefined derivation_shown (spec.derivation (given_of request.now)) result }
     {
-        match kind_of(request)? {
+        match needed_kind(request)? {
             Kind::Sha256 => Derivation::hkdf(alloc, request, HmacHash::Sha256),
             Kind::Sha512 => Derivation::hkdf(alloc, request, HmacHash::Sha512),
             Kind::Blake2b => Derivation::hkdf(alloc, request, HmacHash::Blake2b),
@@ -54,7 +54,7 @@ impl<'a> Derivation<'a> {
     ) -> Result<Derivation<'a>, TaskFault>
         ensures { IsAsDefined derivation_shown (spec.hkdf hash (given_of request.now)) result }
     {
-        refused(request, &[Setting::Context])?;
+        absent(request, &[Setting::Context])?;
         let length = needed(request, Setting::Length)?;
         let most = 255 * hash.digest_len();
         let length = number_in(Setting::Length, 1, most, length)? as usize;
@@ -71,7 +71,7 @@ impl<'a> Derivation<'a> {
     fn blake3(request: &Request<'a>) -> Result<Derivation<'a>, UsageFault>
         ensures { seen derivation_shown result ≡ spec.blake3 (given_of request.now) }
     {
-        refused(request, &[Setting::Salt, Setting::Info])?;
+        absent(request, &[Setting::Salt, Setting::Info])?;
         let context = needed(request, Setting::Context)?;
         let length = needed(request, Setting::Length)?;
         let length = number_in(Setting::Length, 1, u64::MAX, length)?;

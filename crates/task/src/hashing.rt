@@ -12,7 +12,7 @@ ghost use Rattle.task.specs.inside.Possible.{HasDigest, IsPartSize, hash_kind};
 
 use crate::fault::{Setting, TaskFault, UsageFault};
 use crate::parameters::{
-    file_count, given_bytes, kind_of, number, number_in, refused, refused_flag, sized, text_of,
+    absent, file_count, given_bytes, needed_kind, number, number_in, sized, text_of, unset,
     wanted_bytes,
 };
 use request::Request;
@@ -85,7 +85,7 @@ impl Requested {
         ensures value { IsAsDefined (λ r. r) (spec.requested (given_of request.now)) result }
         ensures has { IfOk result HasDigest }
     {
-        let kind = kind_of(request)?;
+        let kind = needed_kind(request)?;
         refused_others(request, kind)?;
         let form = Form::of(request)?;
         let (least, most) = lengths(kind, form);
@@ -121,9 +121,9 @@ impl Requested {
 fn of_digits(request: &Request<'_>) -> Result<(), UsageFault>
     ensures { result ≡ spec.of_digits (given_of request.now) }
 {
-    refused_flag(UsageFault::NotWithTag(Setting::Verify), request.has("tag"))?;
-    refused_flag(UsageFault::NotWithRaw(Setting::Verify), request.has("raw"))?;
-    refused_flag(UsageFault::OneFile(Setting::Verify), names_several(request))
+    unset(UsageFault::NotWithTag(Setting::Verify), request.has("tag"))?;
+    unset(UsageFault::NotWithRaw(Setting::Verify), request.has("raw"))?;
+    unset(UsageFault::OneFile(Setting::Verify), names_several(request))
 }
 
 // Refuses the settings that the hash does not have.
@@ -131,8 +131,8 @@ fn refused_others(request: &Request<'_>, kind: Kind) -> Result<(), UsageFault>
     ensures { result ≡ absent (spec.others kind) (given_of request.now) }
 {
     match kind {
-        Kind::Blake2b | Kind::Blake2s => refused(request, &[Setting::Seek, Setting::Parts]),
-        Kind::Blake3 => refused(request, &[Setting::Salt, Setting::Personal]),
+        Kind::Blake2b | Kind::Blake2s => absent(request, &[Setting::Seek, Setting::Parts]),
+        Kind::Blake3 => absent(request, &[Setting::Salt, Setting::Personal]),
         Kind::Sha256 | Kind::Sha512 => {
             let others = [
                 Setting::Length,
@@ -141,7 +141,7 @@ fn refused_others(request: &Request<'_>, kind: Kind) -> Result<(), UsageFault>
                 Setting::Personal,
                 Setting::Parts,
             ];
-            refused(request, &others)
+            absent(request, &others)
         }
     }
 }
@@ -153,9 +153,9 @@ impl Form {
     {
         let is_raw = request.has("raw");
         let is_tagged = request.has("tag");
-        refused_flag(UsageFault::NotWithTag(Setting::Raw), is_raw && is_tagged)?;
+        unset(UsageFault::NotWithTag(Setting::Raw), is_raw && is_tagged)?;
         let several = is_raw && names_several(request);
-        refused_flag(UsageFault::OneFile(Setting::Raw), several)?;
+        unset(UsageFault::OneFile(Setting::Raw), several)?;
         if is_raw {
             Ok(Form::Raw)
         } else if is_tagged {
@@ -249,7 +249,7 @@ pub(crate) fn stretch_of(
     least: u64,
     most: u64,
 ) -> Result<Stretch, UsageFault>
-    ensures value { result ≡ spec.stretch default least most (given_of request.now) }
+    ensures value { result ≡ spec.stretch_of default least most (given_of request.now) }
     ensures within { least ≤ default → default ≤ most
         → IfOk result (λ s. (least ≤ s.length) × (s.position + s.length ≤ most)) }
 {
@@ -260,7 +260,7 @@ pub(crate) fn stretch_of(
 
 /// Of how many chunks the parts are that files are hashed in, where that was asked for.
 pub(crate) fn parts_of(request: &Request<'_>) -> Result<Option<u64>, UsageFault>
-    ensures value { result ≡ spec.parts (given_of request.now) }
+    ensures value { result ≡ spec.parts_of (given_of request.now) }
     ensures size { IfOk result (λ m. IfSome m IsPartSize) }
 {
     match text_of(request, Setting::Parts) {

@@ -6,7 +6,7 @@ pub use fault::{Setting, TaskFault, UsageFault};
 pub use hashing::{Form, Hash, Hashing, Requested, Stretch};
 pub use parameters::HmacHash;
 pub use parting::{Joining, PartLength, Place};
-pub use tagging::{Key, Mac, TagForm};
+pub use tagging::{Key, Mac, Tagging};
 pub use tasks::{Names, Task};
 
 mod derivation;

@@ -64,8 +64,8 @@ pub(crate) fn file_count(request: &Request<'_>) -> usize
 }
 
 /// The hash that a request names.
-pub(crate) fn kind_of(request: &Request<'_>) -> Result<Kind, UsageFault>
-    ensures { result ≡ spec.kind_of (given_of request.now) }
+pub(crate) fn needed_kind(request: &Request<'_>) -> Result<Kind, UsageFault>
+    ensures { result ≡ spec.needed_kind (given_of request.now) }
 {
     kind_named(needed(request, Setting::Algorithm)?)
 }
@@ -94,7 +94,7 @@ fn kind_named(name: &str) -> Result<Kind, UsageFault>
 }
 
 /// Refuses the settings that the algorithm does not have.
-pub(crate) fn refused(request: &Request<'_>, settings: &[Setting]) -> Result<(), UsageFault>
+pub(crate) fn absent(request: &Request<'_>, settings: &[Setting]) -> Result<(), UsageFault>
     ensures { result ≡ spec.absent settings.now (given_of request.now) }
 {
     for &setting in settings {
@@ -106,7 +106,7 @@ pub(crate) fn refused(request: &Request<'_>, settings: &[Setting]) -> Result<(),
 }
 
 /// Refuses a flag by this fault.
-pub(crate) fn refused_flag(fault: UsageFault, is_given: bool) -> Result<(), UsageFault>
+pub(crate) fn unset(fault: UsageFault, is_given: bool) -> Result<(), UsageFault>
     ensures { result ≡ spec.unset fault is_given }
 {
     if is_given { Err(fault) } else { Ok(()) }

@@ -10,7 +10,7 @@ ghost use Rattle.task.specs.inside.Seen.{seen};
 
 use crate::fault::{Setting, UsageFault};
 use crate::hashing::{Stretch, stretch_of};
-use crate::parameters::{given_number, kind_of, needed, number, number_in, refused_flag, text_of};
+use crate::parameters::{given_number, needed, needed_kind, number, number_in, text_of, unset};
 use request::Request;
 use source::BLAKE3_LEN;
 use sumlist::Kind;
@@ -47,7 +47,7 @@ pub struct Joining {
 fn names_blake3(request: &Request<'_>) -> Result<(), UsageFault>
     ensures { result ≡ spec.names_blake3 (given_of request.now) }
 {
-    match kind_of(request)? {
+    match needed_kind(request)? {
         Kind::Blake3 => Ok(()),
         _ => Err(UsageFault::NotForCommand(Setting::Algorithm)),
     }
@@ -55,7 +55,7 @@ fn names_blake3(request: &Request<'_>) -> Result<(), UsageFault>
 
 /// The place of the part that a request of `part` asks for, or the first fault of its settings.
 pub(crate) fn place_of(request: &Request<'_>) -> Result<Place, UsageFault>
-    ensures { seen (λ p. (p.first, p.chunks)) result ≡ spec.place (given_of request.now) }
+    ensures { seen (λ p. (p.first, p.chunks)) result ≡ spec.place_of (given_of request.now) }
 {
     names_blake3(request)?;
     let first = number(request, Setting::First, 0, 0, MOST_CHUNKS - 1)?;
@@ -79,25 +79,25 @@ fn has_room(first: u64, chunks: u64) -> bool
 
 /// How many chunks each part of a file has, where a request of `part` asks for the first chunks of all
 /// of them; or the first fault of its settings.
-pub(crate) fn listed_chunks(request: &Request<'_>) -> Result<PartLength, UsageFault>
-    ensures { seen (λ p. p.chunks) result ≡ spec.listed_chunks (given_of request.now) }
+pub(crate) fn part_length_of(request: &Request<'_>) -> Result<PartLength, UsageFault>
+    ensures { seen (λ p. p.chunks) result ≡ spec.part_length_of (given_of request.now) }
 {
     names_blake3(request)?;
     let text = needed(request, Setting::Chunks)?;
     let chunks = number_in(Setting::Chunks, 1, MOST_CHUNKS, text)?;
-    refused_flag(
+    unset(
         UsageFault::OutOfRange(Setting::Chunks),
         !chunks.is_power_of_two(),
     )?;
     let has_first = text_of(request, Setting::First).is_some();
-    refused_flag(UsageFault::NotWithList(Setting::First), has_first)?;
+    unset(UsageFault::NotWithList(Setting::First), has_first)?;
     Ok(PartLength { chunks })
 }
 
 /// Which bytes of the joined output a request of `join` has printed, and how many bytes the parts
 /// have to have, where that is said; or the first fault of its settings.
 pub(crate) fn joined_of(request: &Request<'_>) -> Result<Joining, UsageFault>
-    ensures { seen (λ j. (j.stretch, j.bytes)) result ≡ spec.joined (given_of request.now) }
+    ensures { seen (λ j. (j.stretch, j.bytes)) result ≡ spec.joined_of (given_of request.now) }
 {
     names_blake3(request)?;
     let stretch = stretch_of(request, BLAKE3_LEN as u64, 1, u64::MAX)?;

@@ -7,9 +7,7 @@ ghost use Rattle.task.specs.Tagging as spec;
 ghost use Rattle.task.specs.inside.Possible.{HasTag};
 
 use crate::fault::{Setting, TaskFault, UsageFault};
-use crate::parameters::{
-    HmacHash, given_bytes, needed, number, refused_flag, text_of, wanted_bytes,
-};
+use crate::parameters::{HmacHash, given_bytes, needed, number, text_of, unset, wanted_bytes};
 use request::Request;
 use source::{BLAKE2B_LEN, BLAKE2S_LEN, BLAKE3_LEN};
 use std::alloc::Global;
@@ -29,7 +27,7 @@ pub enum Mac {
 
 /// What is printed of a tag.
 #[derive(Clone, Copy, Debug, PartialEq, Eq)]
-pub struct TagForm {
+pub struct Tagging {
     /// The function, with the length.
     pub mac: Mac,
     /// The bytes of the tag alone are printed, and no line.
@@ -57,8 +55,8 @@ impl Mac {
             "hmac-sha512" => hmac(request, HmacHash::Sha512),
             "hmac-blake2b" => hmac(request, HmacHash::Blake2b),
             "hmac-blake2s" => hmac(request, HmacHash::Blake2s),
-            "blake2b" => Ok(Mac::Blake2b(tag_len(request, BLAKE2B_LEN as u64)? as usize)),
-            "blake2s" => Ok(Mac::Blake2s(tag_len(request, BLAKE2S_LEN as u64)? as usize)),
+            "blake2b" => Ok(Mac::Blake2b(blake2_len(request, BLAKE2B_LEN as u64)? as usize)),
+            "blake2s" => Ok(Mac::Blake2s(blake2_len(request, BLAKE2S_LEN as u64)? as usize)),
             "blake3" => Ok(Mac::Blake3(number(
                 request,
                 Setting::Length,
@@ -80,7 +78,7 @@ impl Mac {
     {
         match text_of(request, Setting::Verify) {
             Some(text) => {
-                refused_flag(UsageFault::NotWithRaw(Setting::Verify), request.has("raw"))?;
+                unset(UsageFault::NotWithRaw(Setting::Verify), request.has("raw"))?;
                 Ok(Some(wanted_bytes(alloc, self.tag_len(), text)?))
             }
             None => Ok(None),
@@ -107,7 +105,7 @@ fn hmac(request: &Request<'_>, hash: HmacHash) -> Result<Mac, UsageFault>
     Ok(Mac::Hmac(hash, length as usize))
 }
 
-fn tag_len(request: &Request<'_>, most: u64) -> Result<u64, UsageFault>
+fn blake2_len(request: &Request<'_>, most: u64) -> Result<u64, UsageFault>
     ensures value { result ≡ number Setting.Length most 1 most (given_of request.now) }
     ensures range { 1 ≤ most → IfOk result (λ n. (1 ≤ n) × (n ≤ most)) }
 {

@@ -11,9 +11,9 @@ ghost use Rattle.task.specs.inside.Views.{names_shown, task_shown, texts_of};
 use crate::derivation::Derivation;
 use crate::fault::{Setting, TaskFault, UsageFault};
 use crate::hashing::{Hashing, Requested, names_several, parts_of};
-use crate::parameters::{file_count, given_kind, needed, refused_flag};
-use crate::parting::{Joining, PartLength, Place, joined_of, listed_chunks, place_of};
-use crate::tagging::{Key, Mac, TagForm};
+use crate::parameters::{file_count, given_kind, needed, unset};
+use crate::parting::{Joining, PartLength, Place, joined_of, part_length_of, place_of};
+use crate::tagging::{Key, Mac, Tagging};
 use request::Request;
 use std::alloc::{AllocError, Global};
 use sumlist::Kind;
@@ -63,7 +63,7 @@ pub enum Task<'a> {
     /// Print the tag of a file under a key, in digits or as it is, or whether it is the one that is
     /// wanted, of as many bytes.
     Mac {
-        form: TagForm,
+        tagging: Tagging,
         key: Key<'a>,
         wanted: Option<Vec<u8>>,
         file: &'a str,
@@ -136,7 +136,7 @@ fn input_name<'a>(request: &Request<'a>) -> Result<Option<&'a str>, UsageFault>
         return Ok(None);
     };
     let others = names_several(request) || file_or_input(request) != "-";
-    refused_flag(UsageFault::InputOnly(Setting::Name), others)?;
+    unset(UsageFault::InputOnly(Setting::Name), others)?;
     Ok(Some(name))
 }
 
@@ -146,15 +146,15 @@ fn one_source<'a>(alloc: Global, request: &Request<'a>) -> Result<Names<'a>, Tas
         (spec.one_source (text_of (codes "files0-from") (given_of request.now)) (files (given_of request.now))) result }
 {
     match request.text("files0-from") {
-        None => Ok(Names::Given(names_of(alloc, request)?)),
+        None => Ok(Names::Given(names_or_input(alloc, request)?)),
         Some(file) if file_count(request) == 0 => Ok(Names::From(file)),
         Some(_) => Err(TaskFault::Usage(UsageFault::OneSource)),
     }
 }
 
 // The files or lists that were named: without one standard input is read.
-fn names_of<'a>(alloc: Global, request: &Request<'a>) -> Result<Vec<&'a str>, AllocError>
-    ensures { IfOk result (λ names. texts_of names ≡ spec.names_of (files (given_of request.now))) }
+fn names_or_input<'a>(alloc: Global, request: &Request<'a>) -> Result<Vec<&'a str>, AllocError>
+    ensures { IfOk result (λ names. texts_of names ≡ spec.names_or_input (files (given_of request.now))) }
 {
     let mut files = Vec::new(alloc);
     if let Some(named) = request.texts("file") {
@@ -174,7 +174,7 @@ fn mac<'a>(alloc: Global, request: &Request<'a>) -> Result<Task<'a>, TaskFault>
     let wanted = mac.wanted(alloc, request)?;
     let is_raw = request.has("raw");
     Ok(Task::Mac {
-        form: TagForm { mac, is_raw },
+        tagging: Tagging { mac, is_raw },
         key,
         wanted,
         file: file_or_input(request),
@@ -197,7 +197,7 @@ fn check<'a>(alloc: Global, request: &Request<'a>) -> Result<Task<'a>, TaskFault
     ensures { IsAsDefined task_shown (spec.check (given_of request.now)) result }
 {
     let kind = given_kind(request)?;
-    let lists = names_of(alloc, request)?;
+    let lists = names_or_input(alloc, request)?;
     Ok(Task::Check {
         kind,
         is_summed: request.has("summary"),
@@ -219,9 +219,9 @@ fn part<'a>(request: &Request<'a>) -> Result<Task<'a>, UsageFault>
 fn starts<'a>(request: &Request<'a>) -> Result<Task<'a>, UsageFault>
     ensures { seen task_shown result ≡ spec.starts (given_of request.now) }
 {
-    let parts = listed_chunks(request)?;
+    let parts = part_length_of(request)?;
     let file = file_or_input(request);
-    refused_flag(UsageFault::FileOnly(Setting::Starts), file == "-")?;
+    unset(UsageFault::FileOnly(Setting::Starts), file == "-")?;
     Ok(Task::Starts { parts, file })
 }
 
@@ -230,7 +230,7 @@ fn join<'a>(alloc: Global, request: &Request<'a>) -> Result<Task<'a>, TaskFault>
 {
     let joining = joined_of(request)?;
     let name = request.text("name").unwrap_or("-");
-    let lists = names_of(alloc, request)?;
+    let lists = names_or_input(alloc, request)?;
     Ok(Task::Join {
         joining,
         name,

@@ -10,7 +10,7 @@ use Rattle.partlist.specs.Joined.{AllTell, AreInRow, AreValuesOf, IsWrongBehind,
 use Rattle.partlist.specs.declared.fault.JoinFault.{JoinFault}
 use Rattle.partlist.specs.declared.fault.JoinFault.TheVariants.{Read, Line}
 use Rattle.partlist.specs.declared.joining.Joiner.{Joiner}
-use Rattle.partlist.specs.declared.fault.LineFault.{LineFault}
+use Rattle.partlist.specs.declared.fault.PartFault.{PartFault}
 
 -- a row is that of parts, which are some
 pub record IsRowOf (row : Row) (parts : List PartValue) : Type 0 where
@@ -46,7 +46,7 @@ pub record Partway (whole : List ℕ) (parts : List PartValue) (joiner : Joiner)
   pub no_end : HasNo 10 front
 
 -- the next line of the text can't be joined
-pub record Halts (whole : List ℕ) (parts : List PartValue) (joiner : Joiner) (fault : LineFault) : Type 0 where
+pub record Halts (whole : List ℕ) (parts : List PartValue) (joiner : Joiner) (fault : PartFault) : Type 0 where
   pub before : List (List ℕ)
   pub line : List ℕ
   pub after : List (List ℕ)

@@ -5,7 +5,7 @@ use Rattle.std.specs.Fmt.{decimal}
 use Rattle.source.specs.declared.alg.Alg.{Alg}
 use Rattle.source.specs.declared.alg.Alg.TheVariants.{Sha256, Sha512, Blake2b, Blake2s, Blake3}
 use Rattle.source.specs.declared.alg.TheConstants.{BLAKE2B_LEN, BLAKE2S_LEN}
-use Rattle.source.specs.Digest.{IsInRange, tag_len}
+use Rattle.source.specs.Digest.{IsInRange, digest_len}
 use Rattle.sumlist.specs.Tagged.{IsLabel}
 use Rattle.sumlist.specs.declared.kind.Kind.{Kind}
 use Rattle.sumlist.specs.declared.kind.Kind.TheVariants as kinds
@@ -26,12 +26,12 @@ is_in_range _ = true
 
 -- the algorithm, where it has digests of so many digits
 abbrev pub sized : Alg → ℕ → Option Alg
-sized alg n = if is_in_range alg && (n == 2 * tag_len alg) then Some alg else None
+sized alg n = if is_in_range alg && (n == 2 * digest_len alg) then Some alg else None
 
 -- the algorithm that a number of digits names, where there is a kind
-abbrev pub alg_of : Option Kind → ℕ → Option Alg
-alg_of None n = None
-alg_of (Some kind) n = sized (alg_with kind (n / 2)) n
+abbrev pub sized_alg : Option Kind → ℕ → Option Alg
+sized_alg None n = None
+sized_alg (Some kind) n = sized (alg_with kind (n / 2)) n
 
 -- the label that is written for an algorithm, without the number
 abbrev pub front_of : Alg → List ℕ

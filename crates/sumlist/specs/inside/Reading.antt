@@ -10,13 +10,13 @@ use Rattle.std.specs.Str.{bytes_eq}
 use Rattle.hex.specs.Hex.{decode_of}
 use Rattle.source.specs.declared.alg.Alg.{Alg}
 use Rattle.source.specs.declared.alg.Alg.TheVariants.{Blake2b, Blake2s}
-use Rattle.source.specs.Digest.{tag_len}
+use Rattle.source.specs.Digest.{digest_len}
 use Rattle.source.specs.declared.alg.TheConstants.{BLAKE2B_LEN, BLAKE2S_LEN}
 use Rattle.sumlist.specs.declared.kind.Kind.{Kind}
 use Rattle.sumlist.specs.declared.labels.TheConstants.{WHOLE}
 use Rattle.sumlist.specs.Entry.{Listing, Fits}
 use Rattle.sumlist.specs.inside.Body.{name_of}
-use Rattle.sumlist.specs.inside.Labels.{alg_of, closing, front_of}
+use Rattle.sumlist.specs.inside.Labels.{sized_alg, closing, front_of}
 
 -- a core that says nothing: there is none, or a comment
 abbrev pub IsBlank : List ℕ → Type 0
@@ -59,10 +59,10 @@ abbrev pub end_cut : ℕ → List ℕ → Option (List ℕ × List ℕ)
 end_cut digits rest = end_at (length rest - (digits + 4)) rest digits
 
 -- an algorithm, a tag and a body
-abbrev pub Form : Type 0
-Form = Alg × List ℕ × List ℕ
+abbrev pub TextParts : Type 0
+TextParts = Alg × List ℕ × List ℕ
 
-abbrev pub with_tag : Alg → List ℕ → List ℕ → Option Form
+abbrev pub with_tag : Alg → List ℕ → List ℕ → Option TextParts
 with_tag alg digits body = option_and_then (λ (tag : List ℕ). Some (alg, tag, body)) (result_ok (decode_of digits))
 
 -- a space or `*`
@@ -73,24 +73,24 @@ abbrev pub is_mark : ℕ → Bool
 is_mark byte = (byte == 32) || (byte == 42)
 
 -- digits, whose number and the kind name the algorithm, and a body
-abbrev pub plain_at : Option Kind → List ℕ → List ℕ → Option Form
-plain_at kind digits body = option_and_then (λ (alg : Alg). with_tag alg digits body) (alg_of kind (length digits))
+abbrev pub plain_at : Option Kind → List ℕ → List ℕ → Option TextParts
+plain_at kind digits body = option_and_then (λ (alg : Alg). with_tag alg digits body) (sized_alg kind (length digits))
 
 -- a label, which names the algorithm, and a body with its digits behind it
-abbrev pub tagged_at : List ℕ → List ℕ → Option Form
+abbrev pub tagged_at : List ℕ → List ℕ → Option TextParts
 tagged_at label rest = option_and_then (λ (alg : Alg). option_and_then
-    (λ (p : List ℕ × List ℕ). with_tag alg p.1 p.0) (end_cut (2 * tag_len alg) rest)) (alg_labelled label)
+    (λ (p : List ℕ × List ℕ). with_tag alg p.1 p.0) (end_cut (2 * digest_len alg) rest)) (alg_labelled label)
 
 -- what a word and the text behind its space say: a mark tells one form, a bracket the other
-abbrev pub form_at : Option Kind → List ℕ → List ℕ → Option Form
-form_at kind word [] = None
-form_at kind word (mark ∷ rest) =
+abbrev pub told_at : Option Kind → List ℕ → List ℕ → Option TextParts
+told_at kind word [] = None
+told_at kind word (mark ∷ rest) =
     if is_mark mark then plain_at kind word rest
     else if mark == 40 then tagged_at word rest
     else None
 
-abbrev pub form_of : Option Kind → List ℕ → Option Form
-form_of kind text = option_and_then (λ (p : List ℕ × List ℕ). form_at kind p.0 p.1) (cut text)
+abbrev pub told_by : Option Kind → List ℕ → Option TextParts
+told_by kind text = option_and_then (λ (p : List ℕ × List ℕ). told_at kind p.0 p.1) (cut text)
 
 -- whether a core begins with a backslash, and the text behind it, or else the core
 abbrev pub is_slashed : List ℕ → Bool
@@ -102,13 +102,13 @@ unslashed [] = []
 unslashed (c ∷ text) = if c == 92 then text else c ∷ text
 
 -- the entry of a form, whose body means a name
-abbrev pub entry_of : Bool → Form → Option Listing
+abbrev pub entry_of : Bool → TextParts → Option Listing
 entry_of is_escaped f = option_and_then
     (λ (name : List ℕ). Some record { name = name; alg = f.0; tag = f.1 }) (name_of is_escaped f.2)
 
 -- the entry that a core states
 abbrev pub stated : Option Kind → List ℕ → Option Listing
-stated kind core = option_and_then (entry_of (is_slashed core)) (form_of kind (unslashed core))
+stated kind core = option_and_then (entry_of (is_slashed core)) (told_by kind (unslashed core))
 
 -- a core states an entry, whose name can be written
 abbrev pub IsStated : Option Kind → List ℕ → Listing → Type 0

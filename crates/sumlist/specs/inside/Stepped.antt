@@ -11,7 +11,7 @@ use Rattle.sumlist.specs.Report.{Files, Outcome, Allowed, text}
 use Rattle.sumlist.specs.inside.Marks.{mark_of, unreadable_in}
 use Rattle.sumlist.specs.declared.checking.CheckFault.{CheckFault}
 use Rattle.sumlist.specs.declared.checking.CheckFault.TheVariants.{ListRead, Write, OutOfMemory, ListTooLong}
-use Rattle.sumlist.specs.declared.checking.ListForm.{ListForm}
+use Rattle.sumlist.specs.declared.checking.ListRules.{ListRules}
 use Rattle.sumlist.specs.declared.kind.Kind.{Kind}
 use Rattle.sumlist.specs.declared.summary.Mark.{Mark}
 use Rattle.sumlist.specs.declared.summary.Mark.TheVariants.{Malformed, Untagged}
@@ -30,12 +30,12 @@ pub record Stepped (files : Files) (kind : Option Kind) (line : List ℕ) (outco
 
 -- the line of this number, in a list of this form, has an outcome, and its text was appended, or after a fault a
 -- beginning of it
-abbrev pub LineChecked : {E : Type 0} → Files → ListForm → List ℕ → ℕ → Result Mark E → ℕ → ℕ → Option (List ℕ)
+abbrev pub LineChecked : {E : Type 0} → Files → ListRules → List ℕ → ℕ → Result Mark E → ℕ → ℕ → Option (List ℕ)
     → Option (List ℕ) → Type 0
-LineChecked files form line number r count_old count_new old new =
-    (o : Outcome) × Stepped files form.kind line o count_old count_new
-    × MatchResult r (λ mark. (mark_of o ≡ mark) × Appends old new (text (name_in form) number o))
-    (λ _. AppendsPrefix old new (text (name_in form) number o))
+LineChecked files rules line number r count_old count_new old new =
+    (o : Outcome) × Stepped files rules.kind line o count_old count_new
+    × MatchResult r (λ mark. (mark_of o ≡ mark) × Appends old new (text (name_in rules) number o))
+    (λ _. AppendsPrefix old new (text (name_in rules) number o))
 
 -- only a write that failed is one more failure of the sink, and nothing else was read or found too long
 abbrev pub StepCounts : {T : Type 0} → Result T CheckFault → ℕ → ℕ → Type 0
@@ -46,6 +46,6 @@ StepCounts (Err OutOfMemory) old new = new ≡ old
 StepCounts (Err ListTooLong) old new = ⊥
 
 -- what a fault in the reading of the list means
-abbrev pub fault_of : SourceFault → CheckFault
-fault_of Read = ListRead
-fault_of TooLong = ListTooLong
+abbrev pub stop_of : SourceFault → CheckFault
+stop_of Read = ListRead
+stop_of TooLong = ListTooLong

@@ -4,8 +4,8 @@ use Rattle.std.specs.Borrow.{Bor}
 use Rattle.request.specs.CommandLine.{Text}
 use Rattle.task.specs.Deriving.{Derived, by_blake3, by_hkdf}
 use Rattle.task.specs.Tagging.{KeyText, bytes, file}
-use Rattle.task.specs.Tasks.{Asked, NameTexts, checks, cuts, derives, hashes, in_file, joins, prints, tags, these}
-use Rattle.task.specs.Tasks.{divides}
+use Rattle.task.specs.Tasks.{Asked, NameTexts, checks, prints_part, derives, hashes, in_file, joins, prints_line, tags, these}
+use Rattle.task.specs.Tasks.{prints_starts}
 use Rattle.task.specs.declared.derivation.Derivation.{Derivation}
 use Rattle.task.specs.declared.derivation.Derivation.TheVariants as derivation
 use Rattle.task.specs.declared.tagging.Key.{Key}
@@ -35,9 +35,9 @@ derivation_shown (derivation.Blake3 context n) = by_blake3 context.now n
 abbrev pub task_shown : Task → Asked
 task_shown (code.Hash hashing names) = hashes hashing.requested hashing.parts (names_shown names)
 task_shown (code.Line hashing wanted name content) =
-    prints hashing.requested hashing.parts (option_map (λ v. v.items) wanted) name.now content.now
-task_shown (code.Part place name) = cuts place.first place.chunks name.now
-task_shown (code.Starts parts name) = divides parts.chunks name.now
+    prints_line hashing.requested hashing.parts (option_map (λ v. v.items) wanted) name.now content.now
+task_shown (code.Part place name) = prints_part place.first place.chunks name.now
+task_shown (code.Starts parts name) = prints_starts parts.chunks name.now
 task_shown (code.Join joining name lists) = joins joining.stretch joining.bytes name.now (texts_of lists)
 task_shown (code.Mac form key wanted name) =
     tags form.mac form.is_raw (key_shown key) (option_map (λ v. v.items) wanted) name.now

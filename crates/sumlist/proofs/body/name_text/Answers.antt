@@ -7,7 +7,7 @@ returns-then-found-eq0 c = λ n. ((is_name c.args.digits c.in_ok-found.ensures.n
 
 pub returns-in-Ok : goal.returns-in-Ok
 returns-in-Ok c =
-    let within = rw c.lead_len.ensures at c.if-lead_len-digits-gt-LINE_LEN.false in
+    let within = rw c.lead_len.ensures at c.if-lead_len-digits-gt-LINE_LIMIT.false in
     let text = c.in-Ok.ensures.cases in
     ((is_name _ c.in_ok-found.ensures.name).1 (c.if-found-eq0.false, within, text.1), text.0, refl)
 

@@ -1,11 +1,11 @@
 use Rattle.sumlist.proofs.Common.{◌∙◌, arith, sym}
-use Rattle.sumlist.proofs.Reading.{form_of-some}
+use Rattle.sumlist.proofs.Reading.{told_by-some}
 use Rattle.sumlist.proofs.Stating.{entry_of-name, form_len, stated-form}
 use Rattle.sumlist.proofs.line.read_core.Goals as goal
 
 pub name_text-requires-clause-small : goal.name_text-requires-clause-small
 name_text-requires-clause-small c =
-    let less = form_len {text = c.unslash-is_escaped.result.1.now} (form_of-some c.args.kind _ _ c.in_ok-alg.ensures) in
+    let less = form_len {text = c.unslash-is_escaped.result.1.now} (told_by-some c.args.kind _ _ c.in_ok-alg.ensures) in
     omega (arith, less, c.unslash-is_escaped.ensures.bound, c.requires)
 
 pub returns-in_err-given : goal.returns-in_err-given

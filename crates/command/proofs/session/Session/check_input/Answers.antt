@@ -5,7 +5,7 @@ use Rattle.command.proofs.session.Session.check_input.Goals as goal
 
 pub returns-clause-list : goal.returns-clause-list
 returns-clause-list g c =
-    rw c.status_of.ensures (list_taken c.args.is_summed _ _ _ c.args.form.kind (name_in c.args.form) c.args.name
+    rw c.status_of.ensures (list_taken c.args.is_summed _ _ _ c.args.rules.kind (name_in c.args.rules) c.args.name
     c.check_list-answer.result _ _ _ _ _ _ c.check_list-answer.ensures.checked c.check_list-answer.ensures.writes
     c.check_list-answer.ensures.gave
     (TellsAll-append _ _ _ _ _ c.note.ensures c.hint.ensures))

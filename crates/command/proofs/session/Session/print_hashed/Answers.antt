@@ -8,4 +8,4 @@ returns-clause-run g c =
     line_run (option_map (λ v. v.items) c.args.wanted) (digest_line c.args.hashing.requested)
     c.args.name.now c.args.file.now
     _ _ _ _ _ _ _ _ _
-    (rw c.bytes_of.ensures at c.print_compared.ensures.answer) c.print_compared.ensures.read.counted
+    (rw c.tag_slice.ensures at c.print_compared.ensures.answer) c.print_compared.ensures.read.counted

@@ -29,8 +29,8 @@ loop-name-preserved g c =
     let is = next_name c.args.lists.now c.loop-name.name-index _ c.loop-name-test.true in
     let most = c.max-status.ensures in
     let report = rw (
-      c.form_of-form.ensures.kind,
-      c.form_of-form.ensures.name,
+      c.rules_of-rules.ensures.kind,
+      c.rules_of-rules.ensures.name,
       sym (length-map c.args.lists.now (λ n. n.now)),
     ) at c.in_ok-print_report.ensures.report in
     record {
@@ -54,7 +54,7 @@ returns-in_err-print_report-clause-run g c =
     (see c.loop-name.self) (g.E.Sink.shown c.args.err.now) (g.E.Sink.shown c.loop-name.err) _ _ _
     (see c.print_report.new.self) _ (next_name c.args.lists.now c.loop-name.name-index _ c.loop-name-test.true)
     c.loop-name.invariant.goes _ _ c.from_residual.ensures.1
-    (rw (c.form_of-form.ensures.kind, c.form_of-form.ensures.name, sym (length-map c.args.lists.now (λ n. n.now)))
+    (rw (c.rules_of-rules.ensures.kind, c.rules_of-rules.ensures.name, sym (length-map c.args.lists.now (λ n. n.now)))
     at c.in_err-print_report.ensures.report)
 
 pub returns-in_err-print_report-clause-opens : goal.returns-in_err-print_report-clause-opens

@@ -1,13 +1,13 @@
 use Rattle.std.proofs.Common.{ℕ, ◌∷◌, ◌++◌, [], List, Result, Ok, Err, MatchResult, arith}
 use Rattle.b3.specs.declared.row.PartValue.{PartValue}
 use Rattle.partlist.specs.Joined.{IsWrongBehind, TellsPart}
-use Rattle.partlist.specs.declared.fault.LineFault.{LineFault}
+use Rattle.partlist.specs.declared.fault.PartFault.{PartFault}
 use Rattle.partlist.specs.declared.joining.Joiner.{Joiner}
 use Rattle.partlist.specs.inside.Joiner.{HasJoined}
 use Rattle.partlist.proofs.Reading.{line-length}
 use Rattle.partlist.proofs.joining.Joiner.add_line.Goals as goal
 
-added : (r : Result (Unit {0}) LineFault) (parts : List PartValue) (part : PartValue) (line : List ℕ) (joiner : Joiner)
+added : (r : Result (Unit {0}) PartFault) (parts : List PartValue) (part : PartValue) (line : List ℕ) (joiner : Joiner)
     → TellsPart line part
     → MatchResult r (λ _. HasJoined joiner (parts ++ part ∷ []))
     (λ fault. (line : List ℕ) → TellsPart line part → IsWrongBehind parts line fault)

@@ -1,6 +1,6 @@
 use Rattle.source.proofs.Writing.{Failed-after, Failed-more, Writes-after, Writes-exit}
 use Rattle.hex.specs.Hex.{encode_lower}
-use Rattle.command.proofs.visible.write_number.Goals as goal
+use Rattle.command.proofs.visible.write_code.Goals as goal
 
 pub returns-in_err-write_digits : goal.returns-in_err-write_digits
 returns-in_err-write_digits g c =
