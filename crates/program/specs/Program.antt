@@ -3,7 +3,8 @@ use Rattle.std.specs.Prelude.{◌⊎◌, ◌≡◌, ℕ, List, [], MatchResult, 
 use Rattle.source.specs.Written.{Done, Failed, Shown}
 use Rattle.sumlist.specs.Report.{Files}
 use Rattle.request.specs.CommandLine.{ErrorKind, Given, IsAmong, IsWrong, OfProgram, Reads, Text, fault_of}
-use Rattle.task.specs.Tasks.{Asked, asked, checks, prints_part, derives, hashes, in_file, joins, prints_line, tags, these, prints_starts}
+use Rattle.task.specs.Tasks.{Asked, asked, checks, derives, hashes, in_file, joins, prints_line, prints_part}
+use Rattle.task.specs.Tasks.{prints_starts, tags, these}
 use Rattle.command.specs.Checking.{CheckRuns}
 use Rattle.command.specs.Run.{Counted, Run, Runs, Tells, no_failures, refused_by}
 use Rattle.command.specs.Cutting.{PartRuns, StartsRuns}

@@ -1,9 +1,9 @@
 -- A list that is checked line by line: a line's outcome comes before those of the lines that are left.
 use Rattle.sumlist.proofs.Common.{◌≡◌, ◌≤◌, ◌+◌, ◌++◌, List, [], ◌∷◌, length, lines, subst, sym, Option, None, Some}
 use Rattle.sumlist.proofs.Common.{◌∙◌, IfSome, ap, refl, IfSome_then, IsErr, Result, Err, Ok, arith, Appends-nil}
-use Rattle.sumlist.proofs.Common.{Appends-trans, AppendsPrefix, ListRules, Mark, Summary, CheckFault, Files, ListChecked}
-use Rattle.sumlist.proofs.Common.{IsCounted, LineChecked, Outcome, lines_of, name_in, no_lines, text, true, with_line}
-use Rattle.sumlist.proofs.Common.{ℕ}
+use Rattle.sumlist.proofs.Common.{Appends-trans, AppendsPrefix, ListRules, Mark, Summary, CheckFault, Files}
+use Rattle.sumlist.proofs.Common.{IsCounted, LineChecked, ListChecked, Outcome, lines_of, name_in, no_lines, text}
+use Rattle.sumlist.proofs.Common.{true, with_line, ℕ}
 use Rattle.std.specs.Io.KnownBytes.{IsAtEnd}
 use Rattle.std.proofs.lemmas.Result.{MatchResult-weaker}
 use Rattle.source.proofs.Writing.{AppendsPrefix-after, AppendsPrefix-more, AppendsPrefix-none}

@@ -121,7 +121,7 @@ pub fn check<L: Feed, T: Tree, W: Sink>(
     check_list(alloc, list, rules, tree, out)
 }
 
-/// The same of a list in any form: its untagged lines may have no kind, and its report may tell its name.
+/// The same of a list by any rules: its untagged lines may have no kind, and its report may tell its name.
 pub fn check_list<L: Feed, T: Tree, W: Sink>(
     alloc: Global,
     list: &mut L,

@@ -3,7 +3,7 @@ use Rattle.std.specs.Prelude.{ℕ, ◌*◌, ◌-◌, ◌^◌, List, [], ◌∷�
 use Rattle.request.specs.CommandLine.{Given, Text}
 use Rattle.sumlist.specs.declared.kind.Kind.{Kind}
 use Rattle.sumlist.specs.declared.kind.Kind.TheVariants as kind
-use Rattle.task.specs.Parameters.{◌>>=◌, ◌>>◌, absent, given_bytes, hmac_len, needed_kind, needed, number_in}
+use Rattle.task.specs.Parameters.{◌>>=◌, ◌>>◌, absent, given_bytes, hmac_len, needed, needed_kind, number_in}
 use Rattle.task.specs.declared.fault.Setting.TheVariants as setting
 use Rattle.task.specs.declared.fault.UsageFault.{UsageFault}
 use Rattle.task.specs.declared.parameters.HmacHash.{HmacHash}

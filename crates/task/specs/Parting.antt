@@ -6,7 +6,7 @@ use Rattle.sumlist.specs.declared.kind.Kind.{Kind}
 use Rattle.sumlist.specs.declared.kind.Kind.TheVariants as kind
 use Rattle.request.specs.CommandLine.{Given}
 use Rattle.task.specs.Hashing.{stretch_of}
-use Rattle.task.specs.Parameters.{◌>>=◌, ◌>>◌, given_number, needed_kind, needed, number, number_in, text, unset}
+use Rattle.task.specs.Parameters.{◌>>=◌, ◌>>◌, given_number, needed, needed_kind, number, number_in, text, unset}
 use Rattle.task.specs.declared.fault.Setting.TheVariants.{Algorithm, Bytes, Chunks, First}
 use Rattle.task.specs.declared.fault.UsageFault.{UsageFault}
 use Rattle.task.specs.declared.fault.UsageFault.TheVariants.{NotForCommand, NotWithList, OutOfRange}

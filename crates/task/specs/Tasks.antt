@@ -8,7 +8,7 @@ use Rattle.task.specs.Deriving.{Derived, derivation}
 use Rattle.task.specs.Hashing.{names_several, parts_of, requested}
 use Rattle.task.specs.Hashing as hashing
 use Rattle.task.specs.Parameters.{◌>>=◌, ◌>>◌, files, named, needed, unset, where_given, given_kind}
-use Rattle.task.specs.Parting.{joined_of, place_of, part_length_of}
+use Rattle.task.specs.Parting.{joined_of, part_length_of, place_of}
 use Rattle.task.specs.Tagging.{KeyText, key}
 use Rattle.task.specs.Tagging as tagging
 use Rattle.task.specs.declared.fault.Setting.TheVariants.{Command, IkmFile, Name, Starts}

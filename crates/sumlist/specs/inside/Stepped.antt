@@ -28,7 +28,7 @@ pub record Stepped (files : Files) (kind : Option Kind) (line : List ℕ) (outco
   pub allowed : Allowed files kind line outcome
   pub counted : count_new ≡ count_after count_old (unreadable_in outcome)
 
--- the line of this number, in a list of this form, has an outcome, and its text was appended, or after a fault a
+-- the line of this number, in a list of these rules, has an outcome, and its text was appended, or after a fault a
 -- beginning of it
 abbrev pub LineChecked : {E : Type 0} → Files → ListRules → List ℕ → ℕ → Result Mark E → ℕ → ℕ → Option (List ℕ)
     → Option (List ℕ) → Type 0

@@ -4,8 +4,8 @@ use Rattle.std.specs.Borrow.{Bor}
 use Rattle.request.specs.CommandLine.{Text}
 use Rattle.task.specs.Deriving.{Derived, by_blake3, by_hkdf}
 use Rattle.task.specs.Tagging.{KeyText, bytes, file}
-use Rattle.task.specs.Tasks.{Asked, NameTexts, checks, prints_part, derives, hashes, in_file, joins, prints_line, tags, these}
-use Rattle.task.specs.Tasks.{prints_starts}
+use Rattle.task.specs.Tasks.{Asked, NameTexts, checks, derives, hashes, in_file, joins, prints_line, prints_part}
+use Rattle.task.specs.Tasks.{prints_starts, tags, these}
 use Rattle.task.specs.declared.derivation.Derivation.{Derivation}
 use Rattle.task.specs.declared.derivation.Derivation.TheVariants as derivation
 use Rattle.task.specs.declared.tagging.Key.{Key}
