@@ -101,12 +101,6 @@ fn whole_alg(label: &[u8]) -> Option<Alg>
         .copied()
 }
 
-fn is_same(left: &[u8], right: &[u8]) -> bool
-    ensures { IsTrue result ↔ (left.now ≡ right.now) }
-{
-    left == right
-}
-
 // How many bytes a tag has, up to a bound, whose number of bits stands behind the front, without a leading zero.
 fn find_number(label: &[u8], front: &[u8], most: usize) -> Option<usize>
     requires { most ≤ 64 }
@@ -118,7 +112,7 @@ fn find_number(label: &[u8], front: &[u8], most: usize) -> Option<usize>
     let mut n = 0;
     while n < most {
         n += 1;
-        if is_same(buffer.format(8 * n).as_bytes(), digits) {
+        if buffer.format(8 * n).as_bytes() == digits {
             return Some(n);
         }
     }

@@ -7,7 +7,7 @@ pub returns-in_err-digits : goal.returns-in_err-digits
 returns-in_err-digits c = rw c.from_residual.ensures (λ n some fits.
     strip_prefix_is Decides-eqb c.args.label.now c.args.front.now None c.in_err-digits.ensures.cases (decimal (8 * n)))
 
-pub returns-then-is_same : goal.returns-then-is_same
-returns-then-is_same c =
+pub returns-then-eq : goal.returns-then-eq
+returns-then-eq c =
     let whole = strip_prefix_is Decides-eqb _ _ (Some c.in_ok-digits.digits) c.in_ok-digits.ensures.cases in
     search (rules, whole)
