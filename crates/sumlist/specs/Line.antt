@@ -8,12 +8,13 @@ use Rattle.sumlist.specs.declared.kind.Kind.{Kind}
 use Rattle.sumlist.specs.Entry.{Listing, IsEntry}
 use Rattle.sumlist.specs.Escape.{SpellsName}
 use Rattle.sumlist.specs.Kinds.{alg_kind}
+use Rattle.sumlist.specs.Lines.{line_limit}
 use Rattle.sumlist.specs.Tagged.{Labelled}
 
 -- bytes that can be a line: no LF among them, and not too many
 pub record IsLine (line : List ℕ) : Type 0 where
   pub one : Contains line 10 → ⊥
-  pub within : length line ≤ 65536
+  pub within : length line ≤ line_limit
 
 -- a line without the one CR at its end, if it has one
 abbrev pub core : List ℕ → List ℕ

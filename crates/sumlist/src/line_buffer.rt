@@ -1,6 +1,7 @@
 // The beginning of a line, as far as it is kept.
 
 ghost use Rattle.std.specs.Prelude.{◌≡◌, ◌≤◌, ◌↔◌, [], Some, None, IsTrue, vec_len, MatchOption, IfOk};
+ghost use Rattle.sumlist.specs.Lines.{line_limit};
 ghost use Rattle.sumlist.specs.inside.Held.{held_after};
 
 use crate::fitting::LINE_LIMIT;
@@ -13,8 +14,8 @@ pub(crate) struct LineBuffer {
     bytes: Vec<u8>,
     len: usize,
     is_overlong: bool,
-    ghost size: { vec_len bytes ≡ 65536 },
-    ghost within: { len ≤ 65536 },
+    ghost size: { vec_len bytes ≡ line_limit },
+    ghost within: { len ≤ line_limit },
 }
 
 impl Model for LineBuffer {
