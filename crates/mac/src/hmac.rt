@@ -7,10 +7,11 @@ use crate::block_hash::{BlockHash, hash_both};
 use crate::key::{self, KeyTooLong, xor_each};
 use words::{Absorb, InputTooLong, Tag, same};
 
-// The byte of the inner pad, and that of the outer (RFC 2104, section 2).
-const IPAD: u8 = 0x36;
+/// The byte of the inner pad (RFC 2104, section 2).
+pub const IPAD: u8 = 0x36;
 
-const OPAD: u8 = 0x5c;
+/// The byte of the outer pad.
+pub const OPAD: u8 = 0x5c;
 
 /// A length of a shortened tag below half of the digest's, or above the digest's.
 #[derive(Clone, Copy, Debug, PartialEq, Eq, Drop)]

@@ -14,7 +14,7 @@
 
 pub use blake2_hash::{Blake2b512, Blake2s256};
 pub use block_hash::BlockHash;
-pub use hmac::{Hmac, TagLength};
+pub use hmac::{Hmac, IPAD, OPAD, TagLength};
 pub use key::{KeyTooLong, block_sized_key, xor_each};
 pub use laws::hash_laws;
 pub use sha256_stream::Sha256Stream;

@@ -7,13 +7,8 @@ ghost use Rattle.states.specs.Macs.{IsMac};
 
 use crate::hash_state::StateOf;
 use blake2::StateFault;
-use mac::{BlockHash, KeyTooLong, block_sized_key, xor_each};
+use mac::{BlockHash, IPAD, KeyTooLong, OPAD, block_sized_key, xor_each};
 use words::Tag;
-
-// The byte of the inner pad, and that of the outer.
-const IPAD: u8 = 0x36;
-
-const OPAD: u8 = 0x5c;
 
 /// Begins a MAC under `key`: `inner` takes the key's block with one pad, and `outer` with the other. A key
 /// of more than `H::LIMIT` bytes is refused.
