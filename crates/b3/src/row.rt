@@ -15,7 +15,7 @@ use crate::place::{Misplaced, is_placed, is_whole};
 use crate::stack::Stack;
 use byteorder::{ByteOrder, LittleEndian};
 
-// The bytes of eight words, of each the lowest first.
+// The bytes of eight words, each little-endian.
 fn bytes_of_words(value: &[u32; 8]) -> [u8; 32]
     ensures written { result ≡ word_bytes 4 value.now }
     ensures read { words 4 8 result ≡ value.now }
@@ -87,7 +87,7 @@ impl PartValue {
         self.value
     }
 
-    /// It as bytes, of each word the lowest first.
+    /// Its chaining value in bytes, each word little-endian.
     pub fn bytes(&self) -> [u8; 32]
         ensures written { result ≡ word_bytes 4 (value_words self.now) }
         ensures read { words 4 8 result ≡ value_words self.now }
