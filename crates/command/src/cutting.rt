@@ -17,7 +17,7 @@ ghost use Rattle.task.specs.inside.Possible.{IsPlace};
 use crate::digests::part_buffer;
 use crate::fault::Fault;
 use crate::session::{Session, Streams, open_file};
-use b3::{Mode, PartValue};
+use b3::{CHUNK_LEN, MOST_CHUNKS, Mode, PartValue};
 use partlist::write_part;
 use source::{Feed, Sink, SourceFault, part_of};
 use sumlist::Tree;
@@ -25,9 +25,6 @@ use task::Place;
 
 // A part is read in runs of at most so many chunks.
 const RUN: u64 = 1024;
-
-/// Behind the last chunk of the longest message, of 2^64 - 1 bytes.
-pub(crate) const END: u64 = 1 << 54;
 
 impl<'i, 't, 'o, L: Feed, T: Tree, W: Sink> Session<'i, 't, 'o, L, T, W> {
     /// Prints the line of a part of the file: its bytes from the first chunk of a place on, in as many
@@ -71,7 +68,7 @@ impl<'i, 't, 'o, L: Feed, T: Tree, W: Sink> Session<'i, 't, 'o, L, T, W> {
         if name == "-" {
             return part_of_feed(place, room, run.as_mut_slice(), name, self.input);
         }
-        let mut feed = open_file(name, 1024 * place.first, self.tree)?;
+        let mut feed = open_file(name, CHUNK_LEN as u64 * place.first, self.tree)?;
         let answer = part_of_feed(place, room, run.as_mut_slice(), name, &mut feed);
         self.tree.close(feed);
         answer
@@ -112,7 +109,7 @@ fn unmade(fault: SourceFault, end: u64, name: &str) -> Fault<'_>
 {
     match fault {
         SourceFault::Read => Fault::CannotRead(name),
-        SourceFault::TooLong if end < END => Fault::MoreThanPart(name),
+        SourceFault::TooLong if end < MOST_CHUNKS => Fault::MoreThanPart(name),
         SourceFault::TooLong => Fault::TooLong(name),
     }
 }
@@ -121,7 +118,7 @@ fn unmade(fault: SourceFault, end: u64, name: &str) -> Fault<'_>
 fn chunk_bytes(chunks: Option<u64>) -> Option<u64>
     ensures { MatchOption chunks (result ≡ None) (λ n. SomeIff result (1024 * n < 2 ^ 64) (1024 * n)) }
 {
-    1024_u64.checked_mul(chunks?)
+    (CHUNK_LEN as u64).checked_mul(chunks?)
 }
 
 // The power of two of chunks that a part from this chunk on has room in.

@@ -8,6 +8,7 @@ ghost use Rattle.b3.specs.inside.Output.{output_root};
 ghost use Rattle.source.specs.Counts.{count_after};
 ghost use Rattle.source.specs.Digest.{IsInRange, digest, input_limit, digest_len};
 ghost use Rattle.sumlist.specs.Entry.{Fits};
+ghost use Rattle.sumlist.specs.Lines.{line_limit};
 ghost use Rattle.sumlist.specs.Tagged.{tagged, tagged_len};
 ghost use Rattle.task.specs.inside.Possible.{HasDigest, IsPartSize};
 ghost use Rattle.command.specs.Run.{TellsAll};
@@ -25,7 +26,7 @@ ghost use Rattle.command.specs.declared.fault.Fault.TheVariants.{BadName};
 use crate::fault::{Fault, tell};
 use crate::making::{Made, write_made};
 use crate::session::{Session, Streams, absorb_feed, open_file};
-use b3::{Blake3, Mode, Output};
+use b3::{Blake3, CHUNK_LEN, Mode, Output};
 use blake2::{Blake2b, Blake2s};
 use source::{Alg, AnyHash, Feed, Sink, digest_of, output_in_parts};
 use std::alloc::{AllocError, Global};
@@ -141,7 +142,7 @@ pub(crate) fn part_buffer(alloc: Global, chunks: u64) -> Result<Vec<u8>, AllocEr
     ensures power { IfOk result (λ buffer. (e : ℕ) × (vec_len buffer ≡ 1024 * 2 ^ e)) }
     ensures length { IfOk result (λ buffer. vec_len buffer ≡ 1024 * chunks) }
 {
-    vec![in alloc; 0u8; 1024 * chunks as usize]
+    vec![in alloc; 0u8; CHUNK_LEN * chunks as usize]
 }
 
 // The buffer of the parts that a file is hashed in, an empty one where it is hashed whole.
@@ -295,7 +296,7 @@ fn write_tagged_line<'n, W: Sink>(
     requires range { IsInRange alg }
     requires length { length tag ≡ digest_len alg }
     requires fits { Fits (2 * digest_len alg) name.now }
-    requires tagged { tagged_len alg name.now ≤ 65536 }
+    requires tagged { tagged_len alg name.now ≤ line_limit }
     ensures { PrintsListed result (W.shown out.old) (W.shown out.new)
         (tagged (record { name = name.entry.now; alg = alg; tag = tag })) }
 {

@@ -10,9 +10,9 @@ ghost use Rattle.command.specs.Streams.{OpensAtMost, DoesRun};
 ghost use Rattle.command.specs.inside.Streams.{SameStreams};
 ghost use Rattle.task.specs.inside.Possible.{IsPartLength};
 
-use crate::cutting::END;
 use crate::fault::{Fault, write_number};
 use crate::session::{Session, Streams, open_file};
+use b3::{CHUNK_LEN, MOST_CHUNKS};
 use source::{Feed, ReadFailed, Sink, WriteFailed};
 use sumlist::Tree;
 use task::PartLength;
@@ -48,10 +48,10 @@ fn part_count<'n, T: Tree>(chunks: u64, name: &'n str, tree: &mut T) -> Result<u
     ensures opens { T.opens tree.new ≤ T.opens tree.old + 55 }
 {
     let mut least = 0;
-    let mut most = (END - 1) / chunks + 1;
+    let mut most = (MOST_CHUNKS - 1) / chunks + 1;
     'halves: while least < most {
         let middle = least + (most - least) / 2;
-        if has_byte(name, 1024 * (chunks * middle), tree)? {
+        if has_byte(name, CHUNK_LEN as u64 * (chunks * middle), tree)? {
             least = middle + 1;
         } else {
             most = middle;

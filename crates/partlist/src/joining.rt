@@ -17,12 +17,9 @@ ghost use Rattle.partlist.specs.inside.Few.{most_parts};
 
 use crate::{EndFault, JoinFault, PartFault, parse_part};
 use arrayvec::ArrayVec;
-use b3::{Mode, NotNext, Output, PartValue, Row};
+use b3::{CHUNK_LEN, Mode, NotNext, Output, PartValue, Row};
 use source::Feed;
 use sumlist::split_at_byte;
-
-// The bytes of a chunk.
-const CHUNK_LEN: u64 = 1024;
 
 // No line of a part is longer.
 const PART_LINE_LIMIT: usize = 256;
@@ -69,7 +66,7 @@ impl Joiner {
         ensures count { OnOk result (joined_count self.new ≡ joined_count self.old + 1) }
         ensures refused { OnErr result (self.new ≡ self.old) }
     {
-        let start = CHUNK_LEN * part.first_chunk();
+        let start = CHUNK_LEN as u64 * part.first_chunk();
         let end = self.count();
         if start > end {
             return Err(PartFault::BytesMissing);

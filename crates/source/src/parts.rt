@@ -14,10 +14,7 @@ ghost use Rattle.source.specs.inside.Parts.{IsFilled, IsTaken};
 
 use crate::front::Front;
 use crate::{Feed, ReadFailed, SourceFault};
-use b3::{Misplaced, Mode, Output, Part, PartValue};
-
-// The chunks of the longest message, and a few more: a power of two.
-const MOST_CHUNKS: u64 = 18_014_398_509_481_984;
+use b3::{CHUNK_LEN, MOST_CHUNKS, Misplaced, Mode, Output, Part, PartValue};
 
 /// The BLAKE3 output of all that is still to come, at position 0. It is read in runs that fill `run`,
 /// but for the last; each run is hashed as a part, and the parts are joined. `Read` comes exactly
@@ -164,7 +161,7 @@ fn take_part<F: Feed>(
     ensures count { PumpCounts result (front_failures F.failure_count feed.old)
         (front_failures F.failure_count feed.new) }
 {
-    if chunks <= (run.len() / 1024) as u64 {
+    if chunks <= (run.len() / CHUNK_LEN) as u64 {
         return take_run(mode, first, feed, run, ahead);
     }
     let half = chunks / 2;

@@ -11,12 +11,10 @@ ghost use Rattle.task.specs.inside.Seen.{seen};
 use crate::fault::{Setting, UsageFault};
 use crate::hashing::{Stretch, stretch_of};
 use crate::parameters::{given_number, needed, needed_kind, number, number_in, text_of, unset};
+use b3::MOST_CHUNKS;
 use request::Request;
 use source::BLAKE3_LEN;
 use sumlist::Kind;
-
-// As many as the longest message has, of 2^64 - 1 bytes.
-const MOST_CHUNKS: u64 = 1 << 54;
 
 /// Where a part of a file begins, and how many chunks of 1,024 bytes it has at most, where that is said.
 #[derive(Clone, Copy, Debug)]

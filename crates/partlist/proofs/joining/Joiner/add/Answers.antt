@@ -10,19 +10,19 @@ use Rattle.partlist.proofs.joining.Joiner.add.Goals.{in-Some+in-Ok, in_default}
 pub returns-then-start-end-clause-added : goal.returns-then-start-end-clause-added
 returns-then-start-end-clause-added c = λ parts joined line tells.
     let end = c.count-end.ensures parts joined in
-    let first = c.first_chunk-start.ensures in
+    let first = c.first_chunk.ensures in
     (c.args.part, tells, omega (arith, end, first, c.if-start-end.true))
 
 pub returns-then-start-end-2-clause-added : goal.returns-then-start-end-2-clause-added
 returns-then-start-end-2-clause-added c = λ parts joined line tells.
     let end = c.count-end.ensures parts joined in
-    let first = c.first_chunk-start.ensures in
+    let first = c.first_chunk.ensures in
     (c.args.part, tells, omega (arith, end, first, c.if-start-end-2.true))
 
 pub returns-in-Err-clause-added : goal.returns-in-Err-clause-added
 returns-in-Err-clause-added c = λ parts joined line tells.
     let end = c.count-end.ensures parts joined in
-    let first = c.first_chunk-start.ensures in
+    let first = c.first_chunk.ensures in
     let place : 1024 * value_first c.args.part ≡ bytes_of parts
     = omega (arith, end, first, c.if-start-end.false, c.if-start-end-2.false) in
     let is = subst (λ r. MayBeRowOf r parts) c.in-Some.is joined.row in (
@@ -36,7 +36,7 @@ returns-in-Err-clause-added c = λ parts joined line tells.
 pub returns-clause-added : goal.returns-clause-added
 returns-clause-added c = λ parts joined.
     let end = c.count-end.ensures parts joined in
-    let first = c.first_chunk-start.ensures in
+    let first = c.first_chunk.ensures in
     let place : 1024 * value_first c.args.part ≡ bytes_of parts
     = omega (arith, end, first, c.if-start-end.false, c.if-start-end-2.false) in
     let size : c.args.self.now.parts + 1 ≡ length (parts ++ c.args.part ∷ [])
