@@ -72,7 +72,8 @@ void sums_sha512(uint8_t out[64], const uint8_t *input, size_t input_len);
  * Write the digests of the pieces of the input, one behind the other. Every piece has piece_len bytes, and the last may
  * have fewer; no input has no piece. A digest is the one that the function has of the piece alone: 32 bytes of SHA-256
  * (FIPS 180-4, 6.2) and of BLAKE3 (its paper, 2), digest_len of BLAKE2 (RFC 7693, 3), which are 1 to 64 of BLAKE2b and
- * 1 to 32 of BLAKE2s. Several pieces are hashed side by side, which takes less time than a call for each.
+ * 1 to 32 of BLAKE2s. Where there are enough whole pieces, several are hashed side by side; of BLAKE3 those of at most
+ * 1,024 bytes.
  * Answer SUMS_OK, SUMS_DIGEST_LENGTH, or else SUMS_PIECE_LENGTH where piece_len is 0, or else SUMS_OUTPUT_LENGTH where
  * out_len is not the length of a digest times the number of pieces: input_len / piece_len, rounded up. */
 uint32_t sums_sha256_pieces(uint8_t *out, size_t out_len, const uint8_t *input, size_t input_len, size_t piece_len);

@@ -34,8 +34,8 @@ func digests(size int, data []byte, pieceLen int, write func(piecewise) C.uint32
 }
 
 // SHA256Pieces is the digests of the pieces of data by SHA-256 (FIPS 180-4, 6.2), of 32 bytes each, one behind the
-// other. Every piece has pieceLen bytes, and the last may have fewer; no data has no piece. Several pieces are hashed
-// side by side, which takes less time than a call for each. A pieceLen below 1 is ErrPieceLength.
+// other. Every piece has pieceLen bytes, and the last may have fewer; no data has no piece. Where there are enough whole
+// pieces, several are hashed side by side. A pieceLen below 1 is ErrPieceLength.
 func SHA256Pieces(data []byte, pieceLen int) ([]byte, error) {
 	return digests(32, data, pieceLen, func(c piecewise) C.uint32_t {
 		return C.sums_sha256_pieces(c.out, c.outLen, c.in, c.inLen, c.pieceLen)
