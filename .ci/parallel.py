@@ -315,7 +315,7 @@ def progress(program):
     for words, is_shown in ((["--progress", "just", "f1"], True), (["just", "f1"], False)):
         master, slave = pty.openpty()
         path = faulty(program, "case $1 in part) sleep 0.3 ;; esac")
-        run = subprocess.Popen([sys.executable, FRONT, "-j1", "hash", "-a", "blake3", *words], stdout=subprocess.PIPE,
+        run = subprocess.Popen([sys.executable, FRONT, "-j2", "hash", "-a", "blake3", *words], stdout=subprocess.PIPE,
                                stderr=slave, env={**os.environ, "SUMS": path, "TERM": "xterm"})
         os.close(slave)
         out = run.communicate(timeout=60)[0]
