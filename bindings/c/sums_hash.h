@@ -18,7 +18,7 @@
 #include <stddef.h>
 #include <stdint.h>
 
-#define SUMS_HASH_VERSION "1.0.0" /* whose shared library is libsums_hash.so.1 */
+#define SUMS_HASH_VERSION "1.1.0" /* whose shared library is libsums_hash.so.1 */
 
 #ifdef __cplusplus
 extern "C" {
