@@ -1,2 +1,3 @@
 pub mod inside
 pub mod Statuses
+pub mod Unkeyed

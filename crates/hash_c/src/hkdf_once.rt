@@ -1,12 +1,11 @@
 // HKDF of keying material that lies in memory as a whole (RFC 5869).
 
-ghost use Rattle.std.specs.Prelude.{◌≡◌, ◌≢◌, ◌-◌, ◌^◌, [], Some, length, MatchResult};
-ghost use Rattle.words.specs.Blake2.{blake2b, blake2s};
-ghost use Rattle.blake2.specs.Blake2.{blake2, unsalted};
+ghost use Rattle.std.specs.Prelude.{◌≡◌, ◌≢◌, ◌-◌, ◌^◌, Some, length, MatchResult};
 ghost use Rattle.kdf.specs.Hkdf as spec;
 ghost use Rattle.sha2.specs.Sha256.{sha256};
 ghost use Rattle.sha2.specs.Sha512.{sha512};
 ghost use Rattle.hash_c.specs.Statuses.{expand_status, hkdf_status, keyed_status};
+ghost use Rattle.hash_c.specs.Unkeyed.{blake2b_512, blake2s_256};
 
 use crate::statuses::{SUMS_END_OF_OUTPUT, SUMS_INPUT_TOO_LONG, SUMS_KEY_LENGTH, SUMS_OK};
 use kdf::{ExpandFault, Extract, expand};
@@ -166,9 +165,8 @@ pub extern "C" fn sums_hkdf_blake2b(
 ) -> u32
     ensures status { result ≡ hkdf_status 128 64 (2 ^ 128 - 1) (length out.old)
         (length material.now) (length salt.now) (length info.now) }
-    ensures output { result ≡ SUMS_OK → out.new ≡ spec.expand (blake2 blake2b (unsalted blake2b 64 [])) 128
-        (spec.extract (blake2 blake2b (unsalted blake2b 64 [])) 128 64 (Some salt.now) material.now)
-        info.now (length out.old) }
+    ensures output { result ≡ SUMS_OK → out.new ≡ spec.expand blake2b_512 128
+        (spec.extract blake2b_512 128 64 (Some salt.now) material.now) info.now (length out.old) }
     ensures kept { result ≢ SUMS_OK → out.new ≡ out.old }
 {
     hkdf_into::<Blake2b512>(out, material, salt, info)
@@ -178,8 +176,7 @@ pub extern "C" fn sums_hkdf_blake2b(
 #[unsafe(no_mangle)]
 pub extern "C" fn sums_hkdf_extract_blake2b(prk: &mut [u8; 64], material: &[u8], salt: &[u8]) -> u32
     ensures status { result ≡ keyed_status 128 (2 ^ 128 - 1) (length salt.now) (length material.now) }
-    ensures key { result ≡ SUMS_OK
-        → prk.new ≡ spec.extract (blake2 blake2b (unsalted blake2b 64 [])) 128 64 (Some salt.now) material.now }
+    ensures key { result ≡ SUMS_OK → prk.new ≡ spec.extract blake2b_512 128 64 (Some salt.now) material.now }
     ensures kept { result ≢ SUMS_OK → prk.new ≡ prk.old }
 {
     extract_into::<Blake2b512>(prk, material, salt)
@@ -191,7 +188,7 @@ pub extern "C" fn sums_hkdf_expand_blake2b(out: &mut [u8], prk: &[u8], info: &[u
     ensures status { result
         ≡ expand_status 128 64 (2 ^ 128 - 1) (length out.old) (length prk.now) (length info.now) }
     ensures output { result ≡ SUMS_OK
-        → out.new ≡ spec.expand (blake2 blake2b (unsalted blake2b 64 [])) 128 prk.now info.now (length out.old) }
+        → out.new ≡ spec.expand blake2b_512 128 prk.now info.now (length out.old) }
     ensures kept { result ≢ SUMS_OK → out.new ≡ out.old }
 {
     expand_into::<Blake2b512>(out, prk, info)
@@ -207,9 +204,8 @@ pub extern "C" fn sums_hkdf_blake2s(
 ) -> u32
     ensures status { result ≡ hkdf_status 64 32 (2 ^ 64 - 1) (length out.old)
         (length material.now) (length salt.now) (length info.now) }
-    ensures output { result ≡ SUMS_OK → out.new ≡ spec.expand (blake2 blake2s (unsalted blake2s 32 [])) 64
-        (spec.extract (blake2 blake2s (unsalted blake2s 32 [])) 64 32 (Some salt.now) material.now)
-        info.now (length out.old) }
+    ensures output { result ≡ SUMS_OK → out.new ≡ spec.expand blake2s_256 64
+        (spec.extract blake2s_256 64 32 (Some salt.now) material.now) info.now (length out.old) }
     ensures kept { result ≢ SUMS_OK → out.new ≡ out.old }
 {
     hkdf_into::<Blake2s256>(out, material, salt, info)
@@ -219,8 +215,7 @@ pub extern "C" fn sums_hkdf_blake2s(
 #[unsafe(no_mangle)]
 pub extern "C" fn sums_hkdf_extract_blake2s(prk: &mut [u8; 32], material: &[u8], salt: &[u8]) -> u32
     ensures status { result ≡ keyed_status 64 (2 ^ 64 - 1) (length salt.now) (length material.now) }
-    ensures key { result ≡ SUMS_OK
-        → prk.new ≡ spec.extract (blake2 blake2s (unsalted blake2s 32 [])) 64 32 (Some salt.now) material.now }
+    ensures key { result ≡ SUMS_OK → prk.new ≡ spec.extract blake2s_256 64 32 (Some salt.now) material.now }
     ensures kept { result ≢ SUMS_OK → prk.new ≡ prk.old }
 {
     extract_into::<Blake2s256>(prk, material, salt)
@@ -232,7 +227,7 @@ pub extern "C" fn sums_hkdf_expand_blake2s(out: &mut [u8], prk: &[u8], info: &[u
     ensures status { result
         ≡ expand_status 64 32 (2 ^ 64 - 1) (length out.old) (length prk.now) (length info.now) }
     ensures output { result ≡ SUMS_OK
-        → out.new ≡ spec.expand (blake2 blake2s (unsalted blake2s 32 [])) 64 prk.now info.now (length out.old) }
+        → out.new ≡ spec.expand blake2s_256 64 prk.now info.now (length out.old) }
     ensures kept { result ≢ SUMS_OK → out.new ≡ out.old }
 {
     expand_into::<Blake2s256>(out, prk, info)

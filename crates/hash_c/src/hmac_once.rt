@@ -1,12 +1,11 @@
 // HMAC of a text that lies in memory as a whole.
 
-ghost use Rattle.std.specs.Prelude.{◌≡◌, ◌≢◌, ◌-◌, ◌^◌, [], length, take};
-ghost use Rattle.words.specs.Blake2.{blake2b, blake2s};
-ghost use Rattle.blake2.specs.Blake2.{blake2, unsalted};
+ghost use Rattle.std.specs.Prelude.{◌≡◌, ◌≢◌, ◌-◌, ◌^◌, length, take};
 ghost use Rattle.mac.specs.Hmac.{hmac};
 ghost use Rattle.sha2.specs.Sha256.{sha256};
 ghost use Rattle.sha2.specs.Sha512.{sha512};
 ghost use Rattle.hash_c.specs.Statuses.{hmac_status};
+ghost use Rattle.hash_c.specs.Unkeyed.{blake2b_512, blake2s_256};
 
 use crate::statuses::{SUMS_DIGEST_LENGTH, SUMS_INPUT_TOO_LONG, SUMS_KEY_LENGTH, SUMS_OK};
 use mac::{Blake2b512, Blake2s256, BlockHash, Hmac, Sha256Stream, Sha512Stream};
@@ -64,8 +63,7 @@ pub extern "C" fn sums_hmac_sha512(out: &mut [u8], input: &[u8], key: &[u8]) -> 
 pub extern "C" fn sums_hmac_blake2b(out: &mut [u8], input: &[u8], key: &[u8]) -> u32
     ensures status { result
         ≡ hmac_status 128 64 (2 ^ 128 - 1) (length out.old) (length key.now) (length input.now) }
-    ensures tag { result ≡ SUMS_OK → out.new
-        ≡ take (length out.old) (hmac (blake2 blake2b (unsalted blake2b 64 [])) 128 key.now input.now) }
+    ensures tag { result ≡ SUMS_OK → out.new ≡ take (length out.old) (hmac blake2b_512 128 key.now input.now) }
     ensures kept { result ≢ SUMS_OK → out.new ≡ out.old }
 {
     hmac_into::<Blake2b512>(out, input, key)
@@ -76,8 +74,7 @@ pub extern "C" fn sums_hmac_blake2b(out: &mut [u8], input: &[u8], key: &[u8]) ->
 pub extern "C" fn sums_hmac_blake2s(out: &mut [u8], input: &[u8], key: &[u8]) -> u32
     ensures status { result
         ≡ hmac_status 64 32 (2 ^ 64 - 1) (length out.old) (length key.now) (length input.now) }
-    ensures tag { result ≡ SUMS_OK → out.new
-        ≡ take (length out.old) (hmac (blake2 blake2s (unsalted blake2s 32 [])) 64 key.now input.now) }
+    ensures tag { result ≡ SUMS_OK → out.new ≡ take (length out.old) (hmac blake2s_256 64 key.now input.now) }
     ensures kept { result ≢ SUMS_OK → out.new ≡ out.old }
 {
     hmac_into::<Blake2s256>(out, input, key)

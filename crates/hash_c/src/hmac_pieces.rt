@@ -5,13 +5,12 @@ ghost use Rattle.std.specs.Prelude.{◌≡◌, ◌≢◌, ◌+◌, ◌-◌, ◌^
 ghost use Rattle.sha2.specs.Sha256.{sha256};
 ghost use Rattle.sha2.specs.Sha512.{sha512};
 ghost use Rattle.states.specs.Begun.{IsBegun256, IsBegun512};
-ghost use Rattle.words.specs.Blake2.{blake2b, blake2s};
-ghost use Rattle.blake2.specs.Blake2.{blake2, unsalted};
 ghost use Rattle.blake2.specs.Begun.{IsBegun2b, IsBegun2s};
 ghost use Rattle.mac.specs.Hmac.{block_sized_key, hmac_of_block_key};
 ghost use Rattle.states.specs.Macs.{IsMac};
 ghost use Rattle.hash_c.specs.inside.Macs.{IsMac256, IsMac2b, IsMac2s, IsMac512};
 ghost use Rattle.hash_c.specs.Statuses.{input_status, key_status, tag_status};
+ghost use Rattle.hash_c.specs.Unkeyed.{blake2b_512, blake2s_256};
 
 use crate::piecewise::update_state;
 use crate::statuses::{SUMS_DIGEST_LENGTH, SUMS_KEY_LENGTH, SUMS_NOT_BEGUN, SUMS_OK};
@@ -164,7 +163,7 @@ pub struct HmacBlake2bState {
 pub extern "C" fn sums_hmac_blake2b_init(state: &mut HmacBlake2bState, key: &[u8]) -> u32
     ensures status { result ≡ key_status (2 ^ 128 - 1) (length key.now) }
     ensures begun { result ≡ SUMS_OK
-        → IsMac2b state.new (block_sized_key (blake2 blake2b (unsalted blake2b 64 [])) 128 key.now) [] }
+        → IsMac2b state.new (block_sized_key blake2b_512 128 key.now) [] }
     ensures kept { result ≢ SUMS_OK → state.new ≡ state.old }
 {
     begin::<Blake2b512, Blake2bState>(&mut state.inner, &mut state.outer, key)
@@ -191,7 +190,7 @@ pub extern "C" fn sums_hmac_blake2b_update(state: &mut HmacBlake2bState, piece: 
 pub extern "C" fn sums_hmac_blake2b_finish(state: &HmacBlake2bState, out: &mut [u8]) -> u32
     ensures status { (k m : List ℕ) → IsMac2b state.now k m → result ≡ tag_status 64 (length out.old) }
     ensures tag { (k m : List ℕ) → IsMac2b state.now k m → result ≡ SUMS_OK
-        → out.new ≡ take (length out.old) (hmac_of_block_key (blake2 blake2b (unsalted blake2b 64 [])) k m) }
+        → out.new ≡ take (length out.old) (hmac_of_block_key blake2b_512 k m) }
     ensures inner_not_begun { (IsBegun2b state.now.inner → ⊥) → result ≡ SUMS_NOT_BEGUN }
     ensures outer_not_begun { (IsBegun2b state.now.outer → ⊥) → result ≡ SUMS_NOT_BEGUN }
     ensures kept { result ≢ SUMS_OK → out.new ≡ out.old }
@@ -213,7 +212,7 @@ pub struct HmacBlake2sState {
 pub extern "C" fn sums_hmac_blake2s_init(state: &mut HmacBlake2sState, key: &[u8]) -> u32
     ensures status { result ≡ key_status (2 ^ 64 - 1) (length key.now) }
     ensures begun { result ≡ SUMS_OK
-        → IsMac2s state.new (block_sized_key (blake2 blake2s (unsalted blake2s 32 [])) 64 key.now) [] }
+        → IsMac2s state.new (block_sized_key blake2s_256 64 key.now) [] }
     ensures kept { result ≢ SUMS_OK → state.new ≡ state.old }
 {
     begin::<Blake2s256, Blake2sState>(&mut state.inner, &mut state.outer, key)
@@ -240,7 +239,7 @@ pub extern "C" fn sums_hmac_blake2s_update(state: &mut HmacBlake2sState, piece: 
 pub extern "C" fn sums_hmac_blake2s_finish(state: &HmacBlake2sState, out: &mut [u8]) -> u32
     ensures status { (k m : List ℕ) → IsMac2s state.now k m → result ≡ tag_status 32 (length out.old) }
     ensures tag { (k m : List ℕ) → IsMac2s state.now k m → result ≡ SUMS_OK
-        → out.new ≡ take (length out.old) (hmac_of_block_key (blake2 blake2s (unsalted blake2s 32 [])) k m) }
+        → out.new ≡ take (length out.old) (hmac_of_block_key blake2s_256 k m) }
     ensures inner_not_begun { (IsBegun2s state.now.inner → ⊥) → result ≡ SUMS_NOT_BEGUN }
     ensures outer_not_begun { (IsBegun2s state.now.outer → ⊥) → result ≡ SUMS_NOT_BEGUN }
     ensures kept { result ≢ SUMS_OK → out.new ≡ out.old }
