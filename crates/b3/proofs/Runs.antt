@@ -23,6 +23,14 @@ run_shift key flags c k m l i =
     ap₂ (λ (n : ℕ) (x : List ℕ). cv (tree key flags n (take (1024 * 2 ^ l) x))) place
     (drop-drop (1024 * i) (1024 * k) m ∙ ap (λ (n : ℕ). drop n m) at)
 
+pub before_shift : (key : List ℕ) (flags c k : ℕ) (m : List ℕ) (i : ℕ)
+    → value_before_last key flags (c + k) (drop (1024 * k) m) i ≡ value_before_last key flags c m (k + i)
+before_shift key flags c k m i =
+    let at : 1024 * k + 1024 * i ≡ 1024 * (k + i) = omega arith in
+    let place : c + k + i ≡ c + (k + i) = omega arith in
+    ap₂ (λ (n : ℕ) (x : List ℕ). value_before key flags n (take 1024 x) 15) place
+    (drop-drop (1024 * i) (1024 * k) m ∙ ap (λ (n : ℕ). drop n m) at)
+
 pub run_part : (key : List ℕ) (flags c k : ℕ) (m : List ℕ) (l i : ℕ) → 1024 * k ≤ length m → i + 2 ^ l ≤ k
     → run_cv key flags c (take (1024 * k) m) l i ≡ run_cv key flags c m l i
 run_part key flags c k m l i h fits =

@@ -10,10 +10,10 @@ use crate::mode::Parameters;
 use crate::node::{BLOCK_LEN, CHUNK_END, CHUNK_START, Node, PARENT, pair};
 use std::array::from_fn;
 use std::simd::prelude::*;
-use words::compress_3x8;
 use words::lanes::{
     Turns, four, lane_rows, message_lanes, next_lanes, pair_lanes, same_lanes, two,
 };
+use words::{compress_3x8, level};
 
 // Where each lane begins to read: at its own chunk, or at the last one, which begins at `last`.
 #[inline(always)]
@@ -47,32 +47,33 @@ fn numbers<const N: usize>(first: u64) -> [u64; N]
     from_fn(|i| first + i as u64)
 }
 
-// The chaining values of at most four whole chunks, and those before the last block of each.
-fn few_chunk_values(
+// The chaining values of the first four of some whole chunks, by lanes; `before` takes those before the last block of
+// each. Lanes beyond the last chunk read it again.
+fn few_chunk_lanes(
     parameters: &Parameters,
     first: u64,
     bytes: &[u8],
-) -> ([[u32; 8]; 8], [[u32; 8]; 8])
+    before: &mut [u32x4; 8],
+) -> [u32x4; 8]
     requires some { 1024 ≤ length bytes.now }
     requires numbers { first + 4 < 2 ^ 64 }
     ensures values { (i : ℕ) → i < 4 → 1024 * i + 1024 ≤ length bytes.now
-        → slice_index_or result.0 i [] ≡ run_cv parameters.now.key parameters.now.flags first bytes.now 0 i }
+        → lane8 i result ≡ run_cv parameters.now.key parameters.now.flags first bytes.now 0 i }
     ensures before { (i : ℕ) → i < 4 → 1024 * i + 1024 ≤ length bytes.now
-        → slice_index_or result.1 i [] ≡ value_before_last parameters.now.key parameters.now.flags first bytes.now i }
+        → lane8 i before.new ≡ value_before_last parameters.now.key parameters.now.flags first bytes.now i }
 {
     let counters = numbers(first);
     let starts = lane_starts(bytes.len() - CHUNK_LEN);
     let turns = four::Turns::new();
     let mut values = four::same_lanes(&parameters.key);
-    let mut before = values;
     'each_block: for j in 0..16 {
         let message = four::message_lanes(bytes, &starts, BLOCK_LEN * j);
         let d = block_flags(parameters.flags, j);
-        let next = four::next_lanes(turns, values, message, &counters, 64, d);
-        before = values;
+        let next = four::next_lanes::<0>(turns, values, message, &counters, 64, d);
+        *before = values;
         values = next;
     }
-    (four::lane_rows(values), four::lane_rows(before))
+    values
 }
 
 // The chaining values of two whole chunks, and those before the last block of each.
@@ -103,21 +104,46 @@ fn two_chunk_values(
     (two::half_rows(values), two::half_rows(before))
 }
 
-// The chaining values of at most eight whole chunks, by lanes; `before` takes those before the last block of
-// each. Lanes beyond the last chunk read it again.
-fn chunk_lanes(
+// Those of five to eight whole chunks, by four lanes and then by four others.
+fn chunk_fours(
     parameters: &Parameters,
     first: u64,
     bytes: &[u8],
     before: &mut [u32x8; 8],
 ) -> [u32x8; 8]
-    requires some { 1024 ≤ length bytes.now }
+    requires some { 5120 ≤ length bytes.now }
     requires numbers { first + 8 < 2 ^ 64 }
     ensures values { (i : ℕ) → i < 8 → 1024 * i + 1024 ≤ length bytes.now
         → lane8 i result ≡ run_cv parameters.now.key parameters.now.flags first bytes.now 0 i }
     ensures before { (i : ℕ) → i < 8 → 1024 * i + 1024 ≤ length bytes.now
         → lane8 i before.new ≡ value_before_last parameters.now.key parameters.now.flags first bytes.now i }
 {
+    let mut left_before = four::same_lanes(&parameters.key);
+    let left = few_chunk_lanes(parameters, first, bytes, &mut left_before);
+    let mut right_before = left_before;
+    let rest = &bytes[4 * CHUNK_LEN..];
+    let right = few_chunk_lanes(parameters, first + 4, rest, &mut right_before);
+    *before = four::joined_lanes(left_before, right_before);
+    four::joined_lanes(left, right)
+}
+
+// Those of five to eight whole chunks, by lanes. Lanes beyond the last chunk read it again.
+fn chunk_lanes(
+    parameters: &Parameters,
+    first: u64,
+    bytes: &[u8],
+    before: &mut [u32x8; 8],
+) -> [u32x8; 8]
+    requires some { 5120 ≤ length bytes.now }
+    requires numbers { first + 8 < 2 ^ 64 }
+    ensures values { (i : ℕ) → i < 8 → 1024 * i + 1024 ≤ length bytes.now
+        → lane8 i result ≡ run_cv parameters.now.key parameters.now.flags first bytes.now 0 i }
+    ensures before { (i : ℕ) → i < 8 → 1024 * i + 1024 ≤ length bytes.now
+        → lane8 i before.new ≡ value_before_last parameters.now.key parameters.now.flags first bytes.now i }
+{
+    if level() < 3 {
+        return chunk_fours(parameters, first, bytes, before);
+    }
     let counters = numbers(first);
     let starts = lane_starts(bytes.len() - CHUNK_LEN);
     let turns = Turns::new();
@@ -148,8 +174,10 @@ pub(crate) fn chunk_values(
     if bytes.len() == 2 * CHUNK_LEN {
         return two_chunk_values(parameters, first, bytes);
     }
-    if bytes.len() <= 4 * CHUNK_LEN {
-        return few_chunk_values(parameters, first, bytes);
+    if bytes.len() < 5 * CHUNK_LEN {
+        let mut before = four::same_lanes(&parameters.key);
+        let values = few_chunk_lanes(parameters, first, bytes, &mut before);
+        return (four::lane_rows(values), four::lane_rows(before));
     }
     let mut before = same_lanes(&parameters.key);
     let values = chunk_lanes(parameters, first, bytes, &mut before);

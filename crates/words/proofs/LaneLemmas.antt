@@ -77,6 +77,12 @@ below_four P p0 p1 p2 p3 (suc (suc zero)) h = p2
 below_four P p0 p1 p2 p3 (suc (suc (suc zero))) h = p3
 below_four P p0 p1 p2 p3 (suc (suc (suc (suc n)))) h = absurd (omega arith)
 
+-- what holds of four lanes and of the four behind them
+pub by_fours : (P : ℕ → Type 0) → ((i : ℕ) → i < 4 → P i) → ((i : ℕ) → i < 4 → P (4 + i)) → (i : ℕ) → i < 8 → P i
+by_fours P low high =
+    below_eight P (low 0 (omega arith)) (low 1 (omega arith)) (low 2 (omega arith)) (low 3 (omega arith))
+    (high 0 (omega arith)) (high 1 (omega arith)) (high 2 (omega arith)) (high 3 (omega arith))
+
 -- four bytes as a word
 pub le_word : (x : List ℕ) (at p q r s : ℕ) → p ≡ at → q ≡ at + 1 → r ≡ at + 2 → s ≡ at + 3
     → slice_index x p + 256 * (slice_index x q + 256 * (slice_index x r + 256 * (slice_index x s + 256 * 0)))

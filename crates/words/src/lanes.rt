@@ -12,6 +12,7 @@ ghost use Rattle.words.specs.inside.Lanes.{lane, lane4, lane8, rows_lane, OnLane
 ghost use Rattle.words.specs.inside.Lanes.{word_at, lane_column, lane_at};
 ghost use Rattle.words.specs.Words.{words};
 
+use crate::levels::level;
 use crate::tables::IV32;
 use std::simd::prelude::*;
 
@@ -143,6 +144,9 @@ fn words_of(x: u8x32) -> u32x8
 fn turn16(turns: Turns, x: u32x8, y: u32x8) -> u32x8
     ensures { (i : ℕ) → i < 8 → slice_index result i ≡ rotated_xor blake2s 0 (slice_index x i) (slice_index y i) }
 {
+    if level() < 2 {
+        return rotated(x, y, 16);
+    }
     words_of(bytes(xor(x, y)).swizzle_dyn_within::<16>(turns.by_16))
 }
 
@@ -151,6 +155,9 @@ fn turn16(turns: Turns, x: u32x8, y: u32x8) -> u32x8
 fn turn8(turns: Turns, x: u32x8, y: u32x8) -> u32x8
     ensures { (i : ℕ) → i < 8 → slice_index result i ≡ rotated_xor blake2s 2 (slice_index x i) (slice_index y i) }
 {
+    if level() < 2 {
+        return rotated(x, y, 8);
+    }
     words_of(bytes(xor(x, y)).swizzle_dyn_within::<16>(turns.by_8))
 }
 
@@ -598,6 +605,9 @@ pub fn next_lanes<const USE: usize>(
 ) -> [u32x8; 8]
     ensures { (i : ℕ) → i < 8 → lane8 i result ≡ take 8 (compress3 (lane8 i h) (lane i m) (slice_index t.now i) b d) }
 {
+    if level() < 3 {
+        return four::next_fours(turns, h, m, t, b, d);
+    }
     fold_lanes(rounds_lanes::<USE>(turns, working_lanes(h, t, b, d), m))
 }
 

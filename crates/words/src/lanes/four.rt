@@ -11,7 +11,9 @@ ghost use Rattle.words.specs.Tables.{permutation};
 ghost use Rattle.words.specs.Words.{words};
 ghost use Rattle.words.specs.inside.Lanes.{lane, lane4, lane8, places_16, places_8, word_at};
 
+use crate::lanes;
 use crate::lanes::{block_at, high, load, low};
+use crate::levels::level;
 use crate::rows::{rotated_xor32, sum32};
 use crate::tables::IV32;
 use std::simd::prelude::*;
@@ -32,6 +34,19 @@ impl Turns {
         Turns {
             by_16: u8x16::from_array([2, 3, 0, 1, 6, 7, 4, 5, 10, 11, 8, 9, 14, 15, 12, 13]),
             by_8: u8x16::from_array([1, 2, 3, 0, 5, 6, 7, 4, 9, 10, 11, 8, 13, 14, 15, 12]),
+        }
+    }
+
+    // The half of those of eight words.
+    #[inline(always)]
+    fn half(turns: lanes::Turns) -> Turns {
+        Turns {
+            by_16: turns
+                .by_16
+                .swizzle([0, 1, 2, 3, 4, 5, 6, 7, 8, 9, 10, 11, 12, 13, 14, 15]),
+            by_8: turns
+                .by_8
+                .swizzle([0, 1, 2, 3, 4, 5, 6, 7, 8, 9, 10, 11, 12, 13, 14, 15]),
         }
     }
 }
@@ -63,6 +78,9 @@ fn words_of(x: u8x16) -> u32x4
 fn turn16(turns: Turns, x: u32x4, y: u32x4) -> u32x4
     ensures { (i : ℕ) → i < 4 → slice_index result i ≡ rotated_xor blake2s 0 (slice_index x i) (slice_index y i) }
 {
+    if level() < 2 {
+        return rotated_xor32(x, y, 16);
+    }
     words_of(bytes(xor(x, y)).swizzle_dyn_within::<16>(turns.by_16))
 }
 
@@ -71,6 +89,9 @@ fn turn16(turns: Turns, x: u32x4, y: u32x4) -> u32x4
 fn turn8(turns: Turns, x: u32x4, y: u32x4) -> u32x4
     ensures { (i : ℕ) → i < 4 → slice_index result i ≡ rotated_xor blake2s 2 (slice_index x i) (slice_index y i) }
 {
+    if level() < 2 {
+        return rotated_xor32(x, y, 8);
+    }
     words_of(bytes(xor(x, y)).swizzle_dyn_within::<16>(turns.by_8))
 }
 
@@ -140,7 +161,7 @@ fn permute_lanes(m: [u32x4; 16]) -> [u32x4; 16]
 // The seven rounds.
 #[inline(always)]
 #[tactic(auto, unfolding(crate::specs::Blake3::rounds3, crate::specs::Blake3::permuted_words))]
-fn rounds_lanes(turns: Turns, v: [u32x4; 16], m: [u32x4; 16]) -> [u32x4; 16]
+fn rounds_lanes<const USE: usize>(turns: Turns, v: [u32x4; 16], m: [u32x4; 16]) -> [u32x4; 16]
     ensures { (i : ℕ) → i < 4 → lane i result ≡ rounds3 (lane i v) (lane i m) 7 }
 {
     seven_rounds!(round_lanes, permute_lanes, turns, v, m)
@@ -180,10 +201,10 @@ fn fold_lanes(v: [u32x4; 16]) -> [u32x4; 8]
     folded!(xor, v)
 }
 
-/// The first eight words of `compress_3` in each of four lanes.
+/// The first eight words of `compress_3` in each of four lanes. Each value of `USE` is a copy of the code of its own.
 #[inline(always)]
 #[tactic(auto, unfolding(crate::specs::Blake3::compress3))]
-pub fn next_lanes(
+pub fn next_lanes<const USE: usize>(
     turns: Turns,
     h: [u32x4; 8],
     m: [u32x4; 16],
@@ -193,7 +214,7 @@ pub fn next_lanes(
 ) -> [u32x4; 8]
     ensures { (i : ℕ) → i < 4 → lane8 i result ≡ take 8 (compress3 (lane8 i h) (lane i m) (slice_index t.now i) b d) }
 {
-    fold_lanes(rounds_lanes(turns, working_lanes(h, t, b, d), m))
+    fold_lanes(rounds_lanes::<USE>(turns, working_lanes(h, t, b, d), m))
 }
 
 /// The same words in each lane.
@@ -315,4 +336,120 @@ pub fn lane_rows(h: [u32x4; 8]) -> [[u32; 8]; 8]
         [0; 8],
         [0; 8],
     ]
+}
+
+// The first four of eight words.
+#[inline(always)]
+fn left(x: u32x8) -> u32x4
+    ensures { result ≡ slice_index x 0 ∷ slice_index x 1 ∷ slice_index x 2 ∷ slice_index x 3 ∷ [] }
+{
+    x.swizzle([0, 1, 2, 3])
+}
+
+// The other four.
+#[inline(always)]
+fn right(x: u32x8) -> u32x4
+    ensures { result ≡ slice_index x 4 ∷ slice_index x 5 ∷ slice_index x 6 ∷ slice_index x 7 ∷ [] }
+{
+    x.swizzle([4, 5, 6, 7])
+}
+
+// That half of each vector.
+macro_rules! halves {
+    ($half:ident, $x:ident, [$($k:literal),*]) => {
+        [$($half($x[$k])),*]
+    };
+}
+
+// The first four of eight lanes.
+#[inline(always)]
+fn left_values(h: [u32x8; 8]) -> [u32x4; 8]
+    ensures { (i : ℕ) → i < 4 → lane8 i result ≡ lane8 i h }
+{
+    halves!(left, h, [0, 1, 2, 3, 4, 5, 6, 7])
+}
+
+// The other four.
+#[inline(always)]
+fn right_values(h: [u32x8; 8]) -> [u32x4; 8]
+    ensures { (i : ℕ) → i < 4 → lane8 i result ≡ lane8 (4 + i) h }
+{
+    halves!(right, h, [0, 1, 2, 3, 4, 5, 6, 7])
+}
+
+// The same of message words.
+#[inline(always)]
+#[tactic(auto, unfolding(crate::specs::inside::Lanes::lane))]
+fn left_words(m: [u32x8; 16]) -> [u32x4; 16]
+    ensures { (i : ℕ) → i < 4 → lane i result ≡ lane i m }
+{
+    halves!(
+        left,
+        m,
+        [0, 1, 2, 3, 4, 5, 6, 7, 8, 9, 10, 11, 12, 13, 14, 15]
+    )
+}
+
+#[inline(always)]
+#[tactic(auto, unfolding(crate::specs::inside::Lanes::lane))]
+fn right_words(m: [u32x8; 16]) -> [u32x4; 16]
+    ensures { (i : ℕ) → i < 4 → lane i result ≡ lane (4 + i) m }
+{
+    halves!(
+        right,
+        m,
+        [0, 1, 2, 3, 4, 5, 6, 7, 8, 9, 10, 11, 12, 13, 14, 15]
+    )
+}
+
+/// Four lanes beside four others.
+#[inline(always)]
+pub fn joined_lanes(l: [u32x4; 8], r: [u32x4; 8]) -> [u32x8; 8]
+    ensures left { (i : ℕ) → i < 4 → lane8 i result ≡ lane8 i l }
+    ensures right { (i : ℕ) → i < 4 → lane8 (4 + i) result ≡ lane8 i r }
+{
+    [
+        joined(l[0], r[0]),
+        joined(l[1], r[1]),
+        joined(l[2], r[2]),
+        joined(l[3], r[3]),
+        joined(l[4], r[4]),
+        joined(l[5], r[5]),
+        joined(l[6], r[6]),
+        joined(l[7], r[7]),
+    ]
+}
+
+/// The same in each of eight lanes: in four of them, and then in the others. It is faster where a vector of eight
+/// words takes two registers.
+#[inline(always)]
+pub(crate) fn next_fours(
+    turns: lanes::Turns,
+    h: [u32x8; 8],
+    m: [u32x8; 16],
+    t: &[u64; 8],
+    b: u32,
+    d: u32,
+) -> [u32x8; 8]
+    ensures { (i : ℕ) → i < 8 → lane8 i result ≡ take 8 (compress3 (lane8 i h) (lane i m) (slice_index t.now i) b d) }
+{
+    let turns = Turns::half(turns);
+    let [t0, t1, t2, t3, t4, t5, t6, t7] = *t;
+    let left = next_lanes::<1>(
+        turns,
+        left_values(h),
+        left_words(m),
+        &[t0, t1, t2, t3],
+        b,
+        d,
+    );
+    let right = next_lanes::<1>(
+        turns,
+        right_values(h),
+        right_words(m),
+        &[t4, t5, t6, t7],
+        b,
+        d,
+    );
+    joined_lanes(left, right)
 }

@@ -1,6 +1,6 @@
 use Rattle.words.specs.inside.Lanes.{lane8}
 use Rattle.b3.proofs.Lanes8.{AreAtBlock}
-use Rattle.b3.proofs.lanes.few_chunk_values.Given as goal
+use Rattle.b3.proofs.lanes.few_chunk_lanes.Given as goal
 
 abbrev pub invariant-each_block : goal.invariant-each_block
 invariant-each_block l =

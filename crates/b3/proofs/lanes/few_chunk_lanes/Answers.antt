@@ -1,6 +1,6 @@
-use Rattle.std.proofs.Common.{ℕ, ◌+◌, ◌*◌, arith, ap, ◌∙◌}
+use Rattle.std.proofs.Common.{ℕ, ◌+◌, ◌*◌, arith, ap}
 use Rattle.b3.proofs.Lanes8.{blocks_begun, blocks_more}
-use Rattle.b3.proofs.lanes.few_chunk_values.Goals as goal
+use Rattle.b3.proofs.lanes.few_chunk_lanes.Goals as goal
 
 pub each_block-init : goal.each_block-init
 each_block-init c = blocks_begun _ _ _ _ 4 _ _ c.same_lanes-values.ensures
@@ -14,7 +14,7 @@ each_block-preserved c =
     c.block_flags-d.ensures.last
 
 pub returns-clause-values : goal.returns-clause-values
-returns-clause-values c = λ k h w. c.lane_rows.ensures k h ∙ (c.each_block.invariant k h w).2 (omega arith)
+returns-clause-values c = λ k h w. (c.each_block.invariant k h w).2 (omega arith)
 
 pub returns-clause-before : goal.returns-clause-before
-returns-clause-before c = λ k h w. c.lane_rows-2.ensures k h ∙ (c.each_block.invariant k h w).1 (omega arith)
+returns-clause-before c = λ k h w. (c.each_block.invariant k h w).1 (omega arith)
