@@ -130,6 +130,9 @@ exports() {
         done
     done
     cat > "$copy/crates/exports/src/lib.rt"
+    . "$bench/../tools/levels.sh"
+    # another checkout may have no such file
+    [ ! -e "$copy/crates/words/src/levels.rt" ] || write_level "$level" "$copy/crates"
     echo "$0: proving and building the library of $from for $level (at first some minutes)" >&2
     if ! (cd "$copy/crates/exports" && rt lib --cpu="$level") > "$library.log" 2>&1; then
         cat "$library.log" >&2
