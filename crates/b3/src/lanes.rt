@@ -3,6 +3,7 @@
 ghost use Rattle.std.specs.Prelude.{◌≡◌, ℕ, ◌+◌, ◌-◌, ◌*◌, ◌<◌, ◌≤◌, ◌^◌, [], length, slice_index, slice_index_or};
 ghost use Rattle.b3.specs.inside.Stack.{joined_cv};
 ghost use Rattle.b3.specs.inside.Runs.{run_cv, value_before_last};
+ghost use Rattle.words.specs.inside.Halves.{half8, of_pairs};
 ghost use Rattle.words.specs.inside.Lanes.{lane8};
 
 use crate::chunk::CHUNK_LEN;
@@ -76,6 +77,18 @@ fn few_chunk_lanes(
     values
 }
 
+// The words in each half of two pairs, as a row. There are as many rows as of eight lanes, and the others are of no
+// meaning.
+#[inline(always)]
+fn pair_rows(h: [[u32x8; 2]; 2]) -> [[u32; 8]; 8]
+    ensures { (i : ℕ) → i < 4 → slice_index_or result i [] ≡ of_pairs half8 h i }
+{
+    let [a, b, ..] = two::half_rows(h[0]);
+    let [c, d, ..] = two::half_rows(h[1]);
+    let none = [0; 8];
+    [a, b, c, d, none, none, none, none]
+}
+
 // The chaining values of two whole chunks, and those before the last block of each.
 fn two_chunk_values(
     parameters: &Parameters,
@@ -102,6 +115,38 @@ fn two_chunk_values(
         values = next;
     }
     (two::half_rows(values), two::half_rows(before))
+}
+
+// The chaining values of the first four of some whole chunks, by two pairs side by side, and those before the last
+// block of each. A call, so that other numbers of chunks do not pay for its room on the stack.
+#[inline(never)]
+fn two_pair_values(
+    parameters: &Parameters,
+    first: u64,
+    bytes: &[u8],
+) -> ([[u32; 8]; 8], [[u32; 8]; 8])
+    requires some { 1024 ≤ length bytes.now }
+    requires numbers { first + 4 < 2 ^ 64 }
+    ensures values { (i : ℕ) → i < 4 → 1024 * i + 1024 ≤ length bytes.now
+        → slice_index_or result.0 i [] ≡ run_cv parameters.now.key parameters.now.flags first bytes.now 0 i }
+    ensures before { (i : ℕ) → i < 4 → 1024 * i + 1024 ≤ length bytes.now
+        → slice_index_or result.1 i [] ≡ value_before_last parameters.now.key parameters.now.flags first bytes.now i }
+{
+    let counters = numbers(first);
+    let [s0, s1, s2, s3] = lane_starts::<4>(bytes.len() - CHUNK_LEN);
+    let turns = Turns::known();
+    let start = two::same_halves(&parameters.key);
+    let mut values = [start, start];
+    let mut before = values;
+    'each_block: for j in 0..16 {
+        let left = two::message_halves(bytes, &[s0, s1], BLOCK_LEN * j);
+        let right = two::message_halves(bytes, &[s2, s3], BLOCK_LEN * j);
+        let d = block_flags(parameters.flags, j);
+        let next = two::next_pairs(turns, values, [left, right], &counters, 64, d);
+        before = values;
+        values = next;
+    }
+    (pair_rows(values), pair_rows(before))
 }
 
 // Those of five to eight whole chunks, by four lanes and then by four others.
@@ -175,6 +220,9 @@ pub(crate) fn chunk_values(
         return two_chunk_values(parameters, first, bytes);
     }
     if bytes.len() < 5 * CHUNK_LEN {
+        if level() == 3 {
+            return two_pair_values(parameters, first, bytes);
+        }
         let mut before = four::same_lanes(&parameters.key);
         let values = few_chunk_lanes(parameters, first, bytes, &mut before);
         return (four::lane_rows(values), four::lane_rows(before));

@@ -1,5 +1,5 @@
 -- Two compressions side by side: each row is a vector of eight words, four of one input and four of the other.
-use Rattle.std.specs.Prelude.{ℕ, ◌+◌, ◌*◌, List, [], ◌∷◌}
+use Rattle.std.specs.Prelude.{ℕ, ◌+◌, ◌*◌, List, [], ◌∷◌, slice_index_or}
 use Rattle.words.specs.inside.Rows.{row_word}
 
 -- word j of input i in row r
@@ -27,3 +27,10 @@ half_message i m =
     half_word i m 0 2 ∷ half_word i m 1 2 ∷ half_word i m 0 3 ∷ half_word i m 1 3 ∷
     half_word i m 2 1 ∷ half_word i m 3 1 ∷ half_word i m 2 2 ∷ half_word i m 3 2 ∷
     half_word i m 2 3 ∷ half_word i m 3 3 ∷ half_word i m 2 0 ∷ half_word i m 3 0 ∷ []
+
+-- what f says of the inputs of two pairs, one after the other
+abbrev pub of_pairs : (ℕ → List (List ℕ) → List ℕ) → List (List (List ℕ)) → ℕ → List ℕ
+of_pairs f x i =
+    let left : List (List ℕ) = slice_index_or x 0 [] in
+    let right : List (List ℕ) = slice_index_or x 1 [] in
+    slice_index_or (f 0 left ∷ f 1 left ∷ f 0 right ∷ f 1 right ∷ []) i []

@@ -1,7 +1,7 @@
 //! The same on two inputs in the halves of rows of eight words, for the two chunks of a short message, where half of
-//! four lanes would do nothing.
+//! four lanes would do nothing, and on two such pairs.
 
-ghost use Rattle.std.specs.Prelude.{◌≡◌, ℕ, ◌<◌, ◌+◌, slice_index, slice_index_or, [], ◌∷◌, take, drop, length, ◌≤◌};
+ghost use Rattle.std.specs.Prelude.{◌≡◌, ℕ, ◌<◌, ◌+◌, ◌*◌, slice_index, slice_index_or, [], ◌∷◌, take, drop, length, ◌≤◌};
 ghost use Rattle.words.specs.Blake2.{schedule, blake2s};
 ghost use Rattle.words.specs.Blake3.{words_in_order, working_words3, rounds3, folded_halves3, compress3};
 ghost use Rattle.words.specs.Mix.{g, round};
@@ -137,6 +137,61 @@ pub fn next_halves(
 {
     let [a, b, c, d] = rounds_halves(turns, working_halves(h, t, b, d), m);
     [xor(a, c), xor(b, d)]
+}
+
+// A round of two pairs in turn, since each step of one waits for the step before it.
+#[inline(always)]
+fn round_pairs(turns: Turns, rows: [[u32x8; 4]; 2], m: [[u32x8; 4]; 2]) -> [[u32x8; 4]; 2]
+    ensures { (k : ℕ) → k < 2 → (i : ℕ) → i < 2 → half16 i (slice_index_or result k [])
+        ≡ round blake2s (half16 i (slice_index_or rows k [])) (half_message i (slice_index_or m k [])) (schedule 0) }
+{
+    [
+        round_halves(turns, rows[0], m[0]),
+        round_halves(turns, rows[1], m[1]),
+    ]
+}
+
+#[inline(always)]
+fn permute_pairs(m: [[u32x8; 4]; 2]) -> [[u32x8; 4]; 2]
+    ensures { (k : ℕ) → k < 2 → (i : ℕ) → i < 2 → half_message i (slice_index_or result k [])
+        ≡ words_in_order (half_message i (slice_index_or m k [])) permutation }
+{
+    [permute_halves(m[0]), permute_halves(m[1])]
+}
+
+#[inline(always)]
+#[tactic(auto, unfolding(crate::specs::Blake3::rounds3, crate::specs::Blake3::permuted_words))]
+fn rounds_pairs(turns: Turns, rows: [[u32x8; 4]; 2], m: [[u32x8; 4]; 2]) -> [[u32x8; 4]; 2]
+    ensures { (k : ℕ) → k < 2 → (i : ℕ) → i < 2 → half16 i (slice_index_or result k [])
+        ≡ rounds3 (half16 i (slice_index_or rows k [])) (half_message i (slice_index_or m k [])) 7 }
+{
+    seven_rounds!(round_pairs, permute_pairs, turns, rows, m)
+}
+
+/// The first eight words of `compress_3` in each half of two pairs.
+#[inline(always)]
+#[tactic(auto, unfolding(crate::specs::Blake3::compress3))]
+pub fn next_pairs(
+    turns: Turns,
+    h: [[u32x8; 2]; 2],
+    m: [[u32x8; 4]; 2],
+    t: &[u64; 4],
+    b: u32,
+    d: u32,
+) -> [[u32x8; 2]; 2]
+    ensures { (k : ℕ) → k < 2 → (i : ℕ) → i < 2 → half8 i (slice_index_or result k [])
+        ≡ take 8 (compress3 (half8 i (slice_index_or h k [])) (half_message i (slice_index_or m k []))
+        (slice_index t.now (2 * k + i)) b d) }
+{
+    let rows = [
+        working_halves(h[0], &[t[0], t[1]], b, d),
+        working_halves(h[1], &[t[2], t[3]], b, d),
+    ];
+    let [v, w] = rounds_pairs(turns, rows, m);
+    [
+        [xor(v[0], v[2]), xor(v[1], v[3])],
+        [xor(w[0], w[2]), xor(w[1], w[3])],
+    ]
 }
 
 /// The same words in both halves.
