@@ -65,7 +65,7 @@ fn few_chunk_lanes(
 {
     let counters = numbers(first);
     let starts = lane_starts(bytes.len() - CHUNK_LEN);
-    let turns = four::Turns::new();
+    let turns = Turns::new();
     let mut values = four::same_lanes(&parameters.key);
     'each_block: for j in 0..16 {
         let message = four::message_lanes(bytes, &starts, BLOCK_LEN * j);

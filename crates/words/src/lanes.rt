@@ -61,6 +61,26 @@ macro_rules! folded {
     };
 }
 
+// f of the words at each of these places, of one list or of two, where f may take something behind them.
+macro_rules! each {
+    ($f:path, [$($k:literal),*], $x:ident) => {
+        [$($f($x[$k])),*]
+    };
+    ($f:path, [$($k:literal),*], $x:ident, $y:ident) => {
+        [$($f($x[$k], $y[$k])),*]
+    };
+    ($f:path, [$($k:literal),*], $x:ident, $y:ident; $how:ident) => {
+        [$($f($x[$k], $y[$k], $how)),*]
+    };
+}
+
+// f of the words of two lists at each of these places, and behind that g of those of two others.
+macro_rules! both {
+    ([$($k:literal),*], $f:path, $x:ident, $y:ident, $g:path, $v:ident, $w:ident) => {
+        [$($f($x[$k], $y[$k])),*, $($g($v[$k], $w[$k])),*]
+    };
+}
+
 pub mod four;
 pub mod two;
 
@@ -141,7 +161,7 @@ fn words_of(x: u8x32) -> u32x8
 
 // x xor y, rotated right by 16.
 #[inline(always)]
-fn turn16(turns: Turns, x: u32x8, y: u32x8) -> u32x8
+fn turn16(x: u32x8, y: u32x8, turns: Turns) -> u32x8
     ensures { (i : ℕ) → i < 8 → slice_index result i ≡ rotated_xor blake2s 0 (slice_index x i) (slice_index y i) }
 {
     if level() < 2 {
@@ -152,7 +172,7 @@ fn turn16(turns: Turns, x: u32x8, y: u32x8) -> u32x8
 
 // x xor y, rotated right by 8.
 #[inline(always)]
-fn turn8(turns: Turns, x: u32x8, y: u32x8) -> u32x8
+fn turn8(x: u32x8, y: u32x8, turns: Turns) -> u32x8
     ensures { (i : ℕ) → i < 8 → slice_index result i ≡ rotated_xor blake2s 2 (slice_index x i) (slice_index y i) }
 {
     if level() < 2 {
@@ -166,24 +186,14 @@ fn turn8(turns: Turns, x: u32x8, y: u32x8) -> u32x8
 fn sums(x: [u32x8; 4], y: [u32x8; 4]) -> [u32x8; 4]
     ensures { OnLanes 8 (word_sum blake2s) x y result }
 {
-    [
-        add(x[0], y[0]),
-        add(x[1], y[1]),
-        add(x[2], y[2]),
-        add(x[3], y[3]),
-    ]
+    each!(add, [0, 1, 2, 3], x, y)
 }
 
 #[inline(always)]
-fn turned16(turns: Turns, x: [u32x8; 4], y: [u32x8; 4]) -> [u32x8; 4]
+fn turned16(x: [u32x8; 4], y: [u32x8; 4], turns: Turns) -> [u32x8; 4]
     ensures { OnLanes 8 (rotated_xor blake2s 0) x y result }
 {
-    [
-        turn16(turns, x[0], y[0]),
-        turn16(turns, x[1], y[1]),
-        turn16(turns, x[2], y[2]),
-        turn16(turns, x[3], y[3]),
-    ]
+    each!(turn16, [0, 1, 2, 3], x, y; turns)
 }
 
 #[inline(always)]
@@ -191,24 +201,14 @@ fn all_rotated(x: [u32x8; 4], y: [u32x8; 4], r: u32) -> [u32x8; 4]
     requires { (0 < r) × (r < 32) }
     ensures { OnLanes 8 (λ v w. rotate_right w32 (bit_xor v w) r) x y result }
 {
-    [
-        rotated(x[0], y[0], r),
-        rotated(x[1], y[1], r),
-        rotated(x[2], y[2], r),
-        rotated(x[3], y[3], r),
-    ]
+    each!(rotated, [0, 1, 2, 3], x, y; r)
 }
 
 #[inline(always)]
-fn turned8(turns: Turns, x: [u32x8; 4], y: [u32x8; 4]) -> [u32x8; 4]
+fn turned8(x: [u32x8; 4], y: [u32x8; 4], turns: Turns) -> [u32x8; 4]
     ensures { OnLanes 8 (rotated_xor blake2s 2) x y result }
 {
-    [
-        turn8(turns, x[0], y[0]),
-        turn8(turns, x[1], y[1]),
-        turn8(turns, x[2], y[2]),
-        turn8(turns, x[3], y[3]),
-    ]
+    each!(turn8, [0, 1, 2, 3], x, y; turns)
 }
 
 // G on the four columns of the state, step by step side by side.
@@ -219,11 +219,11 @@ fn four_g(turns: Turns, rows: [[u32x8; 4]; 4], x: [u32x8; 4], y: [u32x8; 4]) -> 
 {
     let [a, b, c, d] = rows;
     let a1 = sums(sums(a, b), x);
-    let d1 = turned16(turns, d, a1);
+    let d1 = turned16(d, a1, turns);
     let c1 = sums(c, d1);
     let b1 = all_rotated(b, c1, 12);
     let a2 = sums(sums(a1, b1), y);
-    let d2 = turned8(turns, d1, a2);
+    let d2 = turned8(d1, a2, turns);
     let c2 = sums(c1, d2);
     let b2 = all_rotated(b1, c2, 7);
     [a2, b2, c2, d2]
@@ -361,6 +361,7 @@ fn quad(x: &[u8], y: &[u8], at: usize) -> u32x8
     requires second { at + 16 ≤ length y.now }
     ensures low { (n : ℕ) → n < 4 → slice_index result n ≡ word_at x.now (at + 4 * n) }
     ensures high { (n : ℕ) → n < 4 → slice_index result (4 + n) ≡ word_at y.now (at + 4 * n) }
+    ensures whole { length result ≡ 8 }
 {
     four::joined(four::row(x, at), four::row(y, at))
 }
@@ -399,6 +400,13 @@ pub(crate) fn block_at(bytes: &[u8], at: usize) -> &[u8]
     &bytes[at..at + 64]
 }
 
+// Four message words of eight blocks, of which each quad takes two, from byte `at` on.
+macro_rules! quads_at {
+    ($at:literal, $($low:ident, $high:ident);*) => {
+        quads($(quad($low, $high, $at)),*)
+    };
+}
+
 /// The words of eight blocks, by lanes: lane i has those of the block that begins `at` bytes after its start.
 #[inline(always)]
 #[tactic(auto, unfolding(crate::specs::inside::Lanes::lane))]
@@ -414,30 +422,10 @@ pub fn message_lanes(bytes: &[u8], starts: &[usize; 8], at: usize) -> [u32x8; 16
     let b5 = block_at(bytes, starts[5] + at);
     let b6 = block_at(bytes, starts[6] + at);
     let b7 = block_at(bytes, starts[7] + at);
-    let [m0, m1, m2, m3] = quads(
-        quad(b0, b4, 0),
-        quad(b1, b5, 0),
-        quad(b2, b6, 0),
-        quad(b3, b7, 0),
-    );
-    let [m4, m5, m6, m7] = quads(
-        quad(b0, b4, 16),
-        quad(b1, b5, 16),
-        quad(b2, b6, 16),
-        quad(b3, b7, 16),
-    );
-    let [m8, m9, m10, m11] = quads(
-        quad(b0, b4, 32),
-        quad(b1, b5, 32),
-        quad(b2, b6, 32),
-        quad(b3, b7, 32),
-    );
-    let [m12, m13, m14, m15] = quads(
-        quad(b0, b4, 48),
-        quad(b1, b5, 48),
-        quad(b2, b6, 48),
-        quad(b3, b7, 48),
-    );
+    let [m0, m1, m2, m3] = quads_at!(0, b0, b4; b1, b5; b2, b6; b3, b7);
+    let [m4, m5, m6, m7] = quads_at!(16, b0, b4; b1, b5; b2, b6; b3, b7);
+    let [m8, m9, m10, m11] = quads_at!(32, b0, b4; b1, b5; b2, b6; b3, b7);
+    let [m12, m13, m14, m15] = quads_at!(48, b0, b4; b1, b5; b2, b6; b3, b7);
     [
         m0, m1, m2, m3, m4, m5, m6, m7, m8, m9, m10, m11, m12, m13, m14, m15,
     ]
@@ -445,28 +433,28 @@ pub fn message_lanes(bytes: &[u8], starts: &[usize; 8], at: usize) -> [u32x8; 16
 
 // A row of eight words.
 #[inline(always)]
-fn row(r: &[u32; 8]) -> u32x8
-    ensures words { result ≡ r.now }
-    ensures whole { length r.now ≡ 8 }
+fn row(r: [u32; 8]) -> u32x8
+    ensures words { result ≡ r }
+    ensures whole { length r ≡ 8 }
 {
-    u32x8::from_array(*r)
+    u32x8::from_array(r)
 }
 
 // The first half of a row of sixteen words.
 #[inline(always)]
-fn first_half(r: &[u32; 16]) -> u32x8
-    ensures words { result ≡ slice_index r.now 0 ∷ slice_index r.now 1 ∷ slice_index r.now 2 ∷ slice_index r.now 3
-        ∷ slice_index r.now 4 ∷ slice_index r.now 5 ∷ slice_index r.now 6 ∷ slice_index r.now 7 ∷ [] }
-    ensures whole { length r.now ≡ 16 }
+fn first_half(r: [u32; 16]) -> u32x8
+    ensures words { result ≡ slice_index r 0 ∷ slice_index r 1 ∷ slice_index r 2 ∷ slice_index r 3 ∷ slice_index r 4
+        ∷ slice_index r 5 ∷ slice_index r 6 ∷ slice_index r 7 ∷ [] }
+    ensures whole { length r ≡ 16 }
 {
     u32x8::from_array([r[0], r[1], r[2], r[3], r[4], r[5], r[6], r[7]])
 }
 
 // The second half.
 #[inline(always)]
-fn second_half(r: &[u32; 16]) -> u32x8
-    ensures { result ≡ slice_index r.now 8 ∷ slice_index r.now 9 ∷ slice_index r.now 10 ∷ slice_index r.now 11
-        ∷ slice_index r.now 12 ∷ slice_index r.now 13 ∷ slice_index r.now 14 ∷ slice_index r.now 15 ∷ [] }
+fn second_half(r: [u32; 16]) -> u32x8
+    ensures { result ≡ slice_index r 8 ∷ slice_index r 9 ∷ slice_index r 10 ∷ slice_index r 11 ∷ slice_index r 12
+        ∷ slice_index r 13 ∷ slice_index r 14 ∷ slice_index r 15 ∷ [] }
 {
     u32x8::from_array([r[8], r[9], r[10], r[11], r[12], r[13], r[14], r[15]])
 }
@@ -476,16 +464,7 @@ fn second_half(r: &[u32; 16]) -> u32x8
 fn value_lanes(h: &[[u32; 8]; 8]) -> [u32x8; 8]
     ensures { (i : ℕ) → i < 8 → lane8 i result ≡ slice_index_or h.now i [] }
 {
-    transpose([
-        row(&h[0]),
-        row(&h[1]),
-        row(&h[2]),
-        row(&h[3]),
-        row(&h[4]),
-        row(&h[5]),
-        row(&h[6]),
-        row(&h[7]),
-    ])
+    transpose(each!(row, [0, 1, 2, 3, 4, 5, 6, 7], h))
 }
 
 // The lanes of rows of sixteen words.
@@ -494,26 +473,10 @@ fn value_lanes(h: &[[u32; 8]; 8]) -> [u32x8; 8]
 fn row_lanes(m: &[[u32; 16]; 8]) -> [u32x8; 16]
     ensures { (i : ℕ) → i < 8 → lane i result ≡ slice_index_or m.now i [] }
 {
-    let [m0, m1, m2, m3, m4, m5, m6, m7] = transpose([
-        first_half(&m[0]),
-        first_half(&m[1]),
-        first_half(&m[2]),
-        first_half(&m[3]),
-        first_half(&m[4]),
-        first_half(&m[5]),
-        first_half(&m[6]),
-        first_half(&m[7]),
-    ]);
-    let [m8, m9, m10, m11, m12, m13, m14, m15] = transpose([
-        second_half(&m[0]),
-        second_half(&m[1]),
-        second_half(&m[2]),
-        second_half(&m[3]),
-        second_half(&m[4]),
-        second_half(&m[5]),
-        second_half(&m[6]),
-        second_half(&m[7]),
-    ]);
+    let first = transpose(each!(first_half, [0, 1, 2, 3, 4, 5, 6, 7], m));
+    let second = transpose(each!(second_half, [0, 1, 2, 3, 4, 5, 6, 7], m));
+    let [m0, m1, m2, m3, m4, m5, m6, m7] = first;
+    let [m8, m9, m10, m11, m12, m13, m14, m15] = second;
     [
         m0, m1, m2, m3, m4, m5, m6, m7, m8, m9, m10, m11, m12, m13, m14, m15,
     ]
@@ -539,27 +502,8 @@ pub(crate) fn high(x: u64) -> u32
 fn working_lanes(h: [u32x8; 8], t: &[u64; 8], b: u32, d: u32) -> [[u32x8; 4]; 4]
     ensures { (i : ℕ) → i < 8 → rows_lane i result ≡ working_words3 (lane8 i h) (slice_index t.now i) b d }
 {
-    let [t0, t1, t2, t3, t4, t5, t6, t7] = *t;
-    let lows = u32x8::from_array([
-        low(t0),
-        low(t1),
-        low(t2),
-        low(t3),
-        low(t4),
-        low(t5),
-        low(t6),
-        low(t7),
-    ]);
-    let highs = u32x8::from_array([
-        high(t0),
-        high(t1),
-        high(t2),
-        high(t3),
-        high(t4),
-        high(t5),
-        high(t6),
-        high(t7),
-    ]);
+    let lows = u32x8::from_array(each!(low, [0, 1, 2, 3, 4, 5, 6, 7], t));
+    let highs = u32x8::from_array(each!(high, [0, 1, 2, 3, 4, 5, 6, 7], t));
     [
         [h[0], h[1], h[2], h[3]],
         [h[4], h[5], h[6], h[7]],
@@ -579,16 +523,7 @@ fn fold_lanes(rows: [[u32x8; 4]; 4]) -> [u32x8; 8]
     ensures { (i : ℕ) → i < 8 → lane8 i result ≡ take 8 (folded_halves3 [] (rows_lane i rows)) }
 {
     let [a, b, c, d] = rows;
-    [
-        xor(a[0], c[0]),
-        xor(a[1], c[1]),
-        xor(a[2], c[2]),
-        xor(a[3], c[3]),
-        xor(b[0], d[0]),
-        xor(b[1], d[1]),
-        xor(b[2], d[2]),
-        xor(b[3], d[3]),
-    ]
+    both!([0, 1, 2, 3], xor, a, c, xor, b, d)
 }
 
 /// The first eight words of `compress_3` in each of eight lanes. Each value of `USE` is a copy of the code of its
@@ -616,16 +551,7 @@ pub fn next_lanes<const USE: usize>(
 pub fn same_lanes(h: &[u32; 8]) -> [u32x8; 8]
     ensures { (i : ℕ) → i < 8 → lane8 i result ≡ h.now }
 {
-    [
-        u32x8::splat(h[0]),
-        u32x8::splat(h[1]),
-        u32x8::splat(h[2]),
-        u32x8::splat(h[3]),
-        u32x8::splat(h[4]),
-        u32x8::splat(h[5]),
-        u32x8::splat(h[6]),
-        u32x8::splat(h[7]),
-    ]
+    each!(u32x8::splat, [0, 1, 2, 3, 4, 5, 6, 7], h)
 }
 
 /// The words in each lane, as a row.
@@ -633,17 +559,8 @@ pub fn same_lanes(h: &[u32; 8]) -> [u32x8; 8]
 pub fn lane_rows(h: [u32x8; 8]) -> [[u32; 8]; 8]
     ensures { (i : ℕ) → i < 8 → slice_index_or result i [] ≡ lane8 i h }
 {
-    let [r0, r1, r2, r3, r4, r5, r6, r7] = transpose(h);
-    [
-        r0.to_array(),
-        r1.to_array(),
-        r2.to_array(),
-        r3.to_array(),
-        r4.to_array(),
-        r5.to_array(),
-        r6.to_array(),
-        r7.to_array(),
-    ]
+    let rows = transpose(h);
+    each!(u32x8::to_array, [0, 1, 2, 3, 4, 5, 6, 7], rows)
 }
 
 #[inline(always)]
@@ -670,26 +587,15 @@ pub fn pair_lanes(left: [u32x8; 8], right: [u32x8; 8]) -> [u32x8; 16]
     ensures left { (i : ℕ) → i < 4 → lane i result ≡ lane8 (2 * i) left ++ lane8 (2 * i + 1) left }
     ensures right { (i : ℕ) → i < 4 → lane (4 + i) result ≡ lane8 (2 * i) right ++ lane8 (2 * i + 1) right }
 {
-    let [l0, l1, l2, l3, l4, l5, l6, l7] = left;
-    let [r0, r1, r2, r3, r4, r5, r6, r7] = right;
-    [
-        even(l0, r0),
-        even(l1, r1),
-        even(l2, r2),
-        even(l3, r3),
-        even(l4, r4),
-        even(l5, r5),
-        even(l6, r6),
-        even(l7, r7),
-        odd(l0, r0),
-        odd(l1, r1),
-        odd(l2, r2),
-        odd(l3, r3),
-        odd(l4, r4),
-        odd(l5, r5),
-        odd(l6, r6),
-        odd(l7, r7),
-    ]
+    both!(
+        [0, 1, 2, 3, 4, 5, 6, 7],
+        even,
+        left,
+        right,
+        odd,
+        left,
+        right
+    )
 }
 
 /// The first eight words of `compress_3` on each of eight rows.

@@ -11,44 +11,18 @@ ghost use Rattle.words.specs.Tables.{permutation};
 ghost use Rattle.words.specs.Words.{words};
 ghost use Rattle.words.specs.inside.Lanes.{lane, lane4, lane8, places_16, places_8, word_at};
 
-use crate::lanes;
-use crate::lanes::{block_at, high, load, low};
+use crate::lanes::{Turns, block_at, high, load, low};
 use crate::levels::level;
 use crate::rows::{rotated_xor32, sum32};
 use crate::tables::IV32;
 use std::simd::prelude::*;
 
-/// Where the bytes of four words come from when they turn by 16 and by 8.
-#[derive(Clone, Copy)]
-pub struct Turns {
-    by_16: u8x16,
-    by_8: u8x16,
-    ghost sixteen: { by_16 ≡ take 16 places_16 },
-    ghost eight: { by_8 ≡ take 16 places_8 },
-}
-
-impl Turns {
-    /// The places. A call, so that the compiler does not know them and leaves each turn as one shuffle.
-    #[inline(never)]
-    pub fn new() -> Turns {
-        Turns {
-            by_16: u8x16::from_array([2, 3, 0, 1, 6, 7, 4, 5, 10, 11, 8, 9, 14, 15, 12, 13]),
-            by_8: u8x16::from_array([1, 2, 3, 0, 5, 6, 7, 4, 9, 10, 11, 8, 13, 14, 15, 12]),
-        }
-    }
-
-    // The half of those of eight words.
-    #[inline(always)]
-    fn half(turns: lanes::Turns) -> Turns {
-        Turns {
-            by_16: turns
-                .by_16
-                .swizzle([0, 1, 2, 3, 4, 5, 6, 7, 8, 9, 10, 11, 12, 13, 14, 15]),
-            by_8: turns
-                .by_8
-                .swizzle([0, 1, 2, 3, 4, 5, 6, 7, 8, 9, 10, 11, 12, 13, 14, 15]),
-        }
-    }
+// The places of four words among those of eight.
+#[inline(always)]
+fn half(places: u8x32) -> u8x16
+    ensures { result ≡ take 16 places }
+{
+    places.swizzle([0, 1, 2, 3, 4, 5, 6, 7, 8, 9, 10, 11, 12, 13, 14, 15])
 }
 
 #[inline(always)]
@@ -75,24 +49,24 @@ fn words_of(x: u8x16) -> u32x4
 
 // x xor y, rotated right by 16.
 #[inline(always)]
-fn turn16(turns: Turns, x: u32x4, y: u32x4) -> u32x4
+fn turn16(x: u32x4, y: u32x4, turns: Turns) -> u32x4
     ensures { (i : ℕ) → i < 4 → slice_index result i ≡ rotated_xor blake2s 0 (slice_index x i) (slice_index y i) }
 {
     if level() < 2 {
         return rotated_xor32(x, y, 16);
     }
-    words_of(bytes(xor(x, y)).swizzle_dyn_within::<16>(turns.by_16))
+    words_of(bytes(xor(x, y)).swizzle_dyn_within::<16>(half(turns.by_16)))
 }
 
 // x xor y, rotated right by 8.
 #[inline(always)]
-fn turn8(turns: Turns, x: u32x4, y: u32x4) -> u32x4
+fn turn8(x: u32x4, y: u32x4, turns: Turns) -> u32x4
     ensures { (i : ℕ) → i < 4 → slice_index result i ≡ rotated_xor blake2s 2 (slice_index x i) (slice_index y i) }
 {
     if level() < 2 {
         return rotated_xor32(x, y, 8);
     }
-    words_of(bytes(xor(x, y)).swizzle_dyn_within::<16>(turns.by_8))
+    words_of(bytes(xor(x, y)).swizzle_dyn_within::<16>(half(turns.by_8)))
 }
 
 // The first half of G on a column or diagonal of the state in each lane.
@@ -102,7 +76,7 @@ fn begin_mix(turns: Turns, rows: [u32x4; 4], x: u32x4) -> [u32x4; 4]
 {
     let [a, b, c, d] = rows;
     let a = sum32(sum32(a, b), x);
-    let d = turn16(turns, d, a);
+    let d = turn16(d, a, turns);
     let c = sum32(c, d);
     let b = rotated_xor32(b, c, 12);
     [a, b, c, d]
@@ -116,7 +90,7 @@ fn end_mix(turns: Turns, rows: [u32x4; 4], y: u32x4) -> [u32x4; 4]
 {
     let [a, b, c, d] = rows;
     let a = sum32(sum32(a, b), y);
-    let d = turn8(turns, d, a);
+    let d = turn8(d, a, turns);
     let c = sum32(c, d);
     let b = rotated_xor32(b, c, 7);
     [a, b, c, d]
@@ -222,16 +196,7 @@ pub fn next_lanes<const USE: usize>(
 pub fn same_lanes(h: &[u32; 8]) -> [u32x4; 8]
     ensures { (i : ℕ) → i < 4 → lane8 i result ≡ h.now }
 {
-    [
-        u32x4::splat(h[0]),
-        u32x4::splat(h[1]),
-        u32x4::splat(h[2]),
-        u32x4::splat(h[3]),
-        u32x4::splat(h[4]),
-        u32x4::splat(h[5]),
-        u32x4::splat(h[6]),
-        u32x4::splat(h[7]),
-    ]
+    each!(u32x4::splat, [0, 1, 2, 3, 4, 5, 6, 7], h)
 }
 
 #[inline(always)]
@@ -354,19 +319,12 @@ fn right(x: u32x8) -> u32x4
     x.swizzle([4, 5, 6, 7])
 }
 
-// That half of each vector.
-macro_rules! halves {
-    ($half:ident, $x:ident, [$($k:literal),*]) => {
-        [$($half($x[$k])),*]
-    };
-}
-
 // The first four of eight lanes.
 #[inline(always)]
 fn left_values(h: [u32x8; 8]) -> [u32x4; 8]
     ensures { (i : ℕ) → i < 4 → lane8 i result ≡ lane8 i h }
 {
-    halves!(left, h, [0, 1, 2, 3, 4, 5, 6, 7])
+    each!(left, [0, 1, 2, 3, 4, 5, 6, 7], h)
 }
 
 // The other four.
@@ -374,7 +332,7 @@ fn left_values(h: [u32x8; 8]) -> [u32x4; 8]
 fn right_values(h: [u32x8; 8]) -> [u32x4; 8]
     ensures { (i : ℕ) → i < 4 → lane8 i result ≡ lane8 (4 + i) h }
 {
-    halves!(right, h, [0, 1, 2, 3, 4, 5, 6, 7])
+    each!(right, [0, 1, 2, 3, 4, 5, 6, 7], h)
 }
 
 // The same of message words.
@@ -383,10 +341,10 @@ fn right_values(h: [u32x8; 8]) -> [u32x4; 8]
 fn left_words(m: [u32x8; 16]) -> [u32x4; 16]
     ensures { (i : ℕ) → i < 4 → lane i result ≡ lane i m }
 {
-    halves!(
+    each!(
         left,
-        m,
-        [0, 1, 2, 3, 4, 5, 6, 7, 8, 9, 10, 11, 12, 13, 14, 15]
+        [0, 1, 2, 3, 4, 5, 6, 7, 8, 9, 10, 11, 12, 13, 14, 15],
+        m
     )
 }
 
@@ -395,10 +353,10 @@ fn left_words(m: [u32x8; 16]) -> [u32x4; 16]
 fn right_words(m: [u32x8; 16]) -> [u32x4; 16]
     ensures { (i : ℕ) → i < 4 → lane i result ≡ lane (4 + i) m }
 {
-    halves!(
+    each!(
         right,
-        m,
-        [0, 1, 2, 3, 4, 5, 6, 7, 8, 9, 10, 11, 12, 13, 14, 15]
+        [0, 1, 2, 3, 4, 5, 6, 7, 8, 9, 10, 11, 12, 13, 14, 15],
+        m
     )
 }
 
@@ -408,23 +366,14 @@ pub fn joined_lanes(l: [u32x4; 8], r: [u32x4; 8]) -> [u32x8; 8]
     ensures left { (i : ℕ) → i < 4 → lane8 i result ≡ lane8 i l }
     ensures right { (i : ℕ) → i < 4 → lane8 (4 + i) result ≡ lane8 i r }
 {
-    [
-        joined(l[0], r[0]),
-        joined(l[1], r[1]),
-        joined(l[2], r[2]),
-        joined(l[3], r[3]),
-        joined(l[4], r[4]),
-        joined(l[5], r[5]),
-        joined(l[6], r[6]),
-        joined(l[7], r[7]),
-    ]
+    each!(joined, [0, 1, 2, 3, 4, 5, 6, 7], l, r)
 }
 
 /// The same in each of eight lanes: in four of them, and then in the others. It is faster where a vector of eight
 /// words takes two registers.
 #[inline(always)]
 pub(crate) fn next_fours(
-    turns: lanes::Turns,
+    turns: Turns,
     h: [u32x8; 8],
     m: [u32x8; 16],
     t: &[u64; 8],
@@ -433,7 +382,6 @@ pub(crate) fn next_fours(
 ) -> [u32x8; 8]
     ensures { (i : ℕ) → i < 8 → lane8 i result ≡ take 8 (compress3 (lane8 i h) (lane i m) (slice_index t.now i) b d) }
 {
-    let turns = Turns::half(turns);
     let [t0, t1, t2, t3, t4, t5, t6, t7] = *t;
     let left = next_lanes::<1>(
         turns,

@@ -23,11 +23,11 @@ fn mix(turns: Turns, rows: [u32x8; 4], x: u32x8, y: u32x8) -> [u32x8; 4]
 {
     let [a, b, c, d] = rows;
     let a1 = add(add(a, b), x);
-    let d1 = turn16(turns, d, a1);
+    let d1 = turn16(d, a1, turns);
     let c1 = add(c, d1);
     let b1 = rotated(b, c1, 12);
     let a2 = add(add(a1, b1), y);
-    let d2 = turn8(turns, d1, a2);
+    let d2 = turn8(d1, a2, turns);
     let c2 = add(c1, d2);
     let b2 = rotated(b1, c2, 7);
     [a2, b2, c2, d2]
@@ -206,19 +206,6 @@ pub fn same_halves(h: &[u32; 8]) -> [u32x8; 2]
     ]
 }
 
-// The words of rows, in the order in which G takes them.
-#[inline(always)]
-fn by_columns(x: u32x8, y: u32x8, z: u32x8, w: u32x8) -> [u32x8; 4]
-    ensures { (i : ℕ) → i < 2 → half_message i result ≡ half16 i (x ∷ y ∷ z ∷ w ∷ []) }
-{
-    [
-        x.shuffle(y, [0, 2, 8, 10, 4, 6, 12, 14]),
-        x.shuffle(y, [1, 3, 9, 11, 5, 7, 13, 15]),
-        z.shuffle(w, [10, 0, 2, 8, 14, 4, 6, 12]),
-        z.shuffle(w, [11, 1, 3, 9, 15, 5, 7, 13]),
-    ]
-}
-
 /// The words of two blocks, by halves: half i has those of the block that begins `at` bytes after its start.
 #[inline(always)]
 pub fn message_halves(bytes: &[u8], starts: &[usize; 2], at: usize) -> [u32x8; 4]
@@ -228,12 +215,16 @@ pub fn message_halves(bytes: &[u8], starts: &[usize; 2], at: usize) -> [u32x8; 4
 {
     let b0 = block_at(bytes, starts[0] + at);
     let b1 = block_at(bytes, starts[1] + at);
-    by_columns(
-        quad(b0, b1, 0),
-        quad(b0, b1, 16),
-        quad(b0, b1, 32),
-        quad(b0, b1, 48),
-    )
+    let x = quad(b0, b1, 0);
+    let y = quad(b0, b1, 16);
+    let z = quad(b0, b1, 32);
+    let w = quad(b0, b1, 48);
+    [
+        x.shuffle(y, [0, 2, 8, 10, 4, 6, 12, 14]),
+        x.shuffle(y, [1, 3, 9, 11, 5, 7, 13, 15]),
+        z.shuffle(w, [10, 0, 2, 8, 14, 4, 6, 12]),
+        z.shuffle(w, [11, 1, 3, 9, 15, 5, 7, 13]),
+    ]
 }
 
 /// The words in each half, as a row. There are as many rows as of eight lanes, and the others are of no meaning.

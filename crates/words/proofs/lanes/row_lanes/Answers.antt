@@ -6,7 +6,7 @@ use Rattle.words.proofs.lanes.row_lanes.Goals as goal
 pub returns : goal.returns
 unfolding lane
 returns c =
-    rw (c.transpose.ensures, c.transpose-2.ensures) (below_eight _
+    rw (c.transpose-first.ensures, c.transpose-second.ensures) (below_eight _
     (rw (c.first_half.ensures.words, c.second_half.ensures) (sym (listed 16 _ c.first_half.ensures.whole)))
     (rw (c.first_half-2.ensures.words, c.second_half-2.ensures) (sym (listed 16 _ c.first_half-2.ensures.whole)))
     (rw (c.first_half-3.ensures.words, c.second_half-3.ensures) (sym (listed 16 _ c.first_half-3.ensures.whole)))

@@ -1,15 +1,18 @@
-use Rattle.std.proofs.Common.{◌∙◌, arith}
-use Rattle.words.specs.inside.Halves.{half16}
-use Rattle.words.proofs.LaneLemmas.{below_two, block_read}
+use Rattle.words.specs.inside.Halves.{half_message}
+use Rattle.words.proofs.LaneLemmas.{below_two, block_read, listed}
 use Rattle.words.proofs.lanes.two.message_halves.Goals as goal
 
 pub returns : goal.returns
-unfolding half16
+unfolding half_message
 returns c =
-    below_two _
-    (c.by_columns.ensures 0 (omega arith)
-    ∙ block_read _ _ _ _ _ _ c.quad.ensures.low c.quad-2.ensures.low c.quad-3.ensures.low c.quad-4.ensures.low
+    rw (
+      listed 8 _ c.quad-x.ensures.whole,
+      listed 8 _ c.quad-y.ensures.whole,
+      listed 8 _ c.quad-z.ensures.whole,
+      listed 8 _ c.quad-w.ensures.whole,
+    )
+    (below_two _
+    (block_read _ _ _ _ _ _ c.quad-x.ensures.low c.quad-y.ensures.low c.quad-z.ensures.low c.quad-w.ensures.low
     c.block_at-b0.ensures.block)
-    (c.by_columns.ensures 1 (omega arith)
-    ∙ block_read _ _ _ _ _ _ c.quad.ensures.high c.quad-2.ensures.high c.quad-3.ensures.high c.quad-4.ensures.high
-    c.block_at-b1.ensures.block)
+    (block_read _ _ _ _ _ _ c.quad-x.ensures.high c.quad-y.ensures.high c.quad-z.ensures.high c.quad-w.ensures.high
+    c.block_at-b1.ensures.block))
