@@ -280,8 +280,11 @@ impl Blake3 {
         requires more { 1024 * self.old.stack.closed + length bytes.now + 1 < 2 ^ 64 }
         ensures { Adds self.old self.new bytes.now 0 }
     {
-        let (values, _before) = chunk_values(&self.stack.parameters, self.stack.closed, bytes);
-        self.push_values(&values, bytes.len() / CHUNK_LEN);
+        let mut made = [[0; 8]; 8];
+        let mut before = made;
+        let first = self.stack.closed;
+        chunk_values(&self.stack.parameters, first, bytes, &mut made, &mut before);
+        self.push_values(&made, bytes.len() / CHUNK_LEN);
     }
 
     // Adds at most eight whole chunks, of which the last stays open.
@@ -293,10 +296,13 @@ impl Blake3 {
         requires more { 1024 * self.old.stack.closed + length bytes.now < 2 ^ 64 }
         ensures { Adds self.old self.new bytes.now 1024 }
     {
-        let (values, before) = chunk_values(&self.stack.parameters, self.stack.closed, bytes);
+        let mut made = [[0; 8]; 8];
+        let mut before = made;
+        let first = self.stack.closed;
+        chunk_values(&self.stack.parameters, first, bytes, &mut made, &mut before);
         let last = bytes.len() / CHUNK_LEN - 1;
-        self.push_values(&values, last);
-        self.open_chunk(before[last], Some(values[last]), &bytes[CHUNK_LEN * last..]);
+        self.push_values(&made, last);
+        self.open_chunk(before[last], Some(made[last]), &bytes[CHUNK_LEN * last..]);
     }
 
     /// Takes a beginning of `rest`, and answers its length: whole chunks, where no chunk is begun and

@@ -77,76 +77,77 @@ fn few_chunk_lanes(
     values
 }
 
-// The words in each half of two pairs, as a row. There are as many rows as of eight lanes, and the others are of no
-// meaning.
+// Writes the words in each half of two pairs into the first four rows.
 #[inline(always)]
-fn pair_rows(h: [[u32x8; 2]; 2]) -> [[u32; 8]; 8]
-    ensures { (i : ℕ) → i < 4 → slice_index_or result i [] ≡ of_pairs half8 h i }
+fn pair_rows(h: [[u32x8; 2]; 2], rows: &mut [[u32; 8]; 8])
+    ensures { (i : ℕ) → i < 4 → slice_index_or rows.new i [] ≡ of_pairs half8 h i }
 {
-    let [a, b, ..] = two::half_rows(h[0]);
-    let [c, d, ..] = two::half_rows(h[1]);
-    let none = [0; 8];
-    [a, b, c, d, none, none, none, none]
+    two::half_rows(h[0], 0, rows);
+    two::half_rows(h[1], 2, rows);
 }
 
-// The chaining values of two whole chunks, and those before the last block of each.
+// Writes the chaining values of two whole chunks, and those before the last block of each, into the first two rows.
 fn two_chunk_values(
     parameters: &Parameters,
     first: u64,
     bytes: &[u8],
-) -> ([[u32; 8]; 8], [[u32; 8]; 8])
+    values: &mut [[u32; 8]; 8],
+    before: &mut [[u32; 8]; 8],
+)
     requires length { length bytes.now ≡ 2048 }
     requires numbers { first + 2 < 2 ^ 64 }
-    ensures values { (i : ℕ) → i < 2 → slice_index_or result.0 i []
+    ensures values { (i : ℕ) → i < 2 → slice_index_or values.new i []
         ≡ run_cv parameters.now.key parameters.now.flags first bytes.now 0 i }
     ensures before { (i : ℕ) → i < 2
-        → slice_index_or result.1 i [] ≡ value_before_last parameters.now.key parameters.now.flags first bytes.now i }
+        → slice_index_or before.new i [] ≡ value_before_last parameters.now.key parameters.now.flags first bytes.now i }
 {
     let counters = numbers(first);
     let starts = lane_starts(CHUNK_LEN);
     let turns = Turns::known();
-    let mut values = two::same_halves(&parameters.key);
-    let mut before = values;
+    let mut next = two::same_halves(&parameters.key);
+    let mut last = next;
     'each_block: for j in 0..16 {
         let message = two::message_halves(bytes, &starts, BLOCK_LEN * j);
         let d = block_flags(parameters.flags, j);
-        let next = two::next_halves(turns, values, message, &counters, 64, d);
-        before = values;
-        values = next;
+        last = next;
+        next = two::next_halves(turns, last, message, &counters, 64, d);
     }
-    (two::half_rows(values), two::half_rows(before))
+    two::half_rows(next, 0, values);
+    two::half_rows(last, 0, before);
 }
 
-// The chaining values of the first four of some whole chunks, by two pairs side by side, and those before the last
-// block of each. A call, so that other numbers of chunks do not pay for its room on the stack.
+// Writes the chaining values of the first four of some whole chunks, by two pairs side by side, and those before the
+// last block of each. A call, so that other numbers of chunks do not pay for its room on the stack.
 #[inline(never)]
 fn two_pair_values(
     parameters: &Parameters,
     first: u64,
     bytes: &[u8],
-) -> ([[u32; 8]; 8], [[u32; 8]; 8])
+    values: &mut [[u32; 8]; 8],
+    before: &mut [[u32; 8]; 8],
+)
     requires some { 1024 ≤ length bytes.now }
     requires numbers { first + 4 < 2 ^ 64 }
     ensures values { (i : ℕ) → i < 4 → 1024 * i + 1024 ≤ length bytes.now
-        → slice_index_or result.0 i [] ≡ run_cv parameters.now.key parameters.now.flags first bytes.now 0 i }
+        → slice_index_or values.new i [] ≡ run_cv parameters.now.key parameters.now.flags first bytes.now 0 i }
     ensures before { (i : ℕ) → i < 4 → 1024 * i + 1024 ≤ length bytes.now
-        → slice_index_or result.1 i [] ≡ value_before_last parameters.now.key parameters.now.flags first bytes.now i }
+        → slice_index_or before.new i [] ≡ value_before_last parameters.now.key parameters.now.flags first bytes.now i }
 {
     let counters = numbers(first);
     let [s0, s1, s2, s3] = lane_starts::<4>(bytes.len() - CHUNK_LEN);
     let turns = Turns::known();
     let start = two::same_halves(&parameters.key);
-    let mut values = [start, start];
-    let mut before = values;
+    let mut next = [start, start];
+    let mut last = next;
     'each_block: for j in 0..16 {
         let left = two::message_halves(bytes, &[s0, s1], BLOCK_LEN * j);
         let right = two::message_halves(bytes, &[s2, s3], BLOCK_LEN * j);
         let d = block_flags(parameters.flags, j);
-        let next = two::next_pairs(turns, values, [left, right], &counters, 64, d);
-        before = values;
-        values = next;
+        last = next;
+        next = two::next_pairs(turns, last, [left, right], &counters, 64, d);
     }
-    (pair_rows(values), pair_rows(before))
+    pair_rows(next, values);
+    pair_rows(last, before);
 }
 
 // Those of five to eight whole chunks, by four lanes and then by four others.
@@ -203,33 +204,35 @@ fn chunk_lanes(
     values
 }
 
-/// The chaining values of at most eight whole chunks, and those before the last block of each.
+/// Writes the chaining values of at most eight whole chunks, and those before the last block of each, into the first
+/// rows. The rows behind them are of no meaning.
 pub(crate) fn chunk_values(
     parameters: &Parameters,
     first: u64,
     bytes: &[u8],
-) -> ([[u32; 8]; 8], [[u32; 8]; 8])
+    values: &mut [[u32; 8]; 8],
+    before: &mut [[u32; 8]; 8],
+)
     requires some { 1024 ≤ length bytes.now }
     requires numbers { first + 8 < 2 ^ 64 }
     ensures values { (i : ℕ) → i < 8 → 1024 * i + 1024 ≤ length bytes.now
-        → slice_index_or result.0 i [] ≡ run_cv parameters.now.key parameters.now.flags first bytes.now 0 i }
+        → slice_index_or values.new i [] ≡ run_cv parameters.now.key parameters.now.flags first bytes.now 0 i }
     ensures before { (i : ℕ) → i < 8 → 1024 * i + 1024 ≤ length bytes.now
-        → slice_index_or result.1 i [] ≡ value_before_last parameters.now.key parameters.now.flags first bytes.now i }
+        → slice_index_or before.new i [] ≡ value_before_last parameters.now.key parameters.now.flags first bytes.now i }
 {
     if bytes.len() == 2 * CHUNK_LEN {
-        return two_chunk_values(parameters, first, bytes);
+        two_chunk_values(parameters, first, bytes, values, before);
+    } else if bytes.len() >= 5 * CHUNK_LEN {
+        let mut last = same_lanes(&parameters.key);
+        *values = lane_rows(chunk_lanes(parameters, first, bytes, &mut last));
+        *before = lane_rows(last);
+    } else if level() == 3 {
+        two_pair_values(parameters, first, bytes, values, before);
+    } else {
+        let mut last = four::same_lanes(&parameters.key);
+        four::lane_rows(few_chunk_lanes(parameters, first, bytes, &mut last), values);
+        four::lane_rows(last, before);
     }
-    if bytes.len() < 5 * CHUNK_LEN {
-        if level() == 3 {
-            return two_pair_values(parameters, first, bytes);
-        }
-        let mut before = four::same_lanes(&parameters.key);
-        let values = few_chunk_lanes(parameters, first, bytes, &mut before);
-        return (four::lane_rows(values), four::lane_rows(before));
-    }
-    let mut before = same_lanes(&parameters.key);
-    let values = chunk_lanes(parameters, first, bytes, &mut before);
-    (lane_rows(values), lane_rows(before))
 }
 
 // The chaining value over two.

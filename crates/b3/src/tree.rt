@@ -69,11 +69,11 @@ fn group_values(parameters: &Parameters, first: u64, bytes: &[u8]) -> [[u32; 8];
     ensures { (i : ℕ) → i < chunk_count bytes.now
         → slice_index_or result i [] ≡ run_cv parameters.now.key parameters.now.flags first bytes.now 0 i }
 {
-    let (values, _before) = chunk_values(parameters, first, bytes);
+    let mut values = [[0; 8]; 8];
+    chunk_values(parameters, first, bytes, &mut values, &mut [[0; 8]; 8]);
     if bytes.len() % CHUNK_LEN == 0 {
         return values;
     }
-    let mut values = values;
     let last = (bytes.len() - 1) / CHUNK_LEN;
     let rest = chunk_over(parameters, first + last as u64, &bytes[CHUNK_LEN * last..]);
     values[last] = rest.chaining_value();

@@ -284,23 +284,23 @@ pub(crate) fn joined(x: u32x4, y: u32x4) -> u32x8
     x.shuffle(y, [0, 1, 2, 3, 4, 5, 6, 7])
 }
 
-/// The words in each lane, as a row. There are as many rows as of eight lanes, and the others are of no meaning.
+/// Writes the words in each lane into its row.
 #[inline(always)]
-pub fn lane_rows(h: [u32x4; 8]) -> [[u32; 8]; 8]
-    ensures { (i : ℕ) → i < 4 → slice_index_or result i [] ≡ lane8 i h }
+pub fn lane_rows(h: [u32x4; 8], rows: &mut [[u32; 8]; 8])
+    ensures { (i : ℕ) → i < 4 → slice_index_or rows.new i [] ≡ lane8 i h }
 {
     let [a0, a1, a2, a3] = transpose([h[0], h[1], h[2], h[3]]);
     let [b0, b1, b2, b3] = transpose([h[4], h[5], h[6], h[7]]);
-    [
+    *rows = [
         joined(a0, b0).to_array(),
         joined(a1, b1).to_array(),
         joined(a2, b2).to_array(),
         joined(a3, b3).to_array(),
-        [0; 8],
-        [0; 8],
-        [0; 8],
-        [0; 8],
-    ]
+        rows[4],
+        rows[5],
+        rows[6],
+        rows[7],
+    ];
 }
 
 // The first four of eight words.

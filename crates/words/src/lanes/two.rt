@@ -227,13 +227,13 @@ pub fn message_halves(bytes: &[u8], starts: &[usize; 2], at: usize) -> [u32x8; 4
     ]
 }
 
-/// The words in each half, as a row. There are as many rows as of eight lanes, and the others are of no meaning.
+/// Writes the words in each half into a row, the first into row `at`.
 #[inline(always)]
-pub fn half_rows(h: [u32x8; 2]) -> [[u32; 8]; 8]
-    ensures { (i : ℕ) → i < 2 → slice_index_or result i [] ≡ half8 i h }
+pub fn half_rows(h: [u32x8; 2], at: usize, rows: &mut [[u32; 8]; 8])
+    requires { at < 7 }
+    ensures written { (i : ℕ) → i < 2 → slice_index_or rows.new (at + i) [] ≡ half8 i h }
+    ensures kept { (i : ℕ) → i < at → slice_index_or rows.new i [] ≡ slice_index_or rows.old i [] }
 {
-    let first = halves_low(h[0], h[1]).to_array();
-    let second = halves_high(h[0], h[1]).to_array();
-    let none = [0; 8];
-    [first, second, none, none, none, none, none, none]
+    rows[at] = halves_low(h[0], h[1]).to_array();
+    rows[at + 1] = halves_high(h[0], h[1]).to_array();
 }

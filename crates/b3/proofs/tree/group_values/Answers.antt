@@ -20,11 +20,11 @@ returns c = λ i h.
     let size : length left ≡ length bytes - 1024 * last = length-drop (1024 * last) bytes in
     elim (cases_lt i last) [
       | inl below ↦
-          get_or-set_other c.chunk_values.result.0 last i c.chaining_value.result [] (λ e. absurd (omega (arith, e)))
+          get_or-set_other c.chunk_values.new.values last i c.chaining_value.result [] (λ e. absurd (omega (arith, e)))
           ∙ c.chunk_values.ensures.values i (omega (arith, h)) (omega (arith, below))
       | inr above ↦
           let here : i ≡ last = omega (arith, above, h) in
-          rw here (get_or-set_same c.chunk_values.result.0 last c.chaining_value.result [] (omega arith)
+          rw here (get_or-set_same c.chunk_values.new.values last c.chaining_value.result [] (omega arith)
           ∙ c.chaining_value.ensures ∙ ap cv c.chunk_over-rest.ensures
           ∙ ap (λ (x : List ℕ). cv (tree key c.args.parameters.now.flags (c.args.first + last) x))
           (take_all (length bytes - 1024 * last) left (omega (arith, size))
