@@ -6,17 +6,16 @@ use Rattle.source.specs.declared.alg.Alg.{Alg}
 use Rattle.source.specs.declared.alg.Alg.TheVariants.{Sha256, Sha512, Blake2b, Blake2s, Blake3}
 use Rattle.source.specs.declared.alg.TheConstants.{BLAKE2B_LEN, BLAKE2S_LEN}
 use Rattle.source.specs.Digest.{IsInRange, digest_len}
+use Rattle.sumlist.specs.Kinds.{longest}
 use Rattle.sumlist.specs.Tagged.{IsLabel}
 use Rattle.sumlist.specs.declared.kind.Kind.{Kind}
 use Rattle.sumlist.specs.declared.kind.Kind.TheVariants as kinds
 
 -- the algorithm of a kind whose digests have n bytes
 abbrev pub alg_with : Kind → ℕ → Alg
-alg_with kinds.Sha256 n = Sha256
-alg_with kinds.Sha512 n = Sha512
 alg_with kinds.Blake2b n = Blake2b n
 alg_with kinds.Blake2s n = Blake2s n
-alg_with kinds.Blake3 n = Blake3
+alg_with kind n = longest kind
 
 -- whether there is a digest of its length
 abbrev pub is_in_range : Alg → Bool
