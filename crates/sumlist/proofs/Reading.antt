@@ -100,7 +100,7 @@ module _ (l : List ℕ) (a : Alg) where
   ]
 
 pub alg_labelled-is : (l : List ℕ) (a : Alg) → IsInRange a → IsLabel l a → alg_labelled l ≡ Some a
-alg_labelled-is = by_label (λ l a. alg_labelled l ≡ Some a) refl refl refl refl refl
+alg_labelled-is = by_label (λ l a. alg_labelled l ≡ Some a) (λ k. grind arith)
     (λ n r. ap (option_and_then (λ (k : ℕ). Some (Blake2b k))) (bytes_told-is BLAKE2B_LEN n r.0 r.1 (omega arith)))
     (λ n r. ap (option_and_then (λ (k : ℕ). Some (Blake2s k))) (bytes_told-is BLAKE2S_LEN n r.0 r.1 (omega arith)))
 

@@ -1,16 +1,16 @@
 -- What stands before the first space of a core is a word, digits or a label: a word has no byte that a line
 -- treats otherwise.
 use Rattle.sumlist.proofs.Common.{◌%◌, ◌&&◌, ◌*◌, ◌++◌, ◌+◌, ◌<◌, ◌^◌, ◌∷◌, ◌≡◌, ◌≢◌, ◌≤◌, Alg, All, All-append}
-use Rattle.sumlist.proofs.Common.{All-cons, All-nil, All-weaker, IsInRange, IsLabel, List, Ok, [], arith}
-use Rattle.sumlist.proofs.Common.{codes, decimal, decode_of, decode_of-ok, eqb, false, leb, nat_tests, refl}
+use Rattle.sumlist.proofs.Common.{All-cons, All-nil, All-weaker, IsInRange, IsLabel, Kind, List, Ok, []}
+use Rattle.sumlist.proofs.Common.{arith, codes, decimal, decode_of, decode_of-ok, eqb, false, label_of, leb, nat_tests, refl}
 use Rattle.sumlist.proofs.Common.{text, true, ℕ}
 use Rattle.std.proofs.lemmas.Fmt.{decimal_by_steps}
 use Rattle.std.proofs.lemmas.List.Sums.{AllPass-from_list_all}
 use Rattle.std.specs.List.{list_all}
 use Rattle.std.specs.Prelude.{not}
 use Rattle.hex.specs.Hex.{is_hex_digit}
-use Rattle.source.specs.declared.alg.Alg.TheVariants.{Blake2b, Blake2s, Blake3, Sha256, Sha512}
-use Rattle.source.specs.declared.alg.TheConstants.{BLAKE2B_LEN, BLAKE2S_LEN}
+use Rattle.source.specs.declared.alg.Alg.TheVariants.{Blake2b, Blake2s}
+use Rattle.sumlist.specs.Kinds.{alg_kind, longest}
 use Rattle.sumlist.specs.Lines.{HasNo}
 
 -- above a space, `#` and `*`, and no backslash
@@ -37,16 +37,14 @@ numbered : (front : List ℕ) (n : ℕ) → n ≤ 64 → IsWord front → IsWord
 numbered front n fits h = All-append InWord front _ h (decimal_word (8 * n) (omega (arith, fits)))
 
 -- what holds of each label holds of the one of an algorithm
-pub by_label : (P : List ℕ → Alg → Type 0) → P (codes "SHA256") Sha256 → P (codes "SHA512") Sha512
-    → P (codes "BLAKE2b") (Blake2b BLAKE2B_LEN) → P (codes "BLAKE2s") (Blake2s BLAKE2S_LEN) → P (codes "BLAKE3") Blake3
+pub by_label : (P : List ℕ → Alg → Type 0) → ((k : Kind) → P (label_of (longest k)) (longest k))
     → ((n : ℕ) → IsInRange (Blake2b n) → P (codes "BLAKE2b-" ++ decimal (8 * n)) (Blake2b n))
     → ((n : ℕ) → IsInRange (Blake2s n) → P (codes "BLAKE2s-" ++ decimal (8 * n)) (Blake2s n))
     → (l : List ℕ) (a : Alg) → IsInRange a → IsLabel l a → P l a
-by_label P p q s t u b c l a r e = grind (arith, nat_tests)
+by_label P whole b c l a r e = let one = whole (alg_kind a) in grind (arith, nat_tests)
 
 pub label_word : (l : List ℕ) (a : Alg) → IsInRange a → IsLabel l a → IsWord l
-label_word = by_label (λ l a. IsWord l) (literal (codes "SHA256") refl) (literal (codes "SHA512") refl)
-    (literal (codes "BLAKE2b") refl) (literal (codes "BLAKE2s") refl) (literal (codes "BLAKE3") refl)
+label_word = by_label (λ l a. IsWord l) (λ k. literal (label_of (longest k)) (grind arith))
     (λ n r. numbered (codes "BLAKE2b-") n r.1 (literal (codes "BLAKE2b-") refl))
     (λ n r. numbered (codes "BLAKE2s-") n (omega (arith, r.1)) (literal (codes "BLAKE2s-") refl))
 

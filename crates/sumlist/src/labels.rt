@@ -7,6 +7,7 @@ ghost use Rattle.sumlist.specs.Tagged.{IsLabel, label_of};
 ghost use Rattle.sumlist.specs.inside.Labels.{Ended, IsNumbered, NotEnded, NotNamed, NotNumbered, front_of};
 ghost use Rattle.sumlist.specs.inside.Reading.{alg_whole};
 
+use crate::kind::KINDS;
 use itoa::Buffer;
 use source::{Alg, BLAKE2B_LEN, BLAKE2S_LEN};
 
@@ -18,15 +19,6 @@ pub(crate) fn digits_of(alg: Alg) -> usize
 {
     2 * alg.digest_len()
 }
-
-// The algorithms whose labels end in no number.
-const WHOLE: [Alg; 5] = [
-    Alg::Sha256,
-    Alg::Sha512,
-    Alg::Blake2b(BLAKE2B_LEN),
-    Alg::Blake2s(BLAKE2S_LEN),
-    Alg::Blake3,
-];
 
 // The label of an algorithm, and the number of the tag's bits where it ends in one.
 pub(crate) fn label(alg: Alg, number: &mut Buffer) -> (&'static str, &str)
@@ -95,10 +87,10 @@ pub(crate) fn label_alg(label: &[u8]) -> Option<Alg>
 fn whole_alg(label: &[u8]) -> Option<Alg>
     ensures { result ≡ alg_whole label.now }
 {
-    WHOLE
+    KINDS
         .iter()
-        .find(|alg| label == front(**alg).as_bytes())
-        .copied()
+        .map(|kind| kind.longest())
+        .find(|alg| label == front(*alg).as_bytes())
 }
 
 // How many bytes a tag has, up to a bound, whose number of bits stands behind the front, without a leading zero.

@@ -1,4 +1,4 @@
-//! Lists of digests, as `sha256sum`, `sha512sum`, `b2sum` and `b3sum` write them, with `--tag` or
+//! Lists of digests, as `sha256sum` and its like, `b2sum` and `b3sum` write them, with `--tag` or
 //! without: their lines, the files that they name, and reports on them.
 //!
 //! ```rust

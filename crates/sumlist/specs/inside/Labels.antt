@@ -3,11 +3,11 @@ use Rattle.std.specs.Prelude.{◌≡◌, ◌==◌, ◌&&◌, ℕ, ◌*◌, ◌/�
 use Rattle.std.specs.Prelude.{if◌then◌else◌, Option, None, Some, codes}
 use Rattle.std.specs.Fmt.{decimal}
 use Rattle.source.specs.declared.alg.Alg.{Alg}
-use Rattle.source.specs.declared.alg.Alg.TheVariants.{Sha256, Sha512, Blake2b, Blake2s, Blake3}
+use Rattle.source.specs.declared.alg.Alg.TheVariants.{Blake2b, Blake2s}
 use Rattle.source.specs.declared.alg.TheConstants.{BLAKE2B_LEN, BLAKE2S_LEN}
 use Rattle.source.specs.Digest.{IsInRange, digest_len}
 use Rattle.sumlist.specs.Kinds.{longest}
-use Rattle.sumlist.specs.Tagged.{IsLabel}
+use Rattle.sumlist.specs.Tagged.{IsLabel, label_of}
 use Rattle.sumlist.specs.declared.kind.Kind.{Kind}
 use Rattle.sumlist.specs.declared.kind.Kind.TheVariants as kinds
 
@@ -34,11 +34,9 @@ sized_alg (Some kind) n = sized (alg_with kind (n / 2)) n
 
 -- the label that is written for an algorithm, without the number
 abbrev pub front_of : Alg → List ℕ
-front_of Sha256 = codes "SHA256"
-front_of Sha512 = codes "SHA512"
 front_of (Blake2b n) = if n == BLAKE2B_LEN then codes "BLAKE2b" else codes "BLAKE2b-"
 front_of (Blake2s n) = if n == BLAKE2S_LEN then codes "BLAKE2s" else codes "BLAKE2s-"
-front_of Blake3 = codes "BLAKE3"
+front_of alg = label_of alg
 
 -- no algorithm has this label
 abbrev pub NotNamed : List ℕ → Type 0

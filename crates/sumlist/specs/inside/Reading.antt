@@ -1,6 +1,6 @@
 -- A core read from its left: the entry that it states, if it states one.
 use Rattle.std.specs.Prelude.{◌⊎◌, ◌≡◌, IsUtf8, ℕ, zero, suc, ◌+◌, ◌-◌, ◌*◌, Bool, false, List, [], ◌∷◌, ◌++◌}
-use Rattle.std.specs.Prelude.{length, take, drop, if◌then◌else◌, ◌==◌, ◌&&◌, ◌||◌, Option, Some, None, codes}
+use Rattle.std.specs.Prelude.{length, map, take, drop, if◌then◌else◌, ◌==◌, ◌&&◌, ◌||◌, Option, Some, None, codes}
 use Rattle.std.specs.Prelude.{slice_index}
 use Rattle.std.specs.Fmt.{decimal}
 use Rattle.std.specs.List.{find}
@@ -13,8 +13,9 @@ use Rattle.source.specs.declared.alg.Alg.TheVariants.{Blake2b, Blake2s}
 use Rattle.source.specs.Digest.{digest_len}
 use Rattle.source.specs.declared.alg.TheConstants.{BLAKE2B_LEN, BLAKE2S_LEN}
 use Rattle.sumlist.specs.declared.kind.Kind.{Kind}
-use Rattle.sumlist.specs.declared.labels.TheConstants.{WHOLE}
+use Rattle.sumlist.specs.declared.kind.TheConstants.{KINDS}
 use Rattle.sumlist.specs.Entry.{Listing, Fits}
+use Rattle.sumlist.specs.Kinds.{longest}
 use Rattle.sumlist.specs.inside.Body.{name_of}
 use Rattle.sumlist.specs.inside.Labels.{sized_alg, closing, front_of}
 
@@ -39,7 +40,7 @@ alg_told of digits most = option_and_then (λ (n : ℕ). Some (of n)) (bytes_tol
 
 -- the algorithm whose label, without a number, this is
 abbrev pub alg_whole : List ℕ → Option Alg
-alg_whole label = find (λ alg. bytes_eq label (front_of alg)) WHOLE
+alg_whole label = find (λ alg. bytes_eq label (front_of alg)) (map longest KINDS)
 
 -- the algorithm that a label names
 abbrev pub alg_labelled : List ℕ → Option Alg
