@@ -5,5 +5,4 @@ pub mod VecSink
 pub mod Device
 pub mod Front
 pub mod AnyHash
-pub mod Rooms
 pub mod Parts

@@ -78,7 +78,7 @@ fn first_bytes(hasher: &Blake3) -> Tag
 
 impl Absorb for AnyHash {
     ghost use Rattle.source.specs.inside.AnyHash.{any_holds, any_limit, any_parameters, any_room};
-    ghost use Rattle.source.specs.inside.Rooms.{any_room_is};
+    ghost use Rattle.source.specs.inside.AnyHash.{any_room_is};
 
     ghost holds = { λ s m. any_holds s m };
 

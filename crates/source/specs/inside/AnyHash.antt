@@ -1,10 +1,12 @@
 -- What contracts see of a hasher for any of the hashes: what they see of the hasher in it, whose hash
 -- is told by a number before its parameters.
-use Rattle.std.specs.Prelude.{ℕ, ◌==◌, ◌-◌, ◌^◌, List, [], ◌∷◌, drop, slice_index, if◌then◌else◌}
+use Rattle.std.specs.Prelude.{◌≡◌, ℕ, ◌==◌, ◌+◌, ◌-◌, ◌^◌, List, [], ◌∷◌, drop, length, slice_index, if◌then◌else◌}
 use Rattle.b3.specs.inside.Hasher as b3
+use Rattle.b3.specs.inside.Rooms.{hasher_room-holds}
 use Rattle.b3.specs.Modes.{hash_parameters}
 use Rattle.blake2.specs.Blake2.{from_list, listed, message_limit, unsalted}
 use Rattle.blake2.specs.inside.Hashers.{Holds2b, Holds2s, parameters_2b, parameters_2s, room_left_2b, room_left_2s}
+use Rattle.blake2.specs.inside.Rooms.{room_is_2b, room_is_2s}
 use Rattle.mac.specs.inside.Streams.{StreamHolds256, StreamHolds512, room_256, room_512}
 use Rattle.words.specs.Blake2.{blake2b, blake2s}
 use Rattle.source.specs.declared.alg.Alg.{Alg}
@@ -63,3 +65,15 @@ any_limit l =
     else if slice_index l 0 == 2 then message_limit (2 ^ 128 - 1) 128 (from_list blake2b (drop 1 l)).key
     else if slice_index l 0 == 3 then message_limit (2 ^ 64 - 1) 64 (from_list blake2s (drop 1 l)).key
     else 2 ^ 64 - 1
+
+-- ---- a hasher's room is what its input leaves of the limit
+
+inner_room_is : (s : Inner) (m : List ℕ) → inner_holds s m → inner_room s + length m ≡ any_limit (inner_parameters s)
+inner_room_is (inner.Sha256 h) m held = held.room
+inner_room_is (inner.Sha512 h) m held = held.room
+inner_room_is (inner.Blake2b h) m held = room_is_2b h m held
+inner_room_is (inner.Blake2s h) m held = room_is_2s h m held
+inner_room_is (inner.Blake3 h) m held = hasher_room-holds h m held
+
+pub any_room_is : (s : AnyHash) (m : List ℕ) → any_holds s m → any_room s + length m ≡ any_limit (any_parameters s)
+any_room_is s m held = inner_room_is s.inner m held
