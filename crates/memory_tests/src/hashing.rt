@@ -1,7 +1,8 @@
 // Digests, by each way to them.
 
 use crate::calls::Lack;
-use source::{Alg, AnyHash, Bytes, Sink, digest_of, pieces, pump, write_all};
+use source::{AnyHash, Bytes, Sink, digest_of, pieces, pump, write_all};
+use sumlist::Kind;
 use words::Tag;
 
 /// A way from bytes to their digest.
@@ -12,18 +13,10 @@ pub(crate) enum Way {
     Pieces,
 }
 
-const ALGS: [Alg; 5] = [
-    Alg::Sha256,
-    Alg::Sha512,
-    Alg::Blake2b(64),
-    Alg::Blake2s(32),
-    Alg::Blake3,
-];
-
-/// Writes the bytes of the digests of "abc" by each hash.
+/// Writes the bytes of the longest digests of "abc" by each hash.
 pub(crate) fn write_tags<W: Sink>(way: Way, out: &mut W) -> Result<u8, Lack> {
-    for alg in ALGS {
-        let Some(tag) = digest_by(way, alg) else {
+    for name in Kind::names() {
+        let Some(tag) = digest_by(way, name) else {
             return Err(Lack::Other);
         };
         write_all(out, tag.bytes())?;
@@ -31,8 +24,8 @@ pub(crate) fn write_tags<W: Sink>(way: Way, out: &mut W) -> Result<u8, Lack> {
     Ok(0)
 }
 
-fn digest_by(way: Way, alg: Alg) -> Option<Tag> {
-    let hasher = AnyHash::new(alg).ok()?;
+fn digest_by(way: Way, name: &str) -> Option<Tag> {
+    let hasher = AnyHash::new(Kind::named(name)?.longest()).ok()?;
     match way {
         Way::Pump => pumped(hasher),
         Way::DigestOf => digest_of(hasher, &mut Bytes::new(b"abc", 1)).ok(),
