@@ -30,7 +30,8 @@ pub use Rattle.sumlist.specs.Line.{HasForm, IsLine, IsMalformed, IsUntagged, Par
 pub use Rattle.sumlist.specs.Lines.{lines}
 pub use Rattle.sumlist.specs.Report.{AllAllowed, Allowed, Files, IsAllowed, Outcome, malformed, no_lines, skipped, text}
 pub use Rattle.sumlist.specs.Report.{told, unreadable_count, untagged, with_line}
-pub use Rattle.sumlist.specs.Tagged.{IsLabel, Labelled, label_of, tagged, tagged_len}
+pub use Rattle.sumlist.specs.Kinds.{label_of}
+pub use Rattle.sumlist.specs.Tagged.{IsLabel, Labelled, tagged, tagged_len}
 pub use Rattle.sumlist.specs.declared.checking.CheckFault.{CheckFault}
 pub use Rattle.sumlist.specs.declared.checking.ListRules.{ListRules}
 pub use Rattle.sumlist.specs.declared.kind.Kind.{Kind}

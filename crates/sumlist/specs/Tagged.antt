@@ -1,20 +1,13 @@
 -- Lines that name their algorithm: `LABEL (name) = digits` (docs/FORMAT.md, Grammar: the table of labels).
-use Rattle.std.specs.Prelude.{◌⊎◌, ◌≡◌, ℕ, ◌+◌, ◌*◌, List, [], ◌∷◌, ◌++◌, length, if◌then◌else◌, ◌==◌, Ok, codes}
+use Rattle.std.specs.Prelude.{◌⊎◌, ◌≡◌, ℕ, ◌+◌, ◌*◌, List, [], ◌∷◌, ◌++◌, length, Ok, codes}
 use Rattle.std.specs.Fmt.{decimal}
 use Rattle.hex.specs.Hex.{decode_of, encode_lower}
 use Rattle.source.specs.declared.alg.Alg.{Alg}
-use Rattle.source.specs.declared.alg.Alg.TheVariants.{Sha256, Sha512, Blake2b, Blake2s, Blake3}
+use Rattle.source.specs.declared.alg.Alg.TheVariants.{Blake2b, Blake2s}
 use Rattle.source.specs.Digest.{digest_len, IsInRange}
 use Rattle.sumlist.specs.Escape.{escaped, lead}
 use Rattle.sumlist.specs.Entry.{Listing}
-
--- the label that is written for an algorithm: the number is that of the tag's bits, and left out at a whole tag
-abbrev pub label_of : Alg → List ℕ
-label_of Sha256 = codes "SHA256"
-label_of Sha512 = codes "SHA512"
-label_of (Blake2b n) = if n == 64 then codes "BLAKE2b" else codes "BLAKE2b-" ++ decimal (8 * n)
-label_of (Blake2s n) = if n == 32 then codes "BLAKE2s" else codes "BLAKE2s-" ++ decimal (8 * n)
-label_of Blake3 = codes "BLAKE3"
+use Rattle.sumlist.specs.Kinds.{label_of}
 
 -- a label that names an algorithm: the written one, or that of BLAKE2 with the number of a whole tag's bits too
 abbrev pub IsLabel : List ℕ → Alg → Type 0

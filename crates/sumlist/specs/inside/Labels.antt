@@ -6,8 +6,8 @@ use Rattle.source.specs.declared.alg.Alg.{Alg}
 use Rattle.source.specs.declared.alg.Alg.TheVariants.{Blake2b, Blake2s}
 use Rattle.source.specs.declared.alg.TheConstants.{BLAKE2B_LEN, BLAKE2S_LEN}
 use Rattle.source.specs.Digest.{IsInRange, digest_len}
-use Rattle.sumlist.specs.Kinds.{longest}
-use Rattle.sumlist.specs.Tagged.{IsLabel, label_of}
+use Rattle.sumlist.specs.Kinds.{label_of, longest}
+use Rattle.sumlist.specs.Tagged.{IsLabel}
 use Rattle.sumlist.specs.declared.kind.Kind.{Kind}
 use Rattle.sumlist.specs.declared.kind.Kind.TheVariants as kinds
 
