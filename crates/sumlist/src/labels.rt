@@ -5,10 +5,9 @@ ghost use Rattle.std.specs.Fmt.{decimal};
 ghost use Rattle.source.specs.Digest.{IsInRange, digest_len};
 ghost use Rattle.sumlist.specs.Kinds.{label_of};
 ghost use Rattle.sumlist.specs.Tagged.{IsLabel};
-ghost use Rattle.sumlist.specs.inside.Labels.{Ended, IsNumbered, NotEnded, NotNamed, NotNumbered, front_of};
-ghost use Rattle.sumlist.specs.inside.Reading.{alg_whole};
+ghost use Rattle.sumlist.specs.inside.Labels.{Ended, IsNumbered, NotEnded, NotNamed, NotNumbered};
 
-use crate::kind::KINDS;
+use crate::Kind;
 use itoa::Buffer;
 use source::{Alg, BLAKE2B_LEN, BLAKE2S_LEN};
 
@@ -28,25 +27,9 @@ pub(crate) fn label(alg: Alg, number: &mut Buffer) -> (&'static str, &str)
     ensures bound { length result.0.now + length result.1.now ≤ 28 }
 {
     match alg {
-        Alg::Blake2b(len) if len < BLAKE2B_LEN => (front(alg), number.format(8 * len)),
-        Alg::Blake2s(len) if len < BLAKE2S_LEN => (front(alg), number.format(8 * len)),
-        alg => (front(alg), ""),
-    }
-}
-
-// The label of an algorithm without the number.
-fn front(alg: Alg) -> &'static str
-    ensures value { result.now ≡ front_of alg }
-    ensures bound { length result.now ≤ 8 }
-{
-    match alg {
-        Alg::Sha256 => "SHA256",
-        Alg::Sha512 => "SHA512",
-        Alg::Blake2b(BLAKE2B_LEN) => "BLAKE2b",
-        Alg::Blake2b(_) => "BLAKE2b-",
-        Alg::Blake2s(BLAKE2S_LEN) => "BLAKE2s",
-        Alg::Blake2s(_) => "BLAKE2s-",
-        Alg::Blake3 => "BLAKE3",
+        Alg::Blake2b(len) if len < BLAKE2B_LEN => ("BLAKE2b-", number.format(8 * len)),
+        Alg::Blake2s(len) if len < BLAKE2S_LEN => ("BLAKE2s-", number.format(8 * len)),
+        alg => (Kind::of(alg).label(), ""),
     }
 }
 
@@ -72,8 +55,8 @@ pub(crate) fn cut_end(rest: &[u8], digits: usize) -> Option<(&[u8], &[u8])>
 pub(crate) fn label_alg(label: &[u8]) -> Option<Alg>
     ensures { MatchOption result (NotNamed label.now) (λ a. IsInRange a × IsLabel label.now a) }
 {
-    if let Some(alg) = whole_alg(label) {
-        return Some(alg);
+    if let Some(kind) = Kind::labelled(label) {
+        return Some(kind.longest());
     }
     if let Some(n) = find_number(label, b"BLAKE2b-", BLAKE2B_LEN) {
         return Some(Alg::Blake2b(n));
@@ -82,16 +65,6 @@ pub(crate) fn label_alg(label: &[u8]) -> Option<Alg>
         return Some(Alg::Blake2s(n));
     }
     None
-}
-
-// The algorithm whose label, without a number, this is.
-fn whole_alg(label: &[u8]) -> Option<Alg>
-    ensures { result ≡ alg_whole label.now }
-{
-    KINDS
-        .iter()
-        .map(|kind| kind.longest())
-        .find(|alg| label == front(*alg).as_bytes())
 }
 
 // How many bytes a tag has, up to a bound, whose number of bits stands behind the front, without a leading zero.

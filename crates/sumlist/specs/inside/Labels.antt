@@ -1,20 +1,22 @@
 -- What the steps of reading a label, a body and digits find.
 use Rattle.std.specs.Prelude.{◌≡◌, ◌==◌, ◌&&◌, ℕ, ◌*◌, ◌/◌, ◌<◌, ◌≤◌, nat_le, Bool, true, List, ◌∷◌, ◌++◌, length}
-use Rattle.std.specs.Prelude.{if◌then◌else◌, Option, None, Some, codes}
+use Rattle.std.specs.Prelude.{if◌then◌else◌, Option, None, Some, map}
 use Rattle.std.specs.Fmt.{decimal}
+use Rattle.std.specs.Map.{lookup}
+use Rattle.std.specs.Str.{bytes_eq}
 use Rattle.source.specs.declared.alg.Alg.{Alg}
 use Rattle.source.specs.declared.alg.Alg.TheVariants.{Blake2b, Blake2s}
 use Rattle.source.specs.declared.alg.TheConstants.{BLAKE2B_LEN, BLAKE2S_LEN}
 use Rattle.source.specs.Digest.{IsInRange, digest_len}
-use Rattle.sumlist.specs.Kinds.{label_of, longest}
+use Rattle.sumlist.specs.Kinds.{kinds, label_of, longest}
 use Rattle.sumlist.specs.Tagged.{IsLabel}
 use Rattle.sumlist.specs.declared.kind.Kind.{Kind}
-use Rattle.sumlist.specs.declared.kind.Kind.TheVariants as kinds
+use Rattle.sumlist.specs.declared.kind.Kind.TheVariants as variant
 
 -- the algorithm of a kind whose digests have n bytes
 abbrev pub alg_with : Kind → ℕ → Alg
-alg_with kinds.Blake2b n = Blake2b n
-alg_with kinds.Blake2s n = Blake2s n
+alg_with variant.Blake2b n = Blake2b n
+alg_with variant.Blake2s n = Blake2s n
 alg_with kind n = longest kind
 
 -- whether there is a digest of its length
@@ -32,11 +34,9 @@ abbrev pub sized_alg : Option Kind → ℕ → Option Alg
 sized_alg None n = None
 sized_alg (Some kind) n = sized (alg_with kind (n / 2)) n
 
--- the label that is written for an algorithm, without the number
-abbrev pub front_of : Alg → List ℕ
-front_of (Blake2b n) = if n == BLAKE2B_LEN then codes "BLAKE2b" else codes "BLAKE2b-"
-front_of (Blake2s n) = if n == BLAKE2S_LEN then codes "BLAKE2s" else codes "BLAKE2s-"
-front_of alg = label_of alg
+-- the kind whose longest digests have this label
+abbrev pub kind_labelled : List ℕ → Option Kind
+kind_labelled label = lookup (bytes_eq label) (map (λ row. (label_of (longest row.1), row.1)) kinds)
 
 -- no algorithm has this label
 abbrev pub NotNamed : List ℕ → Type 0

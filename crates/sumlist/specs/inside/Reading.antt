@@ -1,10 +1,9 @@
 -- A core read from its left: the entry that it states, if it states one.
 use Rattle.std.specs.Prelude.{◌⊎◌, ◌≡◌, IsUtf8, ℕ, zero, suc, ◌+◌, ◌-◌, ◌*◌, Bool, false, List, [], ◌∷◌, ◌++◌}
-use Rattle.std.specs.Prelude.{length, map, take, drop, if◌then◌else◌, ◌==◌, ◌&&◌, ◌||◌, Option, Some, None, codes}
+use Rattle.std.specs.Prelude.{length, take, drop, if◌then◌else◌, ◌==◌, ◌&&◌, ◌||◌, Option, Some, None, codes}
 use Rattle.std.specs.Prelude.{slice_index}
 use Rattle.std.specs.Fmt.{decimal}
-use Rattle.std.specs.List.{find}
-use Rattle.std.specs.Option.{option_and_then, option_or}
+use Rattle.std.specs.Option.{option_and_then, option_map, option_or}
 use Rattle.std.specs.Result.{result_ok}
 use Rattle.std.specs.Str.{bytes_eq}
 use Rattle.hex.specs.Hex.{decode_of}
@@ -13,11 +12,10 @@ use Rattle.source.specs.declared.alg.Alg.TheVariants.{Blake2b, Blake2s}
 use Rattle.source.specs.Digest.{digest_len}
 use Rattle.source.specs.declared.alg.TheConstants.{BLAKE2B_LEN, BLAKE2S_LEN}
 use Rattle.sumlist.specs.declared.kind.Kind.{Kind}
-use Rattle.sumlist.specs.declared.kind.TheConstants.{KINDS}
 use Rattle.sumlist.specs.Entry.{Listing, Fits}
 use Rattle.sumlist.specs.Kinds.{longest}
 use Rattle.sumlist.specs.inside.Body.{name_of}
-use Rattle.sumlist.specs.inside.Labels.{sized_alg, closing, front_of}
+use Rattle.sumlist.specs.inside.Labels.{sized_alg, closing, kind_labelled}
 
 -- a core that says nothing: there is none, or a comment
 abbrev pub IsBlank : List ℕ → Type 0
@@ -40,7 +38,7 @@ alg_told of digits most = option_and_then (λ (n : ℕ). Some (of n)) (bytes_tol
 
 -- the algorithm whose label, without a number, this is
 abbrev pub alg_whole : List ℕ → Option Alg
-alg_whole label = find (λ alg. bytes_eq label (front_of alg)) (map longest KINDS)
+alg_whole label = option_map longest (kind_labelled label)
 
 -- the algorithm that a label names
 abbrev pub alg_labelled : List ℕ → Option Alg
