@@ -1,9 +1,9 @@
 -- What stands before the first space of a core is a word, digits or a label: a word has no byte that a line
 -- treats otherwise.
 use Rattle.sumlist.proofs.Common.{◌%◌, ◌&&◌, ◌*◌, ◌++◌, ◌+◌, ◌<◌, ◌^◌, ◌∷◌, ◌≡◌, ◌≢◌, ◌≤◌, Alg, All, All-append}
-use Rattle.sumlist.proofs.Common.{All-cons, All-nil, All-weaker, IsInRange, IsLabel, Kind, List, Ok, []}
-use Rattle.sumlist.proofs.Common.{arith, codes, decimal, decode_of, decode_of-ok, eqb, false, label_of, leb, nat_tests, refl}
-use Rattle.sumlist.proofs.Common.{text, true, ℕ}
+use Rattle.sumlist.proofs.Common.{All-cons, All-nil, All-weaker, IsInRange, IsLabel, Kind, List, Ok, [], arith}
+use Rattle.sumlist.proofs.Common.{codes, decimal, decode_of, decode_of-ok, eqb, false, label_of, leb, nat_tests}
+use Rattle.sumlist.proofs.Common.{refl, text, true, ℕ}
 use Rattle.std.proofs.lemmas.Fmt.{decimal_by_steps}
 use Rattle.std.proofs.lemmas.List.Sums.{AllPass-from_list_all}
 use Rattle.std.specs.List.{list_all}
