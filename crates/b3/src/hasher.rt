@@ -271,7 +271,9 @@ impl Blake3 {
         self.made = made;
     }
 
-    // Adds at most eight whole chunks; more bytes follow them.
+    // Adds at most eight whole chunks; more bytes follow them. A call, so that shorter messages do not pay for its room
+    // on the stack.
+    #[inline(never)]
     fn push_chunks(&mut self, bytes: &[u8])
         requires empty { self.old.chunk.len ≡ 0 }
         requires some { 0 < length bytes.now }
@@ -287,7 +289,8 @@ impl Blake3 {
         self.push_values(&made, bytes.len() / CHUNK_LEN);
     }
 
-    // Adds at most eight whole chunks, of which the last stays open.
+    // Adds at most eight whole chunks, of which the last stays open. A call too.
+    #[inline(never)]
     fn open_chunks(&mut self, bytes: &[u8])
         requires empty { self.old.chunk.len ≡ 0 }
         requires some { 0 < length bytes.now }

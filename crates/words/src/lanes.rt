@@ -45,22 +45,6 @@ macro_rules! seven_rounds {
     }};
 }
 
-// The first eight words of output.
-macro_rules! folded {
-    ($xor:ident, $v:ident) => {
-        [
-            $xor($v[0], $v[8]),
-            $xor($v[1], $v[9]),
-            $xor($v[2], $v[10]),
-            $xor($v[3], $v[11]),
-            $xor($v[4], $v[12]),
-            $xor($v[5], $v[13]),
-            $xor($v[6], $v[14]),
-            $xor($v[7], $v[15]),
-        ]
-    };
-}
-
 // f of the words at each of these places, of one list or of two, where f may take something behind them.
 macro_rules! each {
     ($f:path, [$($k:literal),*], $x:ident) => {

@@ -172,7 +172,16 @@ fn working_lanes(h: [u32x4; 8], t: &[u64; 4], b: u32, d: u32) -> [u32x4; 16]
 fn fold_lanes(v: [u32x4; 16]) -> [u32x4; 8]
     ensures { (i : ℕ) → i < 4 → lane8 i result ≡ take 8 (folded_halves3 [] (lane i v)) }
 {
-    folded!(xor, v)
+    [
+        xor(v[0], v[8]),
+        xor(v[1], v[9]),
+        xor(v[2], v[10]),
+        xor(v[3], v[11]),
+        xor(v[4], v[12]),
+        xor(v[5], v[13]),
+        xor(v[6], v[14]),
+        xor(v[7], v[15]),
+    ]
 }
 
 /// The first eight words of `compress_3` in each of four lanes. Each value of `USE` is a copy of the code of its own.
