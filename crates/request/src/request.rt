@@ -10,6 +10,7 @@ use crate::commands::sums_command;
 use clap::error::ErrorKind;
 use clap::{ArgMatches, Error};
 use std::alloc::{AllocError, Global};
+use sumlist::Kind;
 
 /// Why the words make no request.
 #[derive(Debug, Drop)]
@@ -68,8 +69,6 @@ impl<'a> Request<'a> {
     }
 }
 
-static ALGORITHMS: [&str; 5] = ["sha256", "sha512", "blake2b", "blake2s", "blake3"];
-
 static MACS: [&str; 7] = [
     "hmac-sha256",
     "hmac-sha512",
@@ -91,7 +90,7 @@ pub fn line<'a>(alloc: Global, words: &'a [&'a str]) -> Result<Request<'a>, Word
     ensures fault { (e : _) → result ≡ Err (Words e) → OfProgram (λ app.
         IsAmong (kind_of e) (fault_of app (map (λ w. w.now) words.entry.now))) }
 {
-    let matches = parsed(alloc, words, ALGORITHMS.as_slice(), MACS.as_slice())?;
+    let matches = parsed(alloc, words, Kind::names(), MACS.as_slice())?;
     Ok(request_from(matches))
 }
 
