@@ -1,6 +1,7 @@
 -- What the text of a setting says, or its fault.
 use Rattle.std.specs.Prelude.{◌≡◌, ⊤, ℕ, ◌==◌, ◌&&◌, Bool, List, [], ◌∷◌, if◌then◌else◌, nat_le, nat_lt, length}
 use Rattle.std.specs.Prelude.{Option, Some, None, Result, Ok, Err, codes, is_some, ok_or, replicate, unwrap_or}
+use Rattle.std.specs.Map.{lookup}
 use Rattle.std.specs.Result.{result_map_both}
 use Rattle.std.specs.Str.{all_ascii_digits, bytes_eq}
 use Rattle.std.specs.Str.Parse.{digits_value, without_leading_plus}
@@ -9,8 +10,8 @@ use Rattle.hex.specs.Hex.{decode_of}
 use Rattle.source.specs.Digest.{digest_len}
 use Rattle.source.specs.declared.alg.Alg.{Alg}
 use Rattle.source.specs.declared.alg.Alg.TheVariants as alg
+use Rattle.sumlist.specs.Kinds.{kinds}
 use Rattle.sumlist.specs.declared.kind.Kind.{Kind}
-use Rattle.sumlist.specs.declared.kind.Kind.TheVariants as kind
 use Rattle.task.specs.Texts.{setting_id}
 use Rattle.task.specs.declared.fault.Setting.{Setting}
 use Rattle.task.specs.declared.fault.Setting.TheVariants.{Algorithm, Verify}
@@ -98,13 +99,7 @@ wanted_bytes n t = hexadecimal Verify t >>= (λ bytes. sized Verify n (Some byte
 
 -- what stands beside a name
 abbrev pub named : {A : Type 0} → Setting → List (Text × A) → Text → Result A UsageFault
-named setting [] name = Err (OutOfRange setting)
-named setting (x ∷ xs) name = if bytes_eq name x.0 then Ok x.1 else named setting xs name
-
--- the hashes by name
-abbrev pub kinds : List (Text × Kind)
-kinds = (codes "sha256", kind.Sha256) ∷ (codes "sha512", kind.Sha512) ∷ (codes "blake2b", kind.Blake2b)
-    ∷ (codes "blake2s", kind.Blake2s) ∷ (codes "blake3", kind.Blake3) ∷ []
+named setting xs name = ok_or (lookup (bytes_eq name) xs) (OutOfRange setting)
 
 -- the hash of `-a`, which is needed
 abbrev pub needed_kind : Given → Result Kind UsageFault

@@ -3,6 +3,7 @@
 ghost use Rattle.std.specs.Prelude.{◌≡◌, ◌≢◌, ◌≤◌, ◌&&◌, Err, IfOk, IfSome, IsSomeAnd, MatchResult, Ok};
 ghost use Rattle.std.specs.Prelude.{if◌then◌else◌, length, nat_le, Some, option_map, replicate, unwrap_or};
 ghost use Rattle.request.specs.CommandLine.{given_of};
+ghost use Rattle.sumlist.specs.Kinds.{kinds};
 ghost use Rattle.task.specs.Parameters as spec;
 ghost use Rattle.task.specs.Parameters.{IsAsDefined};
 ghost use Rattle.task.specs.inside.Seen.{seen};
@@ -81,16 +82,9 @@ pub(crate) fn given_kind(request: &Request<'_>) -> Result<Option<Kind>, UsageFau
 }
 
 fn kind_named(name: &str) -> Result<Kind, UsageFault>
-    ensures { result ≡ spec.named Algorithm spec.kinds name.now }
+    ensures { result ≡ spec.named Algorithm kinds name.now }
 {
-    match name {
-        "sha256" => Ok(Kind::Sha256),
-        "sha512" => Ok(Kind::Sha512),
-        "blake2b" => Ok(Kind::Blake2b),
-        "blake2s" => Ok(Kind::Blake2s),
-        "blake3" => Ok(Kind::Blake3),
-        _ => Err(UsageFault::OutOfRange(Setting::Algorithm)),
-    }
+    Kind::named(name).ok_or(UsageFault::OutOfRange(Setting::Algorithm))
 }
 
 /// Refuses the settings that the algorithm does not have.
