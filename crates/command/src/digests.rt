@@ -193,8 +193,7 @@ fn digest_of_feed<'n, F: Feed>(
 {
     let length = requested.stretch.length as usize;
     match requested.hash {
-        Hash::Sha256 => plain_digest(Alg::Sha256, name, feed),
-        Hash::Sha512 => plain_digest(Alg::Sha512, name, feed),
+        Hash::Whole(kind) => plain_digest(kind.longest(), name, feed),
         Hash::Blake2b(salt, personal) => {
             let Ok(mut hasher) = Blake2b::with_parameters(length, &[], &salt, &personal) else {
                 unreachable!()

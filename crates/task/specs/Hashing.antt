@@ -2,6 +2,8 @@
 use Rattle.std.specs.Prelude.{ℕ, ◌-◌, ◌/◌, ◌^◌, ◌==◌, ◌&&◌, ◌||◌, Bool, List, [], ◌∷◌, length, Option, Result, Ok, Err}
 use Rattle.std.specs.Prelude.{codes, count_ones, is_some, max, min, nat_lt, if◌then◌else◌}
 use Rattle.std.specs.Option.{option_map_or}
+use Rattle.source.specs.Digest.{digest_len}
+use Rattle.sumlist.specs.Kinds.{longest}
 use Rattle.sumlist.specs.declared.kind.Kind.{Kind}
 use Rattle.sumlist.specs.declared.kind.Kind.TheVariants as kind
 use Rattle.request.specs.CommandLine.{Given, has_flag, text_of}
@@ -40,20 +42,17 @@ form_of g = do
 -- the least and the greatest length of a digest; the label of BLAKE3 stands for the first bytes of its output, which
 -- without it ends far behind
 abbrev pub lengths : Kind → Form → ℕ × ℕ
-lengths kind.Sha256 form = (32, 32)
-lengths kind.Sha512 form = (64, 64)
 lengths kind.Blake2b form = (1, 64)
 lengths kind.Blake2s form = (1, 32)
 lengths kind.Blake3 Tagged = (32, 32)
 lengths kind.Blake3 form = (1, 2 ^ 64 - 1)
+lengths k form = (digest_len (longest k), digest_len (longest k))
 
--- its length where `-l` is not given: that of BLAKE3, or the greatest, but where the digits of `--verify` spell fewer
--- bytes of BLAKE2's
-abbrev pub default_len : Kind → ℕ → Given → ℕ
-default_len kind.Blake3 most g = 32
-default_len kind.Sha256 most g = most
-default_len kind.Sha512 most g = most
-default_len k most g = option_map_or (λ t. min most (max 1 (length t / 2))) (text Verify g) most
+-- its length where `-l` is not given: 32 of BLAKE3, and else the greatest, or as many bytes as the digits of
+-- `--verify` spell where these are fewer, but no less than the least
+abbrev pub default_len : Kind → ℕ × ℕ → Given → ℕ
+default_len kind.Blake3 (least, most) g = 32
+default_len k (least, most) g = option_map_or (λ t. max least (min most (length t / 2))) (text Verify g) most
 
 -- the bytes that `-l` and `--seek` say, none of them behind the last one
 abbrev pub stretch_of : ℕ → ℕ → ℕ → Given → Result Stretch UsageFault
@@ -73,11 +72,10 @@ salts n g = do
 
 -- the hash, with what BLAKE2 takes besides
 abbrev pub hash_of : Kind → Given → Result Hash UsageFault
-hash_of kind.Sha256 g = Ok hash.Sha256
-hash_of kind.Sha512 g = Ok hash.Sha512
 hash_of kind.Blake2b g = salts 16 g >>= (λ s. Ok (hash.Blake2b s.0 s.1))
 hash_of kind.Blake2s g = salts 8 g >>= (λ s. Ok (hash.Blake2s s.0 s.1))
 hash_of kind.Blake3 g = Ok hash.Blake3
+hash_of k g = Ok (hash.Whole k)
 
 -- what is printed of each file, by `-a`
 abbrev pub requested : Given → Result Requested UsageFault
@@ -85,7 +83,7 @@ requested g = do
   kind ← needed_kind g
   absent (others kind) g
   form ← form_of g
-  stretch ← stretch_of (default_len kind (lengths kind form).1 g) (lengths kind form).0 (lengths kind form).1 g
+  stretch ← stretch_of (default_len kind (lengths kind form) g) (lengths kind form).0 (lengths kind form).1 g
   hash ← hash_of kind g
   Ok (record { hash = hash; stretch = stretch; form = form })
 

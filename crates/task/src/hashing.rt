@@ -8,7 +8,7 @@ ghost use Rattle.task.specs.Hashing as spec;
 ghost use Rattle.task.specs.Parameters.{IsAsDefined, absent};
 ghost use Rattle.task.specs.Requested.{alg_of};
 ghost use Rattle.task.specs.declared.hashing.Form.{Form};
-ghost use Rattle.task.specs.inside.Possible.{HasDigest, IsPartSize, hash_kind};
+ghost use Rattle.task.specs.inside.Possible.{HasDigest, IsPartSize, lengths_of};
 
 use crate::fault::{Setting, TaskFault, UsageFault};
 use crate::parameters::{
@@ -28,11 +28,11 @@ pub struct Requested {
     pub form: Form,
 }
 
-/// A hash, with what BLAKE2 takes besides: a salt and a personalization.
+/// A hash, with what BLAKE2 takes besides its input: a salt and a personalization.
 #[derive(Clone, Copy, Debug, PartialEq, Eq)]
 pub enum Hash {
-    Sha256,
-    Sha512,
+    /// One that takes nothing besides its input, with its longest digests.
+    Whole(Kind),
     Blake2b([u8; 16], [u8; 16]),
     Blake2s([u8; 8], [u8; 8]),
     Blake3,
@@ -72,8 +72,7 @@ impl Requested {
         ensures range { HasDigest self → IsInRange result }
     {
         match self.hash {
-            Hash::Sha256 => Alg::Sha256,
-            Hash::Sha512 => Alg::Sha512,
+            Hash::Whole(kind) => kind.longest(),
             Hash::Blake2b(_, _) => Alg::Blake2b(self.stretch.length as usize),
             Hash::Blake2s(_, _) => Alg::Blake2s(self.stretch.length as usize),
             Hash::Blake3 => Alg::Blake3,
@@ -89,7 +88,8 @@ impl Requested {
         refused_others(request, kind)?;
         let form = Form::of(request)?;
         let (least, most) = lengths(kind, form);
-        let stretch = stretch_of(request, default_len(request, kind, most), least, most)?;
+        let default = default_len(request, kind, least, most);
+        let stretch = stretch_of(request, default, least, most)?;
         let hash = Hash::of(alloc, request, kind)?;
         Ok(Requested {
             hash,
@@ -133,7 +133,7 @@ fn refused_others(request: &Request<'_>, kind: Kind) -> Result<(), UsageFault>
     match kind {
         Kind::Blake2b | Kind::Blake2s => absent(request, &[Setting::Seek, Setting::Parts]),
         Kind::Blake3 => absent(request, &[Setting::Salt, Setting::Personal]),
-        Kind::Sha256 | Kind::Sha512 => {
+        _ => {
             let others = [
                 Setting::Length,
                 Setting::Seek,
@@ -171,31 +171,32 @@ fn lengths(kind: Kind, form: Form) -> (u64, u64)
     ensures { result ≡ spec.lengths kind form }
 {
     match kind {
-        Kind::Sha256 => (32, 32),
-        Kind::Sha512 => (64, 64),
         Kind::Blake2b => (1, BLAKE2B_LEN as u64),
         Kind::Blake2s => (1, BLAKE2S_LEN as u64),
         Kind::Blake3 => match form {
             Form::Tagged => (BLAKE3_LEN as u64, BLAKE3_LEN as u64),
             Form::Plain | Form::Raw => (1, u64::MAX),
         },
+        _ => {
+            let length = kind.longest().digest_len() as u64;
+            (length, length)
+        }
     }
 }
 
-// How long a digest is without `-l`, where `most` is its greatest length: the digits of `--verify` say how
+// How long a digest is without `-l`, at least `least` and at most `most`: the digits of `--verify` say how
 // long one of BLAKE2 is.
-fn default_len(request: &Request<'_>, kind: Kind, most: u64) -> u64
-    ensures value { result ≡ spec.default_len kind most (given_of request.now) }
-    ensures between { (form : Form) → most ≡ (spec.lengths kind form).1
-        → ((spec.lengths kind form).0 ≤ result) × (result ≤ most) }
+fn default_len(request: &Request<'_>, kind: Kind, least: u64, most: u64) -> u64
+    ensures value { result ≡ spec.default_len kind (least, most) (given_of request.now) }
+    ensures between { (form : Form) → (least, most) ≡ spec.lengths kind form
+        → (least ≤ result) × (result ≤ most) }
 {
-    match kind {
-        Kind::Sha256 | Kind::Sha512 => most,
-        Kind::Blake2b | Kind::Blake2s => match text_of(request, Setting::Verify) {
-            Some(digits) => most.min((digits.len() as u64 / 2).max(1)),
-            None => most,
-        },
-        Kind::Blake3 => BLAKE3_LEN as u64,
+    if kind == Kind::Blake3 {
+        return BLAKE3_LEN as u64;
+    }
+    match text_of(request, Setting::Verify) {
+        Some(digits) => most.min(digits.len() as u64 / 2).max(least),
+        None => most,
     }
 }
 
@@ -203,11 +204,9 @@ impl Hash {
     // The hash of this name, with what BLAKE2 takes besides.
     fn of(alloc: Global, request: &Request<'_>, kind: Kind) -> Result<Hash, TaskFault>
         ensures value { IsAsDefined (λ h. h) (spec.hash_of kind (given_of request.now)) result }
-        ensures named { IfOk result (λ h. hash_kind h ≡ kind) }
+        ensures lengths { IfOk result (λ h. (form : Form) → lengths_of h form ≡ spec.lengths kind form) }
     {
         match kind {
-            Kind::Sha256 => Ok(Hash::Sha256),
-            Kind::Sha512 => Ok(Hash::Sha512),
             Kind::Blake2b => {
                 let (salt, personal) = salts(alloc, request)?;
                 Ok(Hash::Blake2b(salt, personal))
@@ -217,6 +216,7 @@ impl Hash {
                 Ok(Hash::Blake2s(salt, personal))
             }
             Kind::Blake3 => Ok(Hash::Blake3),
+            _ => Ok(Hash::Whole(kind)),
         }
     }
 }

@@ -3,28 +3,29 @@
 use Rattle.std.specs.Prelude.{◌≡◌, ℕ, ◌+◌, ◌/◌, ◌-◌, ◌%◌, ◌^◌, ◌<◌, ◌≤◌, Option, IfSome, count_ones}
 use Rattle.b3.specs.Parts.{IsLeastPowerFrom}
 use Rattle.source.specs.declared.alg.TheConstants.{BLAKE2B_LEN, BLAKE2S_LEN}
-use Rattle.sumlist.specs.declared.kind.Kind.{Kind}
+use Rattle.source.specs.Digest.{digest_len}
+use Rattle.sumlist.specs.Kinds.{longest}
 use Rattle.sumlist.specs.declared.kind.Kind.TheVariants as kind
 use Rattle.task.specs.Hashing.{lengths}
 use Rattle.task.specs.Parameters.{hmac_len}
 use Rattle.task.specs.Tagging.{mac_len}
+use Rattle.task.specs.declared.hashing.Form.{Form}
 use Rattle.task.specs.declared.hashing.Hash.{Hash}
 use Rattle.task.specs.declared.hashing.Hash.TheVariants as hash
 use Rattle.task.specs.declared.hashing.Requested.{Requested}
 use Rattle.task.specs.declared.tagging.Mac.{Mac}
 use Rattle.task.specs.declared.tagging.Mac.TheVariants.{Hmac, Blake2b, Blake2s, Blake3}
 
--- the name of a hash
-abbrev pub hash_kind : Hash → Kind
-hash_kind hash.Sha256 = kind.Sha256
-hash_kind hash.Sha512 = kind.Sha512
-hash_kind (hash.Blake2b salt personal) = kind.Blake2b
-hash_kind (hash.Blake2s salt personal) = kind.Blake2s
-hash_kind hash.Blake3 = kind.Blake3
+-- the least and the greatest length of a hash's digests
+abbrev pub lengths_of : Hash → Form → ℕ × ℕ
+lengths_of (hash.Whole k) form = (digest_len (longest k), digest_len (longest k))
+lengths_of (hash.Blake2b salt personal) form = lengths kind.Blake2b form
+lengths_of (hash.Blake2s salt personal) form = lengths kind.Blake2s form
+lengths_of hash.Blake3 form = lengths kind.Blake3 form
 
 -- there are digests of the length that is asked for, and the bytes do not pass their end
 abbrev pub HasDigest : Requested → Type 0
-HasDigest r = let range = lengths (hash_kind r.hash) r.form in
+HasDigest r = let range = lengths_of r.hash r.form in
     (range.0 ≤ r.stretch.length) × (r.stretch.position + r.stretch.length ≤ range.1)
 
 -- a part has a power of two of chunks, at most 1024
