@@ -7,7 +7,6 @@ in the same way. The program's runs are those of runs.tsv.
 usage: .ci/growths.py PROGRAM [CALLS]
 """
 
-import hashlib
 import os
 import shutil
 import subprocess
@@ -29,11 +28,10 @@ BUFFERS = [
 NO_MEMORY = {"brk": "retval=0", "mmap": "error=ENOMEM"}
 
 # What the calls print with ample memory. The tag is that of RFC 4231, case 1, the key that of RFC 5869,
-# case 1, the others are those of FIPS 180-4, RFC 7693 and b3sum.
+# case 1, the others are those of hashes.tsv.
 ENTRY = tables.text(r"\\{sha256}  a\\\\b\\n\n")
 REPORT = tables.text("{report}")
-DIGESTS = b"".join(hashlib.new(name, b"abc").digest() for name in ["sha256", "sha512", "blake2b", "blake2s"])
-DIGESTS += bytes.fromhex(tables.text("{blake3}").decode())
+DIGESTS = b"".join(bytes.fromhex(each["abc"]) for each in tables.HASHES.values())
 BLAKE2S = tables.text(r"{blake2s}  -\n")
 TAG = b"b0344c61d8db38535ca8afceaf0bf12b881dc200c9833da726e9376c2e32cff7  -\n"
 KEY = b"3cb25f25faacd57a90434f64d0362f2a2d2d0a90cf1a5a4c5db02d56ecc4c5bf34007208d5b887185865\n"

@@ -115,6 +115,11 @@ make_files() {
     "$here/tables.py" files
 }
 
+# hashes: the names of the hashes of hashes.tsv, a line each
+hashes() {
+    "$here/tables.py" hashes
+}
+
 # text CELL: what a cell of a table stands for
 text() {
     "$here/tables.py" text "$1"

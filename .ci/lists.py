@@ -154,8 +154,6 @@ TAGGED = [
     (b"BLAKE2b (x) = ", BLAKE2B_8_EMPTY, MALFORMED),
 ]
 
-ALGORITHMS = ("sha256", "sha512", "blake2b", "blake2s", "blake3")
-
 
 def escaped(name):
     return name.replace(b"\\", b"\\\\").replace(b"\n", b"\\n").replace(b"\r", b"\\r")
@@ -200,13 +198,13 @@ def lines():
     for line, meaning in LINES_WITHOUT_DIGITS:
         check(f"{line!r}", "sha256", line + b"\n", reported(meaning))
     for before, digits, meaning in TAGGED:
-        for alg in ALGORITHMS:
+        for alg in tables.HASHES:
             check(f"{before!r} in a list of {alg}", alg, before + digits, reported(meaning))
 
 
 def sizes():
     """The number of digits names the algorithm: of each size, of both cases, and with one digit more."""
-    for alg in ALGORITHMS:
+    for alg in tables.HASHES:
         for size in range(67):
             digits = digest_of_abc(alg, size)
             right = b"line 1: MALFORMED\n" if digits is None else b"abc.txt: OK\n"
@@ -298,13 +296,9 @@ def ends():
 
 # ---- written lines
 
-LABELS = {"sha256": b"SHA256", "sha512": b"SHA512", "blake2b": b"BLAKE2b", "blake2s": b"BLAKE2s", "blake3": b"BLAKE3"}
-
-
 def written():
     """Lines of both forms, as `hash` writes them and `check` reads them back."""
-    whole = {"sha256": 32, "sha512": 64, "blake2b": 64, "blake2s": 32, "blake3": 32}
-    forms = [(alg, size, LABELS[alg], []) for alg, size in whole.items()]
+    forms = [(alg, int(each["most"]), each["label"].encode(), []) for alg, each in tables.HASHES.items()]
     forms += [("blake2b", size, b"BLAKE2b-%d" % (8 * size), ["-l", str(size)]) for size in (1, 32)]
     for alg, size, label, words in forms:
         digits = digest_of_abc(alg, size)

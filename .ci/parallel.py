@@ -17,6 +17,7 @@ import sys
 import time
 
 import harness
+import tables
 from harness import judge, same
 
 FRONT = os.path.join(os.path.dirname(harness.HERE), "parallel/sums-parallel")
@@ -93,7 +94,7 @@ def content(path):
 
 
 def of_files():
-    for alg in ("sha256", "sha512", "blake2b", "blake2s", "blake3"):
+    for alg in tables.HASHES:
         yield f"every name by {alg}", ["hash", "-a", alg, "--", *NAMES], b""
     yield "the names before the options", ["hash", *[n for n in NAMES if n[0] != "-"], "-ablake2b", "-l20"], b""
     yield "many, large ones among them", ["hash", "-a", "blake3", "f1", "large", *FEW, "more", "just", "less", "f2",

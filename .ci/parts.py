@@ -11,6 +11,7 @@ import shutil
 import subprocess
 
 import harness
+import tables
 from harness import judge, same
 
 CHUNK = 1024
@@ -241,9 +242,8 @@ def refused_parts():
     judge("a part at the limit", part("--first", at_limit, given=end[:1023]).status == 0)
     same("room for all chunks", part("--chunks", str(2**54), "8193"), part("8193"))
     for command in ("part", "join"):
-        for alg in ("sha256", "sha512", "blake2b", "blake2s"):
-            answer = run(command, "-a", alg)
-            expect(f"{command} -a {alg}", answer, 2, b"", b"sums: -a: not for this command\n")
+        for alg in tables.OTHERS:
+            expect(f"{command} -a {alg}", run(command, "-a", alg), 2, b"", b"sums: -a: not for this command\n")
 
 
 # ---- lines from outside

@@ -1,7 +1,7 @@
 #!/usr/bin/env python3
 """Runs the program on each row of rows/*.tsv, over the files of files.tsv: status, standard output and standard error
 have to be those of the row, byte for byte. A call for help of usages.tsv has to print its line of usage, and nothing on
-standard error. tables.py tells how a table is written.
+standard error. Each command has a row of each hash. tables.py tells how a table is written.
 usage: .ci/rows.py PROGRAM
 """
 
@@ -27,10 +27,19 @@ def once(rows):
             places[what] = row.place
 
 
+def of_each_hash(rows):
+    """Each command has a row of each hash."""
+    begun = {b" ".join(row.words[:3]).replace(b"hmac-", b"").decode("latin-1") for row in rows}
+    for name in tables.HASHES:
+        for command in ("hash", "mac", "kdf", "check", "part", "join"):
+            harness.judge(f"{command} has a row of {name}", f"{command} -a {name}" in begun)
+
+
 def main():
     program = harness.program()
     rows = list(tables.rows())
     once(rows)
+    of_each_hash(rows)
     with harness.folder():
         tables.make_files()
         for row in rows:

@@ -84,7 +84,7 @@ def long_inputs():
     """Inputs that are longer than a read."""
     with open("300000", "wb") as file:
         file.write(LONG)
-    for name in ("sha256", "sha512", "blake2b", "blake2s"):
+    for name in tables.OTHERS:
         wanted = hashlib.new(name, LONG).hexdigest().encode()
         same(f"{name} of a long file", run(f"hash -a {name} 300000"), (0, wanted + b"  300000\n", b""))
     wanted = hashlib.blake2b(LONG).hexdigest().encode()
@@ -109,7 +109,7 @@ def long_outputs():
     digits = run("hash -a blake3 -l 100000 abc.txt").out.removesuffix(b"  abc.txt\n").decode()
     same("100000 raw bytes", run("hash -a blake3 -l 100000 --raw abc.txt"), (0, bytes.fromhex(digits), b""))
     same("100000 raw bytes, their number", len(digits), 200_000)
-    for name in ("sha256", "sha512", "blake2b", "blake2s"):
+    for name in tables.OTHERS:
         key = longest_key(name, b"")
         words = f"kdf -a {name} --ikm-file empty -l {len(key)}"
         same(f"the longest key over {name}", run(words), (0, key.hex().encode() + b"\n", b""))

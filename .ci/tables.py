@@ -1,13 +1,14 @@
 #!/usr/bin/env python3
 r"""Reads the tables of .ci: rows/*.tsv (runs of the program and what they answer), usages.tsv (calls for help and a
 line of what they print), failed.tsv (runs where a call fails), places.tsv (each place of a file in the words and in a
-list), runs.tsv (runs whose calls and allocations are failed), files.tsv (the files that all find) and values.tsv (texts
-with names).
+list), runs.tsv (runs whose calls and allocations are failed), files.tsv (the files that all find), hashes.tsv (the
+hashes) and values.tsv (texts with names).
 
 A table has a line of headings, and then a row a line, with a tab between two cells. Lines that begin with # are
 comments. In a cell `-` alone stands for nothing, `\n`, `\t`, `\\` and `\xHH` for bytes, and braces for
 
-    {NAME}          a text of values.tsv
+    {NAME}          a text of values.tsv, or the digest of "abc" of hashes.tsv
+    {algorithms}    the names of the hashes, with commas between them
     {FOLDER/NAME}   the content of a file below .ci
     {TEXT*COUNT}    a text so many times
     {hex DIGITS}    the bytes of these digits
@@ -15,6 +16,7 @@ comments. In a cell `-` alone stands for nothing, `\n`, `\t`, `\\` and `\xHH` fo
 
 Words are then cut as a shell cuts them.
 usage: .ci/tables.py files        makes the files here
+       .ci/tables.py hashes       prints the names of the hashes
        .ci/tables.py text CELL    prints what a cell stands for
 """
 
@@ -96,7 +98,12 @@ def named(name):
     return VALUES[name]
 
 
-VALUES = {}
+HASHES = {cells["name"]: cells for _, cells in table("hashes.tsv")}
+# each but BLAKE3: hashlib has these too
+OTHERS = [name for name in HASHES if name != "blake3"]
+
+VALUES = {name: each["abc"].encode() for name, each in HASHES.items()}
+VALUES["algorithms"] = ", ".join(HASHES).encode()
 for _, cells in table("values.tsv"):
     VALUES[cells["name"]] = text(cells["value"])
 
@@ -159,6 +166,8 @@ def main():
     command, *cells = arguments(1)
     if command == "files":
         make_files()
+    if command == "hashes":
+        print(*HASHES, sep="\n")
     for cell in cells:
         sys.stdout.buffer.write(text(cell))
 

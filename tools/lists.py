@@ -13,6 +13,7 @@ import sys
 sys.path.append(os.path.join(os.path.dirname(os.path.realpath(__file__)), "../.ci"))
 
 import harness
+import tables
 
 LONGEST_LINE = 65536
 LINES_A_LIST = 500
@@ -20,24 +21,24 @@ CONTENTS = [b"", b"abc", bytes(i % 251 for i in range(1025))]
 # BLAKE3 of these contents, by b3sum
 BLAKE3 = {
     b"": "af1349b9f5f9a1a6a0404dea36dcc9499bcb25c9adc112b7cc9a93cae41f3262",
-    b"abc": "6437b3ac38465133ffb63b75273a8db548c558465d79db03fd359c6cd5bd9d85",
+    b"abc": tables.HASHES["blake3"]["abc"],
     CONTENTS[2]: "d00278ae47eb27b34faecf67b4fe263f82d5412916c1ffd97c8cb7fb814b8444",
 }
 NAMES = [
     b"abc.txt", b"a b", b" blank", b"*star", b"#hash", b"a\\b", b"a\nb", b"a\rb", b"\\", b"\n", b"\r",
     b"\\n", b"a) = b", b"x (y) = z", "größe".encode(), b"end ", b"(", b"-", b"x" * 200, b"-- x",
 ]
-LABELS = ["SHA256", "SHA512", "BLAKE2b", "BLAKE2s", "BLAKE3"]
-LENGTHS = {"sha256": [32], "sha512": [64], "blake2b": range(1, 65), "blake2s": range(1, 33), "blake3": [32]}
+# the algorithm and the digest's bytes of a label without bits
+LABELS = {each["label"]: (name, int(each["most"])) for name, each in tables.HASHES.items()}
+LENGTHS = {name: range(int(each["least"]), int(each["most"]) + 1) for name, each in tables.HASHES.items()}
 ESCAPES = {b"\\": b"\\\\", b"\n": b"\\n", b"\r": b"\\r"}
 
 
 def digest(algorithm, size, content):
     if algorithm == "blake3":
         return BLAKE3[content]
-    if algorithm in ("blake2b", "blake2s"):
-        return getattr(hashlib, algorithm)(content, digest_size=size).hexdigest()
-    return getattr(hashlib, algorithm)(content).hexdigest()
+    settings = {"digest_size": size} if "blake2" in algorithm else {}
+    return hashlib.new(algorithm, content, **settings).hexdigest()
 
 
 def escaped(name):
@@ -53,13 +54,11 @@ def opened(body):
 
 def of_label(label):
     """The algorithm and the digest's bytes of a label, or None."""
-    plain = {"SHA256": ("sha256", 32), "SHA512": ("sha512", 64), "BLAKE3": ("blake3", 32),
-             "BLAKE2b": ("blake2b", 64), "BLAKE2s": ("blake2s", 32)}
-    if label in plain:
-        return plain[label]
+    if label in LABELS:
+        return LABELS[label]
     found = re.fullmatch(r"(BLAKE2[bs])-([1-9][0-9]*)", label)
-    if found and int(found[2]) % 8 == 0 and int(found[2]) // 8 <= plain[found[1]][1]:
-        return plain[found[1]][0], int(found[2]) // 8
+    if found and int(found[2]) % 8 == 0 and int(found[2]) // 8 <= LABELS[found[1]][1]:
+        return LABELS[found[1]][0], int(found[2]) // 8
     return None
 
 
@@ -150,7 +149,7 @@ def good_line(source, kind, files):
         digits = digest(kind, size, content)
         line = digits.encode() + source.choice([b"  ", b" *"]) + body
     else:
-        label = source.choice(LABELS)
+        label = source.choice(list(LABELS))
         algorithm, size = of_label(label)
         if "2" in label[-2:] and source.random() < 0.6:
             size = source.randrange(1, size + 1)
