@@ -9,9 +9,11 @@ comments. In a cell `-` alone stands for nothing, `\n`, `\t`, `\\` and `\xHH` fo
 
     {NAME}          a text of values.tsv, or the digest of "abc" of hashes.tsv
     {algorithms}    the names of the hashes, with commas between them
+    {hash}          in rows/, where the words have it: each hash, in a row of its own; {{hash}} is then its digest
+    {other}         the same of each hash but BLAKE3, which alone has parts
     {FOLDER/NAME}   the content of a file below .ci
     {TEXT*COUNT}    a text so many times
-    {hex DIGITS}    the bytes of these digits
+    {hex DIGITS}    the bytes of these digits, or of the digits that have a name
     {COUNT bytes}   bytes that count from 0 to 250 and begin again
 
 Words are then cut as a shell cuts them.
@@ -89,7 +91,8 @@ def named(name):
     if star:
         return spelled(repeated) * int(count)
     if name.startswith("hex "):
-        return bytes.fromhex(name.removeprefix("hex "))
+        digits = name.removeprefix("hex ")
+        return bytes.fromhex(VALUES.get(digits, digits.encode()).decode())
     if name.endswith(" bytes"):
         return bytes(i % 251 for i in range(int(name.removesuffix(" bytes"))))
     if "/" in name:
@@ -118,11 +121,19 @@ def row(place, cells):
     return Row(place, cells["name"], words_of(cells["words"]), text(cells["input"]), answer)
 
 
+def of_each(cells):
+    """The cells for each hash that they stand for, or as they are."""
+    for word, names in (("{hash}", HASHES), ("{other}", OTHERS)):
+        if word in cells["words"]:
+            return [{heading: cell.replace(word, name) for heading, cell in cells.items()} for name in names]
+    return [cells]
+
+
 def rows():
     """All rows of all tables, in their order."""
     for path in sorted(glob.glob(f"{HERE}/rows/*.tsv")):
         for place, cells in table(os.path.relpath(path, HERE)):
-            yield row(place, cells)
+            yield from (row(place, each) for each in of_each(cells))
 
 
 def usages():
