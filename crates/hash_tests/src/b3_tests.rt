@@ -100,3 +100,21 @@ fn what_is_held_and_the_room_follow_the_input(rt: HostRuntime) -> Result<(), Fai
     }
     Ok(())
 }
+
+// Two pieces about the ends of eight and of sixteen chunks, where whole groups of chunks are hashed at once.
+#[test]
+fn what_is_held_follows_uneven_pieces(rt: HostRuntime) -> Result<(), Fail> {
+    let input = counting(rt.alloc(), 16_385)?;
+    for (first, second, held) in [
+        (1, 8192, 1),
+        (8191, 8193, 4),
+        (1, 16_384, 1),
+        (16_384, 1, 1),
+    ] {
+        let mut hasher = Blake3::new();
+        hasher.update(input.get(..first).ok_or("too long a row")?)?;
+        hasher.update(input.get(first..first + second).ok_or("too long a row")?)?;
+        assert_eq!(rt; hasher.held(), held, "{first} and then {second} bytes");
+    }
+    Ok(())
+}

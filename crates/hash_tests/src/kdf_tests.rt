@@ -51,6 +51,19 @@ fn refusals_of_expand(rt: HostRuntime) -> Result<(), Fail> {
     Ok(())
 }
 
+// The same bound of a hash of 64 bytes.
+#[test]
+fn refusals_of_expand_by_sha512(rt: HostRuntime) -> Result<(), Fail> {
+    let prk = [1; 64];
+    let mut out = [7; 255 * 64 + 1];
+    let refused = expand::<Sha512Stream>(&prk, b"", &mut out);
+    assert_eq!(rt; refused, Err(ExpandFault::OutputTooLong));
+    assert!(rt; out.iter().all(|&byte| byte == 7));
+    expand::<Sha512Stream>(&prk, b"", &mut out[1..])?;
+    assert_eq!(rt; out[0], 7);
+    Ok(())
+}
+
 // The official BLAKE3 test vector of no material.
 #[test]
 fn a_key_of_blake3(rt: HostRuntime) {
