@@ -8,19 +8,9 @@ use Rattle.b3.specs.Chunk.{chunk}
 abbrev pub chunk_count : List ℕ → ℕ
 chunk_count m = (length m - 1) / 1024 + 1
 
--- the flag PARENT (2.2)
-abbrev pub parent_flag : ℕ
-parent_flag = 4
-
--- the node over a left and a right chaining value (2.5)
+-- the node over a left and a right chaining value, with the flag PARENT, 4 (2.2 and 2.5)
 unfoldable pub parent : List ℕ → ℕ → List ℕ → List ℕ → Node
-parent key flags left right = record {
-  h = key;
-  m = left ++ right;
-  t = 0;
-  b = 64;
-  d = flags + parent_flag;
-}
+parent key flags left right = record { h = key; m = left ++ right; t = 0; b = 64; d = flags + 4 }
 
 -- the tree over a message of at most 2 ^ levels chunks, the first of which has the number c. Where
 -- 2 ^ l chunks are too few for it, and 2 ^ (l + 1) are not, 2 ^ l is the greatest power of two
@@ -29,8 +19,7 @@ unfoldable pub tree_within : ℕ → List ℕ → ℕ → ℕ → List ℕ → N
 tree_within zero key flags c m = chunk key flags c m
 tree_within (suc l) key flags c m = elim (leb (chunk_count m) (2 ^ l)) [
   | true ↦ tree_within l key flags c m
-  | false ↦ parent key flags
-      (cv (tree_within l key flags c (take (1024 * 2 ^ l) m)))
+  | false ↦ parent key flags (cv (tree_within l key flags c (take (1024 * 2 ^ l) m)))
       (cv (tree_within l key flags (c + 2 ^ l) (drop (1024 * 2 ^ l) m)))
 ]
 

@@ -130,12 +130,15 @@ impl Blake3 {
         CHUNK_LEN as u64 * self.stack.closed + self.chunk.len() as u64
     }
 
-    /// How many chaining values the hasher holds: for n chunks of input, as many as n - 1 has
-    /// one-bits, and at most 54.
+    /// How many chaining values of subtrees before the open chunk the hasher holds: for n chunks of input, as many as
+    /// n - 1 has one-bits, and at most 54. The open chunk's own, which may be kept where that chunk is full, is not
+    /// counted; then they are at most 54 together.
     pub fn held(&self) -> usize
         ensures value { (m : List ℕ) → ⟦<Blake3 as Absorb>⟧.holds self.now m
             → result ≡ count_ones (chunk_count m - 1) }
         ensures bound { result ≤ 54 }
+        ensures together { (m : List ℕ) → ⟦<Blake3 as Absorb>⟧.holds self.now m → length m ≡ 1024 * chunk_count m
+            → result + 1 ≤ 54 }
     {
         self.stack.values.len()
     }

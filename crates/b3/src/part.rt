@@ -40,7 +40,7 @@ impl Part {
     ghost use Rattle.b3.specs.Parts.{AreNeighbours, mode_parameters};
     ghost use Rattle.b3.specs.inside.Output.{output_root, output_position};
     ghost use Rattle.b3.specs.inside.Parts.{IsPart, part_mode, part_first, part_len};
-    ghost use Rattle.b3.specs.Values.{IsValueOf, value_first, value_len};
+    ghost use Rattle.b3.specs.Values.{IsValueOf};
 
     /// The part of the bytes from a chunk on. It is refused exactly where the chunk's number is no
     /// multiple of the least power of two that is at least the number of chunks of `bytes` (one for
@@ -113,8 +113,8 @@ impl Part {
 
     /// The part by its chaining value, as it can be told to others.
     pub fn told(&self) -> PartValue
-        ensures first { value_first result ≡ part_first self.now }
-        ensures len { value_len result ≡ part_len self.now }
+        ensures first { result.first_chunk ≡ part_first self.now }
+        ensures len { result.len ≡ part_len self.now }
         ensures value { (m : List ℕ) → IsPart self.now m
             → IsValueOf (mode_parameters (part_mode self.now)) result m }
     {

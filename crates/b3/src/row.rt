@@ -36,15 +36,13 @@ pub struct PartValue {
 }
 
 impl PartValue {
-    ghost use Rattle.b3.specs.Values.{value_first, value_len, value_words};
-
     /// A part as others tell it. It is refused exactly where `Part::of` refuses bytes of that
     /// number at that chunk; nothing says that the value is that of such bytes.
     pub fn of(first_chunk: u64, len: u64, value: [u32; 8]) -> Result<PartValue, Misplaced>
         ensures placed { IsOk result ↔ IsPlacedAt first_chunk len }
-        ensures first { IfOk result (λ part. value_first part ≡ first_chunk) }
-        ensures len { IfOk result (λ part. value_len part ≡ len) }
-        ensures value { IfOk result (λ part. value_words part ≡ value) }
+        ensures first { IfOk result (λ part. part.first_chunk ≡ first_chunk) }
+        ensures len { IfOk result (λ part. part.len ≡ len) }
+        ensures value { IfOk result (λ part. part.value ≡ value) }
     {
         if !is_placed(first_chunk, len) {
             return Err(Misplaced);
@@ -59,38 +57,38 @@ impl PartValue {
     /// The same, of a chaining value in bytes.
     pub fn of_bytes(first_chunk: u64, len: u64, value: &[u8; 32]) -> Result<PartValue, Misplaced>
         ensures placed { IsOk result ↔ IsPlacedAt first_chunk len }
-        ensures first { IfOk result (λ part. value_first part ≡ first_chunk) }
-        ensures len { IfOk result (λ part. value_len part ≡ len) }
-        ensures value { IfOk result (λ part. value_words part ≡ words 4 8 value.now) }
+        ensures first { IfOk result (λ part. part.first_chunk ≡ first_chunk) }
+        ensures len { IfOk result (λ part. part.len ≡ len) }
+        ensures value { IfOk result (λ part. part.value ≡ words 4 8 value.now) }
     {
         PartValue::of(first_chunk, len, words_of_key(value))
     }
 
     /// The number of its first chunk.
     pub fn first_chunk(&self) -> u64
-        ensures { result ≡ value_first self.now }
+        ensures { result ≡ self.now.first_chunk }
     {
         self.first_chunk
     }
 
     /// How many bytes it has.
     pub fn len(&self) -> u64
-        ensures { result ≡ value_len self.now }
+        ensures { result ≡ self.now.len }
     {
         self.len
     }
 
     /// Its chaining value.
     pub fn value(&self) -> [u32; 8]
-        ensures { result ≡ value_words self.now }
+        ensures { result ≡ self.now.value }
     {
         self.value
     }
 
     /// Its chaining value in bytes, each word little-endian.
     pub fn bytes(&self) -> [u8; 32]
-        ensures written { result ≡ word_bytes 4 (value_words self.now) }
-        ensures read { words 4 8 result ≡ value_words self.now }
+        ensures written { result ≡ word_bytes 4 self.now.value }
+        ensures read { words 4 8 result ≡ self.now.value }
     {
         bytes_of_words(&self.value)
     }
@@ -118,16 +116,16 @@ impl Row {
     ghost use Rattle.b3.specs.Modes.{root_of, tree_of};
     ghost use Rattle.b3.specs.inside.Output.{output_root, output_position};
     ghost use Rattle.b3.specs.Parts.{IsNextInRow, mode_parameters};
-    ghost use Rattle.b3.specs.Values.{IsValueOf, value_first, value_len};
+    ghost use Rattle.b3.specs.Values.{IsValueOf};
     ghost use Rattle.b3.specs.inside.Rows.{HoldsRow, row_parameters, row_first, row_count, row_closed, row_open};
 
     /// The row of one part.
     pub fn of(mode: Mode, part: PartValue) -> Row
         ensures parameters { row_parameters result ≡ mode_parameters mode }
-        ensures first { row_first result ≡ value_first part }
-        ensures count { row_count result ≡ value_len part }
+        ensures first { row_first result ≡ part.first_chunk }
+        ensures count { row_count result ≡ part.len }
         ensures closed { row_closed result ≡ 0 }
-        ensures open { row_open result ≡ value_len part }
+        ensures open { row_open result ≡ part.len }
         ensures holds { (m : List ℕ) → IsValueOf (mode_parameters mode) part m → HoldsRow result m }
     {
         let value = part.value;
@@ -152,12 +150,12 @@ impl Row {
     /// both can be no part; then nothing changes.
     pub fn push(&mut self, part: PartValue) -> Result<(), NotNext>
         ensures next { IsOk result ↔ IsNextInRow (row_first self.old) (row_count self.old) (row_open self.old)
-            (value_first part) (value_len part) }
+            part.first_chunk part.len }
         ensures holds { OnOk result ((m x : List ℕ) → HoldsRow self.old m
             → IsValueOf (row_parameters self.old) part x → HoldsRow self.new (m ++ x)) }
-        ensures count { OnOk result (row_count self.new ≡ row_count self.old + value_len part) }
+        ensures count { OnOk result (row_count self.new ≡ row_count self.old + part.len) }
         ensures closed { OnOk result (0 < row_closed self.new) }
-        ensures open { OnOk result (row_open self.new ≡ value_len part) }
+        ensures open { OnOk result (row_open self.new ≡ part.len) }
         ensures first { row_first self.new ≡ row_first self.old }
         ensures kept { row_parameters self.new ≡ row_parameters self.old }
         ensures refused { OnErr result (self.new ≡ self.old) }
@@ -172,7 +170,7 @@ impl Row {
     // Whether `part` comes next.
     fn is_next(&self, part: &PartValue) -> bool
         ensures { IsTrue result ↔ IsNextInRow (row_first self.now) (row_count self.now) (row_open self.now)
-            (value_first part.now) (value_len part.now) }
+            part.now.first_chunk part.now.len }
     {
         if CHUNK_LEN as u64 * part.first_chunk
             != CHUNK_LEN as u64 * self.first_chunk + self.count()
@@ -185,12 +183,12 @@ impl Row {
     // Closes the last part, since another one follows it.
     fn close(&mut self, part: &PartValue)
         requires { IsNextInRow (row_first self.old) (row_count self.old) (row_open self.old)
-            (value_first part.now) (value_len part.now) }
+            part.now.first_chunk part.now.len }
         ensures holds { (m x : List ℕ) → HoldsRow self.old m
             → IsValueOf (row_parameters self.old) part.now x → HoldsRow self.new (m ++ x) }
-        ensures count { row_count self.new ≡ row_count self.old + value_len part.now }
+        ensures count { row_count self.new ≡ row_count self.old + part.now.len }
         ensures closed { 0 < row_closed self.new }
-        ensures open { row_open self.new ≡ value_len part.now }
+        ensures open { row_open self.new ≡ part.now.len }
         ensures first { row_first self.new ≡ row_first self.old }
         ensures kept { row_parameters self.new ≡ row_parameters self.old }
     {
@@ -210,8 +208,8 @@ impl Row {
 
     /// The row as one part.
     pub fn told(&self) -> PartValue
-        ensures first { value_first result ≡ row_first self.now }
-        ensures len { value_len result ≡ row_count self.now }
+        ensures first { result.first_chunk ≡ row_first self.now }
+        ensures len { result.len ≡ row_count self.now }
         ensures value { (m : List ℕ) → HoldsRow self.now m
             → IsValueOf (row_parameters self.now) result m }
     {

@@ -13,7 +13,7 @@ use Rattle.b3.specs.Bytes.{byte, slice}
 use Rattle.b3.specs.Chunk.{chunk, value_before, block, block_words, last_block, start_flag}
 use Rattle.b3.specs.Laws.{TreeOfOneChunk}
 use Rattle.b3.specs.Modes.{hash_root}
-use Rattle.b3.specs.Node.{Node, cv, output_block, root_flag}
+use Rattle.b3.specs.Node.{Node, cv, output_block}
 use Rattle.b3.specs.Tree.{chunk_count}
 use Rattle.b3.proofs.Lanes8.{block_words_full}
 use Rattle.pieces.proofs.PieceChains.{length_piece, piece_from}
@@ -60,7 +60,7 @@ value_more x value read next s len j t d within fits here reads number flag made
 
 -- the first eight words of a root's output
 abbrev output_words : Node → List ℕ
-output_words root = take 8 (compress3 root.h root.m 0 root.b (root.d + root_flag))
+output_words root = take 8 (compress3 root.h root.m 0 root.b (root.d + 8))
 
 -- the last block of a message of one chunk
 pub root_words : TreeOfOneChunk → (x value read next : List ℕ) (s len last left t d : ℕ) → 0 < len → len ≤ 1024

@@ -6,7 +6,6 @@ ghost use Rattle.words.specs.inside.Lanes.{lane8};
 ghost use Rattle.b3.specs.Bytes.{slice};
 ghost use Rattle.b3.specs.Chunk.{start_flag};
 ghost use Rattle.b3.specs.Modes.{hash_root};
-ghost use Rattle.b3.specs.Node.{root_flag};
 
 use crate::last_blocks::{last_lanes, value_bytes};
 use b3::tree_laws;
@@ -36,7 +35,7 @@ fn root_lanes(bytes: &[u8], starts: &[usize; 8], len: usize) -> [u32x8; 8]
     requires chunk { len ≤ 1024 }
     requires fits { (i : ℕ) → i < 8 → slice_index starts.now i + len ≤ length bytes.now }
     ensures { (i : ℕ) → i < 8 → let root = hash_root (take len (drop (slice_index starts.now i) bytes.now)) in
-        lane8 i result ≡ take 8 (compress3 root.h root.m 0 root.b (root.d + root_flag)) }
+        lane8 i result ≡ take 8 (compress3 root.h root.m 0 root.b (root.d + 8)) }
 {
     tree_laws();
     let last = (len - 1) / BLOCK_LEN;
