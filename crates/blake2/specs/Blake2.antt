@@ -1,8 +1,9 @@
 -- BLAKE2 (RFC 7693, 3.3) as a function of the whole input, once for both variants, with the salt and
 -- the personalization of its parameter block (the BLAKE2 paper, 2.5 and 2.8).
 use Rattle.std.specs.Prelude.{◌≡◌, ◌≤◌, ℕ, zero, suc, ◌+◌, ◌-◌, ◌*◌, ◌/◌, true, false, List, [], ◌∷◌, ◌++◌, length}
-use Rattle.std.specs.Prelude.{take, drop, replicate, bit_xor, slice_index}
+use Rattle.std.specs.Prelude.{take, drop, map, replicate, bit_xor, slice_index}
 use Rattle.std.specs.Int.{byte_len}
+use Rattle.std.specs.List.{range_with_len}
 use Rattle.words.specs.Blake2.{compress}
 use Rattle.words.specs.Mix.{Variant}
 use Rattle.words.specs.Words.{words, word_bytes, padded}
@@ -29,9 +30,7 @@ parameter_block k p =
 
 -- eight words, xored one by one with eight others
 abbrev pub xor_words : List ℕ → List ℕ → List ℕ
-xor_words xs ys =
-    let at : ℕ → ℕ = λ i. bit_xor (slice_index xs i) (slice_index ys i) in
-    at 0 ∷ at 1 ∷ at 2 ∷ at 3 ∷ at 4 ∷ at 5 ∷ at 6 ∷ at 7 ∷ []
+xor_words xs ys = map (λ i. bit_xor (slice_index xs i) (slice_index ys i)) (range_with_len 0 8)
 
 -- the chaining value before the first block (3.3)
 unfoldable pub start : Variant → Parameters → List ℕ
@@ -94,12 +93,8 @@ listed p = p.digest_length ∷ p.salt ++ p.personal ++ p.key
 
 -- the parameters that such a list stands for
 abbrev pub from_list : Variant → List ℕ → Parameters
-from_list k l = record {
-  digest_length = slice_index l 0;
-  salt = take (2 * word_len k) (drop 1 l);
-  personal = take (2 * word_len k) (drop (1 + 2 * word_len k) l);
-  key = drop (1 + 4 * word_len k) l;
-}
+from_list k l = salted (slice_index l 0) (drop (1 + 4 * word_len k) l) (take (2 * word_len k) (drop 1 l))
+    (take (2 * word_len k) (drop (1 + 2 * word_len k) l))
 
 -- the greatest length of a message under a key, where the input has at most `most` bytes: a key takes
 -- a block of the input
