@@ -28,10 +28,12 @@ fn bytes_of_words(value: &[u32; 8]) -> [u8; 32]
 /// A part, by its chaining value.
 #[derive(Clone, Copy, Debug)]
 pub struct PartValue {
-    pub(crate) first_chunk: u64,
-    // how many bytes it has
-    pub(crate) len: u64,
-    pub(crate) value: [u32; 8],
+    /// The number of its first chunk.
+    pub first_chunk: u64,
+    /// How many bytes it has.
+    pub len: u64,
+    /// Its chaining value.
+    pub value: [u32; 8],
     ghost placed: { IsPlacedAt first_chunk len },
 }
 
