@@ -109,6 +109,15 @@ impl Blake3 {
         Blake3::under(Mode::derive(context).parameters())
     }
 
+    /// Forgets the input. The mode stays, and so does its key or context.
+    pub fn reset(&mut self)
+        ensures parameters { ⟦<Blake3 as Absorb>⟧.parameters self.new ≡ ⟦<Blake3 as Absorb>⟧.parameters self.old }
+        ensures room { ⟦<Blake3 as Absorb>⟧.room_left self.new ≡ 2 ^ 64 - 1 }
+        ensures holds { ⟦<Blake3 as Absorb>⟧.holds self.new [] }
+    {
+        *self = Blake3::under(self.stack.parameters);
+    }
+
     /// A hasher of the empty input under a mode's key words and flag.
     pub(crate) fn under(parameters: Parameters) -> Blake3
         ensures parameters { hasher_parameters result ≡ parameters.flags ∷ parameters.key }
