@@ -10,9 +10,10 @@ ghost use Rattle.either.specs.declared.Either.TheVariants.{Left};
 use crate::tree::{OpenFault, Tree};
 use either::Either;
 use source::{Device, Feed};
-use std::fs::File;
+use std::fs::{File, Metadata};
 use std::io;
 use std::io::{Empty, ErrorKind, Seek, SeekFrom};
+use std::os::unix::fs::{FileTypeExt, MetadataExt};
 use std::rt::Files;
 
 /// The files of the system, whose names and contents are not told. What an open that fails is told as,
@@ -20,6 +21,8 @@ use std::rt::Files;
 #[derive(Drop)]
 pub struct FileTree<'r, R: Files> {
     rt: &'r R,
+    // what gives each of its bytes once, and is being read already
+    taken: Option<Metadata>,
     failures: u64,
 }
 
@@ -30,7 +33,36 @@ impl<'r, R: Files> FileTree<'r, R> {
         ensures fresh { ⟦<FileTree<'r, R> as Tree>⟧.failure_count result ≡ 0 }
         ensures opens { ⟦<FileTree<'r, R> as Tree>⟧.opens result ≡ 0 }
     {
-        FileTree { rt, failures: 0 }
+        FileTree {
+            rt,
+            taken: None,
+            failures: 0,
+        }
+    }
+
+    /// The same while the file of this name is read as a list. Where that is a pipe or a terminal, which gives each
+    /// byte once, opening it is `Failed` under every name: what is read of it would be missing in the list.
+    pub fn beside_list(rt: &'r R, list: &str) -> FileTree<'r, R>
+        ensures untold { ⟦<FileTree<'r, R> as Tree>⟧.files result ≡ None }
+        ensures fresh { ⟦<FileTree<'r, R> as Tree>⟧.failure_count result ≡ 0 }
+        ensures opens { ⟦<FileTree<'r, R> as Tree>⟧.opens result ≡ 0 }
+    {
+        FileTree {
+            rt,
+            taken: rt.metadata(list).ok().filter(gives_once),
+            failures: 0,
+        }
+    }
+
+    // Whether this name is one of what is being read already.
+    fn is_taken(&self, name: &str) -> bool {
+        let Some(taken) = &self.taken else {
+            return false;
+        };
+        match self.rt.metadata(name) {
+            Ok(file) => file.dev() == taken.dev() && file.ino() == taken.ino(),
+            Err(_) => false,
+        }
     }
 
     // Hands on what an open came to, and counts it where it failed.
@@ -56,6 +88,9 @@ impl<'r, R: Files> Tree for FileTree<'r, R> {
     ghost files = { λ _. None };
 
     fn open_at(&mut self, name: &str, position: u64) -> Result<Self::F, OpenFault> {
+        if self.is_taken(name) {
+            return self.counted(Err(OpenFault::Failed));
+        }
         let opened = File::open(self.rt, name);
         let reader = self.counted(opened_at(opened, position))?;
         Ok(Device::new(reader))
@@ -64,6 +99,12 @@ impl<'r, R: Files> Tree for FileTree<'r, R> {
     fn close(&mut self, feed: Self::F) {
         self.failures = self.failures.saturating_add(feed.failures());
     }
+}
+
+// Whether each byte of a file can be read but once.
+fn gives_once(file: &Metadata) -> bool {
+    let kind = file.file_type();
+    kind.is_fifo() || kind.is_char_device()
 }
 
 // What the system's open came to: the file from a position on, or what its failure means.

@@ -92,7 +92,12 @@ fn run_words<W: Sink, E: Sink>(
                 progress.begin(most_read(&read));
             }
             let mut input = Watched::new(Device::new(rt.stdin()), progress.watch_input());
-            let mut tree = WatchedTree::new(FileTree::new(rt), progress);
+            let files = if lists_input(&read) {
+                FileTree::beside_list(rt, "/dev/stdin")
+            } else {
+                FileTree::new(rt)
+            };
+            let mut tree = WatchedTree::new(files, progress);
             run_read(alloc, read, &mut input, &mut tree, out, err)
         }
         Err(AllocError) => tell(err, Fault::OutOfMemory),
@@ -106,6 +111,20 @@ fn asks_for_progress(read: &Result<Request<'_>, WordsFault>) -> bool
     match read {
         Ok(request) => request.has("progress"),
         Err(_) => false,
+    }
+}
+
+// Whether standard input is a list of names or of digests.
+fn lists_input(read: &Result<Request<'_>, WordsFault>) -> bool {
+    let Ok(request) = read else {
+        return false;
+    };
+    match request.command() {
+        "check" => match request.texts("file") {
+            Some(lists) => lists.contains(&"-"),
+            None => true,
+        },
+        _ => request.text("files0-from") == Some("-"),
     }
 }
 
