@@ -4,8 +4,7 @@ ghost use Rattle.std.specs.Prelude.{◌≡◌};
 ghost use Rattle.sha2.specs.Sha256.{sha256};
 ghost use Rattle.sha2.specs.Sha512.{sha512};
 
-use sha_blocks::digest256;
-use sha2::{Digest, Sha512};
+use sha_blocks::{digest256, digest512};
 
 /// The SHA-256 digest of `input` (FIPS 180-4, section 6.2).
 #[unsafe(no_mangle)]
@@ -20,5 +19,5 @@ pub extern "C" fn sums_sha256(out: &mut [u8; 32], input: &[u8])
 pub extern "C" fn sums_sha512(out: &mut [u8; 64], input: &[u8])
     ensures { out.new ≡ sha512 input.now }
 {
-    *out = Sha512::digest(input);
+    *out = digest512(input);
 }

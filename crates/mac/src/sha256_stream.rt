@@ -81,11 +81,11 @@ impl BlockHash for Sha256Stream {
         }
     }
 
-    fn finish(self) -> Tag {
+    fn finish(mut self) -> Tag {
         let taken = self.taken();
         let bits = (8 * taken).to_be_bytes();
-        let value = pieces::finish(self.value, &self.buffer, u128::from(taken), &bits);
-        Tag::of(&value.bytes()).unwrap()
+        pieces::finish(&mut self.value, &mut self.buffer, u128::from(taken), &bits);
+        Tag::of(&self.value.bytes()).unwrap()
     }
 
     ghost use Rattle.std.proofs.Common.{refl, rules};

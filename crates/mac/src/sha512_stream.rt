@@ -1,18 +1,31 @@
-// SHA-512 as a stream: a hasher of the crate `sha2`, which takes any number of bytes, and beside it how many bytes the
+// SHA-512 as a stream: a hash value of whole blocks, a buffer with the bytes after them, and how many bytes the
 // standard still allows.
 
-ghost use Rattle.std.specs.Prelude.{◌-◌, ◌^◌, []};
+ghost use Rattle.std.specs.Prelude.{◌≡◌, ◌-◌, ◌^◌, []};
 ghost use Rattle.sha2.specs.Sha512.{sha512};
 
 use crate::block_hash::BlockHash;
-use sha2::{Digest, Sha512};
+use sha_blocks::{Value512, pieces};
 use words::{Absorb, InputTooLong, Tag};
+
+// The number of bytes of the longest message.
+const LIMIT: u128 = (1 << 125) - 1;
 
 /// SHA-512 (FIPS 180-4, 6.4): at most 2^125 - 1 bytes of input, blocks of 128 and digests of 64.
 #[derive(Drop)]
 pub struct Sha512Stream {
-    hasher: Sha512,
+    value: Value512,
+    buffer: [u8; 128],
     room: u128,
+}
+
+impl Sha512Stream {
+    // How many bytes it has taken.
+    fn taken(&self) -> u128
+        ensures { result ≡ 2 ^ 125 - 1 - self.now.room }
+    {
+        LIMIT.saturating_sub(self.room)
+    }
 }
 
 impl Absorb for Sha512Stream {
@@ -33,7 +46,8 @@ impl Absorb for Sha512Stream {
         if length > self.room {
             return Err(InputTooLong);
         }
-        self.hasher.update(piece);
+        let taken = self.taken();
+        pieces::update(&mut self.value, &mut self.buffer, taken, piece);
         self.room -= length;
         Ok(())
     }
@@ -56,17 +70,23 @@ impl BlockHash for Sha512Stream {
 
     const OUT: usize = 64;
 
-    const LIMIT: u128 = (1 << 125) - 1;
+    const LIMIT: u128 = LIMIT;
 
     fn new() -> Sha512Stream {
+        let (value, buffer) = pieces::begin::<Value512, 128>();
         Sha512Stream {
-            hasher: Sha512::new(),
-            room: Sha512Stream::LIMIT,
+            value,
+            buffer,
+            room: LIMIT,
         }
     }
 
-    fn finish(self) -> Tag {
-        Tag::of(&self.hasher.finalize()).unwrap()
+    #[inline(always)]
+    fn finish(mut self) -> Tag {
+        let taken = self.taken();
+        let bits = (8 * taken).to_be_bytes();
+        pieces::finish(&mut self.value, &mut self.buffer, taken, &bits);
+        Tag::of(&self.value.bytes()).unwrap()
     }
 
     ghost use Rattle.std.proofs.Common.{refl, rules};

@@ -28,7 +28,7 @@ choice_lane x y z lx fx ly fy lz fz i h =
       get_or-zip2 bit_and x inner i 0 0 0 (omega arith) (omega arith),
       get_or-zip2 bit_xor y z i 0 0 0 (omega arith) (omega arith),
     )
-    (choice_short _ _ _ (Each1-get_or (λ a. a < 2 ^ 32) x i 0 (omega arith) (below_from_Fits w32 x fx))
+    (choice_short w32 _ _ _ (Each1-get_or (λ a. a < 2 ^ 32) x i 0 (omega arith) (below_from_Fits w32 x fx))
     (Each1-get_or (λ a. a < 2 ^ 32) y i 0 (omega arith) (below_from_Fits w32 y fy))
     (Each1-get_or (λ a. a < 2 ^ 32) z i 0 (omega arith) (below_from_Fits w32 z fz)))
 

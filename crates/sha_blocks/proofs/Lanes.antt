@@ -1,13 +1,14 @@
--- What an operation on vectors of eight words does to the word in each lane.
+-- What an operation on vectors does to the word in each lane.
 use Rattle.std.proofs.Common.{◌≡◌, ℕ, ◌<◌, ◌+◌, ◌-◌, ◌*◌, ◌/◌, ◌%◌, ◌^◌, List, length, slice_index, inl, inr}
 use Rattle.std.proofs.Common.{bit_or, bit_xor, arith, refl, subst, replicate, ◌∙◌}
-use Rattle.std.specs.Int.{w32, rotate_right}
+use Rattle.std.specs.Int.{Width, rotate_right}
 use Rattle.std.specs.Simd.Lanes.{zip2}
 use Rattle.std.proofs.lemmas.Bool.{cases_lt}
 use Rattle.std.proofs.lemmas.Simd.{get_or-zip2, length-zip2, zip2-map, zip2_splat}
 use Rattle.std.proofs.lemmas.List.{get_or-map}
 use Rattle.std.proofs.Math.Nat.{mod-eq_of_lt}
 use Rattle.words.proofs.LaneLemmas.{below_eight}
+use mir.Val.{bits}
 
 -- what holds of each number below sixteen
 pub below_sixteen : (P : ℕ → Type 0) → P 0 → P 1 → P 2 → P 3 → P 4 → P 5 → P 6 → P 7
@@ -20,39 +21,39 @@ below_sixteen P p0 p1 p2 p3 p4 p5 p6 p7 p8 p9 p10 p11 p12 p13 p14 p15 i h =
           subst P e (below_eight (λ (k : ℕ). P (8 + k)) p8 p9 p10 p11 p12 p13 p14 p15 (i - 8) (omega arith))
     ]
 
--- two shifts joined rotate each word
-pub rotated_lane : (r i : ℕ) (x : List ℕ) → length x ≡ 8 → 0 < r → r < 32 → i < 8
-    → slice_index (zip2 bit_or (zip2 (λ (z k : ℕ). z / 2 ^ k) x (replicate 8 r))
-    (zip2 (λ (z k : ℕ). z * 2 ^ k % 2 ^ 32) x (replicate 8 (32 - r)))) i
-    ≡ rotate_right w32 (slice_index x i) r
-rotated_lane r i x len low high h =
-    let right : r % 32 ≡ r = mod-eq_of_lt high in
-    let left : (32 - r) % 32 ≡ 32 - r = mod-eq_of_lt (omega arith) in
+-- two shifts joined rotate each word of n lanes
+pub rotated_lane : (w : Width) (n r i : ℕ) (x : List ℕ) → length x ≡ n → 0 < r → r < bits w → i < n
+    → slice_index (zip2 bit_or (zip2 (λ (z k : ℕ). z / 2 ^ k) x (replicate n r))
+    (zip2 (λ (z k : ℕ). z * 2 ^ k % 2 ^ bits w) x (replicate n (bits w - r)))) i
+    ≡ rotate_right w (slice_index x i) r
+rotated_lane w n r i x len low high h =
+    let right : r % bits w ≡ r = mod-eq_of_lt high in
+    let left : (bits w - r) % bits w ≡ bits w - r = mod-eq_of_lt (omega arith) in
     rw (
-      zip2_splat (λ (v k : ℕ). v / 2 ^ k) x 8 r len,
-      zip2_splat (λ (v k : ℕ). v * 2 ^ k % 2 ^ 32) x 8 (32 - r) len,
-      zip2-map bit_or (λ (v : ℕ). v / 2 ^ r) (λ (v : ℕ). v * 2 ^ (32 - r) % 2 ^ 32) x,
-      get_or-map (λ (v : ℕ). bit_or (v / 2 ^ r) (v * 2 ^ (32 - r) % 2 ^ 32)) x i 0 0 (omega arith),
+      zip2_splat (λ (v k : ℕ). v / 2 ^ k) x n r len,
+      zip2_splat (λ (v k : ℕ). v * 2 ^ k % 2 ^ bits w) x n (bits w - r) len,
+      zip2-map bit_or (λ (v : ℕ). v / 2 ^ r) (λ (v : ℕ). v * 2 ^ (bits w - r) % 2 ^ bits w) x,
+      get_or-map (λ (v : ℕ). bit_or (v / 2 ^ r) (v * 2 ^ (bits w - r) % 2 ^ bits w)) x i 0 0 (omega arith),
       right,
       left,
     ) refl
 
 -- a shift of each word
-pub shifted_lane : (r i : ℕ) (x : List ℕ) → length x ≡ 8 → i < 8
-    → slice_index (zip2 (λ (z k : ℕ). z / 2 ^ k) x (replicate 8 r)) i ≡ slice_index x i / 2 ^ r
-shifted_lane r i x len h =
+pub shifted_lane : (n r i : ℕ) (x : List ℕ) → length x ≡ n → i < n
+    → slice_index (zip2 (λ (z k : ℕ). z / 2 ^ k) x (replicate n r)) i ≡ slice_index x i / 2 ^ r
+shifted_lane n r i x len h =
     rw (
-      zip2_splat (λ (v k : ℕ). v / 2 ^ k) x 8 r len,
+      zip2_splat (λ (v k : ℕ). v / 2 ^ k) x n r len,
       get_or-map (λ (v : ℕ). v / 2 ^ r) x i 0 0 (omega arith),
     ) refl
 
 -- three words, xored
-pub xor_lane : (x y z : List ℕ) → length x ≡ 8 → length y ≡ 8 → length z ≡ 8 → (i : ℕ) → i < 8
+pub xor_lane : (n : ℕ) (x y z : List ℕ) → length x ≡ n → length y ≡ n → length z ≡ n → (i : ℕ) → i < n
     → slice_index (zip2 bit_xor (zip2 bit_xor x y) z) i
     ≡ bit_xor (bit_xor (slice_index x i) (slice_index y i)) (slice_index z i)
-xor_lane x y z lx ly lz i h =
+xor_lane n x y z lx ly lz i h =
     let u : List ℕ = zip2 bit_xor x y in
-    let lu : length u ≡ 8 = length-zip2 bit_xor x y (omega arith) ∙ lx in
+    let lu : length u ≡ n = length-zip2 bit_xor x y (omega arith) ∙ lx in
     rw (
       get_or-zip2 bit_xor u z i 0 0 0 (omega arith) (omega arith),
       get_or-zip2 bit_xor x y i 0 0 0 (omega arith) (omega arith),

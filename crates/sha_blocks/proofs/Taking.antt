@@ -1,9 +1,9 @@
 -- How the hash value and the buffer follow a message as it grows.
-use Rattle.std.proofs.Common.{◌≡◌, ℕ, ◌+◌, ◌*◌, ◌/◌, ◌%◌, ◌<◌, ◌≤◌, List, [], ◌∷◌, ◌++◌, length, take, drop}
+use Rattle.std.proofs.Common.{◌≡◌, ℕ, ◌+◌, ◌-◌, ◌*◌, ◌/◌, ◌%◌, ◌<◌, ◌≤◌, List, [], ◌∷◌, ◌++◌, length, take, drop}
 use Rattle.std.proofs.Common.{refl, sym, ap, ◌∙◌, arith, get_or, length-append, length-drop, append_assoc}
 use Rattle.std.proofs.Common.{zero, suc, replicate, slice_set, add-one, add-zero, zero-add}
 use Rattle.std.proofs.lemmas.List.{take_all, append-nil, take-append-drop}
-use Rattle.std.proofs.lemmas.List.{length-take-le, take-replicate}
+use Rattle.std.proofs.lemmas.List.{length-replicate, length-take-le, replicate-append-replicate, take-replicate}
 use Rattle.std.proofs.lemmas.Nat.{div-mul-add, mod-mul-add}
 use Rattle.std.proofs.Math.Nat.{div-mul-le_self, div-add-mod, mod-lt, mod-eq_of_lt}
 use Rattle.std.proofs.Math.Seq.{drop-append_seam, take-add}
@@ -143,11 +143,71 @@ module _ (words_after : List ℕ → ℕ → List ℕ) (compressed : List ℕ �
     unfolding HasTaken
     IsAfter_all h b m held none = (omega (arith, div-add-mod (length m) n), held.0)
 
+    -- the hash value after whole blocks
+    value_after : (h p : List ℕ) (k : ℕ) → IsAfter words_after n h p k → h ≡ words_after p (length p / n)
+    value_after h p k held =
+        let long : length p ≡ k * n + 0 = omega (arith, held.0) in
+        let count : length p / n ≡ k = rw long (div-mul-add k n 0 pos) in
+        held.1 ∙ ap (words_after p) (sym count)
+
+    -- a padding that ends the block that waits
+    pub padded_here : (h b m front count b' x h' p : List ℕ) → HasTaken words_after n h b m
+        → length m % n < n - length count → front ≡ 0x80 ∷ replicate (n - length count - length m % n - 1) 0
+        → take (length m % n + length front) b' ≡ take (length m % n) b ++ front
+        → length x ≡ n → x ≡ take (n - length count) b' ++ count → h' ≡ compressed h x
+        → p ≡ m ++ (0x80 ∷ replicate ((2 * n - 1 - length count - length m % n) % n) 0 ++ count)
+        → h' ≡ words_after p (length p / n)
+    padded_here h b m front count b' x h' p held fits begins placed whole is made all =
+        let used : ℕ = length m % n in
+        let z : ℕ = n - length count - used - 1 in
+        let long : length front ≡ z + 1 = rw (begins, length-replicate) (omega arith) in
+        let at : n - length count ≡ used + length front = omega arith in
+        let filled : used + length (front ++ count) ≡ n = omega (arith, length-append front count) in
+        let block : x ≡ take used b ++ (front ++ count) = is ∙ rw (at, placed, append_assoc) refl in
+        let zeros : (2 * n - 1 - length count - used) % n ≡ z =
+        let over : 2 * n - 1 - length count - used ≡ 1 * n + z = omega arith in
+        rw over (mod-mul-add 1 n z (omega arith)) in
+        let same : m ++ (front ++ count) ≡ p = rw (begins, all, zeros) refl in
+        let after = IsAfter_filled h b m (front ++ count) x h' held filled whole
+        (take_all (used + length (front ++ count)) x (omega arith) ∙ block) made in
+        value_after h' p (length m / n + 1) (rw same at after)
+
+    -- one that goes on in a block of its own
+    pub padded_over : (h b m front count x h₁ y h' p : List ℕ) → HasTaken words_after n h b m
+        → n - length count ≤ length m % n → length count < n → front ≡ 0x80 ∷ replicate (n - length m % n - 1) 0
+        → take (length m % n + length front) x ≡ take (length m % n) b ++ front → length x ≡ n → h₁ ≡ compressed h x
+        → length y ≡ n → y ≡ take (n - length count) (replicate n 0) ++ count → h' ≡ compressed h₁ y
+        → p ≡ m ++ (0x80 ∷ replicate ((2 * n - 1 - length count - length m % n) % n) 0 ++ count)
+        → h' ≡ words_after p (length p / n)
+    padded_over h b m front count x h₁ y h' p held over short begins placed whole made next is ended all =
+        let used : ℕ = length m % n in
+        let below : used < n = mod-lt (length m) pos in
+        let long : length front ≡ n - used = rw (begins, length-replicate) (omega arith) in
+        let first = IsAfter_filled h b m front x h₁ held (omega arith) whole placed made in
+        let last = IsAfter_next h₁ (m ++ front) y h' (length m / n + 1) first next ended in
+        let zeros : (2 * n - 1 - length count - used) % n ≡ n - used - 1 + (n - length count) =
+        let sum : 2 * n - 1 - length count - used ≡ n - used - 1 + (n - length count) = omega arith in
+        rw sum (mod-eq_of_lt (omega arith)) in
+        let ones : List ℕ = replicate (n - used - 1) 0 in
+        let others : List ℕ = replicate (n - length count) 0 in
+        let joined : 0x80 ∷ replicate (n - used - 1 + (n - length count)) 0 ++ count ≡ 0x80 ∷ ones ++ (others ++ count) =
+        rw (← replicate-append-replicate) (ap (λ (xs : List ℕ). 0x80 ∷ xs) (append_assoc ones others count)) in
+        let same : (m ++ front) ++ y ≡ p =
+        rw (is, take-replicate {X = ℕ} (n - length count) n 0 (omega arith), begins, all, zeros, joined, append_assoc) refl in
+        value_after h' p (length m / n + 1 + 1) (rw same at last)
+
 -- the beginning of a padding
 pub padding_front : (n z : ℕ) → z < n
     → take {A = ℕ} (z + 1) (slice_set (replicate {A = ℕ} n 0) 0 0x80) ≡ 0x80 ∷ replicate z 0
 padding_front zero z lt = absurd (omega arith)
 padding_front (suc n) z lt = rw add-one (ap (λ (xs : List ℕ). 0x80 ∷ xs) (take-replicate z n 0 (omega arith)))
+
+-- the same, of k bytes
+pub padding_begins : (n k : ℕ) → 0 < k → k ≤ n
+    → take {A = ℕ} k (slice_set (replicate {A = ℕ} n 0) 0 0x80) ≡ 0x80 ∷ replicate (k - 1) 0
+padding_begins n k some fits =
+    let one : k ≡ k - 1 + 1 = omega arith in
+    ap (λ (j : ℕ). take {A = ℕ} j (slice_set (replicate {A = ℕ} n 0) 0 0x80)) one ∙ padding_front n (k - 1) (omega arith)
 
 -- the end of a padding: the count of the bits of n bytes
 pub bits_counted : (w : Width) (most taken n : ℕ) (count : List ℕ) → taken ≡ n → n * 8 < most

@@ -1,2 +1,3 @@
 pub mod Schedules
+pub mod Schedules512
 pub mod Taken

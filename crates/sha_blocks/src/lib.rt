@@ -1,10 +1,11 @@
-//! SHA-256 by blocks (FIPS 180-4, section 6.2): any number of blocks into a hash value, a message in one call, and how
-//! a message that comes in pieces is taken into a hash value and a buffer, for any hash of blocks.
+//! SHA-256 and SHA-512 by blocks (FIPS 180-4, sections 6.2 and 6.4): any number of blocks into a hash value, a message
+//! in one call, and how a message that comes in pieces is taken into a hash value and a buffer, for any hash of blocks.
 #![tactic(auto)]
 
 pub use blocks::compress_blocks256;
-pub use message::digest256;
-pub use value::{HashValue, Value256};
+pub use message::{digest256, digest512};
+pub use sha512::compress_blocks512;
+pub use value::{HashValue, Value256, Value512};
 
 mod blocks;
 mod functions;
@@ -12,5 +13,6 @@ mod message;
 pub mod pieces;
 mod ring;
 pub mod schedules;
+mod sha512;
 mod table;
 mod value;

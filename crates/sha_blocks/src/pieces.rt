@@ -2,7 +2,7 @@
 //! them, which wait.
 
 ghost use Rattle.std.specs.Prelude.{◌≡◌, ◌<◌, ◌+◌, ◌-◌, ◌*◌, ◌/◌, ◌%◌, ◌^◌, ◌++◌, ◌∷◌, [], ℕ, List, length};
-ghost use Rattle.std.specs.Prelude.{replicate};
+ghost use Rattle.std.specs.Prelude.{◌≤◌, replicate, take};
 ghost use Rattle.sha_blocks.specs.inside.Taken.{HasTaken, IsAfter};
 
 use crate::value::HashValue;
@@ -56,28 +56,42 @@ pub fn update<V: HashValue<N>, const N: usize>(
     take_from_block(value, buffer, rest);
 }
 
-/// The hash value of all that was taken and its padding, which ends with the count of bits (FIPS 180-4,
-/// section 5.1).
+// Takes the buffer as a block, with `end` for its last bytes.
+fn take_ended<V: HashValue<N>, const N: usize>(value: &mut V, buffer: &mut [u8; N], end: &[u8])
+    requires { length end.now ≤ N }
+    ensures whole { length buffer.new ≡ N }
+    ensures block { buffer.new ≡ take (N - length end.now) buffer.old ++ end.now }
+    ensures value { V.words value.new ≡ V.compressed (V.words value.old) buffer.new }
+{
+    write_at(buffer, N - end.len(), end);
+    value.compress(buffer);
+}
+
+/// Takes the padding, which ends with the count of bits (FIPS 180-4, section 5.1): the hash value is then that of the
+/// whole padded message.
 pub fn finish<V: HashValue<N>, const N: usize>(
-    value: V,
-    buffer: &[u8; N],
+    value: &mut V,
+    buffer: &mut [u8; N],
     taken: u128,
     count: &[u8],
-) -> V
-    requires room { taken + 256 < 2 ^ 128 }
-    requires short { length count.now < N }
-    ensures { (m : List ℕ) → taken ≡ length m → HasTaken V.words_after N (V.words value) buffer.now m
+)
+    requires { length count.now < N }
+    ensures { (m : List ℕ) → taken ≡ length m → HasTaken V.words_after N (V.words value.old) buffer.old m
         → (p : List ℕ)
         → p ≡ m ++ (0x80 ∷ replicate ((2 * N - 1 - length count.now - length m % N) % N) 0 ++ count.now)
-        → V.words result ≡ V.words_after p (length p / N) }
+        → V.words value.new ≡ V.words_after p (length p / N) }
 {
     let used = (taken % N as u128) as usize;
-    let zeros = (2 * N - 1 - count.len() - used) % N;
+    let end = N - count.len();
     let mut padding = [0; N];
     padding[0] = 0x80;
-    let mut value = value;
-    let mut buffer = *buffer;
-    update(&mut value, &mut buffer, taken, &padding[..zeros + 1]);
-    update(&mut value, &mut buffer, taken + (zeros + 1) as u128, count);
-    value
+    if used < end {
+        write_at(buffer, used, &padding[..end - used]);
+        take_ended(value, buffer, count);
+        return;
+    }
+    write_at(buffer, used, &padding[..N - used]);
+    value.compress(buffer);
+    let mut last = [0; N];
+    take_ended(value, &mut last, count);
 }

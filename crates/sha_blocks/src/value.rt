@@ -1,15 +1,18 @@
-// Hash values that take blocks, and that of SHA-256 (FIPS 180-4, section 6.2).
+// Hash values that take blocks, and those of SHA-256 and SHA-512 (FIPS 180-4, sections 6.2 and 6.4).
 
 ghost use Rattle.std.specs.Prelude.{◌≡◌, ◌<◌, ◌≤◌, ◌+◌, ◌*◌, ◌++◌, [], ℕ, List, length, take, drop, slice_index_or};
 ghost use Rattle.std.specs.Simd.Lanes.{fold_l};
 ghost use Rattle.std.proofs.Common.{rules};
 ghost use Rattle.sha2.specs.Sha256;
+ghost use Rattle.sha2.specs.Sha512;
 ghost use Rattle.sha2.proofs.Absorbing256;
+ghost use Rattle.sha2.proofs.Absorbing512;
 
 use crate::blocks::compress_blocks256;
 use crate::ring::compress_block;
+use crate::sha512;
 use byteorder::{BigEndian, ByteOrder};
-use words::IV32;
+use words::{IV32, IV64};
 
 /// A hash value, with the compression function that takes a block of `N` bytes into it.
 pub trait HashValue<const N: usize>: Copy {
@@ -94,4 +97,52 @@ impl HashValue<64> for Value256 {
     ghost on_front = { λ p q n fits. Absorbing256.hash_after-append Sha256.initial_hash_256 p q n fits };
 
     ghost next_block = { λ p n. Absorbing256.hash_after_next Sha256.initial_hash_256 p n };
+}
+
+/// The hash value of SHA-512.
+#[derive(Clone, Copy, Drop)]
+pub struct Value512 {
+    /// Its words.
+    pub h: [u64; 8],
+}
+
+impl Value512 {
+    /// The bytes of the words, the highest first (FIPS 180-4, section 3.1).
+    pub fn bytes(&self) -> [u8; 64]
+        ensures { result ≡ Sha512.digest_bytes self.now.h 8 }
+    {
+        let mut bytes = [0; 64];
+        BigEndian::write_u64_into(&self.h, &mut bytes);
+        bytes
+    }
+}
+
+impl HashValue<128> for Value512 {
+    ghost words = { λ v. v.h };
+
+    ghost compressed = { Sha512.compress };
+
+    ghost words_after = { λ p n. Sha512.hash_after Sha512.initial_hash_512 p n };
+
+    // BLAKE2b took over these words (RFC 7693, section 2.6).
+    #[tactic(auto, unfolding(sha2::specs::Sha512::hash_after))]
+    fn start() -> Value512 {
+        Value512 { h: IV64 }
+    }
+
+    fn compress(&mut self, block: &[u8; 128]) {
+        sha512::compress_block(&mut self.h, block);
+    }
+
+    fn compress_all(&mut self, blocks: &[[u8; 128]]) {
+        sha512::compress_blocks512(&mut self.h, blocks);
+    }
+
+    ghost positive = { Prim.search rules };
+
+    ghost small = { Prim.search rules };
+
+    ghost on_front = { λ p q n fits. Absorbing512.hash_after-append Sha512.initial_hash_512 p q n fits };
+
+    ghost next_block = { λ p n. Absorbing512.hash_after_next Sha512.initial_hash_512 p n };
 }

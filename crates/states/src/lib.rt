@@ -8,11 +8,8 @@ pub use laws::state_laws;
 pub use state256::Sha256State;
 pub use state512::Sha512State;
 
-mod block;
 mod hash_state;
 mod hmac;
 mod laws;
 mod state256;
 mod state512;
-mod tables;
-mod value;

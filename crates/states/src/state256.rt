@@ -88,9 +88,10 @@ impl Sha256State {
             return None;
         }
         let bits = 8 * self.taken;
-        let value = Value256 { h: self.h };
+        let mut value = Value256 { h: self.h };
+        let mut buffer = self.buffer;
         let taken = u128::from(self.taken);
-        let value = pieces::finish(value, &self.buffer, taken, &bits.to_be_bytes());
+        pieces::finish(&mut value, &mut buffer, taken, &bits.to_be_bytes());
         Some(Tag::of(&value.bytes()).unwrap())
     }
 }

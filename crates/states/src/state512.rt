@@ -6,9 +6,8 @@ ghost use Rattle.sha2.specs.Sha512.{sha512};
 ghost use Rattle.states.specs.Begun.{IsBegun512};
 ghost use Rattle.states.specs.inside.States.{StateHolds512, taken_512};
 
-use crate::value::Value512;
 use blake2::StateFault;
-use sha_blocks::pieces;
+use sha_blocks::{Value512, pieces};
 use words::Tag;
 
 // The number of bytes of a digest.
@@ -92,8 +91,10 @@ impl Sha512State {
         }
         let taken = self.taken();
         let bits = 8 * taken;
-        let value = Value512 { h: self.h };
-        Some(pieces::finish(value, &self.buffer, taken, &bits.to_be_bytes()).tag())
+        let mut value = Value512 { h: self.h };
+        let mut buffer = self.buffer;
+        pieces::finish(&mut value, &mut buffer, taken, &bits.to_be_bytes());
+        Some(Tag::of(&value.bytes()).unwrap())
     }
 
     // How many bytes the message has.

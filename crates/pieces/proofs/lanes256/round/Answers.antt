@@ -1,5 +1,6 @@
+use Rattle.std.proofs.Common.{◌^◌}
 use Rattle.words.specs.inside.Lanes.{lane8}
-use Rattle.sha_blocks.proofs.Rounds.{round_keyed}
+use Rattle.sha_blocks.proofs.Sums.{round_keyed}
 use Rattle.pieces.proofs.lanes256.round.Goals as goal
 
 pub returns : goal.returns
@@ -12,6 +13,9 @@ returns c i h k w e =
       c.add-rest.ensures i h,
       c.add.ensures i h,
       c.add-t2.ensures i h,
+      c.choice.ensures i h,
+      c.big_sigma1-sigma.ensures i h,
+      c.big_sigma0.ensures i h,
+      c.majority.ensures i h,
     )
-    (round_keyed (lane8 i c.args.v) k w _ _ _ _ _ e (c.choice.ensures i h) (c.big_sigma1-sigma.ensures i h)
-    (c.big_sigma0.ensures i h) (c.majority.ensures i h))
+    (round_keyed (2 ^ 32) (lane8 i c.args.v) k w _ _ _ _ _ e)

@@ -1,38 +1,25 @@
-use Rattle.std.proofs.Common.{
-  ◌≡◌,
-  ◌++◌,
-  ◌∷◌,
-  ◌*◌,
-  ◌+◌,
-  ◌-◌,
-  ◌%◌,
-  ℕ,
-  List,
-  refl,
-  length,
-  append_assoc,
-  arith,
-  replicate,
-  take,
-}
-use Rattle.std.proofs.Common.{slice_set, length-append}
+use Rattle.std.proofs.Common.{◌≡◌, ◌%◌, refl, length, arith}
 use Rattle.std.proofs.Math.Nat.{mod-lt}
-use Rattle.std.proofs.lemmas.List.{length-replicate}
-use Rattle.sha_blocks.proofs.Taking.{HasTaken_value, padding_front}
+use Rattle.sha_blocks.proofs.Taking.{padded_here, padded_over, padding_begins}
 use Rattle.sha_blocks.proofs.pieces.finish.Goals as goal
+
+pub returns-then-used-end : goal.returns-then-used-end
+returns-then-used-end g c = λ m taken held p is.
+    let v = g.met.V.HashValue in
+    let n = g.row.N in
+    let used : c.args.taken % n ≡ length m % n = rw taken refl in
+    padded_here g.V.HashValue.words_after g.V.HashValue.compressed n v.positive v.on_front v.next_block
+    _ _ m _ _ _ _ _ p held (omega arith) (padding_begins n _ (omega arith) (omega arith))
+    (rw used at c.write_at.ensures.front)
+    c.take_ended.ensures.whole c.take_ended.ensures.block c.take_ended.ensures.value is
 
 pub returns : goal.returns
 returns g c = λ m taken held p is.
+    let v = g.met.V.HashValue in
     let n = g.row.N in
-    let count = c.args.count.now in
-    let zeros : ℕ = (2 * n - 1 - length count - length m % n) % n in
-    let front : List ℕ = take (zeros + 1) (slice_set (replicate n 0) 0 0x80) in
-    let begins : front ≡ 0x80 ∷ replicate zeros 0 =
-    padding_front n zeros (mod-lt _ g.met.V.HashValue.positive) in
-    let long : length front ≡ zeros + 1 = rw (begins, length-replicate) (omega arith) in
-    let counted : c.args.taken + ((2 * n - 1 - length count - c.args.taken % n) % n + 1) ≡ length (m ++ front) =
-    rw (length-append, long, taken) refl in
-    let first = c.update.ensures m taken held in
-    let padded = c.update-2.ensures (m ++ front) counted (rw taken at first) in
-    let whole : (m ++ front) ++ count ≡ p = rw (begins, append_assoc, is) refl in
-    HasTaken_value g.V.HashValue.words_after n _ _ p (rw whole at padded)
+    let used : c.args.taken % n ≡ length m % n = rw taken refl in
+    let below = mod-lt (length m) v.positive in
+    padded_over g.V.HashValue.words_after g.V.HashValue.compressed n v.positive v.on_front v.next_block
+    _ _ m _ _ _ _ _ _ p held (omega arith) c.requires (padding_begins n _ (omega arith) (omega arith))
+    (rw used at c.write_at-2.ensures.front) c.compress.ensures.whole c.compress.ensures.value
+    c.take_ended-2.ensures.whole c.take_ended-2.ensures.block c.take_ended-2.ensures.value is

@@ -1,4 +1,4 @@
-use Rattle.std.proofs.Common.{◌≡◌, ◌+◌, ◌∙◌, ap, add-zero, arith, slice_index}
+use Rattle.std.proofs.Common.{◌+◌, ◌∙◌, ap, add-zero, arith, slice_index}
 use Rattle.sha2.specs.Sha256.{add32, round_constants}
 use Rattle.sha_blocks.proofs.Lanes.{below_sixteen}
 use Rattle.sha_blocks.proofs.schedules.keyed_sixteen.Goals as goal

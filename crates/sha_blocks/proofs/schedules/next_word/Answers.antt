@@ -1,4 +1,5 @@
-use Rattle.sha_blocks.proofs.Rounds.{sum_around}
+use Rattle.std.proofs.Common.{◌^◌}
+use Rattle.sha_blocks.proofs.Sums.{word_around}
 use Rattle.sha_blocks.proofs.schedules.next_word.Goals as goal
 
 pub returns : goal.returns
@@ -10,4 +11,4 @@ returns c i h =
       c.small_sigma0.ensures i h,
       c.small_sigma1.ensures i h,
     )
-    (sum_around _ _ _ _)
+    (word_around (2 ^ 32) _ _ _ _)

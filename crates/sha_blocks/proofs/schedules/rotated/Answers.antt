@@ -1,5 +1,6 @@
+use Rattle.std.specs.Int.{w32}
 use Rattle.sha_blocks.proofs.Lanes.{rotated_lane}
 use Rattle.sha_blocks.proofs.schedules.rotated.Goals as goal
 
 pub returns : goal.returns
-returns c i h = rotated_lane c.args.r i c.args.x c.fits-x.0 c.requires.low c.requires.high h
+returns c i h = rotated_lane w32 8 c.args.r i c.args.x c.fits-x.0 c.requires.low c.requires.high h

@@ -2,4 +2,4 @@ use Rattle.sha_blocks.proofs.Lanes.{shifted_lane}
 use Rattle.sha_blocks.proofs.schedules.shifted.Goals as goal
 
 pub returns : goal.returns
-returns c i h = shifted_lane c.args.r i c.args.x c.fits-x.0 h
+returns c i h = shifted_lane 8 c.args.r i c.args.x c.fits-x.0 h

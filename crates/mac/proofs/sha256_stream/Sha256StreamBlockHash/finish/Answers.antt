@@ -12,4 +12,4 @@ returns-clause-digest c = λ m held.
     c.to_be_bytes-bits.ensures in
     (rw c.unwrap.ensures at c.of.ensures).0 ∙ c.bytes.ensures
     ∙ ap (λ (h : List ℕ). digest_bytes h 8)
-    (c.finish-value.ensures m (c.from.ensures ∙ taken) held.taken (padded_message m) (rw bits refl))
+    (c.finish.ensures m (c.from.ensures ∙ taken) held.taken (padded_message m) (rw bits refl))

@@ -13,4 +13,4 @@ returns-clause-digest c = λ m held.
     let bits = bits_counted w64 (2 ^ 64) _ (length m) _ held.1 (omega (arith, held.1, held.0.1))
     c.to_be_bytes.ensures in
     (rw c.unwrap.ensures at c.of.ensures).0 ∙ c.bytes.ensures
-    ∙ ap (λ (h : List ℕ). digest_bytes h 8) (c.finish-value.ensures m taken held.2 (padded_message m) (rw bits refl))
+    ∙ ap (λ (h : List ℕ). digest_bytes h 8) (c.finish.ensures m taken held.2 (padded_message m) (rw bits refl))

@@ -12,5 +12,5 @@ returns-clause-digest c = λ m held.
     let taken = c.taken-taken.ensures ∙ held.1 in
     let bits = bits_counted w128 (2 ^ 128) _ (length m) _ taken (omega (arith, held.1, held.0.1))
     c.to_be_bytes.ensures in
-    c.tag.ensures.value
+    (rw c.unwrap.ensures at c.of.ensures).0 ∙ c.bytes.ensures
     ∙ ap (λ (h : List ℕ). digest_bytes h 8) (c.finish.ensures m taken held.2 (padded_message m) (rw bits refl))
