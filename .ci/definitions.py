@@ -93,12 +93,34 @@ def sha2_lengths():
             each_way(f"{name} of {length} bytes", getattr(sums_hash, name), counting(length), want)
 
 
-def sha256_edges():
-    """About the edges of a block, of its padding and of runs of eight blocks, the last of them behind two runs."""
-    for edge in range(64, 64 * 17 + 1, 64):
-        for length in (edge - 9, edge - 8, edge - 1, edge, edge + 1):
-            want = hashlib.sha256(counting(length)).digest()
-            each_way(f"sha256 of {length} bytes", sums_hash.sha256, counting(length), want, sizes=range(1, 131))
+# of each: the bytes of a block, those of the length in its padding, and blocks past some runs that are taken at once
+SHA2 = {"sha256": (64, 8, 17), "sha512": (128, 16, 25)}
+
+
+def sha2_edges():
+    """About the edges of a block, of its padding and of runs of blocks, the last of them behind other runs."""
+    for name, (block, count, blocks) in SHA2.items():
+        for edge in range(block, block * blocks + 1, block):
+            for length in (edge - count - 1, edge - count, edge - 1, edge, edge + 1):
+                want = hashlib.new(name, counting(length)).digest()
+                each_way(f"{name} of {length} bytes", getattr(sums_hash, name), counting(length), want,
+                         sizes=range(1, 131))
+
+
+def sha2_cuts():
+    """About the edges of the first two blocks and of their padding, cut in two at each byte."""
+    for name, (block, count, _) in SHA2.items():
+        for edge in (block - count, block, 2 * block - count, 2 * block):
+            for length in range(edge - 2, edge + 2):
+                data = counting(length)
+                want, keyed_want = hashlib.new(name, data).digest(), hmac.digest(b"key", data, name)
+                for first in range(length + 1):
+                    hasher = getattr(sums_hash, name)(data[:first])
+                    hasher.update(data[first:])
+                    same(f"{name} of {length} bytes, cut at {first}", hasher.digest(), want)
+                    keyed = getattr(sums_hash, "hmac_" + name)(b"key", data[:first])
+                    keyed.update(data[first:])
+                    same(f"hmac {name} of {length} bytes, cut at {first}", keyed.digest(), keyed_want)
 
 
 def sequence(length):
@@ -377,7 +399,8 @@ def main():
     blake2_lengths()
     blake2_empty_pieces()
     sha2_lengths()
-    sha256_edges()
+    sha2_edges()
+    sha2_cuts()
     blake3_trees()
     blake3_contexts()
     blake3_cuts()
