@@ -333,6 +333,25 @@ _sums_parallel() {{
 _sums_parallel "$@"
 """
 
+FISH_PARALLEL = """\
+# Completion for fish of the program sums-parallel.
+
+# Whether the first word that is neither an option nor its value is this command, or none where none is named.
+function __sums_parallel_command_is
+    set -l words (commandline -opc)
+    set -e words[1]
+    while string match -q -- '-*' $words[1]
+        if contains -- $words[1] {valued}
+            set -e words[1]
+        end
+        set -e words[1]
+    end
+    test "$words[1]" = "$argv[1]"
+end
+
+complete -c sums-parallel -f
+"""
+
 
 def bash_parallel(front, commands):
     valued = " | ".join(name for option in front.options for name in option.names if option.takes)
@@ -344,13 +363,14 @@ def zsh_parallel(front, commands):
 
 
 def fish_parallel(front, commands):
-    begin = f"complete -c sums-parallel -n 'not __fish_seen_subcommand_from {PARALLEL_COMMANDS}'"
-    text = "# Completion for fish of the program sums-parallel.\n\ncomplete -c sums-parallel -f\n"
+    valued = " ".join(name for option in front.options for name in option.names if option.takes)
+    text = FISH_PARALLEL.format(valued=valued)
+    begin = "complete -c sums-parallel -n __sums_parallel_command_is"
     text += "".join(fish_option(begin, option) for option in front.options)
     text += f"{begin} -a '{PARALLEL_COMMANDS}'\n"
     for command in commands:
         if command.name in PARALLEL_COMMANDS.split():
-            text += fish_command(f"complete -c sums-parallel -n '__fish_seen_subcommand_from {command.name}'", command)
+            text += fish_command(f"complete -c sums-parallel -n '__sums_parallel_command_is {command.name}'", command)
     return text
 
 

@@ -17,6 +17,11 @@ refuse() {
     exit 2
 }
 
+# is_folder PATH: whether a folder stands there, and no link to one
+is_folder() {
+    [ -d "$1" ] && [ ! -L "$1" ]
+}
+
 # pkgconfig PREFIX LIBDIR INCLUDEDIR LIBS: the text of the library's pkg-config file, where a blank of a path has a
 # backslash before it
 pkgconfig() {
@@ -187,7 +192,7 @@ each_file() {
 # root PREFIX: the folder that an installation goes into
 root() {
     case $1:${DESTDIR:-/} in
-        /*:/*) echo "${DESTDIR-}${1%/}" ;;
+        /*:/*) printf '%s\n' "${DESTDIR-}${1%/}" ;;
         /*) refuse "DESTDIR has to begin with /: $DESTDIR" ;;
         *) refuse "PREFIX has to begin with /: $1" ;;
     esac
@@ -201,7 +206,7 @@ library_folder() {
         //*) refuse "LIBDIR is not below $1: $LIBDIR" ;;
         */../*) refuse "LIBDIR may have no ..: $LIBDIR" ;;
     esac
-    echo "${folder%/}"
+    printf '%s\n' "${folder%/}"
 }
 
 # refresh_loader: as root, lets the loader find a shared library that was added or removed
