@@ -19,6 +19,7 @@
 #include <stdint.h>
 
 #define SUMS_HASH_VERSION "1.1.0" /* whose shared library is libsums_hash.so.1 */
+#define SUMS_HASH_VERSION_NUMBER 10100 /* for #if, with two digits for each number behind the first */
 
 #ifdef __cplusplus
 extern "C" {
