@@ -13,6 +13,7 @@ import "C"
 
 import (
 	"errors"
+	"strconv"
 	"unsafe"
 )
 
@@ -28,7 +29,7 @@ var (
 )
 
 // SUMS_OUTPUT_LENGTH never comes: an output is made as long as the digests of all pieces.
-var refusals = [...]error{
+var refusals = map[C.uint32_t]error{
 	C.SUMS_DIGEST_LENGTH:  ErrDigestLength,
 	C.SUMS_KEY_LENGTH:     ErrKeyLength,
 	C.SUMS_INPUT_TOO_LONG: ErrInputTooLong,
@@ -37,7 +38,16 @@ var refusals = [...]error{
 	C.SUMS_PIECE_LENGTH:   ErrPieceLength,
 }
 
-func checked(status C.uint32_t) error { return refusals[status] }
+// checked is what a status means. A later library may have some that are not known here.
+func checked(status C.uint32_t) error {
+	if status == C.SUMS_OK {
+		return nil
+	}
+	if refusal := refusals[status]; refusal != nil {
+		return refusal
+	}
+	return errors.New("sums: status " + strconv.FormatUint(uint64(status), 10))
+}
 
 // pointer is that of the bytes, of which there may be none, and their number. Go lends its memory to C for a call.
 func pointer(data []byte) (*C.uint8_t, C.size_t) {

@@ -306,6 +306,25 @@ func TestRefusals(t *testing.T) {
 	}
 }
 
+// TestStatuses tries those that have an error of their own, and others, as a later library may answer.
+func TestStatuses(t *testing.T) {
+	for status, c := range []struct{ got, want error }{
+		{checked(0), nil}, {checked(1), ErrDigestLength}, {checked(2), ErrKeyLength}, {checked(3), ErrInputTooLong},
+		{checked(4), ErrNotBegun}, {checked(5), ErrEndOfOutput}, {checked(6), ErrPieceLength},
+	} {
+		if c.got != c.want {
+			t.Error(status, c.got)
+		}
+	}
+	for want, got := range map[string]error{
+		"sums: status 7": checked(7), "sums: status 8": checked(8), "sums: status 4294967295": checked(1<<32 - 1),
+	} {
+		if got == nil || got.Error() != want {
+			t.Error(want, got)
+		}
+	}
+}
+
 // RFC 5869, appendix A.1
 func TestHKDF(t *testing.T) {
 	bytesOf := func(digits string) []byte { return must(hex.DecodeString(digits)) }
