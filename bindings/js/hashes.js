@@ -1,0 +1,25 @@
+// SPDX-License-Identifier: MIT OR Apache-2.0
+
+/**
+ * Of each hash, in bytes: its longest digest, and the shortest that it has; its longest key, its salt, its state, and the
+ * state of HMAC over it, as `sums_hash.h` has them. 0 says that it takes none, or has none.
+ */
+export const HASHES = {
+  sha256: { digest: 32, least: 32, key: 0, salt: 0, state: 112, hmac: 224 },
+  sha512: { digest: 64, least: 64, key: 0, salt: 0, state: 216, hmac: 432 },
+  blake2b: { digest: 64, least: 1, key: 64, salt: 16, state: 224, hmac: 448 },
+  blake2s: { digest: 32, least: 1, key: 32, salt: 8, state: 120, hmac: 240 },
+  blake3: { digest: 32, least: 32, key: 32, salt: 0, state: 1880, hmac: 0 },
+};
+
+/** What `node:crypto` calls them, where that is another name. */
+const ALIASES = { blake2b512: 'blake2b', blake2s256: 'blake2s' };
+
+/** The name in `HASHES` of a hash that a caller names. */
+export function hashName(name) {
+  const known = typeof name === 'string' && Object.hasOwn(ALIASES, name) ? ALIASES[name] : name;
+  if (typeof known !== 'string' || !Object.hasOwn(HASHES, known)) throw new TypeError(`there is no hash ${String(name)}`);
+  return known;
+}
+
+export const getHashes = () => Object.keys(HASHES);

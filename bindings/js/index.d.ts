@@ -1,0 +1,23 @@
+// SPDX-License-Identifier: MIT OR Apache-2.0
+import type { Library } from './library.js';
+
+export const createHash: Library['createHash'];
+export const createHmac: Library['createHmac'];
+export const hash: Library['hash'];
+export const hashOf: Library['hashOf'];
+export const hashPieces: Library['hashPieces'];
+export const hkdfSync: Library['hkdfSync'];
+export const deriveKey: Library['deriveKey'];
+
+/** The names of the hashes. */
+export function getHashes(): HashName[];
+/** The digits of bytes, in lower case. */
+export function toHex(data: Uint8Array): string;
+
+/** What cannot be done. `status` is its number in `sums_hash.h`. */
+export class Refused extends RangeError {
+  readonly status: number;
+}
+
+export type { Bytes, Encoding, HashName, HashOptions, HmacName, Message, PiecesName, TextEncoding } from './library.js';
+import type { HashName } from './library.js';

@@ -1,0 +1,63 @@
+// SPDX-License-Identifier: MIT OR Apache-2.0
+
+/** What is hashed: a string as UTF-8, a buffer, or a view of one. */
+export type Bytes = string | ArrayBufferLike | ArrayBufferView;
+export type TextEncoding = 'hex' | 'base64' | 'base64url';
+export type Encoding = TextEncoding | 'buffer';
+export type HashName = 'sha256' | 'sha512' | 'blake2b' | 'blake2s' | 'blake3' | 'blake2b512' | 'blake2s256';
+export type HmacName = Exclude<HashName, 'blake3'>;
+export type PiecesName = Exclude<HashName, 'sha512'>;
+
+export interface HashOptions {
+  /** The bytes of the digest: 1 to 64 of BLAKE2b, 1 to 32 of BLAKE2s, any number of BLAKE3, and the usual one of SHA-2. */
+  outputLength?: number;
+  /** 1 to 64 bytes for BLAKE2b, 1 to 32 for BLAKE2s, 32 for BLAKE3. */
+  key?: Bytes;
+  /** 16 bytes for BLAKE2b, 8 for BLAKE2s. */
+  salt?: Bytes;
+  /** The personalization: 16 bytes for BLAKE2b, 8 for BLAKE2s. */
+  personal?: Bytes;
+  /** BLAKE3: the digest is a key that is derived for this context. */
+  context?: Bytes;
+}
+
+/** A message in pieces. It may be dropped at any time. */
+export interface Message {
+  /** Adds a piece. */
+  update(data: Bytes, encoding?: 'utf8' | 'utf-8'): this;
+  /** The digest, with which the message ends. */
+  digest(encoding?: 'buffer'): Uint8Array;
+  digest(encoding: TextEncoding): string;
+  /** BLAKE3: so many bytes of the output, from a position on. The message can go on. */
+  output(length: number, seek?: number | bigint): Uint8Array;
+  /** Another message that goes on from here. */
+  copy(): Message;
+}
+
+export interface Library {
+  /** Begins a hash. */
+  createHash(algorithm: HashName, options?: HashOptions): Message;
+  /** Begins an HMAC. `outputLength` is from half a digest to the whole. */
+  createHmac(algorithm: HmacName, key: Bytes, options?: { outputLength?: number }): Message;
+  /** The digest of bytes, in hexadecimal digits where no other encoding is named. */
+  hash(algorithm: HashName, data: Bytes, options?: TextEncoding | (HashOptions & { outputEncoding?: TextEncoding })): string;
+  hash(algorithm: HashName, data: Bytes, options: 'buffer' | (HashOptions & { outputEncoding: 'buffer' })): Uint8Array;
+  /** The same of a Blob or a File, of a stream of the web or of Node, or of whatever gives pieces one by one. */
+  hashOf(algorithm: HashName, source: Source, options?: TextEncoding | (HashOptions & { outputEncoding?: TextEncoding })): Promise<string>;
+  hashOf(algorithm: HashName, source: Source, options: 'buffer' | (HashOptions & { outputEncoding: 'buffer' })): Promise<Uint8Array>;
+  /** The digests of all pieces of bytes, one behind the other. Each piece has `pieceLength` bytes, the last maybe fewer. */
+  hashPieces(algorithm: PiecesName, data: Bytes, pieceLength: number, options?: { outputLength?: number }): Uint8Array;
+  /** HKDF: a key of so many bytes, up to 255 digests. */
+  hkdfSync(algorithm: HmacName, material: Bytes, salt: Bytes, info: Bytes, length: number): ArrayBuffer;
+  /** BLAKE3: a key of so many bytes, 32 where none are named, from material, for a context. */
+  deriveKey(context: Bytes, material: Bytes, length?: number): Uint8Array;
+}
+
+export type Source = Bytes | { readonly size: number; slice(begin?: number, end?: number): unknown; arrayBuffer(): Promise<ArrayBuffer> }
+  | { getReader(): unknown } | AsyncIterable<Bytes> | Iterable<Bytes>;
+
+/**
+ * The functions over a module that the caller has compiled, as in a worker. `instance` is one of it that nobody else
+ * uses; without it one is made, which browsers may refuse outside a worker.
+ */
+export function bind(module: object, instance?: object): Library;

@@ -1,0 +1,240 @@
+// SPDX-License-Identifier: MIT OR Apache-2.0
+// What nobody should do: it is refused, or it does what it says, and no other message notices.
+import assert from 'node:assert/strict';
+import crypto from 'node:crypto';
+import { readFileSync } from 'node:fs';
+import test from 'node:test';
+import { Worker } from 'node:worker_threads';
+import { createHash, createHmac, deriveKey, getHashes, hash, hashOf, hashPieces, hkdfSync, Refused, toHex } from '../node.js';
+import { bind } from '../library.js';
+
+const refuses = (kind, call) => assert.throws(call, kind, call.toString());
+const of = (length) => new Uint8Array(length);
+
+test('words that no call takes', () => {
+  for (const name of ['md5', '', 'SHA256', 'toString', '__proto__', undefined, null, 3, {}, ['sha256'], Symbol('sha256')]) {
+    for (const call of [createHash, (it) => createHmac(it, ''), (it) => hash(it, ''), (it) => hkdfSync(it, '', '', '', 1), (it) => hashPieces(it, '', 1)]) refuses(TypeError, () => call(name));
+  }
+  for (const data of [undefined, null, 3, {}, [1], true, new Map(), { length: 4 }, 3n, Symbol('x'), () => 'x']) {
+    refuses(TypeError, () => createHash('sha256').update(data));
+    refuses(TypeError, () => createHmac('sha256', data));
+    refuses(TypeError, () => hkdfSync('sha256', data, '', '', 1));
+    refuses(TypeError, () => deriveKey(data, ''));
+    for (const option of ['key', 'salt', 'personal', 'context']) refuses(TypeError, () => createHash('blake2b', { [option]: data }));
+  }
+  for (const length of [0, -1, 65, 1.5, NaN, Infinity, '32', 2 ** 53, 32n, null]) {
+    refuses(RangeError, () => createHash('blake2b', { outputLength: length }));
+    refuses(RangeError, () => createHmac('sha512', 'k', { outputLength: length }));
+    refuses(RangeError, () => hashPieces('blake2b', 'abc', 1, { outputLength: length }));
+  }
+  for (const size of [0, -1, 1.5, NaN, undefined, 1n]) refuses(RangeError, () => hashPieces('sha256', 'abc', size));
+  for (const encoding of ['utf8', 'HEX', 'toString', null, 3, {}]) refuses(TypeError, () => hash('sha256', '', { outputEncoding: encoding }));
+  for (const encoding of ['hex', 'latin1', null]) refuses(TypeError, () => createHash('sha256').update('61', encoding));
+});
+
+test('options that a hash does not take, or of another length', () => {
+  refuses(TypeError, () => createHash('blake2b', { Key: 'k' }));
+  refuses(TypeError, () => createHash('blake2b', 'key'));
+  refuses(TypeError, () => createHmac('sha256', 'k', { key: 'k' }));
+  refuses(TypeError, () => createHmac('blake3', 'k'));
+  refuses(TypeError, () => hkdfSync('blake3', '', '', '', 1));
+  refuses(TypeError, () => hashPieces('sha512', 'abc', 1));
+  for (const option of ['key', 'salt', 'personal', 'context']) refuses(TypeError, () => createHash('sha256', { [option]: of(32) }));
+  for (const option of ['salt', 'personal']) refuses(TypeError, () => createHash('blake3', { [option]: of(32) }));
+  refuses(TypeError, () => createHash('blake2s', { context: 'c' }));
+  refuses(TypeError, () => createHash('blake3', { key: of(32), context: 'c' }));
+  for (const length of [0, 31, 33]) refuses(Refused, () => createHash('blake3', { key: of(length) }));
+  for (const length of [0, 65]) refuses(Refused, () => createHash('blake2b', { key: of(length) }));
+  refuses(Refused, () => createHash('blake2s', { key: of(33) }));
+  for (const option of ['salt', 'personal']) for (const length of [0, 8, 17]) refuses(Refused, () => createHash('blake2b', { [option]: of(length) }));
+  for (const length of [15, 33]) refuses(RangeError, () => createHmac('sha256', 'k', { outputLength: length }));
+  refuses(RangeError, () => createHash('sha256', { outputLength: 20 }));
+  refuses(Refused, () => hkdfSync('sha256', 'm', '', '', 8161));
+  assert.equal(hkdfSync('sha256', 'm', '', '', 8160).byteLength, 8160);
+  refuses(RangeError, () => hkdfSync('sha256', of(2 ** 24), 'x', '', 32));
+  refuses(RangeError, () => createHmac('sha256', of(2 ** 24 + 1)));
+  assert.equal(createHmac('sha256', of(2 ** 24)).digest('hex'), crypto.createHmac('sha256', of(2 ** 24)).digest('hex'));
+});
+
+test('outputs of BLAKE3 at their ends', () => {
+  const message = createHash('blake3').update('abc');
+  for (const [length, seek] of [[2, 2n ** 64n - 2n], [0, 2n ** 64n], [1, 2n ** 70n], [2, -1n]]) refuses(Refused, () => message.output(length, seek));
+  for (const seek of [-1, 1.5, NaN, 2 ** 53, '0', null]) refuses(RangeError, () => message.output(2, seek));
+  for (const length of [-1, 2 ** 40, undefined, 1n]) refuses(RangeError, () => message.output(length));
+  assert.equal(message.output(1, 2n ** 64n - 2n).length, 1);
+  assert.equal(message.output(0, 2n ** 64n - 1n).length, 0);
+  refuses(TypeError, () => createHash('sha256').output(3));
+  assert.equal(message.digest('hex'), hash('blake3', 'abc'));
+});
+
+test('a message ends with its digest, and only it', () => {
+  const other = createHash('blake3').update('other');
+  const message = createHash('sha512').update('a');
+  refuses(TypeError, () => message.digest('latin1'));
+  assert.equal(message.digest('hex'), crypto.createHash('sha512').update('a').digest('hex'));
+  for (const call of ['digest', 'copy']) assert.throws(() => message[call](), /digest was taken/);
+  assert.throws(() => message.update('x'), /digest was taken/);
+  const output = createHash('blake3');
+  output.digest();
+  assert.throws(() => output.output(1), /digest was taken/);
+  assert.equal(other.digest('hex'), hash('blake3', 'other'));
+});
+
+test('messages that createHash did not make', () => {
+  const message = createHash('sha256').update('abc');
+  const { constructor } = message;
+  refuses(TypeError, () => new constructor());
+  refuses(TypeError, () => constructor.call({}));
+  refuses(TypeError, () => new (class extends constructor {})());
+  for (const thing of [{}, Object.create(constructor.prototype), structuredClone(message), new Proxy(message, {})]) {
+    for (const name of ['update', 'digest', 'copy', 'output']) refuses(TypeError, () => constructor.prototype[name].call(thing, 'x'));
+  }
+  assert.deepEqual(Reflect.ownKeys(message), []);
+  assert.equal(JSON.stringify(message), '{}');
+  message.state = message.key = of(112);
+  assert.equal(message.digest('hex'), hash('sha256', 'abc'));
+});
+
+test('views that lie, and buffers that are gone or short by now', () => {
+  class Liar extends Uint8Array {
+    get length() { return 1e9; }
+    get byteLength() { return 1; }
+    get byteOffset() { return 0; }
+    get buffer() { return of(500).buffer; }
+    subarray() { return of(9e6); }
+    [Symbol.iterator]() { throw new Error('asked'); }
+  }
+  assert.equal(hash('sha256', new Liar([97, 98, 99])), hash('sha256', 'abc'));
+  const own = Object.defineProperty(Uint8Array.of(97, 98, 99), 'byteLength', { value: 1 });
+  assert.equal(hash('sha256', own), hash('sha256', 'abc'));
+  assert.equal(hash('sha256', new DataView(Uint8Array.of(0, 97, 98, 99, 0).buffer, 1, 3)), hash('sha256', 'abc'));
+  assert.equal(hash('sha256', new Uint16Array([0x6261])), hash('sha256', 'ab'));
+  assert.equal(hash('sha256', new SharedArrayBuffer(3)), hash('sha256', of(3)));
+  const gone = of(3);
+  structuredClone(gone.buffer, { transfer: [gone.buffer] });
+  for (const data of [gone, gone.buffer, Object.setPrototypeOf(gone, Liar.prototype)]) {
+    const message = createHash('sha256').update('a');
+    refuses(TypeError, () => message.update(data));
+    assert.equal(message.digest('hex'), hash('sha256', 'a'));
+  }
+  const shrinking = new ArrayBuffer(8, { maxByteLength: 8 });
+  if (!shrinking.resizable) return;
+  const views = [new Uint8Array(shrinking, 4, 4), new DataView(shrinking, 4, 4)];
+  shrinking.resize(2);
+  for (const view of views) refuses(TypeError, () => hash('sha256', view));
+});
+
+test('code that runs in the middle', () => {
+  const options = { get outputLength() { createHash('blake2b').update('x'.repeat(500)); return 32; }, get key() { hash('blake3', 'y'); return Uint8Array.of(1); } };
+  assert.equal(hash('blake2b', 'm', options), hash('blake2b', 'm', { outputLength: 32, key: Uint8Array.of(1) }));
+  const key = of(64).fill(1);
+  const keyed = createHash('blake2b', { key });
+  key.fill(2);
+  assert.equal(keyed.digest('hex'), hash('blake2b', '', { key: of(64).fill(1) }));
+});
+
+test('many at once, that go on in any order', () => {
+  const all = Array.from({ length: 3000 }, (_, at) => [createHash(getHashes()[at % 5]), at]);
+  for (let round = 0; round < 3; round++) for (const [message, at] of all) message.update(`${at}/${round}`);
+  for (const [message, at] of all.reverse()) assert.equal(message.digest('hex'), hash(getHashes()[at % 5], `${at}/0${at}/1${at}/2`));
+});
+
+test('an update of 300 MiB, and one byte at a time', () => {
+  const big = Buffer.alloc(300 << 20, 7);
+  assert.equal(hash('sha256', big), crypto.createHash('sha256').update(big).digest('hex'));
+  const message = createHash('blake3');
+  for (let at = 0; at < 5000; at++) message.update(Uint8Array.of(at % 251));
+  assert.equal(message.digest('hex'), hash('blake3', Uint8Array.from({ length: 5000 }, (_, at) => at % 251)));
+});
+
+/** Begins messages and drops them; tells of each hundredth that is collected. */
+function dropMessages(count, registry) {
+  for (let at = 0; at < count; at++) {
+    const message = createHash('blake3').update('x');
+    if (at % 100 === 0) registry.register(message, at);
+  }
+}
+
+const NO_GC = !globalThis.gc && 'node was begun without --expose-gc';
+test('messages that are dropped are collected, and the module stays as it is', { skip: NO_GC }, async () => {
+  let collected = 0;
+  const kept = createHash('sha256').update('kept');
+  const registry = new FinalizationRegistry(() => collected++);
+  dropMessages(100000, registry);
+  for (let round = 0; round < 100 && collected < 900; round++) {
+    gc();
+    await new Promise((resolve) => setTimeout(resolve, 10));
+  }
+  assert.ok(collected >= 900, `${collected} of 1,000 are collected`);
+  // a registry that is dropped tells of nothing
+  registry.unregister(kept);
+  assert.ok(process.memoryUsage().rss < 700e6);
+  assert.equal(kept.digest('hex'), hash('sha256', 'kept'));
+});
+
+/** Calls on the way back from where the stack ran out, one more frame free each time. */
+function deep(call) {
+  try {
+    deep(call);
+  } catch {
+    // there is no stack to say anything
+  }
+  call();
+}
+
+test('a stack that runs out ends the message that it meets, and no other', () => {
+  let [lost, right, frames] = [0, 0, 0];
+  const bystanders = getHashes().map((name) => createHash(name).update('by'));
+  for (const name of [...getHashes(), 'hmac']) {
+    for (let round = 0; round < 5; round++) {
+      frames = 0;
+      try {
+        deep(() => {
+          if (frames++ > 200) return;
+          const message = name === 'hmac' ? createHmac('sha256', 'k') : createHash(name);
+          const data = 'x'.repeat(3000);
+          let digest;
+          try {
+            digest = message.update(data).digest('hex');
+          } catch (error) {
+            if (!(error instanceof RangeError)) throw error;
+            lost++;
+            let second;
+            try { second = message.digest('hex'); } catch { return; }
+            // what failed before it began has changed nothing
+            digest = second;
+            if (digest === (name === 'hmac' ? createHmac('sha256', 'k').digest('hex') : hash(name, ''))) return;
+          }
+          right++;
+          assert.equal(digest, name === 'hmac' ? crypto.createHmac('sha256', 'k').update(data).digest('hex') : hash(name, data));
+        });
+      } catch (error) {
+        if (!(error instanceof RangeError)) throw error;
+      }
+    }
+  }
+  assert.ok(lost > 0 && right > 0, `${lost} lost, ${right} right`);
+  getHashes().forEach((name, at) => assert.equal(bystanders[at].update('stander').digest('hex'), hash(name, 'bystander')));
+  assert.equal(hash('blake3', 'abc'), '6437b3ac38465133ffb63b75273a8db548c558465d79db03fd359c6cd5bd9d85');
+});
+
+test('a source that fails, and one that gives no bytes', async () => {
+  async function* failing() { yield 'a'; throw new Error('in the middle'); }
+  await assert.rejects(hashOf('sha256', failing()), /in the middle/);
+  let cancelled = false;
+  const stream = new ReadableStream({ pull(controller) { controller.enqueue(3); }, cancel() { cancelled = true; } });
+  await assert.rejects(hashOf('sha256', stream), TypeError);
+  assert.ok(cancelled);
+  for (const source of [undefined, null, 3, {}, new Map([[1, 2]])]) await assert.rejects(hashOf('sha256', source), TypeError);
+  await assert.rejects(hashOf('md5', 'abc'), TypeError);
+});
+
+test('a module of its own, in a worker too', async () => {
+  const module = new WebAssembly.Module(readFileSync(new URL('../sums_hash.wasm', import.meta.url)));
+  assert.equal(WebAssembly.Module.imports(module).length, 0);
+  assert.equal(bind(module).hash('sha256', 'abc'), hash('sha256', 'abc'));
+  assert.equal(bind(module, new WebAssembly.Instance(module)).hash('sha256', 'abc'), hash('sha256', 'abc'));
+  const code = `import(${JSON.stringify(new URL('../node.js', import.meta.url).href)}).then((it) => require('worker_threads').parentPort.postMessage(it.hash('blake3', 'abc')))`;
+  const worker = new Worker(code, { eval: true });
+  assert.equal(await new Promise((resolve, reject) => worker.on('message', resolve).on('error', reject)), hash('blake3', 'abc'));
+});

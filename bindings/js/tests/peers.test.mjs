@@ -1,0 +1,101 @@
+// SPDX-License-Identifier: MIT OR Apache-2.0
+// Random messages beside node:crypto, and each call beside another that has to give the same.
+import assert from 'node:assert/strict';
+import crypto from 'node:crypto';
+import { Readable } from 'node:stream';
+import test from 'node:test';
+import { createHash, createHmac, getHashes, hash, hashOf, hashPieces, hkdfSync, toHex } from '../node.js';
+
+const THEIRS = { sha256: 'sha256', sha512: 'sha512', blake2b: 'blake2b512', blake2s: 'blake2s256' };
+const random = (length) => crypto.randomBytes(length);
+const below = (bound) => crypto.randomInt(bound);
+const oneOf = (all) => all[below(all.length)];
+const times = (count, call) => Array.from({ length: count }, (_, at) => call(at));
+
+/** A hash or an HMAC, as ours and as theirs. */
+function pair() {
+  const name = oneOf(Object.keys(THEIRS));
+  if (below(2)) return [createHash(name), crypto.createHash(THEIRS[name])];
+  const key = random(below(300));
+  return [createHmac(name, key), crypto.createHmac(THEIRS[name], key)];
+}
+
+test('several random messages at once, in random pieces', () => {
+  for (let round = 0; round < 200; round++) {
+    const pairs = times(4, pair);
+    for (let piece = 0; piece < 12; piece++) {
+      const data = random(below(round % 3 ? 400 : 9000));
+      for (const it of oneOf(pairs)) it.update(data);
+    }
+    for (const [ours, theirs] of pairs) {
+      const copy = ours.copy();
+      const digest = theirs.digest('hex');
+      assert.equal(ours.digest('hex'), digest);
+      assert.equal(copy.digest('hex'), digest);
+    }
+  }
+});
+
+test('each length about blocks and chunks, in one piece and in two', () => {
+  const data = random(2200);
+  for (let length = 0; length <= data.length; length += length < 300 ? 1 : 97) {
+    for (const name of getHashes()) {
+      const digest = hash(name, data.subarray(0, length));
+      const cut = below(length + 1);
+      assert.equal(createHash(name).update(data.subarray(0, cut)).update(data.subarray(cut, length)).digest('hex'), digest);
+      if (THEIRS[name]) assert.equal(digest, crypto.createHash(THEIRS[name]).update(data.subarray(0, length)).digest('hex'));
+    }
+  }
+});
+
+test('HKDF', () => {
+  for (let round = 0; round < 100; round++) {
+    const name = oneOf(Object.keys(THEIRS));
+    const words = [random(below(200)), random(below(200)), random(below(200)), below(1000) + 1];
+    const ours = hkdfSync(name, ...words);
+    assert.ok(ours instanceof ArrayBuffer);
+    assert.deepEqual(Buffer.from(ours), Buffer.from(crypto.hkdfSync(THEIRS[name], ...words)));
+  }
+});
+
+test('the names and the encodings of node:crypto', () => {
+  for (const name of Object.values(THEIRS)) {
+    for (const encoding of ['hex', 'base64', 'base64url']) {
+      assert.equal(hash(name, 'ä', encoding), crypto.createHash(name).update('ä').digest(encoding));
+    }
+    assert.deepEqual(Buffer.from(createHash(name).digest()), crypto.createHash(name).digest());
+    assert.deepEqual(Buffer.from(hash(name, 'x', 'buffer')), crypto.createHash(name).update('x').digest());
+  }
+  assert.equal(hash('sha256', '\ud800'), crypto.createHash('sha256').update('\ud800').digest('hex'));
+  assert.equal(createHash('sha256').update('abc', 'utf8').update(Buffer.from('d'), 'hex').digest('hex'), hash('sha256', 'abcd'));
+});
+
+test('pieces are the digests of the pieces', () => {
+  for (const name of ['sha256', 'blake2b', 'blake2s', 'blake3']) {
+    for (const [size, most] of [[1, 5000], [64, 40000], [1000, 40000], [1024, 40000], [5000, 600000], [300000, 3000000], [2 ** 21, 2 ** 22 + 5]]) {
+      const data = random(below(most) + 1);
+      const digests = times(Math.ceil(data.length / size), (at) => hash(name, data.subarray(at * size, (at + 1) * size)));
+      assert.equal(toHex(hashPieces(name, data, size)), digests.join(''));
+    }
+    assert.equal(hashPieces(name, '', 7).length, 0);
+    assert.equal(toHex(hashPieces(name, 'abc', Number.MAX_SAFE_INTEGER)), hash(name, 'abc'));
+  }
+  assert.equal(toHex(hashPieces('blake2b', 'abcd', 3, { outputLength: 20 })), hash('blake2b', 'abc', { outputLength: 20 }) + hash('blake2b', 'd', { outputLength: 20 }));
+});
+
+test('a long output in one call is that of many short ones', () => {
+  const message = createHash('blake3').update('abc');
+  const all = message.output(700000, 5);
+  for (const at of [0, 1, 63, 262143, 262144, 699999]) assert.equal(message.output(1, at + 5)[0], all[at]);
+  assert.equal(hash('blake3', 'abc', { outputLength: 700005 }).slice(10), toHex(all));
+});
+
+test('streams of the web and of Node, Blobs, and what gives pieces', async () => {
+  const data = random(9 << 20);
+  const digest = hash('blake3', data);
+  const parts = [data.subarray(0, 5), data.subarray(5)];
+  const sources = [data, data.buffer.slice(data.byteOffset, data.byteOffset + data.length), new Blob([data]), new Blob([data]).stream(), Readable.from(parts), parts];
+  for (const source of sources) assert.equal(await hashOf('blake3', source), digest);
+  assert.equal(await hashOf('sha256', new Blob([]), 'base64'), hash('sha256', '', 'base64'));
+  assert.equal(toHex(await hashOf('blake2b', new Blob(['abc']), { key: 'k', outputEncoding: 'buffer' })), hash('blake2b', 'abc', { key: 'k' }));
+});
