@@ -3,11 +3,15 @@
 //! pkg-config, which PKG_CONFIG names.
 
 use std::path::{Path, PathBuf};
-use std::{env, process::Command};
+use std::{env, fs, process::Command};
 
 fn main() {
     for name in ["SUMS_HASH_LIB_DIR", "PKG_CONFIG", "PKG_CONFIG_PATH"] {
         println!("cargo:rerun-if-env-changed={name}");
+    }
+    let target = target();
+    if !target.starts_with("x86_64-linux-") {
+        panic!("sums-hash: the library is for Linux on x86-64, not for {target}");
     }
     if env::var_os("CARGO_FEATURE_BUNDLED").is_some() {
         bundled();
@@ -18,9 +22,31 @@ fn main() {
     }
 }
 
-fn link(folder: &str, kind: &str) {
+/// What the crate is built for, as x86_64-linux-gnu.
+fn target() -> String {
+    ["ARCH", "OS", "ENV"]
+        .map(|word| env::var(format!("CARGO_CFG_TARGET_{word}")).unwrap_or_default())
+        .join("-")
+}
+
+/// Links a file of the library, and again when it changes.
+fn link(folder: &str, file: &str, kind: &str) {
+    let (path, target) = (format!("{folder}/{file}"), target());
+    if !target.ends_with("-gnu") && is_for_glibc(&path) {
+        panic!("sums-hash: {path} needs glibc, and is not for {target}");
+    }
+    println!("cargo:rerun-if-changed={path}");
     println!("cargo:rustc-link-search=native={folder}");
     println!("cargo:rustc-link-lib={kind}=sums_hash");
+}
+
+/// Whether a file of the library is for glibc alone: a shared one names it, and an archive of several levels a function
+/// of it.
+fn is_for_glibc(path: &str) -> bool {
+    let bytes = fs::read(path).unwrap_or_else(|fault| panic!("sums-hash: {path}: {fault}"));
+    ["libc.so.6", "gnu_get_libc_version"]
+        .iter()
+        .any(|name| bytes.windows(name.len()).any(|part| part == name.as_bytes()))
 }
 
 /// The workspace, of which no variable tells: the lowest folder above OUT_DIR that has a manifest, since OUT_DIR is in
@@ -47,20 +73,16 @@ fn named(folder: PathBuf) {
     };
     for (file, kind) in [("libsums_hash.a", "static"), ("libsums_hash.so", "dylib")] {
         if folder.join(file).exists() {
-            println!("cargo:rerun-if-changed={path}/{file}");
-            return link(path, kind);
+            return link(path, file, kind);
         }
     }
     panic!("sums-hash: SUMS_HASH_LIB_DIR has no libsums_hash.a and no libsums_hash.so: {path}");
 }
 
 fn bundled() {
-    let target = ["ARCH", "OS", "ENV"].map(|word| env::var(format!("CARGO_CFG_TARGET_{word}")).unwrap_or_default());
-    if target != ["x86_64", "linux", "gnu"] {
-        panic!(
-            "sums-hash: the bundled archive is for x86_64-linux-gnu, not {}",
-            target.join("-")
-        );
+    let target = target();
+    if target != "x86_64-linux-gnu" {
+        panic!("sums-hash: the bundled archive is for x86_64-linux-gnu, not {target}");
     }
     let folder = env::var("CARGO_MANIFEST_DIR").expect("cargo sets it") + "/native";
     if !Path::new(&folder).join("libsums_hash.a").exists() {
@@ -68,12 +90,20 @@ fn bundled() {
             "sums-hash: no archive is in {folder}: it comes with the crate as it is published, not with its sources"
         );
     }
-    link(&folder, "static");
+    link(&folder, "libsums_hash.a", "static");
 }
 
 fn by_pkg_config() {
     const ADVICE: &str = "install libsums_hash, set SUMS_HASH_LIB_DIR, or take the feature `bundled`";
+    let (host, target) = (env::var("HOST"), env::var("TARGET"));
     let tool = env::var("PKG_CONFIG").unwrap_or_else(|_| "pkg-config".to_owned());
+    if host != target && tool == "pkg-config" {
+        panic!(
+            "sums-hash: pkg-config tells of {}, not of {}: {ADVICE}, or name another in PKG_CONFIG",
+            host.unwrap_or_default(),
+            target.unwrap_or_default()
+        );
+    }
     let told = Command::new(tool)
         .args(["--libs", concat!("sums_hash >= ", env!("CARGO_PKG_VERSION"))])
         .output();
@@ -87,8 +117,8 @@ fn by_pkg_config() {
         let word = word.replace('\0', " ");
         if let Some(folder) = word.strip_prefix("-L") {
             println!("cargo:rustc-link-search=native={folder}");
-        } else if let Some(archive) = word.strip_suffix("/libsums_hash.a") {
-            return link(archive, "static");
+        } else if let Some(folder) = word.strip_suffix("/libsums_hash.a") {
+            return link(folder, "libsums_hash.a", "static");
         }
     }
     println!("cargo:rustc-link-lib=dylib=sums_hash");

@@ -36,8 +36,20 @@ fn sha2() {
     digests::<Sha512>("sha2-0.10.5/tests/data/sha512");
 }
 
+/// Begins anew under the same key, in each way that there is, and makes the same tag.
+fn is_reset<M: Mac + FixedOutputReset>(mac: &mut M, input: &[u8], tag: &[u8]) {
+    assert_eq!(mac.finalize_reset().into_bytes()[..], *tag);
+    Mac::update(mac, b"forgotten");
+    Mac::reset(mac);
+    Mac::update(mac, input);
+    assert_eq!(mac.finalize_reset().into_bytes()[..], *tag);
+    Mac::update(mac, input);
+    Mac::update(mac, b"more");
+    assert_ne!(mac.finalize_reset().into_bytes()[..], *tag);
+}
+
 /// A vector may have the beginning of a tag alone.
-fn tags<M: Mac + KeyInit + Clone>(name: &str) {
+fn tags<M: Mac + KeyInit + Clone + FixedOutputReset>(name: &str) {
     each(name, Blob3Iterator::new(&vectors(name)).unwrap(), |[key, input, tag]| {
         for size in [1, 7, 64, 1000] {
             let mut mac = <M as Mac>::new_from_slice(key).unwrap();
@@ -45,6 +57,7 @@ fn tags<M: Mac + KeyInit + Clone>(name: &str) {
                 Mac::update(&mut mac, piece);
             }
             assert_eq!(&mac.clone().finalize().into_bytes()[..tag.len()], tag);
+            is_reset(&mut mac.clone(), input, &mac.clone().finalize().into_bytes());
             mac.clone().verify_truncated_left(tag).unwrap();
             let mut wrong = tag.to_vec();
             wrong[0] ^= 1;
@@ -155,10 +168,11 @@ fn hmac_over_blake2() {
 }
 
 /// The tag of a message under a key by `Mac`, in pieces, which is `wanted`.
-fn is_keyed<M: Mac + KeyInit + Clone>(key: &[u8], input: &[u8], wanted: &[u8]) {
+fn is_keyed<M: Mac + KeyInit + Clone + FixedOutputReset>(key: &[u8], input: &[u8], wanted: &[u8]) {
     let mut mac = <M as Mac>::new_from_slice(key).unwrap();
     input.chunks(33).for_each(|piece| Mac::update(&mut mac, piece));
     assert_eq!(mac.clone().finalize().into_bytes()[..], *wanted);
+    is_reset(&mut mac.clone(), input, wanted);
     mac.verify_slice(wanted).unwrap();
 }
 
@@ -196,6 +210,70 @@ fn generic_over_a_digest() {
     sums_hash::hkdf_sha512(&mut ours, b"secret", b"salt", b"what for").unwrap();
     SimpleHkdf::<Sha512>::new(Some(b"salt"), b"secret").expand(b"what for", &mut theirs).unwrap();
     assert_eq!(ours, theirs);
+}
+
+#[cfg(feature = "std")]
+mod with_std {
+    use std::io::{self, ErrorKind, Read, Seek, SeekFrom, Write};
+
+    use digest::{ExtendableOutput, FixedOutput, Mac};
+    use sums_hash::traits::*;
+
+    fn written<H: FixedOutput + Write>(mut hasher: H, input: &[u8]) -> Vec<u8> {
+        assert_eq!(io::copy(&mut &*input, &mut hasher).unwrap(), input.len() as u64);
+        hasher.flush().unwrap();
+        hasher.finalize_fixed().to_vec()
+    }
+
+    #[test]
+    fn writers() {
+        let input = vec![9; 100_000];
+        assert_eq!(written(Sha256::default(), &input), sums_hash::sha256(&input));
+        assert_eq!(written(Sha512::default(), &input), sums_hash::sha512(&input));
+        let (mut short, mut long) = ([0; 32], [0; 64]);
+        sums_hash::blake2b(&mut long, &input, b"").unwrap();
+        assert_eq!(written(Blake2b512::default(), &input), long);
+        sums_hash::blake2b(&mut long, &input, b"key").unwrap();
+        assert_eq!(written(<Blake2bMac512 as Mac>::new_from_slice(b"key").unwrap(), &input), long);
+        sums_hash::hmac_sha256(&mut short, &input, b"key").unwrap();
+        assert_eq!(written(<HmacSha256 as Mac>::new_from_slice(b"key").unwrap(), &input), short);
+    }
+
+    #[test]
+    fn output_as_a_reader() {
+        let mut whole = [0; 1000];
+        sums_hash::blake3(&mut whole, 0, b"").unwrap();
+        let (mut reader, mut read) = (Blake3::default().finalize_xof(), [0; 900]);
+        Read::by_ref(&mut reader).take(100).read_to_end(&mut Vec::new()).unwrap();
+        reader.read_exact(&mut read).unwrap();
+        assert_eq!(read, whole[100..]);
+        assert_eq!(reader.stream_position().unwrap(), 1000);
+        assert_eq!(reader.seek(SeekFrom::Current(-700)).unwrap(), 300);
+        reader.read_exact(&mut read[..50]).unwrap();
+        assert_eq!(read[..50], whole[300..350]);
+        assert_eq!(reader.seek(SeekFrom::Start(7)).unwrap(), 7);
+        digest::XofReader::read(&mut reader, &mut read[..50]);
+        assert_eq!(read[..50], whole[7..57]);
+    }
+
+    #[test]
+    fn end_of_the_output() {
+        let (mut reader, mut read) = (Blake3::default().finalize_xof(), [0; 10]);
+        assert_eq!(reader.seek(SeekFrom::End(-3)).unwrap(), u64::MAX - 3);
+        for wrong in [SeekFrom::Current(4), SeekFrom::End(1), SeekFrom::Current(i64::MAX)] {
+            assert_eq!(reader.seek(wrong).unwrap_err().kind(), ErrorKind::InvalidInput);
+            assert_eq!(reader.stream_position().unwrap(), u64::MAX - 3);
+        }
+        assert_eq!(Read::read(&mut reader, &mut read).unwrap(), 3);
+        let mut last = [0; 3];
+        sums_hash::blake3(&mut last, u64::MAX - 3, b"").unwrap();
+        assert_eq!(read[..3], last);
+        assert_eq!(Read::read(&mut reader, &mut read).unwrap(), 0);
+        assert_eq!(reader.seek(SeekFrom::End(0)).unwrap(), u64::MAX);
+        reader.rewind().unwrap();
+        assert_eq!(reader.seek(SeekFrom::Current(-1)).unwrap_err().kind(), ErrorKind::InvalidInput);
+        assert_eq!(Read::read(&mut reader, &mut []).unwrap(), 0);
+    }
 }
 
 #[test]

@@ -12,7 +12,8 @@
 //! the blocks of a hash (`CoreProxy`): take [`HmacSha256`] and its like, and [`hkdf_sha256`](crate::hkdf_sha256).
 //!
 //! These traits have no refusals: `update` panics where the message would be longer than the function takes, which is
-//! 2^61 - 1 bytes at least, and a reader where the output ends, behind byte 2^64 - 1.
+//! 2^61 - 1 bytes at least, and a reader where the output ends, behind 2^64 - 1 bytes. With the feature `std` each is a
+//! `std::io::Write` too, and the reader a `std::io::Read` and a `std::io::Seek`, which panic nowhere.
 
 use core::fmt;
 
@@ -29,14 +30,17 @@ const BEGUN: &str = "a state that was begun is not refused";
 
 // What a hash and a tag have in common.
 macro_rules! of_size {
-    ($(#[$about:meta])* $Name:ident, $Message:ident, $Size:ty, $Block:ty, |$message:ident, $out:ident| $finish:expr) => {
-        $(#[$about])*
-        #[derive(Clone)]
-        pub struct $Name(crate::$Message);
+    ($Name:ident, $Size:ty, $Block:ty, |$message:ident, $out:ident| $finish:expr) => {
+        impl $Name {
+            fn finish(&self, $out: &mut Output<Self>) {
+                let $message = &self.message;
+                $finish;
+            }
+        }
 
         impl fmt::Debug for $Name {
             fn fmt(&self, f: &mut fmt::Formatter<'_>) -> fmt::Result {
-                self.0.fmt(f)
+                self.message.fmt(f)
             }
         }
 
@@ -50,14 +54,33 @@ macro_rules! of_size {
 
         impl Update for $Name {
             fn update(&mut self, data: &[u8]) {
-                self.0.update(data).expect("the message is longer than the function takes");
+                self.message
+                    .update(data)
+                    .expect("the message is longer than the function takes");
             }
         }
 
         impl FixedOutput for $Name {
-            fn finalize_into(self, $out: &mut Output<Self>) {
-                let $message = &self.0;
-                $finish;
+            fn finalize_into(self, out: &mut Output<Self>) {
+                self.finish(out);
+            }
+        }
+
+        impl FixedOutputReset for $Name {
+            fn finalize_into_reset(&mut self, out: &mut Output<Self>) {
+                self.finish(out);
+                self.reset();
+            }
+        }
+
+        #[cfg(feature = "std")]
+        impl std::io::Write for $Name {
+            fn write(&mut self, piece: &[u8]) -> std::io::Result<usize> {
+                std::io::Write::write(&mut self.message, piece)
+            }
+
+            fn flush(&mut self) -> std::io::Result<()> {
+                Ok(())
             }
         }
     };
@@ -65,25 +88,19 @@ macro_rules! of_size {
 
 macro_rules! hash {
     ($(#[$about:meta])* $Name:ident, $Message:ident, $Size:ty, $Block:ty, |$message:ident, $out:ident| $finish:expr) => {
-        of_size!($(#[$about])* $Name, $Message, $Size, $Block, |$message, $out| $finish);
-
-        impl Default for $Name {
-            fn default() -> Self {
-                Self(crate::$Message::default())
-            }
+        $(#[$about])*
+        #[derive(Clone, Default)]
+        pub struct $Name {
+            message: crate::$Message,
         }
+
+        of_size!($Name, $Size, $Block, |$message, $out| $finish);
 
         impl HashMarker for $Name {}
 
         impl Reset for $Name {
             fn reset(&mut self) {
                 *self = Self::default();
-            }
-        }
-
-        impl FixedOutputReset for $Name {
-            fn finalize_into_reset(&mut self, out: &mut Output<Self>) {
-                core::mem::take(self).finalize_into(out);
             }
         }
     };
@@ -93,9 +110,22 @@ macro_rules! hash {
 macro_rules! mac {
     ($(#[$about:meta])* $Name:ident, $Message:ident, $Size:ty, $Block:ty, $Longest:ty, |$key:ident| $begun:expr,
      |$message:ident, $out:ident| $finish:expr) => {
-        of_size!($(#[$about])* $Name, $Message, $Size, $Block, |$message, $out| $finish);
+        $(#[$about])*
+        #[derive(Clone)]
+        pub struct $Name {
+            message: crate::$Message,
+            begun: crate::$Message,
+        }
+
+        of_size!($Name, $Size, $Block, |$message, $out| $finish);
 
         impl MacMarker for $Name {}
+
+        impl Reset for $Name {
+            fn reset(&mut self) {
+                self.message.clone_from(&self.begun);
+            }
+        }
 
         impl KeySizeUser for $Name {
             type KeySize = $Longest;
@@ -107,7 +137,9 @@ macro_rules! mac {
             }
 
             fn new_from_slice($key: &[u8]) -> Result<Self, InvalidLength> {
-                $begun.map(Self).map_err(|_| InvalidLength)
+                let message: crate::$Message = $begun.map_err(|_| InvalidLength)?;
+                let begun = message.clone();
+                Ok(Self { message, begun })
             }
         }
     };
@@ -199,12 +231,38 @@ impl XofReader for Blake3Reader {
     }
 }
 
+#[cfg(feature = "std")]
+impl std::io::Read for Blake3Reader {
+    fn read(&mut self, buffer: &mut [u8]) -> std::io::Result<usize> {
+        let left = usize::try_from(u64::MAX - self.position).unwrap_or(usize::MAX);
+        let length = buffer.len().min(left);
+        self.message.output(self.position, &mut buffer[..length])?;
+        self.position += length as u64;
+        Ok(length)
+    }
+}
+
+#[cfg(feature = "std")]
+impl std::io::Seek for Blake3Reader {
+    /// Moves to a position of the output, which has 2^64 - 1 bytes. One that is outside is an error, and moves nothing.
+    fn seek(&mut self, to: std::io::SeekFrom) -> std::io::Result<u64> {
+        let (base, offset) = match to {
+            std::io::SeekFrom::Start(position) => (position, 0),
+            std::io::SeekFrom::Current(offset) => (self.position, offset),
+            std::io::SeekFrom::End(offset) => (u64::MAX, offset),
+        };
+        let position = i128::from(base) + i128::from(offset);
+        self.position = u64::try_from(position).map_err(|_| Refusal::EndOfOutput)?;
+        Ok(self.position)
+    }
+}
+
 impl ExtendableOutput for Blake3 {
     type Reader = Blake3Reader;
 
     fn finalize_xof(self) -> Blake3Reader {
         Blake3Reader {
-            message: self.0,
+            message: self.message,
             position: 0,
         }
     }
