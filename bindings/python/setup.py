@@ -1,9 +1,10 @@
 # SPDX-License-Identifier: MIT OR Apache-2.0
 """The extension is linked with libsums_hash.a of the folder SUMS_HASH_LIB_DIR, which has sums_hash.h too, or else with
-the library that pkg-config finds. One wheel is for each CPython from 3.11 on."""
+the library that pkg-config finds, of this version or a later one. One wheel is for each CPython from 3.11 on."""
 
 import os
 import platform
+import re
 import shlex
 import subprocess
 import sys
@@ -11,9 +12,11 @@ import sysconfig
 
 from setuptools import Extension, setup
 
-FLAGS = ["-std=gnu11", "-O2", "-fvisibility=hidden", "-Wall", "-Wextra", "-Wno-missing-field-initializers"]
+FLAGS = ["-std=gnu11", "-O2", "-fvisibility=hidden", "-Wall", "-Wextra", "-Wno-missing-field-initializers",
+         "-Werror=implicit-function-declaration"]
 # the calls of the library stay inside, and no path of the builder's is kept
 LINKED = ["-Wl,--exclude-libs,ALL", "-Wl,-s"]
+ARCHIVE = "libsums_hash.a"
 
 
 def refuse(text):
@@ -31,15 +34,20 @@ def check_python():
         refuse("it is for Linux on x86-64 with glibc")
 
 
+def version():
+    with open(os.path.join("sums_hash", "__init__.py"), encoding="utf-8") as file:
+        return re.search('^__version__ = "(.*)"$', file.read(), re.MULTILINE)[1]
+
+
 def library():
     """What the compiler and the linker are told of the C library."""
     folder = os.environ.get("SUMS_HASH_LIB_DIR")
     if folder:
-        archive = os.path.join(folder, "libsums_hash.a")
+        archive = os.path.join(folder, ARCHIVE)
         if not os.path.exists(archive):
             refuse(f"SUMS_HASH_LIB_DIR: there is no {os.path.abspath(archive)}")
         return {"include_dirs": [folder], "extra_objects": [archive], "depends": [archive]}
-    command = [os.environ.get("PKG_CONFIG", "pkg-config"), "--cflags", "--libs", "sums_hash"]
+    command = [os.environ.get("PKG_CONFIG", "pkg-config"), "--cflags", "--libs", f"sums_hash >= {version()}"]
     try:
         words = shlex.split(subprocess.run(command, check=True, stdout=subprocess.PIPE, text=True).stdout)
     except (OSError, subprocess.CalledProcessError) as fault:
@@ -48,13 +56,19 @@ def library():
             "extra_link_args": [word for word in words if not word.startswith("-I")]}
 
 
+def platform_tag(linked):
+    """A wheel with the archive in it needs of glibc what 2.14 has, so that it runs where 2.17 is. One that is linked
+    with a shared library is for a system that has it."""
+    has_archive = any(os.path.basename(word) == ARCHIVE for word in linked)
+    return sysconfig.get_platform().replace("linux-", "manylinux2014_" if has_archive else "linux_")
+
+
 check_python()
 told = library()
+plat_name = platform_tag(told.get("extra_objects", []) + told.get("extra_link_args", []))
 native = Extension(
     "sums_hash._native", ["native.c"], py_limited_api=True,
     extra_compile_args=FLAGS + told.pop("extra_compile_args", []),
     extra_link_args=LINKED + told.pop("extra_link_args", []), **told,
 )
-# of glibc it needs what 2.14 has, so that it runs where 2.17 is
-setup(ext_modules=[native],
-      options={"bdist_wheel": {"plat_name": "manylinux2014_x86_64", "py_limited_api": "cp311"}})
+setup(ext_modules=[native], options={"bdist_wheel": {"plat_name": plat_name, "py_limited_api": "cp311"}})
