@@ -12,10 +12,10 @@
 #define PY_SSIZE_T_CLEAN
 #define Py_LIMITED_API 0x030b0000
 #include <Python.h>
+#include <pthread.h>
 #include <stdarg.h>
 #include <stddef.h>
 #include <string.h>
-#include <unistd.h>
 
 #include "sums_hash.h"
 
@@ -56,7 +56,7 @@ typedef struct {
     PyObject_HEAD
     const struct kind *kind;
     PyThread_type_lock lock; // NULL as long as no call has let go of the interpreter
-    pid_t process;           // of the last call that did
+    unsigned process;        // of the last call that did: the number of forks before it
     _Atomic int digest_size; // of the message that was begun; written with the lock, and read without it
     uint64_t state[];        // of the message, and behind it as it was begun; zeros before that, which C refuses
 } Hasher;
@@ -109,6 +109,21 @@ static int judged(uint32_t status)
 
 // ---- calls of C on a state, one after another
 
+// How many forks stand between this process and the one that loaded this file. Parent and child may have one number of
+// the system's, each in its own namespace; of these they have two.
+static unsigned forks;
+static int counts_no_forks;
+
+static void count_fork(void)
+{
+    forks++;
+}
+
+__attribute__((constructor)) static void count_forks(void)
+{
+    counts_no_forks = pthread_atfork(NULL, NULL, count_fork);
+}
+
 typedef uint32_t step(Hasher *self, void *words);
 
 // Runs a step with the lock, and where that is not free or the work is long, without the interpreter.
@@ -116,7 +131,7 @@ static int with_lock(Hasher *self, step *run, void *words, int is_long)
 {
     uint32_t status;
     int is_held = PyThread_acquire_lock(self->lock, NOWAIT_LOCK);
-    if (!is_held && self->process != getpid()) {
+    if (!is_held && self->process != forks) {
         PyErr_SetString(PyExc_RuntimeError, "another thread was at work on the object when the process was forked");
         return -1;
     }
@@ -124,7 +139,7 @@ static int with_lock(Hasher *self, step *run, void *words, int is_long)
         status = run(self, words);
         PyThread_release_lock(self->lock);
     } else {
-        self->process = getpid();
+        self->process = forks;
         Py_BEGIN_ALLOW_THREADS
         if (!is_held) PyThread_acquire_lock(self->lock, WAIT_LOCK);
         status = run(self, words);
@@ -213,10 +228,11 @@ static int lend(PyObject *data, Py_buffer *view)
         PyErr_SetString(PyExc_TypeError, "Strings must be encoded before hashing");
         return -1;
     }
-    if (PyObject_GetBuffer(data, view, PyBUF_SIMPLE) == 0) return 0;
-    if (PyErr_ExceptionMatches(PyExc_TypeError))
+    if (!PyObject_CheckBuffer(data)) {
         PyErr_SetString(PyExc_TypeError, "object supporting the buffer API required");
-    return -1;
+        return -1;
+    }
+    return PyObject_GetBuffer(data, view, PyBUF_SIMPLE);
 }
 
 static int number_up_to(unsigned long long most, PyObject *value, unsigned long long *to)
@@ -961,5 +977,6 @@ static struct PyModuleDef module_of_3_12 = MODULE(slots_of_3_12);
 
 PyMODINIT_FUNC PyInit__native(void)
 {
-    return PyModuleDef_Init(Py_Version < 0x030c0000 ? &module_of_3_11 : &module_of_3_12);
+    return counts_no_forks ? PyErr_NoMemory()
+                           : PyModuleDef_Init(Py_Version < 0x030c0000 ? &module_of_3_11 : &module_of_3_12);
 }

@@ -345,6 +345,14 @@ class Buffers(unittest.TestCase):
         for wrong in (lambda: 1, lambda: 1 // 0):
             self.assertRaises((TypeError, ZeroDivisionError), hasher.update, Own(wrong))
 
+        def own_fault():
+            raise TypeError("a text of its own")
+
+        for call in (hasher.update, sums_hash.sha512, lambda data: sums_hash.hkdf("sha256", data, 9),
+                     lambda data: sums_hash.sha256_pieces(data, 9)):
+            with self.assertRaisesRegex(TypeError, "^a text of its own$"):
+                call(Own(own_fault))
+
     def test_failed_calls_let_go(self):
         data = bytearray(DATA)
         for call in (
@@ -411,6 +419,64 @@ print(len(read) > 20)
             signal.signal(signal.SIGALRM, before)
 
 
+FORKED = """
+import os, signal, threading, time, warnings, sums_hash
+warnings.simplefilter("ignore")
+hasher, other, data = sums_hash.sha256(), sums_hash.sha256(b"abc"), bytearray(2**26)
+def is_lent():
+    try:
+        data.append(0)
+        data.pop()
+        return False
+    except BufferError:
+        return True
+def faults():
+    for call in (hasher.digest, hasher.copy, hasher.reset, hasher.__init__,
+                 lambda: hasher.update(b"a"), lambda: hasher.update(bytes({LONG}))):
+        try:
+            call()
+        except RuntimeError as fault:
+            yield str(fault) == "another thread was at work on the object when the process was forked"
+def status(child):
+    for _ in range(600):
+        ended, status = os.waitpid(child, os.WNOHANG)
+        if ended:
+            return status
+        time.sleep(0.1)
+    os.kill(child, signal.SIGKILL)
+    os.waitpid(child, 0)
+    return "it waits"
+{first}
+thread = threading.Thread(target=hasher.update, args=(data,))
+thread.start()
+while not is_lent():
+    pass
+{next}
+child = os.fork()
+if child == 0:
+    other.update(bytes({LONG}))
+    wrong = list(faults()) != [True] * 6 or other.digest() != sums_hash.sha256(b"abc" + bytes({LONG})).digest()
+    os._exit(wrong)
+print(status(child))
+thread.join()
+print(hasher.digest() == sums_hash.sha256(data).digest())
+"""
+
+# goes on in the first process of a namespace of processes, for which a user that is not root needs one of users too
+IN_NAMESPACE = """
+import ctypes, sys
+NEW_USERS, NEW_PROCESSES = 0x10000000, 0x20000000
+unshare = ctypes.CDLL(None).unshare
+if unshare(NEW_PROCESSES) != 0 and unshare(NEW_USERS | NEW_PROCESSES) != 0:
+    print("refused")
+    sys.exit()
+first = os.fork()
+if first > 0:
+    sys.exit(os.waitstatus_to_exitcode(os.waitpid(first, 0)[1]))
+assert os.getpid() == 1
+"""
+
+
 class Threads(unittest.TestCase):
     def test_all_at_once(self):
         """Pieces, copies and digests of one object by eight threads, short and long; each piece is taken whole."""
@@ -439,37 +505,13 @@ class Threads(unittest.TestCase):
     def test_forked_in_the_middle(self):
         """In a process that was forked while another thread was at work on an object each call on it is an exception,
         and none waits. Other objects work."""
-        told = in_process(f"""
-import os, threading, warnings, sums_hash
-warnings.simplefilter("ignore")
-hasher, other, data = sums_hash.sha256(), sums_hash.sha256(b"abc"), bytearray(2**26)
-def is_lent():
-    try:
-        data.append(0)
-        data.pop()
-        return False
-    except BufferError:
-        return True
-def faults():
-    for call in (hasher.digest, hasher.copy, hasher.reset, hasher.__init__,
-                 lambda: hasher.update(b"a"), lambda: hasher.update(bytes({LONG}))):
-        try:
-            call()
-        except RuntimeError as fault:
-            yield str(fault) == "another thread was at work on the object when the process was forked"
-thread = threading.Thread(target=hasher.update, args=(data,))
-thread.start()
-while not is_lent():
-    pass
-child = os.fork()
-if child == 0:
-    other.update(bytes({LONG}))
-    wrong = list(faults()) != [True] * 6 or other.digest() != sums_hash.sha256(b"abc" + bytes({LONG})).digest()
-    os._exit(wrong)
-print(os.waitpid(child, 0)[1])
-thread.join()
-print(hasher.digest() == sums_hash.sha256(data).digest())
-""")
+        self.assertEqual(in_process(FORKED.format(LONG=LONG, first="", next="")), "0\nTrue\n")
+
+    def test_forked_into_a_namespace(self):
+        """The same where the system numbers both processes 1, the first of a namespace and the first of one in it."""
+        told = in_process(FORKED.format(LONG=LONG, first=IN_NAMESPACE, next="unshare(NEW_PROCESSES)"))
+        if told == "refused\n":
+            self.skipTest("the system refuses a namespace of processes")
         self.assertEqual(told, "0\nTrue\n")
 
     def test_forked_pools(self):
