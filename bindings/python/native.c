@@ -316,34 +316,70 @@ static PyObject *hexdigest(PyObject *self, PyObject *none)
     return in_digits(digest(self, none));
 }
 
-// What a class of Python's own has in its __dict__. The types here have none.
-static int copy_attributes(PyObject *from, PyObject *to)
+// Another object of the same message, without what a class of Python's own adds.
+static PyObject *duplicated(PyObject *object)
 {
-    if (!PyType_HasFeature(Py_TYPE(from), Py_TPFLAGS_HAVE_GC)) return 0;
-    PyObject *given = PyObject_GenericGetDict(from, NULL);
-    PyObject *taken = given ? PyObject_GenericGetDict(to, NULL) : NULL;
-    if (!taken && PyErr_ExceptionMatches(PyExc_AttributeError)) PyErr_Clear(); // it has __slots__ alone
-    int done = taken ? PyDict_Update(taken, given) : PyErr_Occurred() ? -1 : 0;
-    Py_XDECREF(given);
-    Py_XDECREF(taken);
+    Hasher *self = (Hasher *)object;
+    PyObject *other = made(Py_TYPE(object), self->kind);
+    if (other && in_turn(self, duplicate, other, 0) < 0) Py_CLEAR(other);
+    return other;
+}
+
+// A class of Python's own may give its objects attributes, which those of the types here have not.
+static int may_have_attributes(PyObject *object)
+{
+    return PyType_HasFeature(Py_TYPE(object), Py_TPFLAGS_HAVE_GC);
+}
+
+// The attributes as object.__getstate__ tells them: those of __dict__ or None, alone or before those of __slots__.
+static PyObject *attributes(PyObject *object)
+{
+    return PyObject_CallMethod((PyObject *)&PyBaseObject_Type, "__getstate__", "O", object);
+}
+
+static int add_to_dict(PyObject *to, PyObject *attributes)
+{
+    PyObject *dict = attributes == Py_None ? NULL : PyObject_GenericGetDict(to, NULL);
+    int done = dict ? PyDict_Update(dict, attributes) : PyErr_Occurred() ? -1 : 0;
+    Py_XDECREF(dict);
     return done;
+}
+
+// Gives an object these attributes. It takes both, of which the second may be NULL, and returns the first, or NULL.
+static PyObject *with_attributes(PyObject *object, PyObject *attributes)
+{
+    PyObject *slots = attributes && PyTuple_Check(attributes) ? PyTuple_GetItem(attributes, 1) : NULL, *name, *value;
+    int done = attributes ? add_to_dict(object, slots ? PyTuple_GetItem(attributes, 0) : attributes) : -1;
+    for (Py_ssize_t at = 0; done == 0 && slots && PyDict_Next(slots, &at, &name, &value);)
+        done = PyObject_GenericSetAttr(object, name, value);
+    Py_XDECREF(attributes);
+    if (done < 0) Py_CLEAR(object);
+    return object;
 }
 
 static PyObject *copy(PyObject *object, PyObject *Py_UNUSED(none))
 {
-    Hasher *self = (Hasher *)object;
-    PyObject *other = made(Py_TYPE(object), self->kind);
-    if (!other) return NULL;
-    if (in_turn(self, duplicate, other, 0) < 0 || copy_attributes(object, other) < 0) {
-        Py_DECREF(other);
-        return NULL;
-    }
-    return other;
+    PyObject *other = duplicated(object);
+    return other && may_have_attributes(object) ? with_attributes(other, attributes(object)) : other;
 }
 
-static PyObject *deepcopy(PyObject *self, PyObject *Py_UNUSED(memo))
+// A deep copy of the attributes. One that leads back to the object leads to the other one there.
+static PyObject *deep_attributes(PyObject *object, PyObject *other, PyObject *memo)
 {
-    return copy(self, NULL);
+    PyObject *key = PyLong_FromVoidPtr(object), *module = NULL, *shallow = NULL, *deep = NULL;
+    if (key && PyObject_SetItem(memo, key, other) == 0) module = PyImport_ImportModule("copy");
+    if (module) shallow = attributes(object);
+    if (shallow) deep = PyObject_CallMethod(module, "deepcopy", "OO", shallow, memo);
+    Py_XDECREF(key);
+    Py_XDECREF(module);
+    Py_XDECREF(shallow);
+    return deep;
+}
+
+static PyObject *deepcopy(PyObject *object, PyObject *memo)
+{
+    PyObject *other = duplicated(object);
+    return other && may_have_attributes(object) ? with_attributes(other, deep_attributes(object, other, memo)) : other;
 }
 
 static PyObject *reduce(PyObject *self, PyObject *Py_UNUSED(none))

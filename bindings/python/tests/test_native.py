@@ -232,20 +232,72 @@ class Words(unittest.TestCase):
                 super().__init__(b"abc", digest_size=9)
                 self.word = word
 
-        class Slotted(sums_hash.sha256):
-            __slots__ = ("word",)
-
         for copied in (lambda hasher: hasher.copy(), copy.copy, copy.deepcopy):
             other = copied(Own("kept"))
             self.assertEqual((type(other), other.word, other.digest_size), (Own, "kept", 9))
             self.assertEqual(other.digest(), sums_hash.blake2b(b"abc", digest_size=9).digest())
-            self.assertIs(type(copied(Slotted(b"abc"))), Slotted)
         kept = Own("cycle")
         kept.word = kept
         count = sum(type(each) is Own for each in gc.get_objects())
         del kept
         gc.collect()
         self.assertEqual(sum(type(each) is Own for each in gc.get_objects()), count - 1)
+
+    def test_copied_slots(self):
+        class Slotted(sums_hash.sha256):
+            __slots__ = ("word", "__hidden", "unset")
+
+            def hide(self, word):
+                self.__hidden = word
+
+            def hidden(self):
+                return self.__hidden
+
+        class Both(Slotted):
+            __slots__ = ("more", "__dict__")
+
+        for kind in (Slotted, Both):
+            for copied in (lambda hasher: hasher.copy(), copy.copy, copy.deepcopy):
+                hasher = kind(b"abc")
+                other = copied(hasher)
+                self.assertFalse(hasattr(other, "word"))
+                hasher.word = ["kept"]
+                hasher.hide(other)
+                if kind is Both:
+                    hasher.more, hasher.other = "more", [1]
+                other = copied(hasher)
+                self.assertEqual((type(other), other.word), (kind, ["kept"]))
+                self.assertEqual(other.hidden().digest(), other.digest())
+                self.assertFalse(hasattr(other, "unset"))
+                if kind is Both:
+                    self.assertEqual((other.more, other.other), ("more", [1]))
+                    self.assertEqual(other.other is hasher.other, copied is not copy.deepcopy)
+                self.assertEqual(other.word is hasher.word, copied is not copy.deepcopy)
+                self.assertEqual(other.hidden() is hasher.hidden(), copied is not copy.deepcopy)
+
+    def test_deep_copies(self):
+        """What an object has is copied too, once; what cannot be is the fault that it is elsewhere."""
+        class Own(sums_hash.blake3):
+            pass
+
+        hasher = Own(DATA)
+        hasher.self, hasher.words = hasher, ["a"]
+        hasher.pair = [hasher.words, hasher]
+        other, = copy.deepcopy([hasher])
+        self.assertIs(other.self, other)
+        self.assertEqual(other.words, ["a"])
+        self.assertIsNot(other.words, hasher.words)
+        self.assertIs(other.pair[0], other.words)
+        self.assertIs(other.pair[1], other)
+        self.assertEqual(other.digest(), hasher.digest())
+        self.assertIs(copy.copy(hasher).self, hasher)
+        hasher.words = Faulty()
+        Faulty.__deepcopy__ = lambda self, memo: 1 // 0
+        try:
+            self.assertRaises(ZeroDivisionError, copy.deepcopy, hasher)
+        finally:
+            del Faulty.__deepcopy__
+        self.assertRaises(TypeError, hasher.__deepcopy__, None)
 
     def test_pickled_refusals(self):
         with self.assertRaises(sums_hash.Refused) as caught:
@@ -589,6 +641,12 @@ except sums_hash.Refused:
         self.assertEqual(faults, [])
 
 
+def slotted(kind):
+    hasher = type("Own", (kind,), {"__slots__": ("word", "__dict__")})(b"")
+    hasher.word, hasher.other = [hasher], hasher
+    return hasher
+
+
 def every_call():
     """Calls of each kind, those that fail among them."""
     for hasher in every_object():
@@ -599,6 +657,8 @@ def every_call():
             lambda: hasher.digest(length=2**70), lambda: kind(b"", none=1), lambda: copy.deepcopy(hasher),
             lambda: pickle.dumps(hasher), lambda: hasher.update(memoryview(DATA)[::2]),
             lambda: kind.__new__(kind).update(b""), lambda: type("Own", (kind,), {})(b"").copy(),
+            lambda: copy.copy(slotted(kind)), lambda: copy.deepcopy(slotted(kind)),
+            lambda: slotted(kind).__deepcopy__(None),
         )
     yield from (
         lambda: sums_hash.blake2b(b"a", digest_size=9, key=b"k", salt=bytearray(3), person=b"p"),
