@@ -107,7 +107,7 @@ def compare_refusals(header, path):
     # the states of the crate are always begun
     wanted = {number: name for number, (name, _) in header.items() if name != "NotBegun"}
     same("refusals in Rust", {int(number): name for number, name in found}, wanted)
-    texts = sums_hash._REFUSALS
+    texts = {number: str(sums_hash.Refused(number)) for number in header}
     # the header's text of a state says more
     wanted = {number: text[: len(texts.get(number, text))] for number, (_, text) in header.items()}
     same("refusals in Python", texts, wanted)

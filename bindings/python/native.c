@@ -85,25 +85,90 @@ static void end(PyObject *object)
     Py_DECREF(type);
 }
 
-// ---- faults
+// ---- refusals
 
-// Raises sums_hash.Refused(status).
-static void raise_refused(uint32_t status)
+static int set(PyObject *to, const char *name, PyObject *value)
 {
-    PyObject *package = PyImport_ImportModule("sums_hash");
-    PyObject *kind = package ? PyObject_GetAttrString(package, "Refused") : NULL;
-    PyObject *number = kind ? PyLong_FromUnsignedLong(status) : NULL;
-    if (number) PyErr_SetObject(kind, number);
-    Py_XDECREF(number);
-    Py_XDECREF(kind);
-    Py_XDECREF(package);
+    int done = value ? PyObject_SetAttrString(to, name, value) : -1;
+    Py_XDECREF(value);
+    return done;
 }
 
-// 0, or -1 with the refusal raised
-static int judged(uint32_t status)
+// Says why a call was refused. A library that is newer than this file may have numbers that are not known here.
+static PyObject *reason(PyObject *status)
+{
+    static const char *const reasons[] = {
+        [SUMS_DIGEST_LENGTH] = "the function has no output of that length",
+        [SUMS_KEY_LENGTH] = "the function takes no key or salt of that length",
+        [SUMS_INPUT_TOO_LONG] = "the message is longer than the function takes",
+        [SUMS_NOT_BEGUN] = "the state was never begun",
+        [SUMS_END_OF_OUTPUT] = "the output has no such bytes",
+        [SUMS_PIECE_LENGTH] = "the function takes no pieces of that length",
+        [SUMS_OUTPUT_LENGTH] = "the output is not as long as the digests of all pieces",
+    };
+    size_t number = PyLong_Check(status) ? PyLong_AsSize_t(status) : 0;
+    PyErr_Clear();
+    if (number < sizeof reasons / sizeof *reasons && reasons[number]) return PyUnicode_FromString(reasons[number]);
+    return PyUnicode_FromFormat("status %S", status);
+}
+
+static int init_refused(PyObject *self, PyObject *args, PyObject *words)
+{
+    static char *names[] = {"status", NULL};
+    PyObject *status;
+    if (!PyArg_ParseTupleAndKeywords(args, words, "O:Refused", names, &status)) return -1;
+    if (set(self, "args", Py_BuildValue("(N)", reason(status))) < 0) return -1;
+    return PyObject_SetAttrString(self, "status", status);
+}
+
+static PyObject *reduce_refused(PyObject *self, PyObject *Py_UNUSED(none))
+{
+    PyObject *status = PyObject_GetAttrString(self, "status");
+    return status ? Py_BuildValue("O(N)N", Py_TYPE(self), status, PyObject_GenericGetDict(self, NULL)) : NULL;
+}
+
+static PyMethodDef methods_of_refused[] = {{"__reduce__", reduce_refused, METH_NOARGS, NULL}, {0}};
+
+// The class, of the package that the module is in, under whatever name.
+static PyObject *class_of_refusals(PyObject *module)
+{
+    PyType_Slot slots[] = {
+        {Py_tp_doc, "Refused(status)\n--\n\nA call that was refused; `status` is the library's number."},
+        {Py_tp_init, init_refused}, {Py_tp_methods, methods_of_refused}, {0},
+    };
+    PyType_Spec spec = {"sums_hash.Refused", 0, 0, Py_TPFLAGS_DEFAULT | Py_TPFLAGS_BASETYPE, slots};
+    const char *name = PyModule_GetName(module), *end = name ? strrchr(name, '.') : NULL;
+    PyObject *refused = name ? PyType_FromSpecWithBases(&spec, PyExc_ValueError) : NULL;
+    if (refused && end && set(refused, "__module__", PyUnicode_FromStringAndSize(name, end - name)) < 0)
+        Py_CLEAR(refused);
+    return refused;
+}
+
+// What a module keeps.
+struct kept {
+    PyObject *refused; // its class of refusals
+};
+
+static PyModuleDef *definition(void);
+
+// The module that a type here was made for, or of a class of others the type under it.
+static PyObject *module_of(PyTypeObject *type)
+{
+    for (;; type = PyType_GetSlot(type, Py_tp_base)) {
+        PyObject *module = PyType_GetModule(type);
+        if (module && PyModule_GetDef(module) == definition()) return module;
+        PyErr_Clear();
+    }
+}
+
+// 0, or -1 with the refusal raised. The call was on an object, or one of a module's.
+static int judged(PyObject *self, uint32_t status)
 {
     if (status == SUMS_OK) return 0;
-    raise_refused(status);
+    struct kept *kept = PyModule_GetState(PyModule_Check(self) ? self : module_of(Py_TYPE(self)));
+    PyObject *number = PyLong_FromUnsignedLong(status);
+    if (number) PyErr_SetObject(kept->refused, number);
+    Py_XDECREF(number);
     return -1;
 }
 
@@ -146,14 +211,14 @@ static int with_lock(Hasher *self, step *run, void *words, int is_long)
         PyThread_release_lock(self->lock);
         Py_END_ALLOW_THREADS
     }
-    return judged(status);
+    return judged((PyObject *)self, status);
 }
 
 // Runs a step when it is this thread's turn: 0, or -1 with an exception raised. The length is that of the work.
 static int in_turn(Hasher *self, step *run, void *words, size_t length)
 {
     int is_long = length >= LONG;
-    if (!self->lock && !is_long) return judged(run(self, words));
+    if (!self->lock && !is_long) return judged((PyObject *)self, run(self, words));
     if (!self->lock) self->lock = PyThread_allocate_lock();
     if (self->lock) return with_lock(self, run, words, is_long);
     PyErr_NoMemory();
@@ -573,7 +638,7 @@ static PyObject *digest_hmac(PyObject *object, PyObject *args, PyObject *words)
     if (!parse(args, words, "|O", names, &given)) return NULL;
     if (given != Py_None && length_of(given, &length) < 0) return NULL;
     // before there has to be room for it
-    if (length > most && judged(SUMS_DIGEST_LENGTH) < 0) return NULL;
+    if (length > most && judged(object, SUMS_DIGEST_LENGTH) < 0) return NULL;
     return output(self, 0, length);
 }
 
@@ -703,7 +768,7 @@ static const struct kind kinds[KINDS] = {
                       CALLS(hmac_blake2s), init_hmac, methods_of_hmac, .digest_size = 32, .block_size = 64},
 };
 
-static PyObject *type_of(const struct kind *kind)
+static PyObject *type_of(PyObject *module, const struct kind *kind)
 {
     PyType_Slot slots[] = {
         {Py_tp_doc, (void *)kind->doc}, {Py_tp_new, kind->make}, {Py_tp_init, kind->init}, {Py_tp_dealloc, end},
@@ -711,14 +776,7 @@ static PyObject *type_of(const struct kind *kind)
     };
     PyType_Spec spec = {kind->type, (int)(offsetof(Hasher, state) + 2 * kind->state_size), 0,
                         Py_TPFLAGS_DEFAULT | Py_TPFLAGS_BASETYPE, slots};
-    return PyType_FromSpec(&spec);
-}
-
-static int set(PyObject *to, const char *name, PyObject *value)
-{
-    int done = value ? PyObject_SetAttrString(to, name, value) : -1;
-    Py_XDECREF(value);
-    return done;
+    return PyType_FromModuleAndSpec(module, &spec, NULL);
 }
 
 // What users read of a type, and nothing here does.
@@ -760,6 +818,7 @@ static const struct inner {
 enum { INPUTS = 3, MOST_KEY = 255 * MOST_DIGEST }; // the most that HKDF derives
 
 struct whole {
+    PyObject *module;
     const struct inner *hash;
     uint32_t (*run)(const struct whole *whole);
     uint8_t *out;
@@ -843,7 +902,7 @@ static PyObject *written(struct whole *whole)
         status = run_zeroed(whole);
         Py_END_ALLOW_THREADS
     }
-    if (judged(status) < 0) Py_CLEAR(bytes);
+    if (judged(whole->module, status) < 0) Py_CLEAR(bytes);
     return bytes;
 }
 
@@ -857,11 +916,11 @@ static PyObject *written_of(struct whole *whole, PyObject *const in[INPUTS])
     return bytes;
 }
 
-static PyObject *hmac_digest(PyObject *Py_UNUSED(module), PyObject *args, PyObject *words)
+static PyObject *hmac_digest(PyObject *module, PyObject *args, PyObject *words)
 {
     static char *names[] = {"key", "msg", "digest", NULL};
     PyObject *in[INPUTS] = {0}, *name;
-    struct whole whole = {.run = run_hmac};
+    struct whole whole = {.module = module, .run = run_hmac};
     if (!PyArg_ParseTupleAndKeywords(args, words, "OOO", names, &in[1], &in[0], &name)) return NULL;
     if (find_inner(name, &whole) < 0) return NULL;
     whole.length = whole.hash->digest_size;
@@ -876,34 +935,35 @@ static int take_length(PyObject *given, struct whole *whole)
     return 0;
 }
 
-static PyObject *hkdf(PyObject *Py_UNUSED(module), PyObject *args, PyObject *words)
+static PyObject *hkdf(PyObject *module, PyObject *args, PyObject *words)
 {
     static char *names[] = {"name", "material", "length", "salt", "info", NULL};
     PyObject *name, *length, *in[INPUTS] = {0};
-    struct whole whole = {.run = run_hkdf};
+    struct whole whole = {.module = module, .run = run_hkdf};
     if (!PyArg_ParseTupleAndKeywords(args, words, "OOO|$OO", names, &name, &in[0], &length, &in[1], &in[2]))
         return NULL;
     if (take_length(length, &whole) < 0 || find_inner(name, &whole) < 0) return NULL;
     return written_of(&whole, in);
 }
 
-static PyObject *hkdf_extract(PyObject *Py_UNUSED(module), PyObject *args, PyObject *words)
+static PyObject *hkdf_extract(PyObject *module, PyObject *args, PyObject *words)
 {
     static char *names[] = {"name", "material", "salt", NULL};
     PyObject *name, *in[INPUTS] = {0};
-    struct whole whole = {.run = run_extract};
+    struct whole whole = {.module = module, .run = run_extract};
     if (!PyArg_ParseTupleAndKeywords(args, words, "OO|$O", names, &name, &in[0], &in[1])) return NULL;
     if (find_inner(name, &whole) < 0) return NULL;
     whole.length = whole.hash->digest_size;
     return written_of(&whole, in);
 }
 
-static PyObject *hkdf_expand(PyObject *Py_UNUSED(module), PyObject *args, PyObject *words)
+static PyObject *hkdf_expand(PyObject *module, PyObject *args, PyObject *words)
 {
     static char *names[] = {"name", "prk", "length", "info", NULL};
     PyObject *name, *length, *in[INPUTS] = {0};
-    struct whole whole = {.run = run_expand};
-    if (!PyArg_ParseTupleAndKeywords(args, words, "OOO|$O", names, &name, &in[0], &length, &in[1])) return NULL;
+    struct whole whole = {.module = module, .run = run_expand};
+    if (!PyArg_ParseTupleAndKeywords(args, words, "OOO|$O", names, &name, &in[0], &length, &in[1]))
+        return NULL;
     if (take_length(length, &whole) < 0 || find_inner(name, &whole) < 0) return NULL;
     return written_of(&whole, in);
 }
@@ -934,22 +994,23 @@ static PyObject *digests(struct whole *whole, const struct kind *kind, PyObject 
 }
 
 #define PIECES(hash, row) \
-    static PyObject *hash##_pieces(PyObject *Py_UNUSED(module), PyObject *args, PyObject *words) \
+    static PyObject *hash##_pieces(PyObject *module, PyObject *args, PyObject *words) \
     { \
         static char *names[] = {"data", "piece_len", NULL}; \
         PyObject *data, *piece; \
-        struct whole whole = {.run = run_##hash##_pieces}; \
+        struct whole whole = {.module = module, .run = run_##hash##_pieces}; \
         if (!PyArg_ParseTupleAndKeywords(args, words, "OO", names, &data, &piece)) return NULL; \
         return digests(&whole, &kinds[row], data, piece, NULL); \
     }
 
 #define PIECES_OF_SIZE(hash, row) \
-    static PyObject *hash##_pieces(PyObject *Py_UNUSED(module), PyObject *args, PyObject *words) \
+    static PyObject *hash##_pieces(PyObject *module, PyObject *args, PyObject *words) \
     { \
         static char *names[] = {"data", "piece_len", "digest_size", NULL}; \
         PyObject *data, *piece, *size = NULL; \
-        struct whole whole = {.run = run_##hash##_pieces}; \
-        if (!PyArg_ParseTupleAndKeywords(args, words, "OO|O", names, &data, &piece, &size)) return NULL; \
+        struct whole whole = {.module = module, .run = run_##hash##_pieces}; \
+        if (!PyArg_ParseTupleAndKeywords(args, words, "OO|O", names, &data, &piece, &size)) \
+            return NULL; \
         return digests(&whole, &kinds[row], data, piece, size); \
     }
 
@@ -988,8 +1049,11 @@ static PyMethodDef functions[] = {
 
 static int fill_module(PyObject *module)
 {
+    struct kept *kept = PyModule_GetState(module);
+    kept->refused = class_of_refusals(module);
+    if (!kept->refused || PyModule_AddType(module, (PyTypeObject *)kept->refused) < 0) return -1;
     for (int i = 0; i < KINDS; i++) {
-        PyObject *type = type_of(&kinds[i]);
+        PyObject *type = type_of(module, &kinds[i]);
         int done = type && describe(type, &kinds[i]) == 0 ? PyModule_AddType(module, (PyTypeObject *)type) : -1;
         Py_XDECREF(type);
         if (done < 0) return -1;
@@ -997,8 +1061,21 @@ static int fill_module(PyObject *module)
     return 0;
 }
 
-// The module keeps nothing, so each interpreter may have one, even with a lock of its own. CPython asks from 3.12 on
-// whether it may, by a slot that the headers of 3.11 have no name for and that 3.11 refuses.
+static int visit_kept(PyObject *module, visitproc visit, void *arg)
+{
+    struct kept *kept = PyModule_GetState(module);
+    Py_VISIT(kept->refused);
+    return 0;
+}
+
+static void free_kept(void *module)
+{
+    struct kept *kept = PyModule_GetState(module);
+    Py_CLEAR(kept->refused);
+}
+
+// The module keeps what it has to itself, so each interpreter may have one, even with a lock of its own. CPython asks
+// from 3.12 on whether it may, by a slot that the headers of 3.11 have no name for and that 3.11 refuses.
 enum { MULTIPLE_INTERPRETERS = 3 };       // Py_mod_multiple_interpreters
 #define WITH_LOCKS_OF_THEIR_OWN (void *)2 // Py_MOD_PER_INTERPRETER_GIL_SUPPORTED
 
@@ -1007,12 +1084,17 @@ static PyModuleDef_Slot slots_of_3_12[] = {
     {Py_mod_exec, fill_module}, {MULTIPLE_INTERPRETERS, WITH_LOCKS_OF_THEIR_OWN}, {0, NULL}};
 
 #define MODULE(slots) \
-    {PyModuleDef_HEAD_INIT, "sums_hash._native", "The hashes of libsums_hash.", 0, functions, slots, NULL, NULL, NULL}
+    {PyModuleDef_HEAD_INIT, "sums_hash._native", "The hashes of libsums_hash.", sizeof(struct kept), functions, slots, \
+     visit_kept, NULL, free_kept}
 static struct PyModuleDef module_of_3_11 = MODULE(slots_of_3_11);
 static struct PyModuleDef module_of_3_12 = MODULE(slots_of_3_12);
 
+static PyModuleDef *definition(void)
+{
+    return Py_Version < 0x030c0000 ? &module_of_3_11 : &module_of_3_12;
+}
+
 PyMODINIT_FUNC PyInit__native(void)
 {
-    return counts_no_forks ? PyErr_NoMemory()
-                           : PyModuleDef_Init(Py_Version < 0x030c0000 ? &module_of_3_11 : &module_of_3_12);
+    return counts_no_forks ? PyErr_NoMemory() : PyModuleDef_Init(definition());
 }

@@ -21,8 +21,8 @@ if "t" in getattr(sys, "abiflags", ""):
     raise ImportError("sums_hash has no build for a free-threaded CPython")
 try:
     from ._native import (
-        blake2b, blake2b_pieces, blake2s, blake2s_pieces, blake3, blake3_pieces, hkdf, hkdf_expand, hkdf_extract,
-        hmac_blake2b, hmac_blake2s, hmac_digest, hmac_sha256, hmac_sha512, sha256, sha256_pieces, sha512,
+        Refused, blake2b, blake2b_pieces, blake2s, blake2s_pieces, blake3, blake3_pieces, hkdf, hkdf_expand,
+        hkdf_extract, hmac_blake2b, hmac_blake2s, hmac_digest, hmac_sha256, hmac_sha512, sha256, sha256_pieces, sha512,
     )
 except ImportError as _fault:
     _tried = ", ".join(f"_native{suffix}" for suffix in EXTENSION_SUFFIXES)
@@ -45,33 +45,11 @@ __all__ = [
     "sha256_pieces", "blake2b_pieces", "blake2s_pieces", "blake3_pieces",
 ]
 
-_REFUSALS = {
-    1: "the function has no output of that length",
-    2: "the function takes no key or salt of that length",
-    3: "the message is longer than the function takes",
-    4: "the state was never begun",
-    5: "the output has no such bytes",
-    6: "the function takes no pieces of that length",
-    7: "the output is not as long as the digests of all pieces",
-}
-
 # The bytes of a digest under HMAC and HKDF.
 DIGEST_SIZES = {
     kind.name.removeprefix("hmac-"): kind.digest_size
     for kind in (hmac_sha256, hmac_sha512, hmac_blake2b, hmac_blake2s)
 }
-
-
-class Refused(ValueError):
-    """A call that was refused; `status` is the library's number."""
-
-    def __init__(self, status: int) -> None:
-        super().__init__(_REFUSALS.get(status, f"status {status}"))
-        self.status = status
-
-    def __reduce__(self) -> tuple[Any, ...]:
-        return type(self), (self.status,), self.__dict__
-
 
 # ---- hashes by their names
 

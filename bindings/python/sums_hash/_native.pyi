@@ -8,6 +8,10 @@ if sys.version_info >= (3, 12):
 else:
     _Buffer = Any
 
+class Refused(ValueError):
+    status: int
+    def __init__(self, status: int) -> None: ...
+
 class _Hasher:  # what the types have in common; the module has no such class
     name: ClassVar[str]
     block_size: ClassVar[int]

@@ -299,6 +299,69 @@ class Words(unittest.TestCase):
             del Faulty.__deepcopy__
         self.assertRaises(TypeError, hasher.__deepcopy__, None)
 
+    def test_refusals(self):
+        for status, text in ((1, "the function has no output of that length"), (8, "status 8"), (0, "status 0"),
+                             (-1, "status -1"), (2**70, f"status {2**70}"), ("x", "status x")):
+            refused = sums_hash.Refused(status)
+            self.assertEqual((str(refused), refused.args, refused.status), (text, (text,), status))
+        self.assertRaises(TypeError, sums_hash.Refused)
+        self.assertEqual(str(inspect.signature(sums_hash.Refused)), "(status)")
+        self.assertEqual(sums_hash.Refused.__mro__[1], ValueError)
+
+        class Own(sums_hash.blake2b):
+            pass
+
+        class Further(Own):
+            __slots__ = ("word",)
+
+        for kind in (Own, Further):
+            self.assertRaises(sums_hash.Refused, kind, digest_size=0)
+            self.assertRaises(sums_hash.Refused, kind.__new__(kind).digest)
+
+    def test_refusals_of_another_name(self):
+        """A package that stands in another one, and one that is loaded anew, know their own refusals."""
+        with tempfile.TemporaryDirectory() as folder:
+            package = os.path.join(folder, "vendor", "hashes")
+            shutil.copytree(os.path.dirname(sums_hash.__file__), package)
+            self.assertEqual(in_process(f"""
+import sys
+sys.path[:] = [{folder!r}] + [place for place in sys.path if "sums_hash" not in place]
+sys.modules["sums_hash"] = None
+import importlib, pickle
+import vendor.hashes as hashes
+first = hashes.Refused
+def is_caught():
+    for call in (lambda: hashes.blake2b(digest_size=0), lambda: hashes.hkdf("sha256", b"", 2**40),
+                 lambda: hashes.hmac_sha256(b"").digest(1)):
+        try:
+            call()
+        except first as refused:
+            again = pickle.loads(pickle.dumps(refused))
+            yield type(again) is type(refused) is first and again.status == refused.status
+print(first.__module__, *is_caught())
+importlib.reload(hashes)
+print(hashes.Refused is first, *is_caught())
+"""), "vendor.hashes True True True\nTrue True True True\n")
+
+    def test_refusals_of_a_second_module(self):
+        """A module that was loaded twice raises the refusals of the one whose types were called."""
+        self.assertEqual(in_process("""
+import sys
+import sums_hash as first
+for name in [name for name in sys.modules if name.partition(".")[0] == "sums_hash"]:
+    del sys.modules[name]
+import sums_hash as second
+for own, other in (first, second), (second, first):
+    for call in (lambda: own.blake2b(digest_size=0), lambda: own.hkdf("sha256", b"", 2**40),
+                 lambda: type("Own", (own.blake2b,), {})(digest_size=0)):
+        try:
+            call()
+        except other.Refused:
+            print("other")
+        except own.Refused:
+            print("own")
+"""), "own\n" * 6)
+
     def test_pickled_refusals(self):
         with self.assertRaises(sums_hash.Refused) as caught:
             sums_hash.blake2b(digest_size=0)
@@ -308,6 +371,11 @@ class Words(unittest.TestCase):
                         for protocol in range(pickle.HIGHEST_PROTOCOL + 1))):
             self.assertEqual((type(again), str(again), again.status, again.note),
                              (sums_hash.Refused, "the function has no output of that length", 1, "kept"))
+        self.assertEqual(sums_hash.Refused.__module__, "sums_hash")
+        # as 1.1.0 wrote it
+        again = pickle.loads(b"csums_hash\nRefused\np0\n(I1\ntp1\nRp2\n(dp3\nVstatus\np4\nI1\nsb.")
+        self.assertEqual((type(again), again.status), (sums_hash.Refused, 1))
+        self.assertRaises(AttributeError, pickle.dumps, sums_hash.Refused.__new__(sums_hash.Refused))
 
     def test_of_whole_messages(self):
         for name in FIXED:
