@@ -47,6 +47,7 @@ struct kind {
     uint32_t (*write)(const void *state, uint64_t position, uint8_t *out, size_t length);
     newfunc make;
     initproc init;
+    const char *format; // of the words that `init` takes
     PyMethodDef *methods;
     int digest_size, block_size; // of the longest digest
     int key_size, salt_size;     // the most that BLAKE2 and BLAKE3 take; a personalization is as long as a salt
@@ -300,6 +301,11 @@ static int lend(PyObject *data, Py_buffer *view)
     return PyObject_GetBuffer(data, view, PyBUF_SIMPLE);
 }
 
+static PyObject *unless_none(PyObject *given)
+{
+    return given == Py_None ? NULL : given;
+}
+
 static int number_up_to(unsigned long long most, PyObject *value, unsigned long long *to)
 {
     PyObject *whole = PyNumber_Index(value);
@@ -484,12 +490,14 @@ static PyMethodDef methods_of_hashes[] = {
 
 // ---- SHA-2
 
+#define FORMAT_OF_SHA2 "|O$OO:"
+
 static int init_sha2(PyObject *object, PyObject *args, PyObject *words)
 {
     static char *names[] = {"data", "usedforsecurity", "string", NULL};
     Hasher *self = (Hasher *)object;
     PyObject *data = NULL, *string = NULL, *security;
-    if (!parse(args, words, "|O$OO", names, &data, &security, &string)) return -1;
+    if (!parse(args, words, self->kind->format, names, &data, &security, &string)) return -1;
     if (data && string) {
         PyErr_SetString(PyExc_TypeError, "give data or string");
         return -1;
@@ -505,15 +513,14 @@ enum { TREE = 6 };
 static int is_sequential(PyObject *const tree[TREE], int last_node)
 {
     static const long sequential[TREE] = {1, 1, 0, 0, 0, 0};
-    int same = !last_node;
-    for (int i = 0; i < TREE && same == 1; i++) {
-        if (!tree[i]) continue;
-        PyObject *wanted = PyLong_FromLong(sequential[i]);
-        same = wanted ? PyObject_RichCompareBool(tree[i], wanted, Py_EQ) : -1;
-        Py_XDECREF(wanted);
+    int is_tree = last_node, is_more; // than a long holds, which is told as -1
+    for (int i = 0; i < TREE && !is_tree; i++) {
+        long value = tree[i] ? PyLong_AsLongAndOverflow(tree[i], &is_more) : sequential[i];
+        if (value == -1 && PyErr_Occurred()) return 0;
+        is_tree = value != sequential[i];
     }
-    if (same == 0) PyErr_SetString(PyExc_ValueError, "trees of BLAKE2 are not offered");
-    return same == 1;
+    if (is_tree) PyErr_SetString(PyExc_ValueError, "trees of BLAKE2 are not offered");
+    return !is_tree;
 }
 
 // A salt or a personalization, which has zeros behind it.
@@ -529,6 +536,8 @@ static int fill(uint8_t room[MOST_SALT], PyObject *data, int size, const char *n
     return fits ? 0 : -1;
 }
 
+#define FORMAT_OF_BLAKE2 "|O$OOOOOOOOOOpO:"
+
 static int init_blake2(PyObject *object, PyObject *args, PyObject *words)
 {
     static char *names[] = {"", "digest_size", "key", "salt", "person", "fanout", "depth", "leaf_size", "node_offset",
@@ -536,7 +545,7 @@ static int init_blake2(PyObject *object, PyObject *args, PyObject *words)
     Hasher *self = (Hasher *)object;
     PyObject *data = NULL, *size = Py_None, *key = NULL, *salt = NULL, *person = NULL, *tree[TREE] = {0}, *security;
     int last_node = 0, salt_size = self->kind->salt_size;
-    if (!parse(args, words, "|O$OOOOOOOOOOpO", names, &data, &size, &key, &salt, &person, &tree[0], &tree[1], &tree[2],
+    if (!parse(args, words, self->kind->format, names, &data, &size, &key, &salt, &person, &tree[0], &tree[1], &tree[2],
                &tree[3], &tree[4], &tree[5], &last_node, &security))
         return -1;
     struct start start = {.length = (size_t)self->kind->digest_size};
@@ -574,12 +583,15 @@ static int lend_key(PyObject *key, struct start *start, int size)
     return -1;
 }
 
+#define FORMAT_OF_BLAKE3 "|O$OOOO:"
+
+// `max_threads` is of the package blake3: here one thread does all, whatever it says.
 static int init_blake3(PyObject *object, PyObject *args, PyObject *words)
 {
-    static char *names[] = {"", "key", "derive_key_context", "usedforsecurity", NULL};
+    static char *names[] = {"", "key", "derive_key_context", "max_threads", "usedforsecurity", NULL};
     Hasher *self = (Hasher *)object;
-    PyObject *data = NULL, *key = Py_None, *context = Py_None, *security;
-    if (!parse(args, words, "|O$OOO", names, &data, &key, &context, &security)) return -1;
+    PyObject *data = NULL, *key = Py_None, *context = Py_None, *threads, *security;
+    if (!parse(args, words, self->kind->format, names, &data, &key, &context, &threads, &security)) return -1;
     if (key != Py_None && context != Py_None) {
         PyErr_SetString(PyExc_ValueError, "give a key or a context");
         return -1;
@@ -590,22 +602,27 @@ static int init_blake3(PyObject *object, PyObject *args, PyObject *words)
     return begin_with(self, &start, data);
 }
 
-static PyObject *digest_blake3(PyObject *object, PyObject *args, PyObject *words)
+static PyObject *output_of_blake3(PyObject *object, PyObject *args, PyObject *words, const char *format)
 {
     static char *names[] = {"length", "seek", NULL};
     Hasher *self = (Hasher *)object;
     PyObject *given = NULL, *seek = NULL;
     size_t length = (size_t)self->digest_size;
     unsigned long long position = 0;
-    if (!parse(args, words, "|O$O", names, &given, &seek)) return NULL;
+    if (!parse(args, words, format, names, &given, &seek)) return NULL;
     if (given && length_of(given, &length) < 0) return NULL;
     if (seek && number_up_to(UINT64_MAX, seek, &position) < 0) return NULL;
     return output(self, position, length);
 }
 
+static PyObject *digest_blake3(PyObject *self, PyObject *args, PyObject *words)
+{
+    return output_of_blake3(self, args, words, "|O$O:digest");
+}
+
 static PyObject *hexdigest_blake3(PyObject *self, PyObject *args, PyObject *words)
 {
-    return in_digits(digest_blake3(self, args, words));
+    return in_digits(output_of_blake3(self, args, words, "|O$O:hexdigest"));
 }
 
 static PyMethodDef methods_of_blake3[] = {
@@ -618,33 +635,40 @@ static PyMethodDef methods_of_blake3[] = {
 
 // ---- HMAC
 
+#define FORMAT_OF_HMAC "O|O$O:"
+
 static int init_hmac(PyObject *object, PyObject *args, PyObject *words)
 {
     static char *names[] = {"key", "msg", "usedforsecurity", NULL};
     Hasher *self = (Hasher *)object;
-    PyObject *key, *message = Py_None, *security;
-    if (!PyArg_ParseTupleAndKeywords(args, words, "O|O$O", names, &key, &message, &security)) return -1;
+    PyObject *key, *message = NULL, *security;
+    if (!PyArg_ParseTupleAndKeywords(args, words, self->kind->format, names, &key, &message, &security)) return -1;
     struct start start = {.length = (size_t)self->kind->digest_size};
     if (lend(key, &start.key) < 0) return -1;
-    return begin_with(self, &start, message == Py_None ? NULL : message);
+    return begin_with(self, &start, unless_none(message));
 }
 
-static PyObject *digest_hmac(PyObject *object, PyObject *args, PyObject *words)
+static PyObject *tag(PyObject *object, PyObject *args, PyObject *words, const char *format)
 {
     static char *names[] = {"length", NULL};
     Hasher *self = (Hasher *)object;
     PyObject *given = Py_None;
     size_t most = (size_t)self->digest_size, length = most;
-    if (!parse(args, words, "|O", names, &given)) return NULL;
+    if (!parse(args, words, format, names, &given)) return NULL;
     if (given != Py_None && length_of(given, &length) < 0) return NULL;
     // before there has to be room for it
     if (length > most && judged(object, SUMS_DIGEST_LENGTH) < 0) return NULL;
     return output(self, 0, length);
 }
 
+static PyObject *digest_hmac(PyObject *self, PyObject *args, PyObject *words)
+{
+    return tag(self, args, words, "|O:digest");
+}
+
 static PyObject *hexdigest_hmac(PyObject *self, PyObject *args, PyObject *words)
 {
-    return in_digits(digest_hmac(self, args, words));
+    return in_digits(tag(self, args, words, "|O:hexdigest"));
 }
 
 static PyMethodDef methods_of_hmac[] = {
@@ -733,6 +757,7 @@ static uint32_t write_blake3(const void *state, uint64_t position, uint8_t *out,
 }
 
 #define KIND(hash) "sums_hash." #hash
+#define INIT(function, family, hash) init_##function, FORMAT_OF_##family #hash
 #define CALLS(hash) sizeof(sums_##hash##_state), begin_##hash, update_##hash, write_##hash, make_##hash
 #define DOC_OF_SHA2(hash, title) \
     #hash "(data=b'', *, usedforsecurity=True, string=b'')\n--\n\n" title " (FIPS 180-4), as hashlib." #hash "."
@@ -741,31 +766,36 @@ static uint32_t write_blake3(const void *state, uint64_t position, uint8_t *out,
     "node_offset=0, node_depth=0, inner_size=0, last_node=False, usedforsecurity=True)\n--\n\n" title \
     " (RFC 7693), as hashlib." #hash " without its trees."
 #define DOC_OF_BLAKE3 \
-    "blake3(data=b'', /, *, key=None, derive_key_context=None, usedforsecurity=True)\n--\n\n" \
-    "BLAKE3: the hash, under a key of 32 bytes, or of key material for a context, a text of the application."
+    "blake3(data=b'', /, *, key=None, derive_key_context=None, max_threads=1, usedforsecurity=True)\n--\n\n" \
+    "BLAKE3: the hash, under a key of 32 bytes, or of key material for a context, a text of the application.\n" \
+    "It is one thread, whatever max_threads says."
 #define DOC_OF_HMAC(hash, title) \
     "hmac_" #hash "(key, msg=None, *, usedforsecurity=True)\n--\n\nHMAC (RFC 2104) over " title \
     ", as hmac.new(key, msg, \"" #hash "\")."
 
 static const struct kind kinds[KINDS] = {
-    [SHA256] = {KIND(sha256), "sha256", DOC_OF_SHA2(sha256, "SHA-256"), CALLS(sha256), init_sha2, methods_of_hashes,
-                .digest_size = 32, .block_size = 64},
-    [SHA512] = {KIND(sha512), "sha512", DOC_OF_SHA2(sha512, "SHA-512"), CALLS(sha512), init_sha2, methods_of_hashes,
-                .digest_size = 64, .block_size = 128},
-    [BLAKE2B] = {KIND(blake2b), "blake2b", DOC_OF_BLAKE2(blake2b, "BLAKE2b"), CALLS(blake2b), init_blake2,
-                 methods_of_hashes, .digest_size = 64, .block_size = 128, .key_size = 64, .salt_size = 16},
-    [BLAKE2S] = {KIND(blake2s), "blake2s", DOC_OF_BLAKE2(blake2s, "BLAKE2s"), CALLS(blake2s), init_blake2,
-                 methods_of_hashes, .digest_size = 32, .block_size = 64, .key_size = 32, .salt_size = 8},
-    [BLAKE3] = {KIND(blake3), "blake3", DOC_OF_BLAKE3, CALLS(blake3), init_blake3, methods_of_blake3,
+    [SHA256] = {KIND(sha256), "sha256", DOC_OF_SHA2(sha256, "SHA-256"), CALLS(sha256), INIT(sha2, SHA2, sha256),
+                methods_of_hashes, .digest_size = 32, .block_size = 64},
+    [SHA512] = {KIND(sha512), "sha512", DOC_OF_SHA2(sha512, "SHA-512"), CALLS(sha512), INIT(sha2, SHA2, sha512),
+                methods_of_hashes, .digest_size = 64, .block_size = 128},
+    [BLAKE2B] = {KIND(blake2b), "blake2b", DOC_OF_BLAKE2(blake2b, "BLAKE2b"), CALLS(blake2b),
+                 INIT(blake2, BLAKE2, blake2b), methods_of_hashes, .digest_size = 64, .block_size = 128, .key_size = 64,
+                 .salt_size = 16},
+    [BLAKE2S] = {KIND(blake2s), "blake2s", DOC_OF_BLAKE2(blake2s, "BLAKE2s"), CALLS(blake2s),
+                 INIT(blake2, BLAKE2, blake2s), methods_of_hashes, .digest_size = 32, .block_size = 64, .key_size = 32,
+                 .salt_size = 8},
+    [BLAKE3] = {KIND(blake3), "blake3", DOC_OF_BLAKE3, CALLS(blake3), INIT(blake3, BLAKE3, blake3), methods_of_blake3,
                 .digest_size = 32, .block_size = 64, .key_size = 32},
-    [HMAC_SHA256] = {KIND(hmac_sha256), "hmac-sha256", DOC_OF_HMAC(sha256, "SHA-256"), CALLS(hmac_sha256), init_hmac,
-                     methods_of_hmac, .digest_size = 32, .block_size = 64},
-    [HMAC_SHA512] = {KIND(hmac_sha512), "hmac-sha512", DOC_OF_HMAC(sha512, "SHA-512"), CALLS(hmac_sha512), init_hmac,
-                     methods_of_hmac, .digest_size = 64, .block_size = 128},
+    [HMAC_SHA256] = {KIND(hmac_sha256), "hmac-sha256", DOC_OF_HMAC(sha256, "SHA-256"), CALLS(hmac_sha256),
+                     INIT(hmac, HMAC, hmac_sha256), methods_of_hmac, .digest_size = 32, .block_size = 64},
+    [HMAC_SHA512] = {KIND(hmac_sha512), "hmac-sha512", DOC_OF_HMAC(sha512, "SHA-512"), CALLS(hmac_sha512),
+                     INIT(hmac, HMAC, hmac_sha512), methods_of_hmac, .digest_size = 64, .block_size = 128},
     [HMAC_BLAKE2B] = {KIND(hmac_blake2b), "hmac-blake2b", DOC_OF_HMAC(blake2b, "BLAKE2b of 64 bytes"),
-                      CALLS(hmac_blake2b), init_hmac, methods_of_hmac, .digest_size = 64, .block_size = 128},
+                      CALLS(hmac_blake2b), INIT(hmac, HMAC, hmac_blake2b), methods_of_hmac, .digest_size = 64,
+                      .block_size = 128},
     [HMAC_BLAKE2S] = {KIND(hmac_blake2s), "hmac-blake2s", DOC_OF_HMAC(blake2s, "BLAKE2s of 32 bytes"),
-                      CALLS(hmac_blake2s), init_hmac, methods_of_hmac, .digest_size = 32, .block_size = 64},
+                      CALLS(hmac_blake2s), INIT(hmac, HMAC, hmac_blake2s), methods_of_hmac, .digest_size = 32,
+                      .block_size = 64},
 };
 
 static PyObject *type_of(PyObject *module, const struct kind *kind)
@@ -782,14 +812,14 @@ static PyObject *type_of(PyObject *module, const struct kind *kind)
 // What users read of a type, and nothing here does.
 static int describe(PyObject *type, const struct kind *kind)
 {
-    int is_blake2 = kind->salt_size > 0;
+    int is_blake2 = kind->salt_size > 0, is_blake3 = kind == &kinds[BLAKE3];
     const struct {
         const char *name;
         int value; // 0 where the type has none
     } numbers[] = {
         {"block_size", kind->block_size}, {is_blake2 ? "MAX_DIGEST_SIZE" : "digest_size", kind->digest_size},
         {"MAX_KEY_SIZE", kind->key_size}, {"key_size", is_blake2 ? 0 : kind->key_size},
-        {"SALT_SIZE", kind->salt_size}, {"PERSON_SIZE", kind->salt_size},
+        {"SALT_SIZE", kind->salt_size}, {"PERSON_SIZE", kind->salt_size}, {"AUTO", is_blake3 ? -1 : 0},
     };
     for (size_t i = 0; i < sizeof numbers / sizeof *numbers; i++)
         if (numbers[i].value && set(type, numbers[i].name, PyLong_FromLong(numbers[i].value)) < 0) return -1;
@@ -875,13 +905,25 @@ static uint32_t run_zeroed(const struct whole *whole)
     return whole->run(whole);
 }
 
+static const struct inner *inner_of(PyObject *name)
+{
+    for (size_t i = 0; i < sizeof inners / sizeof *inners; i++)
+        if (PyUnicode_CompareWithASCIIString(name, inners[i].name) == 0) return &inners[i];
+    return NULL;
+}
+
+#define NO_INNER " is none of sha256, sha512, blake2b, blake2s"
+
+// Finds the hash of a name, in small letters or large ones, as `new` takes it.
 static int find_inner(PyObject *name, struct whole *whole)
 {
-    for (size_t i = 0; i < sizeof inners / sizeof *inners; i++) {
-        whole->hash = &inners[i];
-        if (PyUnicode_Check(name) && PyUnicode_CompareWithASCIIString(name, inners[i].name) == 0) return 0;
-    }
-    PyErr_Format(PyExc_ValueError, "%S is none of sha256, sha512, blake2b, blake2s", name);
+    int is_text = PyUnicode_Check(name);
+    PyObject *lower = is_text ? PyObject_CallMethod(name, "lower", NULL) : NULL;
+    if (is_text && !lower) return -1;
+    whole->hash = lower ? inner_of(lower) : NULL;
+    Py_XDECREF(lower);
+    if (whole->hash) return 0;
+    PyErr_Format(PyExc_ValueError, is_text ? "%S" NO_INNER : "%R" NO_INNER, name); // -b warns of the text of bytes
     return -1;
 }
 
@@ -921,7 +963,7 @@ static PyObject *hmac_digest(PyObject *module, PyObject *args, PyObject *words)
     static char *names[] = {"key", "msg", "digest", NULL};
     PyObject *in[INPUTS] = {0}, *name;
     struct whole whole = {.module = module, .run = run_hmac};
-    if (!PyArg_ParseTupleAndKeywords(args, words, "OOO", names, &in[1], &in[0], &name)) return NULL;
+    if (!PyArg_ParseTupleAndKeywords(args, words, "OOO:hmac_digest", names, &in[1], &in[0], &name)) return NULL;
     if (find_inner(name, &whole) < 0) return NULL;
     whole.length = whole.hash->digest_size;
     return written_of(&whole, in);
@@ -940,9 +982,11 @@ static PyObject *hkdf(PyObject *module, PyObject *args, PyObject *words)
     static char *names[] = {"name", "material", "length", "salt", "info", NULL};
     PyObject *name, *length, *in[INPUTS] = {0};
     struct whole whole = {.module = module, .run = run_hkdf};
-    if (!PyArg_ParseTupleAndKeywords(args, words, "OOO|$OO", names, &name, &in[0], &length, &in[1], &in[2]))
+    if (!PyArg_ParseTupleAndKeywords(args, words, "OOO|$OO:hkdf", names, &name, &in[0], &length, &in[1], &in[2]))
         return NULL;
     if (take_length(length, &whole) < 0 || find_inner(name, &whole) < 0) return NULL;
+    in[1] = unless_none(in[1]);
+    in[2] = unless_none(in[2]);
     return written_of(&whole, in);
 }
 
@@ -951,8 +995,9 @@ static PyObject *hkdf_extract(PyObject *module, PyObject *args, PyObject *words)
     static char *names[] = {"name", "material", "salt", NULL};
     PyObject *name, *in[INPUTS] = {0};
     struct whole whole = {.module = module, .run = run_extract};
-    if (!PyArg_ParseTupleAndKeywords(args, words, "OO|$O", names, &name, &in[0], &in[1])) return NULL;
+    if (!PyArg_ParseTupleAndKeywords(args, words, "OO|$O:hkdf_extract", names, &name, &in[0], &in[1])) return NULL;
     if (find_inner(name, &whole) < 0) return NULL;
+    in[1] = unless_none(in[1]);
     whole.length = whole.hash->digest_size;
     return written_of(&whole, in);
 }
@@ -962,9 +1007,10 @@ static PyObject *hkdf_expand(PyObject *module, PyObject *args, PyObject *words)
     static char *names[] = {"name", "prk", "length", "info", NULL};
     PyObject *name, *length, *in[INPUTS] = {0};
     struct whole whole = {.module = module, .run = run_expand};
-    if (!PyArg_ParseTupleAndKeywords(args, words, "OOO|$O", names, &name, &in[0], &length, &in[1]))
+    if (!PyArg_ParseTupleAndKeywords(args, words, "OOO|$O:hkdf_expand", names, &name, &in[0], &length, &in[1]))
         return NULL;
     if (take_length(length, &whole) < 0 || find_inner(name, &whole) < 0) return NULL;
+    in[1] = unless_none(in[1]);
     return written_of(&whole, in);
 }
 
@@ -999,7 +1045,7 @@ static PyObject *digests(struct whole *whole, const struct kind *kind, PyObject 
         static char *names[] = {"data", "piece_len", NULL}; \
         PyObject *data, *piece; \
         struct whole whole = {.module = module, .run = run_##hash##_pieces}; \
-        if (!PyArg_ParseTupleAndKeywords(args, words, "OO", names, &data, &piece)) return NULL; \
+        if (!PyArg_ParseTupleAndKeywords(args, words, "OO:" #hash "_pieces", names, &data, &piece)) return NULL; \
         return digests(&whole, &kinds[row], data, piece, NULL); \
     }
 
@@ -1009,7 +1055,7 @@ static PyObject *digests(struct whole *whole, const struct kind *kind, PyObject 
         static char *names[] = {"data", "piece_len", "digest_size", NULL}; \
         PyObject *data, *piece, *size = NULL; \
         struct whole whole = {.module = module, .run = run_##hash##_pieces}; \
-        if (!PyArg_ParseTupleAndKeywords(args, words, "OO|O", names, &data, &piece, &size)) \
+        if (!PyArg_ParseTupleAndKeywords(args, words, "OO|O:" #hash "_pieces", names, &data, &piece, &size)) \
             return NULL; \
         return digests(&whole, &kinds[row], data, piece, size); \
     }

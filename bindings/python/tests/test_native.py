@@ -33,9 +33,9 @@ def fresh(kind, data=b""):
     return kind(b"", data) if "hmac" in kind.__mro__[-2].__name__ else kind(data)
 
 
-def in_process(program):
+def in_process(program, *options):
     """What a program of Python prints that runs beside, and has to end well before long."""
-    done = subprocess.run([sys.executable, "-c", program], capture_output=True, text=True, timeout=100,
+    done = subprocess.run([sys.executable, *options, "-c", program], capture_output=True, text=True, timeout=100,
                           env={**os.environ, "PYTHONPATH": os.pathsep.join(sys.path)})
     if done.returncode or done.stderr:
         raise AssertionError(f"status {done.returncode}, {done.stderr}")
@@ -142,7 +142,7 @@ class Words(unittest.TestCase):
     def test_signatures(self):
         want = {
             "sha256": "(data=b'', *, usedforsecurity=True, string=b'')",
-            "blake3": "(data=b'', /, *, key=None, derive_key_context=None, usedforsecurity=True)",
+            "blake3": "(data=b'', /, *, key=None, derive_key_context=None, max_threads=1, usedforsecurity=True)",
             "hmac_sha256": "(key, msg=None, *, usedforsecurity=True)",
             "hkdf": "(name, material, length, *, salt=b'', info=b'')",
             "sha256_pieces": "(data, piece_len)",
@@ -162,6 +162,16 @@ class Words(unittest.TestCase):
         for kind in KINDS:
             for words, named in (((b"", b"", b""), {}), ((), {"none": 1}), ((b"",), {"key": Faulty()})):
                 self.assertRaises(TypeError, kind, *words, **named)
+            with self.assertRaisesRegex(TypeError, rf"\b{kind.__name__}\(\)"):
+                kind(b"", b"", b"")
+        for kind in (sums_hash.blake3, sums_hash.hmac_sha256):
+            for name in ("digest", "hexdigest"):
+                with self.assertRaisesRegex(TypeError, rf"\b{name}\(\)"):
+                    getattr(fresh(kind), name)(1, 2, 3)
+        for name in ("hmac_digest", "hkdf", "hkdf_extract", "hkdf_expand", "sha256_pieces", "blake2b_pieces",
+                     "blake2s_pieces", "blake3_pieces"):
+            with self.assertRaisesRegex(TypeError, rf"\b{name}\(\)"):
+                getattr(sums_hash, name)()
         for name in ("fanout", "depth", "leaf_size", "node_offset", "node_depth", "inner_size", "last_node",
                      "digest_size"):
             self.assertRaises(ZeroDivisionError, sums_hash.blake2b, **{name: Faulty()})
@@ -173,6 +183,39 @@ class Words(unittest.TestCase):
         for length in (2**62, 2**63 - 1):
             self.assertRaises((MemoryError, OverflowError), sums_hash.blake3().digest, length)
             self.assertRaises((MemoryError, OverflowError), sums_hash.blake3().hexdigest, length)
+
+    def test_trees(self):
+        for name in ("fanout", "depth", "leaf_size", "node_offset", "node_depth", "inner_size"):
+            sequential = int(name in ("fanout", "depth"))
+            self.assertEqual(sums_hash.blake2b(DATA, **{name: sequential}).digest(), sums_hash.blake2b(DATA).digest())
+            self.assertEqual(sums_hash.blake2s(**{name: bool(sequential)}).digest(), sums_hash.blake2s().digest())
+            for wrong in ("1", b"1", 1.0, None, []):
+                self.assertRaises(TypeError, sums_hash.blake2b, **{name: wrong})
+            for wrong in (1 - sequential, 2, -1, 2**63, 2**70, -2**70):
+                with self.assertRaisesRegex(ValueError, "^trees of BLAKE2 are not offered$"):
+                    sums_hash.blake2s(**{name: wrong})
+
+    def test_no_warnings_of_bytes(self):
+        """Under -bb bytes in the place of a text or a number are the faults that they are without it."""
+        self.assertEqual(in_process("""
+import sums_hash
+for call in (lambda: sums_hash.hkdf(b"sha256", b"", 1), lambda: sums_hash.hmac_digest(b"", b"", b"md5"),
+             lambda: sums_hash.blake2b(fanout=b"1"), lambda: sums_hash.blake3().digest(b"1")):
+    try:
+        call()
+    except (TypeError, ValueError) as fault:
+        print(fault)
+""", "-bb"), """\
+b'sha256' is none of sha256, sha512, blake2b, blake2s
+b'md5' is none of sha256, sha512, blake2b, blake2s
+'bytes' object cannot be interpreted as an integer
+'bytes' object cannot be interpreted as an integer
+""")
+
+    def test_words_of_the_package_blake3(self):
+        for threads in (1, 8, sums_hash.blake3.AUTO):
+            self.assertEqual(sums_hash.blake3(DATA, max_threads=threads).digest(), sums_hash.blake3(DATA).digest())
+        self.assertFalse(hasattr(sums_hash.sha256, "AUTO"))
 
     def test_data_or_string(self):
         for kind in (sums_hash.sha256, sums_hash.sha512):
@@ -383,7 +426,15 @@ for own, other in (first, second), (second, first):
             self.assertEqual(sums_hash.hmac_digest(b"key", DATA, name), tag)
             self.assertEqual(sums_hash.hmac_digest(key=b"key", msg=DATA * 9, digest=name),
                              sums_hash.new(f"hmac-{name}", DATA * 9, key=b"key").digest())
-        for wrong in ("blake3", "SHA256", None):
+            self.assertEqual(sums_hash.hmac_digest(b"key", DATA, name.upper()), tag)
+            for call in (sums_hash.hkdf, sums_hash.hkdf_expand):
+                self.assertEqual(call(name.upper(), DATA, 9), call(name, DATA, 9))
+            self.assertEqual(sums_hash.hkdf_extract(name.upper(), DATA), sums_hash.hkdf_extract(name, DATA))
+            self.assertEqual(sums_hash.hkdf(name, DATA, 9, salt=None, info=None), sums_hash.hkdf(name, DATA, 9))
+            self.assertEqual(sums_hash.hkdf_extract(name, DATA, salt=None), sums_hash.hkdf_extract(name, DATA))
+            self.assertEqual(sums_hash.hkdf_expand(name, DATA, 9, info=None), sums_hash.hkdf_expand(name, DATA, 9))
+        self.assertRaises(TypeError, sums_hash.hkdf, "sha256", None, 9)
+        for wrong in ("blake3", "SHA-256", "", None):
             with self.assertRaisesRegex(ValueError, f"^{wrong} is none of sha256, sha512, blake2b, blake2s$"):
                 sums_hash.hmac_digest(b"key", b"", wrong)
         self.assertRaises(TypeError, sums_hash.hmac_digest, "key", b"", "sha256")
@@ -744,6 +795,10 @@ def every_call():
         lambda: sums_hash.blake2b_pieces(bytearray(5000), 700, digest_size=9), lambda: sums_hash.sha256_pieces("", 9),
         lambda: sums_hash.sha256_pieces(DATA, 0), lambda: sums_hash.sha256_pieces(DATA, "9"),
         lambda: sums_hash.blake2s_pieces(DATA, 9, 33), lambda: sums_hash.blake2s_pieces(DATA, 9, -1),
+        lambda: sums_hash.hkdf("SHA256", b"m", 5, salt=None, info=None), lambda: sums_hash.hkdf(b"sha256", b"m", 5),
+        lambda: sums_hash.blake2b(fanout="1"), lambda: sums_hash.blake2b(depth=2**70),
+        lambda: pickle.loads(pickle.dumps(sums_hash.Refused(9))), lambda: sums_hash.Refused(),
+        lambda: sums_hash.Refused(None).__reduce__(),
     )
 
 
