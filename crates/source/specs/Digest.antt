@@ -1,4 +1,4 @@
--- Which hash, and what it gives.
+-- The hashes: the digest of each, and its numbers.
 use Rattle.std.specs.Prelude.{ℕ, ◌-◌, ◌^◌, ◌≤◌, ⊤, List, []}
 use Rattle.b3.specs.Bytes.{slice}
 use Rattle.b3.specs.Modes.{hash_root}
@@ -9,40 +9,40 @@ use Rattle.words.specs.Blake2.{blake2b, blake2s}
 use Rattle.source.specs.declared.alg.Alg.{Alg}
 use Rattle.source.specs.declared.alg.Alg.TheVariants.{Sha256, Sha512, Blake2b, Blake2s, Blake3}
 
+-- a hash function: how many bytes a digest, a block and the longest input have, and the digest of an input
+pub record Function : Type 0 where
+  pub out : ℕ
+  pub block : ℕ
+  pub limit : ℕ
+  pub of : List ℕ → List ℕ
+
+-- each of them (FIPS 180-4, 1, 6.2 and 6.4; RFC 7693, 2.1 and 3.3, without a key; the BLAKE3 paper, 2.1 and 2.6, where no
+-- other length is asked for)
+abbrev pub function : Alg → Function
+function Sha256 = record { out = 32; block = 64; limit = 2 ^ 61 - 1; of = sha256 }
+function Sha512 = record { out = 64; block = 128; limit = 2 ^ 125 - 1; of = sha512 }
+function (Blake2b n) = record { out = n; block = 128; limit = 2 ^ 128 - 1; of = blake2 blake2b (unsalted blake2b n []) }
+function (Blake2s n) = record { out = n; block = 64; limit = 2 ^ 64 - 1; of = blake2 blake2s (unsalted blake2s n []) }
+function Blake3 = record { out = 32; block = 64; limit = 2 ^ 64 - 1; of = λ m. slice (hash_root m) 0 32 }
+
 -- whether there is a digest of so many bytes (RFC 7693, 2.1)
 abbrev pub IsInRange : Alg → Type 0
 IsInRange (Blake2b n) = (1 ≤ n) × (n ≤ 64)
 IsInRange (Blake2s n) = (1 ≤ n) × (n ≤ 32)
 IsInRange _ = ⊤
 
--- the length of the digest in bytes; BLAKE3's is 32 where no other is asked for (the BLAKE3 paper, 2.6)
-abbrev pub digest_len : Alg → ℕ
-digest_len Sha256 = 32
-digest_len Sha512 = 64
-digest_len (Blake2b n) = n
-digest_len (Blake2s n) = n
-digest_len Blake3 = 32
-
--- the length of a block in bytes (FIPS 180-4, 1; RFC 7693, 2.1; the BLAKE3 paper, 2.1)
-abbrev pub block_len : Alg → ℕ
-block_len Sha256 = 64
-block_len Sha512 = 128
-block_len (Blake2b n) = 128
-block_len (Blake2s n) = 64
-block_len Blake3 = 64
-
--- the greatest length of the input in bytes (FIPS 180-4, 1; RFC 7693, 2.1; the BLAKE3 paper, 2.1)
-abbrev pub input_limit : Alg → ℕ
-input_limit Sha256 = 2 ^ 61 - 1
-input_limit Sha512 = 2 ^ 125 - 1
-input_limit (Blake2b n) = 2 ^ 128 - 1
-input_limit (Blake2s n) = 2 ^ 64 - 1
-input_limit Blake3 = 2 ^ 64 - 1
-
--- the digest of an input (FIPS 180-4, 6.2 and 6.4; RFC 7693, 3.3, without a key; the BLAKE3 paper, 2.6)
+-- the digest of an input
 abbrev pub digest : Alg → List ℕ → List ℕ
-digest Sha256 m = sha256 m
-digest Sha512 m = sha512 m
-digest (Blake2b n) m = blake2 blake2b (unsalted blake2b n []) m
-digest (Blake2s n) m = blake2 blake2s (unsalted blake2s n []) m
-digest Blake3 m = slice (hash_root m) 0 32
+digest alg = (function alg).of
+
+-- how many bytes a digest has
+abbrev pub digest_len : Alg → ℕ
+digest_len alg = (function alg).out
+
+-- and a block
+abbrev pub block_len : Alg → ℕ
+block_len alg = (function alg).block
+
+-- and the longest input
+abbrev pub input_limit : Alg → ℕ
+input_limit alg = (function alg).limit

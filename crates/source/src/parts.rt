@@ -5,7 +5,7 @@ ghost use Rattle.std.specs.Prelude.{OnOk, IfOk, IfSome, IsErrOf, MatchOption};
 ghost use Rattle.std.specs.Io.KnownBytes.{Consumes, IsAtEnd, prepend_known};
 ghost use Rattle.b3.specs.Modes.{root_of};
 ghost use Rattle.b3.specs.Parts.{mode_parameters};
-ghost use Rattle.b3.specs.Values.{IsValueOf, value_first};
+ghost use Rattle.b3.specs.Values.{IsValueOf};
 ghost use Rattle.b3.specs.inside.Output.{output_root, output_position};
 ghost use Rattle.source.specs.Faults.{PumpCounts};
 ghost use Rattle.source.specs.Pumped.{Gives, IsLongerThan, LeavesBehind, up_to};
@@ -63,7 +63,7 @@ pub fn part_of<F: Feed>(
     requires aligned { first % chunks ≡ 0 }
     ensures part { IfOk result (λ found. MatchOption found
         ((0 < first) × IsAtEnd (up_to most (F.remaining feed.old)))
-        (λ part. (value_first part ≡ first)
+        (λ part. (part.first_chunk ≡ first)
         × IfSome (up_to most (F.remaining feed.old)) (λ xs. IsValueOf (mode_parameters mode) part xs))) }
     ensures fits { OnOk result (IfSome (up_to most (F.remaining feed.old)) (λ xs. length xs ≤ 1024 * chunks)) }
     ensures end { OnOk result (LeavesBehind most (F.remaining feed.old) (F.remaining feed.new)) }
@@ -93,7 +93,7 @@ fn part_of_front<F: Feed>(
     requires aligned { first % chunks ≡ 0 }
     ensures part { IfOk result (λ found. MatchOption found
         ((0 < first) × IsAtEnd (front_remaining F.remaining feed.old))
-        (λ part. (value_first part ≡ first)
+        (λ part. (part.first_chunk ≡ first)
         × IfSome (front_remaining F.remaining feed.old) (λ xs. IsValueOf (mode_parameters mode) part xs))) }
     ensures fits { OnOk result (IfSome (front_remaining F.remaining feed.old) (λ xs. length xs ≤ 1024 * chunks)) }
     ensures end { OnOk result (IsAtEnd (front_remaining F.remaining feed.new)) }
