@@ -26,12 +26,12 @@ pub use Rattle.std.specs.List.{All}
 pub use Rattle.sumlist.specs.Checked.{ListChecked, name_in}
 pub use Rattle.sumlist.specs.Entry.{Fits, IsEntry, Listing, written}
 pub use Rattle.sumlist.specs.Escape.{SpellsByte, SpellsName, escape_of, escaped, is_special, lead}
-pub use Rattle.sumlist.specs.Line.{HasForm, IsLine, IsMalformed, IsUntagged, Parts, Spells, Says, core}
+pub use Rattle.sumlist.specs.Line.{HasForm, IsLine, IsMalformed, IsUntagged, Spells, Says, core}
 pub use Rattle.sumlist.specs.Lines.{lines}
-pub use Rattle.sumlist.specs.Report.{AllAllowed, Allowed, Files, IsAllowed, Outcome, malformed, no_lines, skipped, text}
-pub use Rattle.sumlist.specs.Report.{told, unreadable_count, untagged, with_line}
+pub use Rattle.sumlist.specs.Report.{AllAllowed, Allowed, Files, Outcome, malformed, no_lines, skipped, text}
+pub use Rattle.sumlist.specs.Report.{told, unreadable_count, untagged, verdict_of, with_line}
 pub use Rattle.sumlist.specs.Kinds.{label_of}
-pub use Rattle.sumlist.specs.Tagged.{IsLabel, Labelled, tagged, tagged_len}
+pub use Rattle.sumlist.specs.Tagged.{IsLabel, tagged, tagged_len}
 pub use Rattle.sumlist.specs.declared.checking.CheckFault.{CheckFault}
 pub use Rattle.sumlist.specs.declared.checking.ListRules.{ListRules}
 pub use Rattle.sumlist.specs.declared.kind.Kind.{Kind}
@@ -44,4 +44,4 @@ pub use Rattle.sumlist.specs.inside.Cut.{IsCut}
 pub use Rattle.sumlist.specs.inside.Labels.{Ended, closing}
 pub use Rattle.sumlist.specs.inside.Marks.{IsCounted, lines_of, unreadable_by, unreadable_in}
 pub use Rattle.sumlist.specs.inside.Reading.{IsBlank, IsMark}
-pub use Rattle.sumlist.specs.inside.Stepped.{LineChecked}
+pub use Rattle.sumlist.specs.inside.Stepped.{IsAllowed, LineChecked}

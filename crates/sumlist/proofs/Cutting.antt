@@ -6,7 +6,8 @@ use Rattle.sumlist.proofs.Common.{Option, Some, All-append, append_assoc, IsCut,
 use Rattle.sumlist.proofs.Common.{nil_from_length}
 use Rattle.std.proofs.lemmas.Bool.{eq-eqb}
 use Rattle.std.proofs.lemmas.List.Splits.{slice_split_at, slice_split_none, length-slice_split}
-use Rattle.sumlist.specs.Lines.{HasNo, IsKept, pieces}
+use Rattle.sumlist.specs.Lines.{IsKept, pieces}
+use Rattle.sumlist.specs.inside.Cut.{HasNo}
 use Rattle.sumlist.specs.inside.Held.{held_after}
 
 pieces-ended : (end : ℕ) (piece rest : List ℕ) → HasNo end piece

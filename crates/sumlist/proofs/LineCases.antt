@@ -27,8 +27,8 @@ name_cases digits name = either_by _ (Decides-like _
     (Decides-ltb (length (lead name) + digits + 2 + length (escaped name)) 65537)))))
 
 line_is : (line : List ℕ) → Either (IsLine line)
-line_is line = either_by _ (Decides-like _ (λ p. record { one = p.0; within = omega (arith, p.1) })
-    (λ l. (l.one, let within = l.within in omega (arith, within)))
+line_is line = either_by _ (Decides-like _ (λ p. (p.0, omega (arith, p.1)))
+    (λ l. (l.0, let within = l.1 in omega (arith, within)))
     (Decides-and _ _ (Decides-not _ (is_member-Decides Decides-eqb line 10)) (Decides-ltb (length line) 65537)))
 
 blank_cases : (core : List ℕ) → Either (IsBlank core)
@@ -60,7 +60,7 @@ module _ (line : List ℕ) (kind : Option Kind) where
 
     -- and is malformed where its core states none
     pub malformed_if : ((e : Listing) → IsStated kind k e → ⊥) → IsMalformed line kind
-    malformed_if none = record { not_skipped = unskipped; spells_none = λ e s. none e (stated_if e s) }
+    malformed_if none = (unskipped, λ e s. none e (stated_if e s))
 
     stated_or_not : IsLine line → (o : Option Listing) → stated kind k ≡ o → LineCase line kind
     stated_or_not l None s = inr (inr (malformed_if (λ e one. none-some e (sym s ∙ one.0))))
@@ -71,7 +71,7 @@ module _ (line : List ℕ) (kind : Option Kind) where
 
   pub line_cases : LineCase line kind
   line_cases = elim (line_is line) [
-    | inr bad ↦ inr (inr record { not_skipped = λ s. bad s.0; spells_none = λ e p. bad p.is_line })
+    | inr bad ↦ inr (inr (λ s. bad s.0, λ e p. bad p.is_line))
     | inl l ↦ elim (blank_cases (core line)) [
       | inl blank ↦ inl (l, blank)
       | inr more ↦ stated_or_not (core line) refl (λ b. absurd (more b)) l (stated kind (core line)) refl
@@ -84,22 +84,10 @@ module _ (line : List ℕ) (kind : Option Kind) where
 form_of_any : (text : List ℕ) (kind : Kind) (a : Alg) (tag body : List ℕ) → IsSized a tag
     → HasForm text (Some kind) a tag body
     → (b : Alg) × IsSized b tag × HasForm text (Some Blake2b) b tag body
-form_of_any text kind a tag body sized (inl p) =
-    let r : IsInRange (blake2b (digest_len a)) = grind arith in (
-      blake2b (digest_len a),
-      (r, sized.1),
-      inl record {
-        digits = p.digits;
-        mark = p.mark;
-        whole = p.whole;
-        marked = p.marked;
-        kind_is = refl;
-        range = r;
-        sized = p.sized;
-        tag_is = p.tag_is;
-      },
-    )
-form_of_any text kind a tag body sized (inr l) = (a, sized, inr l)
+form_of_any text kind a tag body sized (ds, s, inl p) =
+    let r : IsInRange (blake2b (digest_len a)) = grind arith in
+    (blake2b (digest_len a), (r, sized.1), (ds, (r, s.1, s.2), inl (refl, p.1, p.2, p.3)))
+form_of_any text kind a tag body sized (ds, s, inr l) = (a, sized, (ds, s, inr l))
 
 says_any : (k : List ℕ) (kind : Kind) (e : Listing) → IsSized e.alg e.tag → Says k (Some kind) e
     → (b : Alg) × IsSized b e.tag × Says k (Some Blake2b) (record e { alg = b })
@@ -125,26 +113,25 @@ spells_any line kind e s =
 
 untagged_if : (line : List ℕ) (kind : Option Kind) (e : Listing) → kind ≡ None → IsMalformed line kind
     → Spells line (Some Blake2b) e → IsUntagged line kind
-untagged_if line kind e none m s =
-    record { is_malformed = m; without_kind = none; some = Blake2b; entry = e; spells = s }
+untagged_if line kind e none m s = (m, none, Blake2b, e, s)
 
 untagged_none : (line : List ℕ) (kind : Option Kind) → ((d : Listing) → Spells line (Some Blake2b) d → ⊥)
     → IsUntagged line kind → ⊥
-untagged_none line kind none u = let s = spells_any line u.some u.entry u.spells in none s.0 s.1
+untagged_none line kind none u = let s = spells_any line u.2 u.3 u.4 in none s.0 s.1
 
 pub untagged_cases : (line : List ℕ) (kind : Option Kind) → IsMalformed line kind → Either (IsUntagged line kind)
-untagged_cases line (Some k) m = inr (λ u. none-some k (sym u.without_kind))
+untagged_cases line (Some k) m = inr (λ u. none-some k (sym u.1))
 untagged_cases line None m = elim (line_cases line (Some Blake2b)) [
-  | inl skipped ↦ absurd (m.not_skipped skipped)
+  | inl skipped ↦ absurd (m.0 skipped)
   | inr (inl s) ↦ inl (untagged_if line None s.0 refl m s.1)
-  | inr (inr bad) ↦ inr (untagged_none line None bad.spells_none)
+  | inr (inr bad) ↦ inr (untagged_none line None bad.1)
 ]
 
 -- the core of a malformed line states an entry of BLAKE2b where the line is untagged, and only there
 module _ (line : List ℕ) (kind : Option Kind) (k : List ℕ) (is : k ≡ core line) (l : IsLine line)
     (m : IsMalformed line kind) where
   more : IsBlank k → false ≡ true
-  more blank = absurd (m.not_skipped (l, subst IsBlank is blank))
+  more blank = absurd (m.0 (l, subst IsBlank is blank))
 
   pub untagged_stated : kind ≡ None → (e : Listing) → IsStated (Some Blake2b) k e → IsUntagged line kind
   untagged_stated none e s = untagged_if line kind e none m (spells_if line (Some Blake2b) k is more l e s)

@@ -1,7 +1,7 @@
 -- A text is read from its left: what the reading finds is the form that the text has, and it finds each.
 use Rattle.sumlist.proofs.Common.{◌⊎◌, ◌*◌, ◌++◌, ◌+◌, ◌-◌, ◌<◌, ◌∙◌, ◌∷◌, ◌≡◌, ◌≤◌, Alg, Bool, Decides, Ended, HasForm}
-use Rattle.sumlist.proofs.Common.{IsCut, IsInRange, IsLabel, IsMark, Kind, Labelled, List, None, Ok, Option}
-use Rattle.sumlist.proofs.Common.{Parts, Some, [], ap}
+use Rattle.sumlist.proofs.Common.{IsCut, IsInRange, IsLabel, IsMark, Kind, List, None, Ok, Option}
+use Rattle.sumlist.proofs.Common.{Some, [], ap}
 use Rattle.sumlist.proofs.Common.{arith, bytes_eq-Decides, closing, codes, cond, decimal, decode_of}
 use Rattle.sumlist.proofs.Common.{drop, false, false≢true, inl, inr, length, length-append, nat_tests, refl, subst}
 use Rattle.sumlist.proofs.Common.{sym, digest_len, take, take-append-drop, take-append_seam, text, true, ℕ}
@@ -15,7 +15,7 @@ use Rattle.std.specs.Option.{option_and_then, option_or}
 use Rattle.source.specs.declared.alg.Alg.TheVariants.{Blake2b, Blake2s}
 use Rattle.source.specs.declared.alg.TheConstants.{BLAKE2B_LEN, BLAKE2S_LEN}
 use Rattle.sumlist.specs.Kinds.{alg_kind}
-use Rattle.sumlist.specs.Lines.{HasNo}
+use Rattle.sumlist.specs.inside.Cut.{HasNo}
 use Rattle.sumlist.specs.inside.Labels.{IsNumbered, NotEnded, NotNamed, sized_alg}
 use Rattle.sumlist.specs.inside.Reading.{TextParts, alg_labelled, alg_told, alg_whole, bytes_told, cut}
 use Rattle.sumlist.specs.inside.Reading.{end_cut, told_at, told_by, is_mark, with_tag}
@@ -130,14 +130,13 @@ mark-Decides mark = Decides-or _ _ (Decides-eqb mark 32) (Decides-eqb mark 42)
 
 pub plain_form : (kind : Option Kind) (ds : List ℕ) (c : ℕ) (a : Alg) (tag body : List ℕ) → IsMark c
     → kind ≡ Some (alg_kind a) → IsInRange a → length ds ≡ 2 * digest_len a → decode_of ds ≡ Ok tag
-    → Parts (ds ++ 32 ∷ c ∷ body) kind a tag body
-plain_form kind ds c a tag body m k r s t =
-    record { digits = ds; mark = c; whole = refl; marked = m; kind_is = k; range = r; sized = s; tag_is = t }
+    → HasForm (ds ++ 32 ∷ c ∷ body) kind a tag body
+plain_form kind ds c a tag body m k r s t = (ds, (r, s, t), inl (k, c, m, refl))
 
-pub labelled_form : (l ds : List ℕ) (a : Alg) (tag body : List ℕ) → IsInRange a → IsLabel l a
-    → length ds ≡ 2 * digest_len a → decode_of ds ≡ Ok tag → Labelled (l ++ 32 ∷ 40 ∷ (body ++ closing ds)) a tag body
-labelled_form l ds a tag body r n s t =
-    record { label = l; digits = ds; whole = refl; range = r; names = n; sized = s; tag_is = t }
+pub labelled_form : (kind : Option Kind) (l ds : List ℕ) (a : Alg) (tag body : List ℕ) → IsInRange a → IsLabel l a
+    → length ds ≡ 2 * digest_len a → decode_of ds ≡ Ok tag
+    → HasForm (l ++ 32 ∷ 40 ∷ (body ++ closing ds)) kind a tag body
+labelled_form kind l ds a tag body r n s t = (ds, (r, s, t), inr (l, n, refl))
 
 module _ (kind : Option Kind) where
   with_tag-some : (text : List ℕ) (a : Alg) (digits body : List ℕ) (f : TextParts)
@@ -152,14 +151,14 @@ module _ (kind : Option Kind) where
       by_test (is_mark mark) (mark-Decides mark) _ _ _ (λ marked is.
       option_and_then_some _ (sized_alg kind (length word)) f is (λ a named.
       let n = sized_alg-some kind (length word) a named in
-      with_tag-some _ a word rest f (λ t ok. inl (plain_form kind word mark a t rest marked n.0 n.1 n.2 ok))))
+      with_tag-some _ a word rest f (λ t ok. plain_form kind word mark a t rest marked n.0 n.1 n.2 ok)))
       (λ unmarked. by_test (mark == 40) (Decides-eqb mark 40) _ _ _ (λ bracket is.
       option_and_then_some _ (alg_labelled word) f is (λ a named more.
       option_and_then_some _ (end_cut (2 * digest_len a) rest) f more (λ p ends.
       let n = alg_labelled-some word a named in
       let d = end_cut-some rest (2 * digest_len a) p ends in
       with_tag-some _ a p.1 p.0 f
-      (λ t ok. rw (bracket, d.0) (inr (labelled_form word p.1 a t p.0 n.0 n.1 d.1 ok))))))
+      (λ t ok. rw (bracket, d.0) (labelled_form kind word p.1 a t p.0 n.0 n.1 d.1 ok)))))
       (λ neither is. absurd (none-some f is))) e
 
   pub told_by-some : (text : List ℕ) (f : TextParts) → told_by kind text ≡ Some f → HasForm text kind f.0 f.1 f.2
@@ -172,9 +171,9 @@ module _ (kind : Option Kind) where
 
   pub told_by-is : (text : List ℕ) (a : Alg) (t x : List ℕ) → HasForm text kind a t x
       → told_by kind text ≡ Some (a, t, x)
-  told_by-is text a t x (inl p) =
-      told_by-cut text p.digits (p.mark ∷ x) (p.whole, no_space _ (digits_word p.digits t p.tag_is))
-      ∙ rw ((mark-Decides _).1 p.marked, sized_alg-is kind (length p.digits) a p.kind_is p.range p.sized, p.tag_is) refl
-  told_by-is text a t x (inr q) =
-      told_by-cut text q.label _ (q.whole, no_space _ (label_word q.label a q.range q.names))
-      ∙ rw (alg_labelled-is q.label a q.range q.names, end_cut-is _ _ x q.digits (refl, q.sized), q.tag_is) refl
+  told_by-is text a t x (ds, (range, sized, is), inl (kind_is, mark, marked, whole)) =
+      told_by-cut text ds (mark ∷ x) (whole, no_space _ (digits_word ds t is))
+      ∙ rw ((mark-Decides _).1 marked, sized_alg-is kind (length ds) a kind_is range sized, is) refl
+  told_by-is text a t x (ds, (range, sized, is), inr (label, names, whole)) =
+      told_by-cut text label _ (whole, no_space _ (label_word label a range names))
+      ∙ rw (alg_labelled-is label a range names, end_cut-is _ _ x ds (refl, sized), is) refl

@@ -51,7 +51,7 @@ spells : (line : List ℕ) (kind : Option Kind) (e : Listing) → Says line kind
 spells line kind e stated i all told fits =
     let whole = core_whole line all in
     let free = All-contains (λ c. is_inner c ≡ true) line 10 (AllPass-from_list_all is_inner line all) in
-    let l : IsLine line = record { one = λ c. false≢true (free c); within = fits } in
+    let l : IsLine line = (λ c. false≢true (free c), fits) in
     record { is_line = l; not_skipped = λ s. told (rw whole at s.1); is_entry = i; form = rw whole stated }
 
 not_blank : (word rest : List ℕ) → IsWord word → IsBlank (word ++ 32 ∷ rest) → ⊥
@@ -80,7 +80,7 @@ written_spells e i =
     let word = digits_word digits e.tag value in
     let sized = length-encode_with lower_digits e.tag ∙ ap (λ n. 2 * n) i.sized.1 in
     spells_by e (Some (alg_kind e.alg)) digits (λ body. 32 ∷ body)
-    (λ body. inl (plain_form _ digits 32 e.alg e.tag body (inl refl) refl i.sized.0 sized value))
+    (λ body. plain_form _ digits 32 e.alg e.tag body (inl refl) refl i.sized.0 sized value)
     (needs_escape e.name) refl i word (simp (list_all-append, word_inner digits word, escaped_inner e.name))
     (omega (arith, length-append {A = ℕ}, sized, i.sized.1, i.fits.within))
 
@@ -99,7 +99,7 @@ tagged_spells e kind i fits =
     let sized = length-encode_with lower_digits e.tag ∙ ap (λ n. 2 * n) i.sized.1 in
     let word = digits_word digits e.tag value in
     spells_by e kind (label_of e.alg) (λ body. 40 ∷ (body ++ closing digits))
-    (λ body. inr (labelled_form _ digits e.alg e.tag body i.sized.0 (label_named e.alg) sized value))
+    (λ body. labelled_form kind _ digits e.alg e.tag body i.sized.0 (label_named e.alg) sized value)
     (needs_escape e.name) refl i label
     (simp (list_all-append, word_inner (label_of e.alg) label, escaped_inner e.name, word_inner digits word))
     (omega (arith, length-append {A = ℕ}, sized, fits))

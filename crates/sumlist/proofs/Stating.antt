@@ -14,18 +14,17 @@ use Rattle.sumlist.proofs.Words.{InWord, IsWord, digits_word, label_word}
 
 form_fit : (text : List ℕ) (kind : Option Kind) (a : Alg) (t x : List ℕ) → HasForm text kind a t x
     → IsInRange a × (length t ≡ digest_len a) × IsBytes t
-form_fit text kind a t x h = elim h [
-  | inl p ↦ let d = decode_of-ok p.digits t p.tag_is in (p.range, omega (arith, p.sized, d.2), d.3)
-  | inr p ↦ let d = decode_of-ok p.digits t p.tag_is in (p.range, omega (arith, p.sized, d.2), d.3)
-]
+form_fit text kind a t x (ds, (range, sized, is), form) =
+    let d = decode_of-ok ds t is in (range, omega (arith, sized, d.2), d.3)
 
 pub stated_fit : (core : List ℕ) (kind : Option Kind) (e : Listing) → Says core kind e
     → IsInRange e.alg × (length e.tag ≡ digest_len e.alg) × IsBytes e.tag
 stated_fit core kind e s = elim s [ inl p ↦ form_fit _ kind _ _ _ p | inr p ↦ form_fit _ kind _ _ _ p.3 ]
 
-pub form_len : {text : List ℕ} {kind : Option Kind} {a : Alg} {t x : List ℕ} → HasForm text kind a t x
+pub form_len : (text : List ℕ) (kind : Option Kind) (a : Alg) (t x : List ℕ) → HasForm text kind a t x
     → length x ≤ length text
-form_len h = grind (arith, length-append {A = ℕ})
+form_len text kind a t x (ds, s, inl form) = omega (arith, simp length-append at (ap length form.3))
+form_len text kind a t x (ds, s, inr form) = omega (arith, simp length-append at (ap length form.2))
 
 -- ---- the core
 
@@ -42,10 +41,10 @@ no_slash (c ∷ word) more w = let first = All-head InWord c word w in grind (ar
 
 module _ (kind : Option Kind) where
   not_slashed : (core : List ℕ) (a : Alg) (t x : List ℕ) → HasForm core kind a t x → is_slashed core ≡ false
-  not_slashed core a t x (inl p) =
-      ap is_slashed p.whole ∙ no_slash p.digits (p.mark ∷ x) (digits_word p.digits t p.tag_is)
-  not_slashed core a t x (inr q) =
-      ap is_slashed q.whole ∙ no_slash q.label (40 ∷ (x ++ closing q.digits)) (label_word q.label a q.range q.names)
+  not_slashed core a t x (ds, s, inl (kind_is, mark, marked, whole)) =
+      ap is_slashed whole ∙ no_slash ds (mark ∷ x) (digits_word ds t s.2)
+  not_slashed core a t x (ds, s, inr (label, names, whole)) =
+      ap is_slashed whole ∙ no_slash label (40 ∷ (x ++ closing ds)) (label_word label a s.0 names)
 
   unslashed-plain : (core : List ℕ) → is_slashed core ≡ false → unslashed core ≡ core
   unslashed-plain core e = grind arith

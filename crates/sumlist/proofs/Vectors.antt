@@ -1,6 +1,6 @@
 -- Worked values of the definitions of lists, computed: a wrong escape, label, cut or number does not check.
 use Rattle.sumlist.proofs.Common.{◌≡◌, inr, [], ◌∷◌, ◌++◌, refl, arith, Missing, Listing, written, lines, skipped}
-use Rattle.sumlist.proofs.Common.{malformed, told, untagged, Labelled, label_of, tagged, codes, None, Some}
+use Rattle.sumlist.proofs.Common.{malformed, told, untagged, HasForm, label_of, tagged, codes, None, Some}
 use Rattle.std.specs.Fmt.{digits}
 use Rattle.hex.specs.Hex.{encode_with, decode_pairs}
 use Rattle.source.specs.declared.alg.Alg.TheVariants.{Blake2b, Blake2s}
@@ -31,9 +31,11 @@ unfolding digits
 label_of_160_bits = refl
 
 -- the name ends at the last bracket that digits follow
-labelled_example : Labelled (codes "BLAKE2b-8 (a) = b) = 6B") (Blake2b 1) (0x6b ∷ []) (codes "a) = b")
+labelled_example : HasForm (codes "BLAKE2b-8 (a) = b) = 6B") None (Blake2b 1) (0x6b ∷ []) (codes "a) = b")
 unfolding digits decode_pairs
-labelled_example = labelled_form _ _ _ _ (codes "a) = b") (omega arith, omega arith) (inr refl) refl refl
+labelled_example =
+    labelled_form None (codes "BLAKE2b-8") (codes "6B") (Blake2b 1) (0x6b ∷ []) (codes "a) = b") (omega arith, omega arith)
+    (inr refl) refl refl
 
 -- an empty line in the middle counts, an empty last one does not
 lines_example : lines (97 ∷ 10 ∷ 10 ∷ 98 ∷ 10 ∷ []) ≡ (97 ∷ []) ∷ [] ∷ (98 ∷ []) ∷ []

@@ -11,7 +11,7 @@ use Rattle.std.specs.Prelude.{not}
 use Rattle.hex.specs.Hex.{is_hex_digit}
 use Rattle.source.specs.declared.alg.Alg.TheVariants.{Blake2b, Blake2s}
 use Rattle.sumlist.specs.Kinds.{alg_kind, longest}
-use Rattle.sumlist.specs.Lines.{HasNo}
+use Rattle.sumlist.specs.inside.Cut.{HasNo}
 
 -- above a space, `#` and `*`, and no backslash
 abbrev pub InWord : ℕ → Type 0

@@ -1,6 +1,6 @@
 -- What a line of a list means (docs/FORMAT.md, Grammar).
 use Rattle.std.specs.Prelude.{◌⊎◌, ◌≡◌, ℕ, ◌*◌, ◌-◌, ◌≤◌, List, [], ◌∷◌, ◌++◌, length, take, slice_index}
-use Rattle.std.specs.Prelude.{if◌then◌else◌, ◌==◌, Ok, Contains, Option, None, Some}
+use Rattle.std.specs.Prelude.{if◌then◌else◌, ◌==◌, Ok, Contains, Option, None, Some, codes}
 use Rattle.hex.specs.Hex.{decode_of}
 use Rattle.source.specs.declared.alg.Alg.{Alg}
 use Rattle.source.specs.Digest.{digest_len, IsInRange}
@@ -9,12 +9,11 @@ use Rattle.sumlist.specs.Entry.{Listing, IsEntry}
 use Rattle.sumlist.specs.Escape.{SpellsName}
 use Rattle.sumlist.specs.Kinds.{alg_kind}
 use Rattle.sumlist.specs.Lines.{line_limit}
-use Rattle.sumlist.specs.Tagged.{Labelled}
+use Rattle.sumlist.specs.Tagged.{IsLabel}
 
 -- bytes that can be a line: no LF among them, and not too many
-pub record IsLine (line : List ℕ) : Type 0 where
-  pub one : Contains line 10 → ⊥
-  pub within : length line ≤ line_limit
+abbrev pub IsLine : List ℕ → Type 0
+IsLine line = (Contains line 10 → ⊥) × (length line ≤ line_limit)
 
 -- a line without the one CR at its end, if it has one
 abbrev pub core : List ℕ → List ℕ
@@ -24,21 +23,16 @@ core line = if slice_index line (length line - 1) == 13 then take (length line -
 abbrev pub IsSkipped : List ℕ → Type 0
 IsSkipped line = IsLine line × ((core line ≡ []) ⊎ (slice_index (core line) 0 ≡ 35))
 
--- digits, a space, a space or `*`, and a body: the digits are the tag's, in either case, and their number tells
--- which algorithm of the kind it is; without a kind there are no such texts
-pub record Parts (text : List ℕ) (kind : Option Kind) (alg : Alg) (tag body : List ℕ) : Type 0 where
-  pub digits : List ℕ
-  pub mark : ℕ
-  pub whole : text ≡ digits ++ 32 ∷ mark ∷ body
-  pub marked : (mark ≡ 32) ⊎ (mark ≡ 42)
-  pub kind_is : kind ≡ Some (alg_kind alg)
-  pub range : IsInRange alg
-  pub sized : length digits ≡ 2 * digest_len alg
-  pub tag_is : decode_of digits ≡ Ok tag
+-- digits, in either case, of a tag of the algorithm
+abbrev pub SpellsTag : Alg → List ℕ → List ℕ → Type 0
+SpellsTag alg tag digits = IsInRange alg × (length digits ≡ 2 * digest_len alg) × (decode_of digits ≡ Ok tag)
 
--- a text without a name's escapes, in one of the two forms
+-- digits, a space, a space or `*`, and a body, where the kind and the number of digits tell the algorithm, and without a
+-- kind there are no such texts; or a label, which names the algorithm, a body in brackets, and digits
 abbrev pub HasForm : List ℕ → Option Kind → Alg → List ℕ → List ℕ → Type 0
-HasForm text kind alg tag body = Parts text kind alg tag body ⊎ Labelled text alg tag body
+HasForm text kind alg tag body = (digits : List ℕ) × SpellsTag alg tag digits
+    × (((kind ≡ Some (alg_kind alg)) × (mark : ℕ) × ((mark ≡ 32) ⊎ (mark ≡ 42)) × (text ≡ digits ++ 32 ∷ mark ∷ body))
+    ⊎ ((label : List ℕ) × IsLabel label alg × (text ≡ label ++ (codes " (" ++ (body ++ (codes ") = " ++ digits))))))
 
 -- a core whose body is the name itself, or which begins with a backslash and whose body spells the name
 abbrev pub Says : List ℕ → Option Kind → Listing → Type 0
@@ -55,14 +49,9 @@ pub record Spells (line : List ℕ) (kind : Option Kind) (e : Listing) : Type 0 
   pub form : Says (core line) kind e
 
 -- a line that is neither skipped nor spells an entry
-pub record IsMalformed (line : List ℕ) (kind : Option Kind) : Type 0 where
-  pub not_skipped : IsSkipped line → ⊥
-  pub spells_none : (e : Listing) → Spells line kind e → ⊥
+abbrev pub IsMalformed : List ℕ → Option Kind → Type 0
+IsMalformed line kind = (IsSkipped line → ⊥) × ((e : Listing) → Spells line kind e → ⊥)
 
 -- a line that is malformed only for want of a kind: of some kind it would spell an entry
-pub record IsUntagged (line : List ℕ) (kind : Option Kind) : Type 0 where
-  pub is_malformed : IsMalformed line kind
-  pub without_kind : kind ≡ None
-  pub some : Kind
-  pub entry : Listing
-  pub spells : Spells line (Some some) entry
+abbrev pub IsUntagged : List ℕ → Option Kind → Type 0
+IsUntagged line kind = IsMalformed line kind × (kind ≡ None) × (some : Kind) × (e : Listing) × Spells line (Some some) e

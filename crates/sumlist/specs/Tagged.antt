@@ -1,10 +1,10 @@
 -- Lines that name their algorithm: `LABEL (name) = digits` (docs/FORMAT.md, Grammar: the table of labels).
-use Rattle.std.specs.Prelude.{◌⊎◌, ◌≡◌, ℕ, ◌+◌, ◌*◌, List, [], ◌∷◌, ◌++◌, length, Ok, codes}
+use Rattle.std.specs.Prelude.{◌⊎◌, ◌≡◌, ℕ, ◌+◌, ◌*◌, List, [], ◌∷◌, ◌++◌, length, codes}
 use Rattle.std.specs.Fmt.{decimal}
-use Rattle.hex.specs.Hex.{decode_of, encode_lower}
+use Rattle.hex.specs.Hex.{encode_lower}
 use Rattle.source.specs.declared.alg.Alg.{Alg}
 use Rattle.source.specs.declared.alg.Alg.TheVariants.{Blake2b, Blake2s}
-use Rattle.source.specs.Digest.{digest_len, IsInRange}
+use Rattle.source.specs.Digest.{digest_len}
 use Rattle.sumlist.specs.Escape.{escaped, lead}
 use Rattle.sumlist.specs.Entry.{Listing}
 use Rattle.sumlist.specs.Kinds.{label_of}
@@ -14,16 +14,6 @@ abbrev pub IsLabel : List ℕ → Alg → Type 0
 IsLabel label (Blake2b n) = (label ≡ label_of (Blake2b n)) ⊎ (label ≡ codes "BLAKE2b-" ++ decimal (8 * n))
 IsLabel label (Blake2s n) = (label ≡ label_of (Blake2s n)) ⊎ (label ≡ codes "BLAKE2s-" ++ decimal (8 * n))
 IsLabel label alg = label ≡ label_of alg
-
--- a label, a body in brackets, and digits
-pub record Labelled (text : List ℕ) (alg : Alg) (tag body : List ℕ) : Type 0 where
-  pub label : List ℕ
-  pub digits : List ℕ
-  pub whole : text ≡ label ++ (codes " (" ++ (body ++ (codes ") = " ++ digits)))
-  pub range : IsInRange alg
-  pub names : IsLabel label alg
-  pub sized : length digits ≡ 2 * digest_len alg
-  pub tag_is : decode_of digits ≡ Ok tag
 
 -- the tagged line of an entry, without its LF
 abbrev pub tagged_line : Listing → List ℕ

@@ -1,13 +1,14 @@
 -- What the check of one line did.
-use Rattle.std.specs.Prelude.{◌≡◌, ℕ, List, Option, Result, Ok, Err, MatchResult}
+use Rattle.std.specs.Prelude.{◌⊎◌, ◌≡◌, ℕ, List, Option, Result, Ok, Err, IsSome, MatchResult}
 use Rattle.std.specs.Io.KnownBytes.{Appends}
 use Rattle.source.specs.Counts.{count_after, next_count}
 use Rattle.source.specs.Written.{AppendsPrefix}
 use Rattle.source.specs.declared.pumping.SourceFault.{SourceFault}
 use Rattle.source.specs.declared.pumping.SourceFault.TheVariants.{Read, TooLong}
 use Rattle.sumlist.specs.Checked.{name_in}
+use Rattle.sumlist.specs.Entry.{Listing}
 use Rattle.sumlist.specs.Line.{IsMalformed, IsUntagged}
-use Rattle.sumlist.specs.Report.{Files, Outcome, Allowed, text}
+use Rattle.sumlist.specs.Report.{Files, Outcome, Allowed, text, verdict_of}
 use Rattle.sumlist.specs.inside.Marks.{mark_of, unreadable_in}
 use Rattle.sumlist.specs.declared.checking.CheckFault.{CheckFault}
 use Rattle.sumlist.specs.declared.checking.CheckFault.TheVariants.{ListRead, Write, OutOfMemory, ListTooLong}
@@ -15,12 +16,18 @@ use Rattle.sumlist.specs.declared.checking.ListRules.{ListRules}
 use Rattle.sumlist.specs.declared.kind.Kind.{Kind}
 use Rattle.sumlist.specs.declared.summary.Mark.{Mark}
 use Rattle.sumlist.specs.declared.summary.Mark.TheVariants.{Malformed, Untagged}
+use Rattle.sumlist.specs.declared.verdict.Verdict.{Verdict}
+use Rattle.sumlist.specs.declared.verdict.Verdict.TheVariants.{Unreadable}
 
 -- the mark of a malformed line
 abbrev pub MarksMalformed : List ℕ → Option Kind → Mark → Type 0
 MarksMalformed line kind Malformed = IsMalformed line kind × (IsUntagged line kind → ⊥)
 MarksMalformed line kind Untagged = IsUntagged line kind
 MarksMalformed line kind _ = ⊥
+
+-- a verdict that may stand for an entry whose name has this content, or none
+abbrev pub IsAllowed : Listing → Option (List ℕ) → Verdict → Type 0
+IsAllowed e content v = (v ≡ verdict_of e content) ⊎ ((v ≡ Unreadable) × IsSome content)
 
 -- an outcome that may stand for the line, and which the tree counted
 pub record Stepped (files : Files) (kind : Option Kind) (line : List ℕ) (outcome : Outcome) (count_old count_new : ℕ)

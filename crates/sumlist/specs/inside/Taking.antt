@@ -1,7 +1,7 @@
 -- What a reader of pieces takes of the bytes that it has read.
 use Rattle.std.specs.Prelude.{◌≡◌, Bool, true, false, List, ℕ, [], ◌∷◌, Option, Some}
-use Rattle.sumlist.specs.Lines.{HasNo, IsKept, pieces}
-use Rattle.sumlist.specs.inside.Cut.{IsCut}
+use Rattle.sumlist.specs.Lines.{IsKept, pieces}
+use Rattle.sumlist.specs.inside.Cut.{HasNo, IsCut}
 use Rattle.sumlist.specs.inside.Held.{held_after}
 
 -- how far a reader is: the bytes that it has read and are yet to be taken, what it keeps of the last piece and

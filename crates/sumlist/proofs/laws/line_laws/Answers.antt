@@ -11,4 +11,4 @@ returns-clause-some c = λ line kind. elim (line_cases line kind) [
 
 pub returns-clause-no_other : goal.returns-clause-no_other
 returns-clause-no_other c =
-    λ line kind. (λ s m. m.not_skipped s, λ e s. (λ k. s.not_skipped k, λ m. m.spells_none e s))
+    λ line kind. (λ s m. m.0 s, λ e s. (λ k. s.not_skipped k, λ m. m.1 e s))

@@ -5,7 +5,8 @@ use Rattle.sumlist.proofs.line.read_core.Goals as goal
 
 pub name_text-requires-clause-small : goal.name_text-requires-clause-small
 name_text-requires-clause-small c =
-    let less = form_len {text = c.unslash-is_escaped.result.1.now} (told_by-some c.args.kind _ _ c.in_ok-alg.ensures) in
+    let less = form_len c.unslash-is_escaped.result.1.now c.args.kind _ _ _
+    (told_by-some c.args.kind _ _ c.in_ok-alg.ensures) in
     omega (arith, less, c.unslash-is_escaped.ensures.bound, c.requires)
 
 pub returns-in_err-given : goal.returns-in_err-given

@@ -4,7 +4,8 @@ use Rattle.sumlist.proofs.Common.{ap, arith, eqb, err_from_is_err_and, false, le
 use Rattle.sumlist.proofs.Common.{sym, true, ℕ}
 use Rattle.std.specs.Io.KnownBytes.{IsAtEnd}
 use Rattle.std.specs.Prelude.{IsTrue, not, ◌↔◌}
-use Rattle.sumlist.specs.Lines.{HasNo, IsKept}
+use Rattle.sumlist.specs.Lines.{IsKept}
+use Rattle.sumlist.specs.inside.Cut.{HasNo}
 use Rattle.sumlist.specs.inside.Taking.{Cutting, IsNextPiece, IsTaken}
 use Rattle.sumlist.proofs.Cutting.{IfSome-read, IsKept-after, pieces-cut, pieces-last, some_kept}
 use Rattle.sumlist.proofs.piece_reader.PieceReader.next.Goals as goal

@@ -1,5 +1,6 @@
 use Rattle.sumlist.proofs.Common.{◌≡◌, ◌-◌, ◌^◌, ◌+◌, ◌<◌, ◌++◌, List, ℕ, false, length, Consumes}
-use Rattle.sumlist.specs.Lines.{HasNo, IsKept}
+use Rattle.sumlist.specs.Lines.{IsKept}
+use Rattle.sumlist.specs.inside.Cut.{HasNo}
 use Rattle.sumlist.proofs.piece_reader.PieceReader.next.Given as goal
 
 abbrev pub invariant-pieces : goal.invariant-pieces
