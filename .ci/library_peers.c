@@ -268,6 +268,11 @@ static void blake3_round(const uint8_t *text, size_t length) {
         FEED(sums_blake3_update, sums_blake3_output(state, position, out, count), state, other, text, length)
         status("blake3_output", sums_blake3_output(state, position, out, count), 0);
         same("blake3 in pieces", length, out, want, count);
+        status("blake3_reset", sums_blake3_reset(state), 0);
+        status("blake3_update", sums_blake3_update(state, text, length), 0);
+        out = output(count);
+        status("blake3_output", sums_blake3_output(state, position, out, count), 0);
+        same("blake3 after a reset", length, out, want, count);
     }
 }
 

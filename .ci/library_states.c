@@ -244,6 +244,57 @@ static void states_of(const struct kind *kind) {
     }
 }
 
+// ---- The reset of BLAKE3
+
+// Begins a message in a mode, as the header has them.
+static void blake3_begin_in(int mode, sums_blake3_state *state) {
+    if (mode == 0) sums_blake3_init(state);
+    else if (mode == 1) sums_blake3_init_keyed(state, text);
+    else sums_blake3_init_derive(state, text, 9);
+}
+
+// What follows a reset is as after the beginning, whatever the message before was.
+static void resets_in(int mode, size_t before, size_t length) {
+    static uint8_t message[40000];
+    sums_blake3_state *state = (void *)at_edge(state_area, sizeof *state, 1), other = {0};
+    uint8_t want[100] = {0}, *out = output(sizeof want);
+    blake3_begin_in(mode, state);
+    blake3_begin_in(mode, &other);
+    status("update", sums_blake3_update(state, message, before), SUMS_OK);
+    status("reset", sums_blake3_reset(state), SUMS_OK);
+    status("update", sums_blake3_update(state, message, length), SUMS_OK);
+    status("update", sums_blake3_update(&other, message, length), SUMS_OK);
+    status("output", sums_blake3_output(state, 40, out, sizeof want), SUMS_OK);
+    status("output", sums_blake3_output(&other, 40, want, sizeof want), SUMS_OK);
+    same("reset", length, out, want, sizeof want);
+}
+
+// A state that holds anything: it is refused and stays as it was, or has all the room of a message.
+static void reset_answers(const uint8_t *content, int is_begun) {
+    sums_blake3_state *state = (void *)at_edge(state_area, sizeof *state, below(2));
+    memcpy(state, content, sizeof *state);
+    uint32_t got = sums_blake3_reset(state);
+    judged("reset", 0, got == SUMS_OK || (got == SUMS_NOT_BEGUN && !is_begun));
+    if (got == SUMS_NOT_BEGUN) same("reset, refused", 0, state, content, sizeof *state);
+    status("update", sums_blake3_update(state, text, sizeof text), got);
+}
+
+static void resets(void) {
+    static const size_t lengths[] = {0, 1, 64, 1024, 1025, 8192, 40000};
+    enum { LENGTHS = sizeof lengths / sizeof *lengths };
+    for (int mode = 0; mode < 3; mode++)
+        for (int i = 0; i < LENGTHS * LENGTHS; i++) resets_in(mode, lengths[i / LENGTHS], lengths[i % LENGTHS]);
+    sums_blake3_state content = {0};
+    status("reset, not begun", sums_blake3_reset(&content), SUMS_NOT_BEGUN);
+    for (int round = 0; round < 2000; round++) {
+        uint8_t *bytes = (void *)&content;
+        for (size_t i = 0; i < sizeof content; i++) bytes[i] = below(256);
+        reset_answers(bytes, 0);
+        content.closed = below(2000), content.len = below(1025), content.mode = 1 + below(256);
+        reset_answers(bytes, 1);
+    }
+}
+
 // ---- The longest messages: a state that has taken all that the function takes but one byte
 
 #define IS_FULL(function, state, count)                                                           \
@@ -272,6 +323,7 @@ static void longest(void) {
     blake3_begin(&tree);
     tree.closed = (UINT64_C(1) << 54) - 1, tree.len = 1022;
     IS_FULL(blake3, tree, 100)
+    reset_answers((void *)&tree, 1);
     sums_sha256_state short_words = {0};
     sha256_begin(&short_words);
     short_words.taken = (UINT64_C(1) << 61) - 2;
@@ -310,6 +362,7 @@ int main(void) {
     blake2b_keyed_pieces_lengths();
     blake2s_keyed_pieces_lengths();
     for (size_t i = 0; i < sizeof kinds / sizeof *kinds; i++) states_of(kinds[i]);
+    resets();
     longest();
     return ends("states");
 }

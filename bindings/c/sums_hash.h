@@ -177,7 +177,8 @@ uint32_t sums_blake2s_update(sums_blake2s_state *state, const uint8_t *piece, si
 uint32_t sums_blake2s_finish(const sums_blake2s_state *state, uint8_t *out, size_t out_len);
 
 /* BLAKE3: the hash, under a key, and derive_key, whose pieces are the key material. output writes out_len bytes from a
- * position on; answers SUMS_OK, SUMS_NOT_BEGUN, or else SUMS_END_OF_OUTPUT. */
+ * position on; answers SUMS_OK, SUMS_NOT_BEGUN, or else SUMS_END_OF_OUTPUT. reset begins a message anew, in the mode of
+ * the one before and under its key or context; answers SUMS_OK or SUMS_NOT_BEGUN. */
 typedef struct {
     uint32_t key[8], value[8];
     uint64_t closed, len, mode;
@@ -187,6 +188,7 @@ typedef struct {
 void sums_blake3_init(sums_blake3_state *state);
 void sums_blake3_init_keyed(sums_blake3_state *state, const uint8_t key[32]);
 void sums_blake3_init_derive(sums_blake3_state *state, const uint8_t *context, size_t context_len);
+uint32_t sums_blake3_reset(sums_blake3_state *state);
 uint32_t sums_blake3_update(sums_blake3_state *state, const uint8_t *piece, size_t piece_len);
 uint32_t sums_blake3_output(const sums_blake3_state *state, uint64_t position, uint8_t *out, size_t out_len);
 

@@ -272,6 +272,7 @@ extern "C" {
     pub fn sums_blake3_init(state: *mut Blake3State);
     pub fn sums_blake3_init_keyed(state: *mut Blake3State, key: *const [u8; 32]);
     pub fn sums_blake3_init_derive(state: *mut Blake3State, context: *const u8, context_len: usize);
+    pub fn sums_blake3_reset(state: *mut Blake3State) -> u32;
     pub fn sums_blake3_update(state: *mut Blake3State, piece: *const u8, piece_len: usize) -> u32;
     pub fn sums_blake3_output(state: *const Blake3State, position: u64, out: *mut u8, out_len: usize) -> u32;
     pub fn sums_sha256_init(state: *mut Sha256State);

@@ -36,6 +36,23 @@ pub extern "C" fn sums_blake3_init_derive(state: &mut Blake3State, context: &[u8
     state.save(&Blake3::derive(context));
 }
 
+/// Begins a message anew, in the mode of the one before and under its key or context: `SUMS_NOT_BEGUN` where
+/// `state` was never begun.
+#[unsafe(no_mangle)]
+pub extern "C" fn sums_blake3_reset(state: &mut Blake3State) -> u32
+    ensures status { IsBegun state.old → result ≡ SUMS_OK }
+    ensures empty { (p m : List ℕ) → StateHolds state.old p m → StateHolds state.new p [] }
+    ensures not_begun { (result ≡ SUMS_NOT_BEGUN) ↔ (IsBegun state.old → ⊥) }
+    ensures kept { result ≢ SUMS_OK → state.new ≡ state.old }
+{
+    let Some(mut hasher) = state.resume() else {
+        return SUMS_NOT_BEGUN;
+    };
+    hasher.reset();
+    state.save(&hasher);
+    SUMS_OK
+}
+
 /// Adds a piece to the message: `SUMS_NOT_BEGUN` where `state` was never begun, and else
 /// `SUMS_INPUT_TOO_LONG` where the message would be longer than 2^64 - 1 bytes.
 #[unsafe(no_mangle)]
