@@ -10,6 +10,8 @@ version=$(cat VERSION)
 soname=libsums_hash.so.${version%%.*}
 # The folder of the completions, which tools/completions.py makes.
 completions=completion
+# The provider for OpenSSL, where tools/build lib has made it.
+provider_module=lib/ossl-modules/sums.so
 
 # refuse TEXT: ends with a fault of the words
 refuse() {
@@ -119,12 +121,28 @@ library() {
     pkgconfig "\${pcfiledir}" "\${prefix}" "\${prefix}" "\${libdir}/libsums_hash.a" > "$2/sums_hash.pc"
 }
 
+# has_openssl: whether the C compiler finds the headers of OpenSSL 3, which the provider is built with
+has_openssl() {
+    # shellcheck disable=SC2086 # CC and the flags are words
+    echo '#include <openssl/core_dispatch.h>' | ${CC:-cc} ${CFLAGS-} -E - > /dev/null 2>&1
+}
+
+# provider LIBRARY FILE [FOLDER]: the provider for OpenSSL, a module over the shared library LIBRARY, which the loader
+# looks for in FOLDER first. It links nothing of OpenSSL.
+provider() {
+    mkdir -p "$(dirname "$2")"
+    # shellcheck disable=SC2086 # CC and the flags are words
+    ${CC:-cc} -std=gnu11 ${CFLAGS:--O2 -fstack-protector-strong -D_FORTIFY_SOURCE=2} -fPIC -shared -fvisibility=hidden \
+        -ffile-prefix-map="$PWD"=. -Ibindings/c -o "$2" bindings/openssl/sums.c "$1" \
+        ${LDFLAGS:--Wl,-z,relro,-z,now,-z,noexecstack} -Wl,-z,defs,--as-needed,--build-id=sha1 ${3:+-Wl,-rpath,"$3"}
+}
+
 # functions: the names that the header declares, one a line
 functions() {
     sed -n 's/^\(uint32_t\|void\) \(sums_[a-z0-9_]*\)(.*/\2/p' bindings/c/sums_hash.h
 }
 
-# Each of the next six calls DO MODE FILE PLACE for each file that belongs to it, DO link TARGET PLACE for each link,
+# Each of the next eight calls DO MODE FILE PLACE for each file that belongs to it, DO link TARGET PLACE for each link,
 # and DO text - PLACE for each file that text_for writes. PLACE is below the prefix.
 
 # program_texts DO [ZSH]: the program's manual pages and completions; ZSH is the folder for those of zsh
@@ -150,8 +168,8 @@ parallel_files() {
 # the definitions that a reader of the proofs has to believe, and the lines of code that ask the system
 documents() {
     for document in README.md CHANGELOG.md LICENSE-MIT LICENSE-APACHE THIRD-PARTY docs/*.md bindings/*/README.md \
-        bindings/c/sums_hash.h crates/*/CALLING.md crates/source/src/device.rt crates/sumlist/src/files.rt \
-        crates/sums/src/main.rt crates/sums/src/progress.rt crates/sums/src/watched.rt \
+        bindings/openssl/*.cnf bindings/c/sums_hash.h crates/*/CALLING.md crates/source/src/device.rt \
+        crates/sumlist/src/files.rt crates/sums/src/main.rt crates/sums/src/progress.rt crates/sums/src/watched.rt \
         $(find crates/*/specs -type f); do
         "$1" 644 "$document" "share/doc/sums/$document"
     done
@@ -175,6 +193,17 @@ library_files() {
     library_texts "$1" "${2-}"
 }
 
+# provider_text DO: what a user of the provider for OpenSSL reads
+provider_text() {
+    "$1" 644 man/OSSL_PROVIDER-sums.7 share/man/man7/OSSL_PROVIDER-sums.7
+}
+
+# provider_files DO [LIBDIR]: the provider for OpenSSL
+provider_files() {
+    "$1" 644 "$provider_module" "${2:-lib}/ossl-modules/sums.so"
+    provider_text "$1"
+}
+
 # program_files DO: the program, sums-parallel and the documents
 program_files() {
     "$1" 755 bin/sums bin/sums
@@ -187,6 +216,7 @@ program_files() {
 each_file() {
     program_files "$1"
     library_files "$1" "${2-}"
+    provider_files "$1" "${2-}"
 }
 
 # root PREFIX: the folder that an installation goes into
