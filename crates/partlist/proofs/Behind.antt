@@ -6,28 +6,28 @@ use Rattle.b3.specs.Modes.{hash_parameters}
 use Rattle.b3.specs.Parts.{IsNextInRow}
 use Rattle.b3.specs.declared.row.PartValue.{PartValue}
 use Rattle.b3.specs.declared.row.Row.{Row}
-use Rattle.b3.specs.Values.{IsValueOf, value_first, value_len}
+use Rattle.b3.specs.Values.{IsValueOf}
 use Rattle.b3.specs.inside.Rows.{HoldsRow, row_closed, row_count, row_first, row_open, row_parameters}
 use Rattle.partlist.specs.Joined.{AreValuesOf, FollowEachOther, IsWhole, bytes_of, last_of}
 use Rattle.partlist.specs.inside.Joiner.{IsRowOf}
 
 pub bytes_of-more : (parts : List PartValue) (part : PartValue)
-    → bytes_of (parts ++ part ∷ []) ≡ bytes_of parts + value_len part
+    → bytes_of (parts ++ part ∷ []) ≡ bytes_of parts + part.len
 bytes_of-more [] part = omega arith
 bytes_of-more (first ∷ parts) part = let more = bytes_of-more parts part in omega (arith, more)
 
-last_of-more : (n : ℕ) (parts : List PartValue) (part : PartValue) → last_of n (parts ++ part ∷ []) ≡ value_len part
+last_of-more : (n : ℕ) (parts : List PartValue) (part : PartValue) → last_of n (parts ++ part ∷ []) ≡ part.len
 last_of-more n [] part = refl
-last_of-more n (first ∷ parts) part = last_of-more (value_len first) parts part
+last_of-more n (first ∷ parts) part = last_of-more first.len parts part
 
 follow-more : (n last : ℕ) (parts : List PartValue) (part : PartValue) → FollowEachOther n last parts
-    → 1024 * value_first part ≡ n + bytes_of parts → IsWhole (last_of last parts)
+    → 1024 * part.first_chunk ≡ n + bytes_of parts → IsWhole (last_of last parts)
     → FollowEachOther n last (parts ++ part ∷ [])
 follow-more n last [] part follow place whole = (place ∙ omega arith, whole, tt)
 follow-more n last (first ∷ parts) part follow place whole = (
   follow.0,
   follow.1,
-  follow-more (n + value_len first) (value_len first) parts part follow.2 (place ∙ omega arith) whole,
+  follow-more (n + first.len) first.len parts part follow.2 (place ∙ omega arith) whole,
 )
 
 -- the bytes of parts and of one more
@@ -46,9 +46,9 @@ values-split (first ∷ parts) part m values =
 
 -- the row of one part
 pub row-first : (row : Row) (part : PartValue) → row_parameters row ≡ hash_parameters
-    → row_first row ≡ value_first part → row_count row ≡ value_len part → row_closed row ≡ 0
-    → row_open row ≡ value_len part → ((m : List ℕ) → IsValueOf hash_parameters part m → HoldsRow row m)
-    → 1024 * value_first part ≡ 0 → IsRowOf row (part ∷ [])
+    → row_first row ≡ part.first_chunk → row_count row ≡ part.len → row_closed row ≡ 0
+    → row_open row ≡ part.len → ((m : List ℕ) → IsValueOf hash_parameters part m → HoldsRow row m)
+    → 1024 * part.first_chunk ≡ 0 → IsRowOf row (part ∷ [])
 row-first row part parameters first count closed last holds place = record {
   first = omega (arith, first, place);
   parameters = parameters;
@@ -63,9 +63,9 @@ row-first row part parameters first count closed last holds place = record {
 
 -- the row with a part more
 pub row-more : (old new : Row) (parts : List PartValue) (part : PartValue) → IsRowOf old parts
-    → IsNextInRow (row_first old) (row_count old) (row_open old) (value_first part) (value_len part)
+    → IsNextInRow (row_first old) (row_count old) (row_open old) part.first_chunk part.len
     → ((m x : List ℕ) → HoldsRow old m → IsValueOf (row_parameters old) part x → HoldsRow new (m ++ x))
-    → row_count new ≡ row_count old + value_len part → 0 < row_closed new → row_open new ≡ value_len part
+    → row_count new ≡ row_count old + part.len → 0 < row_closed new → row_open new ≡ part.len
     → row_first new ≡ row_first old → row_parameters new ≡ row_parameters old → IsRowOf new (parts ++ part ∷ [])
 row-more old new parts part is next holds count closed last first kept =
     let size = length-append parts (part ∷ []) in
@@ -78,7 +78,7 @@ row-more old new parts part is next holds count closed last first kept =
       parameters = kept ∙ is.parameters;
       in_row = follow-more 0 1024 parts part is.in_row (omega (arith, place, begin, bytes))
           (subst IsWhole is.last next.1);
-      count = count ∙ ap (λ n. n + value_len part) is.count ∙ sym (bytes_of-more parts part);
+      count = count ∙ ap (λ n. n + part.len) is.count ∙ sym (bytes_of-more parts part);
       last = last ∙ sym (last_of-more 1024 parts part);
       some = omega (arith, size);
       several = ((λ more. omega (arith, size, some)), λ more. closed);
@@ -88,8 +88,8 @@ row-more old new parts part is next holds count closed last first kept =
     }
 
 -- a part that begins where a row from the first chunk on ends comes next, if what stands before it is whole
-pub next-is : (first n last : ℕ) (part : PartValue) → first ≡ 0 → 1024 * value_first part ≡ n → IsWhole last
-    → IsNextInRow first n last (value_first part) (value_len part)
+pub next-is : (first n last : ℕ) (part : PartValue) → first ≡ 0 → 1024 * part.first_chunk ≡ n → IsWhole last
+    → IsNextInRow first n last part.first_chunk part.len
 next-is first n last part begin place whole =
     let limit = part.placed.1 in
     rw begin (omega (arith, place), whole, ((λ none. refl), omega (arith, limit, place), λ p power. zero-mod p))

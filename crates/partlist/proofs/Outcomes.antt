@@ -2,7 +2,6 @@
 use Rattle.std.proofs.Common.{◌≡◌, ℕ, ◌+◌, ◌*◌, List, [], ◌∷◌, ◌++◌, length, refl, sym, ap, subst, ◌∙◌, arith}
 use Rattle.std.proofs.Common.{◌⊎◌, inl, inr, append_assoc}
 use Rattle.b3.specs.declared.row.PartValue.{PartValue}
-use Rattle.b3.specs.Values.{value_first, value_len}
 use Rattle.partlist.specs.Joined.{AllTell, AreInRow, FollowEachOther, IsWhole, IsWrongBehind, TellsPart}
 use Rattle.partlist.specs.Joined.{bytes_of, last_of}
 use Rattle.partlist.specs.Laws.{NoneStops, OneStop}
@@ -16,10 +15,10 @@ bytes_of-append (x ∷ xs) ys = let rest = bytes_of-append xs ys in omega (arith
 
 last_of-append : (n : ℕ) (xs ys : List PartValue) → last_of n (xs ++ ys) ≡ last_of (last_of n xs) ys
 last_of-append n [] ys = refl
-last_of-append n (x ∷ xs) ys = last_of-append (value_len x) xs ys
+last_of-append n (x ∷ xs) ys = last_of-append x.len xs ys
 
 same_part : (line : List ℕ) (p q : PartValue) → TellsPart line p → TellsPart line q
-    → (value_first p ≡ value_first q) × (value_len p ≡ value_len q)
+    → (p.first_chunk ≡ q.first_chunk) × (p.len ≡ q.len)
 same_part line p q t u = let same = one_meaning line _ _ _ _ _ _ t.1 u.1 in (same.0, same.1)
 
 -- parts that the same lines tell have as many bytes, and so has the last of them
@@ -33,16 +32,16 @@ same_bytes ls xs ys t u = grind arith
 same_last : (n : ℕ) (ls : List (List ℕ)) (xs ys : List PartValue) → AllTell ls xs → AllTell ls ys
     → last_of n xs ≡ last_of n ys
 same_last n (l ∷ ls) (x ∷ xs) (y ∷ ys) t u =
-    ap (λ k. last_of k xs) (same_part l x y t.0 u.0).1 ∙ same_last (value_len y) ls xs ys t.1 u.1
+    ap (λ k. last_of k xs) (same_part l x y t.0 u.0).1 ∙ same_last y.len ls xs ys t.1 u.1
 same_last n ls xs ys t u = grind arith
 
 -- a part in a row begins where those before it end, the last of which is whole
 place_in_row : (n last : ℕ) (xs : List PartValue) (p : PartValue) (ys : List PartValue)
     → FollowEachOther n last (xs ++ p ∷ ys)
-    → (1024 * value_first p ≡ n + bytes_of xs) × IsWhole (last_of last xs)
+    → (1024 * p.first_chunk ≡ n + bytes_of xs) × IsWhole (last_of last xs)
 place_in_row n last [] p ys follow = (omega (arith, follow.0), follow.1)
 place_in_row n last (x ∷ xs) p ys follow =
-    let rest = place_in_row (n + value_len x) (value_len x) xs p ys follow.2 in
+    let rest = place_in_row (n + x.len) x.len xs p ys follow.2 in
     (omega (arith, rest.0), rest.1)
 
 -- the parts of lines before and behind one of them
@@ -58,7 +57,7 @@ tell_split (l ∷ before) line after (x ∷ more) t =
     (x ∷ rest.0, rest.1, rest.2, ap (λ ps. x ∷ ps) rest.3, (t.0, rest.4), rest.5)
 
 fits : (parts : List PartValue) (line : List ℕ) (p : PartValue) (fault : PartFault) → TellsPart line p
-    → 1024 * value_first p ≡ bytes_of parts → IsWhole (last_of 1024 parts) → IsWrongBehind parts line fault → ⊥
+    → 1024 * p.first_chunk ≡ bytes_of parts → IsWhole (last_of 1024 parts) → IsWrongBehind parts line fault → ⊥
 fits parts line p NotAPart tells place whole wrong = wrong p tells
 fits parts line p BytesMissing tells place whole wrong =
     let same = (same_part line p wrong.0 tells wrong.1).0 in
@@ -89,9 +88,8 @@ not_among parts told more before line after fault tells wrong all row =
     fits (parts ++ told) line cut.1 fault cut.5 (omega (arith, place, bytes)) (subst IsWhole last at.1) wrong
 
 pub none_stops : NoneStops
-none_stops text parts more number fault all row stop =
-    not_among parts stop.told more stop.before stop.line stop.after fault stop.tells stop.wrong
-    (subst (λ ls. AllTell ls more) stop.split all) row
+none_stops text parts more number fault all row (before, line, after, told, split, place, tells, joined, wrong) =
+    not_among parts told more before line after fault tells wrong (subst (λ ls. AllTell ls more) split all) row
 
 -- two places in one list
 places : (xs ys : List (List ℕ)) (l k : List ℕ) (cs bs : List (List ℕ)) → xs ++ l ∷ cs ≡ ys ++ k ∷ bs
@@ -131,25 +129,23 @@ one_fault a b line NotWhole Overlaps e u v = grind (arith, same_part line u.0 v.
 one_fault a b line NotWhole NotWhole e u v = refl
 
 pub one_stop : OneStop
-one_stop text parts n k f g s t =
-    let both = sym s.split ∙ t.split in
-    elim (places s.before t.before s.line t.line s.after t.after both) [
+one_stop text parts n k f g (before, line, after, told, split, here, tells, row, wrong)
+    (before', line', after', told', split', there, tells', row', wrong') =
+    elim (places before before' line line' after after' (sym split ∙ split')) [
       | inl same ↦
-          let told = subst (λ ls. AllTell ls s.told) same.0 s.tells in
-          let bytes = bytes_of-append parts s.told
-          ∙ ap (λ i. bytes_of parts + i) (same_bytes t.before s.told t.told told t.tells)
-          ∙ sym (bytes_of-append parts t.told) in
-          let size = ap length same.0 in
-          let here = s.place in
-          let there = t.place in (
+          let moved = subst (λ ls. AllTell ls told) same.0 tells in
+          let bytes = bytes_of-append parts told
+          ∙ ap (λ i. bytes_of parts + i) (same_bytes before' told told' moved tells')
+          ∙ sym (bytes_of-append parts told') in
+          let size = ap length same.0 in (
             omega (arith, size, here, there),
-            one_fault (parts ++ s.told) (parts ++ t.told) t.line f g bytes
-                (subst (λ l. IsWrongBehind (parts ++ s.told) l f) same.1 s.wrong) t.wrong,
+            one_fault (parts ++ told) (parts ++ told') line' f g bytes
+                (subst (λ l. IsWrongBehind (parts ++ told) l f) same.1 wrong) wrong',
           )
       | inr apart ↦ elim apart [
-        | inl later ↦ absurd (not_among parts s.told t.told s.before s.line later.0 f s.tells s.wrong
-            (subst (λ ls. AllTell ls t.told) later.1 t.tells) t.row)
-        | inr earlier ↦ absurd (not_among parts t.told s.told t.before t.line earlier.0 g t.tells t.wrong
-            (subst (λ ls. AllTell ls s.told) earlier.1 s.tells) s.row)
+        | inl later ↦ absurd (not_among parts told told' before line later.0 f tells wrong
+            (subst (λ ls. AllTell ls told') later.1 tells') row')
+        | inr earlier ↦ absurd (not_among parts told' told before' line' earlier.0 g tells' wrong'
+            (subst (λ ls. AllTell ls told) earlier.1 tells) row)
       ]
     ]

@@ -9,7 +9,6 @@ use Rattle.hex.proofs.HexLemmas.{decode_sized-encode_lower}
 use Rattle.std.specs.Result.{result_ok}
 use Rattle.b3.specs.Parts.{IsPlacedAt}
 use Rattle.b3.specs.declared.row.PartValue.{PartValue}
-use Rattle.b3.specs.Values.{value_first, value_len, value_words}
 use Rattle.words.specs.Words.{words}
 use Rattle.partlist.specs.Laws.{OnePart}
 use Rattle.partlist.specs.PartLine.{LineTells, part_line}
@@ -50,12 +49,12 @@ moved line v a b c d e f t = rw (e, f) t
 
 -- the part that the numbers and the value of a line make, or none where it cannot stand there
 pub told_part : {E : Type 0} (r : Result PartValue E) (line bytes : List ℕ) (first len : ℕ)
-    → (IsOk r ↔ IsPlacedAt first len) → IfOk r (λ p. value_first p ≡ first) → IfOk r (λ p. value_len p ≡ len)
-    → IfOk r (λ p. value_words p ≡ words 4 8 bytes) → IsBytes bytes → length bytes ≡ 32
+    → (IsOk r ↔ IsPlacedAt first len) → IfOk r (λ p. p.first_chunk ≡ first) → IfOk r (λ p. p.len ≡ len)
+    → IfOk r (λ p. p.value ≡ words 4 8 bytes) → IsBytes bytes → length bytes ≡ 32
     → line ≡ part_line first len bytes
     → ((f l : ℕ) (v : List ℕ) → LineTells line f l v → (first ≡ f) × (len ≡ l))
     → MatchOption (result_ok r) ((f l : ℕ) (v : List ℕ) → LineTells line f l v → ⊥)
-    (λ p. (v : List ℕ) × LineTells line (value_first p) (value_len p) v × (value_words p ≡ words 4 8 v))
+    (λ p. (v : List ℕ) × LineTells line p.first_chunk p.len v × (p.value ≡ words 4 8 v))
 told_part (Ok p) line bytes first len placed f l w are_bytes sized text same = (
   bytes,
   moved line bytes _ _ _ _ f l

@@ -1,15 +1,16 @@
 -- The line of the part of some bytes tells their part: its chaining value is eight words.
 use Rattle.std.proofs.Common.{◌≡◌, ℕ, zero, suc, ◌+◌, ◌*◌, ◌/◌, ◌^◌, ◌<◌, ◌≤◌, Bool, true, false, List, [], ◌∷◌, ◌++◌}
-use Rattle.std.proofs.Common.{length, take, drop, slice_index, slice_set, bit_xor, refl, sym, ap, ◌∙◌, arith}
+use Rattle.std.proofs.Common.{length, take, drop, fold, map, slice_index, slice_set, bit_xor, refl, sym, ap, ◌∙◌, arith}
 use Rattle.std.proofs.Common.{length-append, leb}
 use Rattle.std.proofs.Math.Nat.{div-le_self}
 use Rattle.std.proofs.lemmas.List.{length-take}
 use Rattle.std.proofs.lemmas.Nat.{or_lt, xor_lt}
 use Rattle.std.specs.Int.{bytes_low_first}
+use Rattle.std.specs.List.{enumerate_from}
 use Rattle.hex.specs.Hex.{IsBytes}
 use Rattle.words.specs.Blake2.{blake2s, schedule}
 use Rattle.words.specs.Blake3.{compress3, permuted_words, rounds3, working_words3}
-use Rattle.words.specs.Mix.{g, g_along, g_at, gathered_words, rotated_xor, round, word_sum}
+use Rattle.words.specs.Mix.{g, g_at, rotated_xor, round, word_sum}
 use Rattle.words.specs.Tables.{iv32, places}
 use Rattle.words.specs.Words.{word_bytes}
 use Rattle.b3.specs.Chunk.{block, chunk, last_block, start_flag, value_before}
@@ -78,25 +79,29 @@ g-words v x y are =
     let b' = rotated-word 3 _ _ b (sum-word _ _) in
     words-four _ _ _ _ (sum-word _ y) b' (sum-word _ _) d'
 
-g_at-words : (v p : List ℕ) (x y : ℕ) → AreWords v → AreWords (g_at blake2s v p x y)
-unfolding g_at
-g_at-words v p x y are =
-    let r = g-words (gathered_words v p) x y
-    (words-four _ _ _ _ (are.at _) (are.at _) (are.at _) (are.at _)) in
-    words-set _ _ _ (words-set _ _ _ (words-set _ _ _ (words-set v _ _ are (r.at 0)) (r.at 1)) (r.at 2)) (r.at 3)
+fold-words : {A : Type 0} (f : List ℕ → A → List ℕ) → ((w : List ℕ) (a : A) → AreWords w → AreWords (f w a))
+    → (v : List ℕ) (xs : List A) → AreWords v → AreWords (fold f v xs)
+fold-words f keeps v [] are = are
+fold-words f keeps v (x ∷ xs) are = fold-words f keeps (f v x) xs (keeps v x are)
 
-along-words : (v m s : List ℕ) (i : ℕ) (ps : List (List ℕ)) → AreWords v → AreWords (g_along blake2s v m s i ps)
-along-words v m s i [] are = are
-along-words v m s i (p ∷ ps) are =
-    let x = slice_index m (slice_index s (2 * i)) in
-    let y = slice_index m (slice_index s (2 * i + 1)) in
-    along-words (g_at blake2s v p x y) m s (suc i) ps (g_at-words v p x y are)
+words-at : (v places : List ℕ) → AreWords v → AreWords (map (slice_index v) places)
+words-at v [] are = none_words
+words-at v (place ∷ places) are = words-cons _ _ (are.at place) (words-at v places are)
+
+g_at-words : (v places : List ℕ) (x y : ℕ) → AreWords v → AreWords (g_at blake2s v places x y)
+unfolding g_at
+g_at-words v places x y are =
+    let mixed = g-words (map (slice_index v) places) x y (words-at v places are) in
+    fold-words _ (λ w (i, place) some. words-set w place _ some (mixed.at i)) v (enumerate_from 0 places) are
 
 rounds-words : (v m : List ℕ) (n : ℕ) → AreWords v → AreWords (rounds3 v m n)
 unfolding rounds3 round
 rounds-words v m zero are = are
 rounds-words v m (suc n) are =
-    along-words (rounds3 v m n) (permuted_words m n) (schedule 0) 0 places (rounds-words v m n are)
+    let word : ℕ → ℕ = λ i. slice_index (permuted_words m n) (slice_index (schedule 0) i) in
+    fold-words (λ w (i, four). g_at blake2s w four (word (2 * i)) (word (2 * i + 1)))
+    (λ w (i, four) some. g_at-words w four (word (2 * i)) (word (2 * i + 1)) some) (rounds3 v m n)
+    (enumerate_from 0 places) (rounds-words v m n are)
 
 iv-four : AreWords (0x6A09E667 ∷ 0xBB67AE85 ∷ 0x3C6EF372 ∷ 0xA54FF53A ∷ [])
 iv-four = words-four _ _ _ _ (omega arith) (omega arith) (omega arith) (omega arith)
@@ -104,8 +109,7 @@ iv-four = words-four _ _ _ _ (omega arith) (omega arith) (omega arith) (omega ar
 working-words : (h : List ℕ) (t b d : ℕ) → AreWords h → t < 2 ^ 64 → b < 2 ^ 32 → d < 2 ^ 32
     → AreWords (working_words3 h t b d)
 working-words h t b d are p q r =
-    words-append h _ are (words-append _ _ iv-four
-    (words-four _ _ _ _ (omega arith) (omega (arith, p)) q r))
+    words-append _ _ (words-append h _ are iv-four) (words-four _ _ _ _ (omega arith) (omega (arith, p)) q r)
 
 -- a node whose numbers are words, and its counter two
 record IsFit (node : Node) : Type 0 where

@@ -16,9 +16,9 @@ use Rattle.hex.specs.Hex.{encode_lower, lower_digits}
 use Rattle.hex.proofs.HexLemmas.{length-encode_with}
 use Rattle.b3.specs.declared.row.PartValue.{PartValue}
 use Rattle.b3.specs.declared.row.Row.{Row}
-use Rattle.b3.specs.Values.{value_first, value_len}
 use Rattle.source.specs.Pumped.{Gives}
-use Rattle.sumlist.specs.Lines.{HasNo, lines}
+use Rattle.sumlist.specs.Lines.{lines}
+use Rattle.sumlist.specs.inside.Cut.{HasNo}
 use Rattle.sumlist.proofs.Cutting.{lines-ended, lines-last}
 use Rattle.partlist.specs.Joined.{AllTell, AreInRow, IsWrongBehind, StopsAt, TellsPart}
 use Rattle.partlist.specs.declared.fault.PartFault.{PartFault}
@@ -56,14 +56,14 @@ first_line front (c ∷ more) free some = elim (cases_eq c 10) [
 -- a part's line is not long
 pub line-length : (line : List ℕ) (part : PartValue) → TellsPart line part → length line ≤ 256
 line-length line part (value, tells, words) =
-    let first : List ℕ = decimal (value_first part) in
-    let len : List ℕ = decimal (value_len part) in
+    let first : List ℕ = decimal part.first_chunk in
+    let len : List ℕ = decimal part.len in
     let digits : List ℕ = encode_lower value in
     let a = length-append (codes "sums-part-1 blake3 ") (first ++ 32 ∷ (len ++ 32 ∷ digits)) in
     let b = length-append first (32 ∷ (len ++ 32 ∷ digits)) in
     let c = length-append len (32 ∷ digits) in
-    let d = length-decimal-le 20 (value_first part) (omega arith) (omega arith) (first_fits line _ _ value tells) in
-    let e = length-decimal-le 20 (value_len part) (omega arith) (omega arith) (len_fits line _ _ value tells) in
+    let d = length-decimal-le 20 part.first_chunk (omega arith) (omega arith) (first_fits line _ _ value tells) in
+    let e = length-decimal-le 20 part.len (omega arith) (omega arith) (len_fits line _ _ value tells) in
     let f = length-encode_with lower_digits value in
     omega (arith, ap length tells.text, a, b, c, d, e, f, tells.sized)
 
@@ -210,17 +210,17 @@ module _ (text : List ℕ) (parts : List PartValue) (old joiner : Joiner) (fault
       omega (arith, is, told, same, joined.size, halts.joined.size)
 
   pub Halts-at : StopsAt text parts number fault
-  Halts-at = record {
-    before = halts.before;
-    line = halts.line;
-    after = halts.after;
-    told = halts.told;
-    split = halts.split;
-    place = halts-place;
-    tells = halts.tells;
-    row = row-is joiner.row (parts ++ halts.told) halts.joined.row;
-    wrong = halts.wrong;
-  }
+  Halts-at = (
+    halts.before,
+    halts.line,
+    halts.after,
+    halts.told,
+    halts.split,
+    halts-place,
+    halts.tells,
+    row-is joiner.row (parts ++ halts.told) halts.joined.row,
+    halts.wrong,
+  )
 
   pub Halts-before : JoinedBefore text parts joiner number
   Halts-before = record {

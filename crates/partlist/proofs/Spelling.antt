@@ -5,7 +5,7 @@ use Rattle.std.specs.Str.{IsUtf8}
 use Rattle.std.proofs.lemmas.Fmt.{IsAscii-decimal, decimal_injective}
 use Rattle.std.proofs.lemmas.Option.{none-some, same_Some}
 use Rattle.std.proofs.lemmas.Str.{IsUtf8-from_ascii}
-use Rattle.sumlist.specs.Lines.{HasNo}
+use Rattle.sumlist.specs.inside.Cut.{HasNo}
 use Rattle.sumlist.specs.inside.Reading.{cut}
 use Rattle.sumlist.proofs.Reading.{cut-at, cut-none}
 use Rattle.sumlist.proofs.Words.{decimal_word, no_space}

@@ -3,7 +3,7 @@ use Rattle.std.specs.Prelude.{◌≡◌, ℕ, ◌+◌, ◌*◌, ◌^◌, ◌<◌
 use Rattle.std.specs.List.{AllZip}
 use Rattle.b3.specs.Modes.{hash_parameters}
 use Rattle.b3.specs.declared.row.PartValue.{PartValue}
-use Rattle.b3.specs.Values.{IsValueOf, value_first, value_len, value_words}
+use Rattle.b3.specs.Values.{IsValueOf}
 use Rattle.words.specs.Words.{words}
 use Rattle.sumlist.specs.Lines.{lines}
 use Rattle.partlist.specs.PartLine.{LineTells}
@@ -14,8 +14,8 @@ use Rattle.partlist.specs.declared.fault.PartFault.TheVariants.{NotAPart, BytesM
 
 -- the line tells this part
 abbrev pub TellsPart : List ℕ → PartValue → Type 0
-TellsPart line part = (value : List ℕ) × LineTells line (value_first part) (value_len part) value
-    × (value_words part ≡ words 4 8 value)
+TellsPart line part = (value : List ℕ) × LineTells line part.first_chunk part.len value
+    × (part.value ≡ words 4 8 value)
 
 -- each line tells its part
 abbrev pub AllTell : List (List ℕ) → List PartValue → Type 0
@@ -24,12 +24,12 @@ AllTell lines parts = AllZip TellsPart lines parts
 -- how many bytes parts have
 abbrev pub bytes_of : List PartValue → ℕ
 bytes_of [] = 0
-bytes_of (part ∷ parts) = value_len part + bytes_of parts
+bytes_of (part ∷ parts) = part.len + bytes_of parts
 
 -- how many bytes the last part has, where the one before these has n
 abbrev pub last_of : ℕ → List PartValue → ℕ
 last_of n [] = n
-last_of n (part ∷ parts) = last_of (value_len part) parts
+last_of n (part ∷ parts) = last_of part.len parts
 
 -- a power of two of full chunks
 abbrev pub IsWhole : ℕ → Type 0
@@ -39,8 +39,8 @@ IsWhole n = (e : ℕ) × (n ≡ 1024 * 2 ^ e)
 -- is whole
 abbrev pub FollowEachOther : ℕ → ℕ → List PartValue → Type 0
 FollowEachOther n last [] = ⊤
-FollowEachOther n last (part ∷ parts) = (1024 * value_first part ≡ n) × IsWhole last
-    × FollowEachOther (n + value_len part) (value_len part) parts
+FollowEachOther n last (part ∷ parts) = (1024 * part.first_chunk ≡ n) × IsWhole last
+    × FollowEachOther (n + part.len) part.len parts
 
 -- the same from the first chunk on: what stands before it is as good as whole
 abbrev pub AreInRow : List PartValue → Type 0
@@ -56,23 +56,17 @@ AreValuesOf (part ∷ parts) m = (x : List ℕ) × (rest : List ℕ) × (m ≡ x
 abbrev pub IsWrongBehind : List PartValue → List ℕ → PartFault → Type 0
 IsWrongBehind parts line NotAPart = (part : PartValue) → TellsPart line part → ⊥
 IsWrongBehind parts line BytesMissing = (part : PartValue) × TellsPart line part
-    × (bytes_of parts < 1024 * value_first part)
+    × (bytes_of parts < 1024 * part.first_chunk)
 IsWrongBehind parts line Overlaps = (part : PartValue) × TellsPart line part
-    × (1024 * value_first part < bytes_of parts)
+    × (1024 * part.first_chunk < bytes_of parts)
 IsWrongBehind parts line NotWhole = (part : PartValue) × TellsPart line part
-    × (1024 * value_first part ≡ bytes_of parts) × (IsWhole (last_of 1024 parts) → ⊥)
+    × (1024 * part.first_chunk ≡ bytes_of parts) × (IsWhole (last_of 1024 parts) → ⊥)
 
 -- behind these parts come lines that tell parts, and then the line of this number, with which this is wrong
-pub record StopsAt (text : List ℕ) (parts : List PartValue) (number : ℕ) (fault : PartFault) : Type 0 where
-  pub before : List (List ℕ)
-  pub line : List ℕ
-  pub after : List (List ℕ)
-  pub told : List PartValue
-  pub split : lines text ≡ before ++ line ∷ after
-  pub place : number ≡ length before + 1
-  pub tells : AllTell before told
-  pub row : AreInRow (parts ++ told)
-  pub wrong : IsWrongBehind (parts ++ told) line fault
+abbrev pub StopsAt : List ℕ → List PartValue → ℕ → PartFault → Type 0
+StopsAt text parts number fault = (before : List (List ℕ)) × (line : List ℕ) × (after : List (List ℕ))
+    × (told : List PartValue) × (lines text ≡ before ++ line ∷ after) × (number ≡ length before + 1)
+    × AllTell before told × AreInRow (parts ++ told) × IsWrongBehind (parts ++ told) line fault
 
 -- as many bytes as were asked for, if any were
 abbrev pub IsAsked : Option ℕ → ℕ → Type 0

@@ -3,7 +3,7 @@ use Rattle.std.specs.Prelude.{◌≡◌, ℕ, List, ◌++◌, length}
 use Rattle.b3.specs.Modes.{hash_parameters}
 use Rattle.b3.specs.Parts.{IsPlacedAt}
 use Rattle.b3.specs.declared.row.PartValue.{PartValue}
-use Rattle.b3.specs.Values.{IsValueOf, value_first}
+use Rattle.b3.specs.Values.{IsValueOf}
 use Rattle.sumlist.specs.Lines.{lines}
 use Rattle.partlist.specs.Joined.{AllTell, AreInRow, StopsAt, TellsPart}
 use Rattle.partlist.specs.declared.fault.PartFault.{PartFault}
@@ -19,7 +19,7 @@ OnePart = (line : List ℕ) (first len first' len' : ℕ) (value value' : List �
 abbrev pub TellsBytes : Type 0
 TellsBytes = (c : ℕ) (x : List ℕ) → IsPlacedAt c (length x)
     → (part : PartValue) × TellsPart (line_of c x) part
-    × (value_first part ≡ c) × IsValueOf hash_parameters part x
+    × (part.first_chunk ≡ c) × IsValueOf hash_parameters part x
 
 -- a text whose lines tell parts that follow does not stop
 abbrev pub NoneStops : Type 0

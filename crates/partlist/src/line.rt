@@ -4,7 +4,6 @@ ghost use Rattle.std.specs.Prelude.{◌≡◌, ℕ, ◌<◌, ◌^◌, ◌≤◌,
 ghost use Rattle.std.specs.Fmt.{decimal};
 ghost use Rattle.hex.specs.Hex.{IsBytes, encode_lower};
 ghost use Rattle.words.specs.Words.{word_bytes, words};
-ghost use Rattle.b3.specs.Values.{value_first, value_len, value_words};
 ghost use Rattle.source.specs.Written.{Writes};
 ghost use Rattle.partlist.specs.PartLine.{LineTells, part_line};
 
@@ -19,7 +18,7 @@ const HEAD: [u8; 19] = *b"sums-part-1 blake3 ";
 /// its first chunk and that of its bytes in decimal, and the chaining value in 64 lower-case digits.
 pub fn write_part<W: Sink>(part: &PartValue, out: &mut W) -> Result<(), WriteFailed>
     ensures { Writes result (W.shown out.old) (W.shown out.new)
-        (part_line (value_first part.now) (value_len part.now) (word_bytes 4 (value_words part.now)) ++ 10 ∷ []) }
+        (part_line part.now.first_chunk part.now.len (word_bytes 4 part.now.value) ++ 10 ∷ []) }
 {
     let (mut first, mut len, digits) = (Buffer::new(), Buffer::new(), digits_of(part));
     let first = first.format(part.first_chunk()).as_bytes();
@@ -29,7 +28,7 @@ pub fn write_part<W: Sink>(part: &PartValue, out: &mut W) -> Result<(), WriteFai
 
 // The digits of its chaining value.
 fn digits_of(part: &PartValue) -> [u8; 64]
-    ensures { result ≡ encode_lower (word_bytes 4 (value_words part.now)) }
+    ensures { result ≡ encode_lower (word_bytes 4 part.now.value) }
 {
     let mut digits = [0; 64];
     hex::encode_to_slice(part.bytes().as_slice(), &mut digits).unwrap();
@@ -41,8 +40,8 @@ fn digits_of(part: &PartValue) -> [u8; 64]
 pub fn parse_part(line: &[u8]) -> Option<PartValue>
     ensures { MatchOption result
         ((first len : ℕ) (value : List ℕ) → LineTells line.now first len value → ⊥)
-        (λ part. (value : List ℕ) × LineTells line.now (value_first part) (value_len part) value
-        × (value_words part ≡ words 4 8 value)) }
+        (λ part. (value : List ℕ) × LineTells line.now part.first_chunk part.len value
+        × (part.value ≡ words 4 8 value)) }
 {
     let rest = line.strip_prefix(&HEAD)?;
     let (first, rest) = cut_number(rest)?;

@@ -5,7 +5,8 @@ use Rattle.b3.specs.declared.row.PartValue.{PartValue}
 use Rattle.b3.specs.declared.row.Row.{Row}
 use Rattle.b3.specs.inside.Rows.{HoldsRow, row_closed, row_count, row_first, row_open, row_parameters}
 use Rattle.source.specs.Counts.{next_count}
-use Rattle.sumlist.specs.Lines.{HasNo, lines}
+use Rattle.sumlist.specs.Lines.{lines}
+use Rattle.sumlist.specs.inside.Cut.{HasNo}
 use Rattle.partlist.specs.Joined.{AllTell, AreInRow, AreValuesOf, IsWrongBehind, StopsAt, bytes_of, last_of}
 use Rattle.partlist.specs.declared.fault.JoinFault.{JoinFault}
 use Rattle.partlist.specs.declared.fault.JoinFault.TheVariants.{Read, Line}

@@ -1,6 +1,5 @@
 use Rattle.std.proofs.Common.{◌≡◌, ◌+◌, ◌*◌, ◌∷◌, ◌++◌, [], length, ap, ◌∙◌, sym, subst, arith, length-append, refl}
 use Rattle.std.proofs.lemmas.Bool.{false≢true}
-use Rattle.b3.specs.Values.{value_first}
 use Rattle.partlist.specs.Joined.{IsWhole, bytes_of}
 use Rattle.partlist.specs.inside.Joiner.{MayBeRowOf}
 use Rattle.partlist.proofs.Behind.{next-is, row-first, row-more}
@@ -23,7 +22,7 @@ pub returns-in-Err-clause-added : goal.returns-in-Err-clause-added
 returns-in-Err-clause-added c = λ parts joined line tells.
     let end = c.count-end.ensures parts joined in
     let first = c.first_chunk.ensures in
-    let place : 1024 * value_first c.args.part ≡ bytes_of parts
+    let place : 1024 * c.args.part.first_chunk ≡ bytes_of parts
     = omega (arith, end, first, c.if-start-end.false, c.if-start-end-2.false) in
     let is = subst (λ r. MayBeRowOf r parts) c.in-Some.is joined.row in (
       c.args.part,
@@ -37,7 +36,7 @@ pub returns-clause-added : goal.returns-clause-added
 returns-clause-added c = λ parts joined.
     let end = c.count-end.ensures parts joined in
     let first = c.first_chunk.ensures in
-    let place : 1024 * value_first c.args.part ≡ bytes_of parts
+    let place : 1024 * c.args.part.first_chunk ≡ bytes_of parts
     = omega (arith, end, first, c.if-start-end.false, c.if-start-end-2.false) in
     let size : c.args.self.now.parts + 1 ≡ length (parts ++ c.args.part ∷ [])
     = omega (arith, joined.size, length-append parts (c.args.part ∷ [])) in
