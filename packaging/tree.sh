@@ -39,6 +39,15 @@ library_builds() {
     ln -s "$soname" "$2/$3/libsums_hash.so"
 }
 
+# provider_build ROOT PREFIX LIBDIR: the provider for OpenSSL, over the shared library that the loader takes; where
+# ROOT may stand anywhere, it is found from the module's own folder
+provider_build() {
+    # shellcheck disable=SC2016 # $ORIGIN is the loader's
+    case $2 in '') from='$ORIGIN/..' ;; *) from= ;; esac
+    provider "$1/$3/$soname" "$1/$3/ossl-modules/sums.so" "$from"
+    chmod 644 "$1/$3/ossl-modules/sums.so"
+}
+
 # above LEVEL: the next one of $levels
 above() {
     echo "$levels" | tr ' ' '\n' | sed -n "/^$1\$/{ n; p; }"
@@ -56,12 +65,14 @@ tree() {
     root=$2
     program_builds "$1" "$root" "$3"
     library_builds "$1" "$root" "$4"
+    provider_build "$root" "$3" "$4"
     completions=$work/completion
     tools/completions.py "$sums" "$completions"
     prefix=${3:-\${pcfiledir\}/../..} libdir=$4
     program_texts put "$5"
     documents put
     library_texts put "$libdir"
+    provider_text put
 }
 
 # put MODE FILE PLACE
