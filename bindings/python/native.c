@@ -49,8 +49,9 @@ struct kind {
     initproc init;
     const char *format; // of the words that `init` takes
     PyMethodDef *methods;
-    int digest_size, block_size; // of the longest digest
-    int key_size, salt_size;     // the most that BLAKE2 and BLAKE3 take; a personalization is as long as a salt
+    uint32_t (*reset)(void *state); // NULL where C has none, and an object keeps its state as it was begun
+    int digest_size, block_size;    // of the longest digest
+    int key_size, salt_size;        // the most that BLAKE2 and BLAKE3 take; a personalization is as long as a salt
 };
 
 typedef struct {
@@ -61,6 +62,11 @@ typedef struct {
     _Atomic int digest_size; // of the message that was begun; written with the lock, and read without it
     uint64_t state[];        // of the message, and behind it as it was begun; zeros before that, which C refuses
 } Hasher;
+
+static size_t kept_size(const struct kind *kind)
+{
+    return kind->reset ? kind->state_size : 2 * kind->state_size;
+}
 
 static uint64_t *as_begun(Hasher *self)
 {
@@ -231,21 +237,25 @@ static uint32_t begin(Hasher *self, void *words)
     const struct start *start = words;
     uint32_t status = self->kind->begin(self->state, start);
     if (status != SUMS_OK) return status;
-    memcpy(as_begun(self), self->state, self->kind->state_size);
+    if (!self->kind->reset) memcpy(as_begun(self), self->state, self->kind->state_size);
     self->digest_size = (int)start->length; // few, as C has taken it
     return SUMS_OK;
 }
 
+// One that was never begun stays so.
 static uint32_t begin_again(Hasher *self, void *Py_UNUSED(none))
 {
-    memcpy(self->state, as_begun(self), self->kind->state_size);
+    if (self->kind->reset)
+        self->kind->reset(self->state);
+    else
+        memcpy(self->state, as_begun(self), self->kind->state_size);
     return SUMS_OK;
 }
 
 static uint32_t duplicate(Hasher *self, void *words)
 {
     Hasher *other = words;
-    memcpy(other->state, self->state, 2 * self->kind->state_size);
+    memcpy(other->state, self->state, kept_size(self->kind));
     other->digest_size = self->digest_size;
     return SUMS_OK;
 }
@@ -751,6 +761,11 @@ static uint32_t begin_blake3(void *state, const struct start *start)
     return SUMS_OK;
 }
 
+static uint32_t reset_blake3(void *state)
+{
+    return sums_blake3_reset(state);
+}
+
 static uint32_t write_blake3(const void *state, uint64_t position, uint8_t *out, size_t length)
 {
     return sums_blake3_output(state, position, out, length);
@@ -785,7 +800,7 @@ static const struct kind kinds[KINDS] = {
                  INIT(blake2, BLAKE2, blake2s), methods_of_hashes, .digest_size = 32, .block_size = 64, .key_size = 32,
                  .salt_size = 8},
     [BLAKE3] = {KIND(blake3), "blake3", DOC_OF_BLAKE3, CALLS(blake3), INIT(blake3, BLAKE3, blake3), methods_of_blake3,
-                .digest_size = 32, .block_size = 64, .key_size = 32},
+                .reset = reset_blake3, .digest_size = 32, .block_size = 64, .key_size = 32},
     [HMAC_SHA256] = {KIND(hmac_sha256), "hmac-sha256", DOC_OF_HMAC(sha256, "SHA-256"), CALLS(hmac_sha256),
                      INIT(hmac, HMAC, hmac_sha256), methods_of_hmac, .digest_size = 32, .block_size = 64},
     [HMAC_SHA512] = {KIND(hmac_sha512), "hmac-sha512", DOC_OF_HMAC(sha512, "SHA-512"), CALLS(hmac_sha512),
@@ -804,7 +819,7 @@ static PyObject *type_of(PyObject *module, const struct kind *kind)
         {Py_tp_doc, (void *)kind->doc}, {Py_tp_new, kind->make}, {Py_tp_init, kind->init}, {Py_tp_dealloc, end},
         {Py_tp_methods, kind->methods}, {kind->salt_size ? Py_tp_getset : 0, attributes_of_blake2}, {0},
     };
-    PyType_Spec spec = {kind->type, (int)(offsetof(Hasher, state) + 2 * kind->state_size), 0,
+    PyType_Spec spec = {kind->type, (int)(offsetof(Hasher, state) + kept_size(kind)), 0,
                         Py_TPFLAGS_DEFAULT | Py_TPFLAGS_BASETYPE, slots};
     return PyType_FromModuleAndSpec(module, &spec, NULL);
 }

@@ -50,6 +50,23 @@ impl Blake3 {
         Self(state)
     }
 
+    /// Forgets the message. What comes then is hashed under the same key, or for the same context.
+    ///
+    /// ```
+    /// let mut message = sums_hash::Blake3::keyed(&[7; 32]);
+    /// message.update(b"of before")?;
+    /// message.reset();
+    /// message.update(b"abc")?;
+    /// let (mut output, mut whole) = ([0; 32], [0; 32]);
+    /// message.output(0, &mut output)?;
+    /// sums_hash::blake3_keyed(&mut whole, 0, b"abc", &[7; 32])?;
+    /// assert_eq!(output, whole);
+    /// # Ok::<(), sums_hash::Refusal>(())
+    /// ```
+    pub fn reset(&mut self) {
+        checked(unsafe { native::sums_blake3_reset(&mut self.0) }).expect("a state that was begun is not refused");
+    }
+
     /// Bytes of the output, from a position on; a digest is the first 32. The message can go on. They are refused where
     /// they would end behind byte 2^64 - 1.
     pub fn output(&self, position: u64, out: &mut [u8]) -> Result<(), Refusal> {
