@@ -1,8 +1,8 @@
 #!/usr/bin/env python3
 """Compares sums-parallel with sums, byte for byte: both streams and the status, for names, lists and faults of every
 kind, by one run at a time and many, in small and large blocks, by a command that begins the runs and, where it is
-installed, through GNU parallel. Then runs that are killed, hosts that are dead, streams that take nothing, signals, and
-what a terminal shows.
+installed, through GNU parallel. Then files that runs must not share, what the process was begun with, runs that are
+killed, hosts that are dead, streams that take nothing, signals, and what a terminal shows.
 usage: .ci/parallel.py PROGRAM
 """
 
@@ -10,6 +10,9 @@ import contextlib
 import os
 import pty
 import re
+import resource
+import select
+import shlex
 import shutil
 import signal
 import subprocess
@@ -35,6 +38,23 @@ LISTS = ("good", "tagged", "mixed", "none", "comments", "no-end", "one", "endles
          "folder",
          "", "/dev/null")
 WAYS = ([], ["-j1", "--block=3000"], ["-j", "13", "--block", "1"], ["--by", "env A=b", "--block", "50000"])
+# Lines of a shell with files that runs must not share: pipes, and files that are open already.
+SHARED = (
+    "sums hash -a blake3 /dev/stdin < more",
+    "sums hash -a blake3 f1 stdin f2 /proc/self/fd/0 /dev/fd/./0 < more",
+    "cat more | sums hash -a blake3 f1 stdin f2 stdin more",
+    "sums hash -a blake3 f1 /dev/fd/7 more 7< f2",
+    "cat more > pipe & sums hash -a blake3 f1 pipe more f2",
+    "{ echo one > pipe; sleep 0.3; echo two > pipe; } & sums hash -a sha256 pipe more pipe",
+    "cat more | sums hash -a sha256 --files0-from names-stdin",
+    "sums hash -a sha256 --files0-from names-stdin < more",
+    "sums hash -a sha256 --files0-from /dev/stdin < names-stdin",
+    "cat f1 | sums check -a sha256 --summary list-stdin",
+    "sums check -a sha256 --summary list-stdin good list-stdin < f1",
+    "sums check --summary list-stdin < f1",
+    "cat f1 > pipe & sums check -a sha256 --summary list-pipe",
+    "sums check -a sha256 /dev/stdin < good",
+    "sums hash -a sha256 f1 more f2 > told; sums hash -a sha256 f1 told more /dev/stdout f2 >> told; cat told")
 
 
 # ---- the files
@@ -79,6 +99,7 @@ def lists(program):
                        ("comments", b"#\n\n"),
                        ("no-end", good[:-1]), ("one", good[:good.index(b"\n") + 1]), ("endless", b"y" * 300000),
                        ("list\n\x1b[1m\\", b"".join(lines[:40])), ("all", good + tagged + b"".join(lines)),
+                       ("large-list", harness.run(program, ["hash", "-a", "blake3", "just", "more"]).out),
                        ("names", b"\0".join(names) + b"\0"), ("names-no-end", b"\0".join(names)),
                        ("names-many", b"".join(os.fsencode(name) + b"\0" for name in MANY))):
         with open(name, "wb") as file:
@@ -157,6 +178,12 @@ def of_lists():
     yield "check - and more", ["check", "-a", "sha256", "one", "-", "good"], content("mixed")
 
 
+def of_few_lists():
+    """Lists that one run takes together, and one among them that it does not."""
+    yield "check many lists", ["check", "-a", "sha256", "--summary", *["one", "missing", "none", "mixed"] * 20], b""
+    yield "check a large list among others", ["check", "-a", "blake3", *["tagged", "large-list"] * 2, "one", "one"], b""
+
+
 def of_many():
     """20,000 files, which no way cuts into one run each."""
     for alg in ("sha256", "blake3"):
@@ -171,11 +198,136 @@ def front(program, words, given=b"", **variables):
                        env={**os.environ, "SUMS": program, **variables})
 
 
+def by_shell(program, own, text):
+    """What a line of a shell answers in which sums is sums-parallel with these words, or where there are none sums."""
+    command = shlex.join([program] if own is None else [sys.executable, "-ISXutf8", FRONT, *own])
+    return harness.run("sh", ["-c", f'rm -f told; sums() {{ {command} "$@"; }}; {text}'], timeout=600,
+                       env={**os.environ, "SUMS": program})
+
+
 def compare(program, ways, cases):
     for name, words, given in cases:
         wanted = harness.run(program, words, given)
         for own in ways:
             same(f"{' '.join(own)} {name}", front(program, [*own, *words], given), wanted)
+
+
+# ---- files that runs must not share
+
+
+def shared(program):
+    """Pipes and open files are read as by one run: each in its turn, with the streams of the whole."""
+    os.symlink("/dev/stdin", "stdin")
+    os.mkfifo("pipe")
+    line = content("one").split(b"  ")[0]
+    for name, data in (("names-stdin", b"f1\0stdin\0f2\0more\0f3\0"),
+                       ("list-stdin", content("good")[:500].rpartition(b"\n")[0] + b"\n" + line + b"  stdin\n\nx\n"
+                        + b"\\" + line + b"  st\\x\nSHA256 (stdin) = " + line + b"\n" + content("one")),
+                       ("list-pipe", content("one") + line + b"  pipe\r\n" + content("one"))):
+        with open(name, "wb") as file:
+            file.write(data)
+    for text in SHARED:
+        wanted = by_shell(program, None, text)
+        for own in WAYS:
+            same(f"{' '.join(own)}: {text}", by_shell(program, own, text), wanted)
+
+
+def own_source(program):
+    """A file that is the pipe from which the names or lines come: it cannot be read, and none of them is lost."""
+    names = ["f1", "stdin", "f2", "f3"]
+    whole = harness.run(program, ["hash", "-a", "sha256", "f1", "f2", "f3"]).out
+    for own in ([], ["-j2", "--block=1"]):
+        run = front(program, [*own, "hash", "-a", "sha256", "--files0-from", "-"], "\0".join(names).encode())
+        same(f"{own} names from themselves", run, (1, whole, b"sums: stdin: cannot read\n"))
+        lines = whole.splitlines(keepends=True)
+        run = front(program, [*own, "check", "-a", "sha256", "--summary"], b"".join(
+            [lines[0], lines[0].replace(b"f1", b"stdin"), *lines[1:]]))
+        same(f"{own} a list from itself", run, (
+            1, b"f1: OK\nstdin: UNREADABLE\nf2: OK\nf3: OK\n",
+            b"sums: 3 OK, 0 failed, 0 missing, 1 unreadable, 0 too long, 0 malformed, 0 skipped\n"))
+
+
+def answered_at_once(program):
+    """A name or line is answered before the next one is there, as where one process waits for the other."""
+    for words, given, wanted in ((["hash", "-a", "sha256", "--files0-from", "-"], b"f1\0", b"  f1\n"),
+                                 (["check", "-a", "sha256", "-"], content("one"), b": OK\n")):
+        run = subprocess.Popen([sys.executable, FRONT, *words], stdin=subprocess.PIPE, stdout=subprocess.PIPE,
+                               env={**os.environ, "SUMS": program})
+        run.stdin.write(given)
+        run.stdin.flush()
+        ready = select.select([run.stdout], [], [], 20)[0]
+        judge(f"{words[0]}: answered at once", ready and run.stdout.readline().endswith(wanted))
+        run.communicate()
+
+
+def side_by_side(program):
+    """Lines of two processes that write into one pipe stay whole."""
+    reading, writing = os.pipe()
+    runs = [subprocess.Popen([sys.executable, FRONT, "-j2", "--block=9999999", "hash", "-a", "sha256", *MANY],
+                             stdout=writing, env={**os.environ, "SUMS": program}) for _ in range(2)]
+    os.close(writing)
+    with open(reading, "rb") as pipe:
+        lines = pipe.read().splitlines()
+    for run in runs:
+        run.wait()
+    same("two side by side", sorted(lines), sorted(content("good-many").splitlines() * 2))
+
+
+# ---- what the process was begun with
+
+
+def limited(limit, least):
+    return lambda: resource.setrlimit(limit, (least, least))
+
+
+def begun_with(program):
+    """Streams that are closed, signals that are ignored, and few descriptors or little memory."""
+    for text in ("sums hash -a sha256 f1 missing f2", "sums hash -a blake3 more",
+                 "sums check -a sha256 --summary mixed", "sums hash -a sha256 --files0-from -", "sums --help",
+                 "sums -x"):
+        for closed in range(1, 8):
+            closing = " ".join(close for bit, close in enumerate(("<&-", ">&-", "2>&-")) if closed >> bit & 1)
+            wanted = by_shell(program, None, f"{text} {closing}")
+            for own in ([], ["-j2", "--block=1"]) if "-a" in text else ([],):
+                run = by_shell(program, own, f"{text} {closing}")
+                if "-a" in text:
+                    same(f"{own} {text} {closing}", run, wanted)
+                else:
+                    judge(f"{text} {closing}", run.status == wanted.status and b"Traceback" not in run.err, run)
+    ways = (("SIGCHLD ignored", lambda: signal.signal(signal.SIGCHLD, signal.SIG_IGN), "4"),
+            ("few descriptors", limited(resource.RLIMIT_NOFILE, 99), "400"),
+            ("hardly any descriptors", limited(resource.RLIMIT_NOFILE, 20), "400"),
+            ("little memory", limited(resource.RLIMIT_AS, 150 * MIB), "64"))
+    for words in (["check", "-a", "sha256", "--summary", "mixed"], ["hash", "-a", "sha256", "missing", *FEW]):
+        wanted = harness.run(program, words)
+        for name, before, count in ways:
+            run = harness.run(sys.executable, ["-ISXutf8", FRONT, "-j", count, "--block=1", *words], preexec_fn=before,
+                              env={**os.environ, "SUMS": program})
+            same(f"{name}: {words[0]}", run, wanted)
+
+
+def ignored(program):
+    """A signal that is ignored, as SIGHUP is by nohup, does not end the runs."""
+    for number in (signal.SIGHUP, signal.SIGINT):
+        begun = os.path.abspath("begun")
+        with open(begun, "wb"):
+            path = faulty(program, f'case " $* " in *" f9 "*) echo > "{begun}"; sleep 1 ;; esac')
+        run = subprocess.Popen([sys.executable, FRONT, "-j2", "--block=1", "hash", "-a", "sha256", *FEW[:20]],
+                               stdout=subprocess.PIPE, preexec_fn=lambda: signal.signal(number, signal.SIG_IGN),
+                               env={**os.environ, "SUMS": path})
+        wait_for(lambda: content(begun))
+        run.send_signal(number)
+        out = run.communicate(timeout=60)[0]
+        same(f"signal {number} is ignored", (run.returncode, out),
+             (0, harness.run(program, ["hash", "-a", "sha256", *FEW[:20]]).out))
+
+
+def early_signal():
+    """A signal that comes before the runs are begun ends the process as it ends sums."""
+    script = ("import os, runpy, signal, sys\nos.sched_getaffinity = lambda _: signal.raise_signal(signal.SIGINT)\n"
+              "sys.argv[:] = sys.argv[1:]\nrunpy.run_path(sys.argv[0], run_name='__main__')")
+    run = harness.run(sys.executable, ["-c", script, FRONT, "hash", "-a", "sha256", "f1"])
+    same("an early SIGINT", run, (-signal.SIGINT, b"", b""))
 
 
 # ---- runs that fail
@@ -218,6 +370,32 @@ def parts(program):
                        ("is lost", "rm -f changes")):
         run = front(faulty(program, f'case $1 in part) {does} ;; esac'), ["hash", "-a", "blake3", "changes"])
         same(f"a file that {name} meanwhile", run, harness.run(program, ["hash", "-a", "blake3", "changes"]))
+    fill("changes", 50 * MIB)
+    fill("another", 50 * MIB)
+    path = faulty(program, 'case "$1 $*" in "part "*" 16384 "*) mv another changes ;; esac')
+    run = front(path, ["-j1", "--block=33554432", "hash", "-a", "blake3", "changes"])
+    same("a file that is replaced meanwhile", run, harness.run(program, ["hash", "-a", "blake3", "changes"]))
+
+
+def number_of_runs(program, own, words):
+    """How many runs are begun."""
+    with open("begun", "wb"):
+        path = faulty(program, f'echo >> "{os.path.abspath("begun")}"')
+    run = front(path, [*own, *words], PATH=os.path.dirname(path) + ":" + os.environ["PATH"])
+    return run.status, len(content("begun"))
+
+
+def few_runs(program):
+    """Small lists go to one run together, and a sparse file is not cut into more parts than are of use."""
+    status, count = number_of_runs(program, [], ["check", "-a", "sha256", *["one"] * 900])
+    judge("900 small lists", status == 0 and count < 5, count)
+    with open("sparse", "wb") as file:
+        file.truncate(1 << 42)
+    path = faulty(program, f'echo >> "{os.path.abspath("begun")}"; case $1 in part) exit 1 ;; esac; exec true')
+    front(path, ["hash", "-a", "blake3", "sparse"])
+    judge("a sparse file", len(content("begun")) < 1500, len(content("begun")))
+    status, count = number_of_runs(program, [], ["hash", "-a=blake3", "-l=99", "more"])
+    judge("-a= and -l= in one word are cut", status == 0 and count > 3, count)
 
 
 def not_begun(program):
@@ -229,7 +407,8 @@ def not_begun(program):
                               (["--by=x", "-S", "y"], 2, b"give only one of -S and --by"),
                               (["-j", "0"], 2, b"-j: out of range"),
                               (["-jx"], 2, b"-j: out of range"), (["--block="], 2, b"--block: out of range"),
-                              (["-x"], 2, b"-x: neither hash nor check, nor an option")):
+                              (["-x"], 2, b"-x: neither hash nor check, nor an option"),
+                              (["--by", "/usr/bin/ssh host"], 2, b"--by: ssh hands its words to a shell: give -S")):
         run = front(program, [*own, *many])
         judge(f"{own}: the status and the text", run.status == status and b"sums-parallel: " + text in run.err, run)
     for words, text in ((["-j"], b"-j: needed"), ([], b"hash or check: needed"),
@@ -244,6 +423,10 @@ def not_begun(program):
     text = front(program, ["--help"])
     judge("the help", text.status == 0 and not text.err and max(map(len, text.out.splitlines())) <= 80, text)
     same("-h", front(program, ["-h"]), text)
+    for word in ("-V", "--version"):
+        same(word, front(program, [word]), harness.run(program, ["--version"]))
+    same("the help on a full device", by_shell(program, [], "sums --help > /dev/full"),
+         (3, b"", b"sums: cannot write\n"))
 
 
 def streams(program):
@@ -282,7 +465,7 @@ def broken_input(program):
 
 def signals(program, own):
     """Each signal ends the runs, with what they have begun."""
-    for number in (signal.SIGINT, signal.SIGTERM, signal.SIGHUP):
+    for number in (signal.SIGINT, signal.SIGTERM, signal.SIGHUP, signal.SIGQUIT):
         begun = os.path.abspath("begun")
         with open(begun, "wb"), contextlib.suppress(FileExistsError):
             os.mkdir("temporary")
@@ -340,11 +523,27 @@ def through_parallel(program):
     path = faulty(program, "")
     os.environ["PATH"] = os.path.dirname(path) + ":" + os.environ["PATH"]
     own = ["-S", "4/:", "--block", "50000"]
-    for cases in (of_files(), of_names(), of_words(), of_lists()):
+    for cases in (of_files(), of_names(), of_words(), of_lists(), of_few_lists()):
         compare(program, [own], cases)
     killed(program, ["-S", "2/:", "--block=1"])
     signals(program, ["-S", "2/:", "--block=1"])
     dead_hosts(program)
+    long_names(program)
+    run = by_shell(program, ["-S", "2/:", "--block=1"], "mkdir gone; cd gone; rmdir ../gone; sums hash -a sha256 /a /b")
+    same("-S in a folder that is gone", run, (3, b"", b"sums-parallel: .: No such file or directory\n"))
+
+
+def long_names(program):
+    """More names than a command takes go there too, and their length is counted in bytes."""
+    names = [str(number) + "\U0001f600" * 50 for number in range(400)]
+    for name in names:
+        fill(name, 1)
+    words = ["hash", "-a", "sha256", *names]
+    with open("begun", "wb"):
+        path = faulty(program, f'echo >> "{os.path.abspath("begun")}"')
+    run = front(program, ["-S", "2/:", *words], PATH=os.path.dirname(path) + ":" + os.environ["PATH"])
+    same("long names", run, harness.run(program, words))
+    judge("long names there", len(content("begun")) > 2, content("begun"))
 
 
 def dead_hosts(program):
@@ -355,10 +554,13 @@ def dead_hosts(program):
     with open("ssh", "w") as file:
         # behind the host and -- stand the words of a command
         file.write('#!/bin/sh\nhost=$1; shift 2\ncase $host in dead) exit 255 ;; '
-                   'breaks) sh -c "$*" | head -c 60; exit 255 ;; esac\nexec sh -c "$*"\n')
+                   'breaks) sh -c "$*" | head -c 60; exit 255 ;; '
+                   'strange) printf "\\0run 99\\0\\0\\0status 0\\0" ;; esac\nexec sh -c "$*"\n')
     os.chmod("ssh", 0o755)
     ssh = {"PARALLEL_SSH": os.path.abspath("ssh")}
     same("a host", front(program, ["-S", "2/host", "--block=1", *words], **ssh), whole)
+    same("a host that answers what it was not asked",
+         front(program, ["-S", "2/strange", "--block=1", *words], **ssh), whole)
     same("a dead host beside this machine", front(program, ["-S", "2/dead,2/:", "--block=1", *words], **ssh), whole)
     for host in ("dead", "breaks"):
         run = front(program, ["-S", f"2/{host}", "--block=1", *words], **ssh)
@@ -374,11 +576,19 @@ def main():
         lists(program)
         with open("good-many", "wb") as file:
             file.write(harness.run(program, ["hash", "-a", "sha256", *MANY]).out)
-        for cases in (of_files(), of_names(), of_words(), of_lists()):
+        for cases in (of_files(), of_names(), of_words(), of_lists(), of_few_lists()):
             compare(program, WAYS, cases)
         compare(program, [[], ["-j3", "--block=9999999"], ["--by", "env A=b", "--block=50000000"]], of_many())
+        shared(program)
+        own_source(program)
+        answered_at_once(program)
+        side_by_side(program)
+        begun_with(program)
+        ignored(program)
+        early_signal()
         killed(program, ["-j", "2", "--block=1"])
         parts(program)
+        few_runs(program)
         not_begun(program)
         streams(program)
         broken_input(program)
