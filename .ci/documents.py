@@ -36,7 +36,7 @@ def found(*patterns):
 
 
 PAGES = found("README.md", "docs/*.md")
-LEADING = PAGES + found("CHANGELOG.md", "bindings/*/README.md", "crates/*/CALLING.md")
+LEADING = PAGES + found("CHANGELOG.md", "bindings/*/README.md", "web/README.md", "crates/*/CALLING.md")
 
 
 # ---- the text of a page

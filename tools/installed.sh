@@ -168,7 +168,7 @@ parallel_files() {
 # the definitions that a reader of the proofs has to believe, and the lines of code that ask the system
 documents() {
     for document in README.md CHANGELOG.md LICENSE-MIT LICENSE-APACHE THIRD-PARTY docs/*.md bindings/*/README.md \
-        bindings/openssl/*.cnf bindings/c/sums_hash.h crates/*/CALLING.md crates/source/src/device.rt \
+        web/README.md bindings/openssl/*.cnf bindings/c/sums_hash.h crates/*/CALLING.md crates/source/src/device.rt \
         crates/sumlist/src/files.rt crates/sums/src/main.rt crates/sums/src/progress.rt crates/sums/src/watched.rt \
         $(find crates/*/specs -type f); do
         "$1" 644 "$document" "share/doc/sums/$document"
