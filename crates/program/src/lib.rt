@@ -1,13 +1,13 @@
 //! A whole run of `sums`: from the words to the status.
 #![tactic(auto)]
 
-ghost use Rattle.std.specs.Prelude.{IfSome, List, map};
+ghost use Rattle.std.specs.Prelude.{◌≡◌, IfSome, List, ℕ, map};
 ghost use Rattle.request.specs.CommandLine.{Text, given_of, kind_of};
 ghost use Rattle.request.specs.inside.Reading.{IsRead};
-ghost use Rattle.command.specs.Run.{TellsAll};
-ghost use Rattle.command.specs.Streams.{DoesRun};
+ghost use Rattle.command.specs.Run.{Run, Runs, TellsAll, no_failures};
+ghost use Rattle.command.specs.Streams.{DoesRun, OpensAtMost};
 ghost use Rattle.command.specs.inside.Streams.{SameStreams};
-ghost use Rattle.program.specs.Program.{IsAnswered, ProgramRuns, RequestRuns};
+ghost use Rattle.program.specs.Program.{ClapRuns, ProgramRuns, RequestRuns};
 
 pub use memory::run_in_memory;
 
@@ -34,7 +34,7 @@ pub fn run<L: Feed, T: Tree, W: Sink, E: Sink>(
         ProgramRuns (map (λ w. w.now) words.entry.now) bytes files result
         (W.shown out.old) (W.shown out.new) (E.shown err.old) (E.shown err.new)
         (L.failure_count input.old) (L.failure_count input.new)
-        (T.failure_count tree.old) (T.failure_count tree.new))) }
+        (T.failure_count tree.old) (T.failure_count tree.new) (T.opens tree.old) (T.opens tree.new))) }
 {
     run_read(alloc, line(alloc, words), input, tree, out, err)
 }
@@ -53,7 +53,7 @@ pub fn run_read<L: Feed, T: Tree, W: Sink, E: Sink>(
         ProgramRuns words bytes files result
         (W.shown out.old) (W.shown out.new) (E.shown err.old) (E.shown err.new)
         (L.failure_count input.old) (L.failure_count input.new)
-        (T.failure_count tree.old) (T.failure_count tree.new))) }
+        (T.failure_count tree.old) (T.failure_count tree.new) (T.opens tree.old) (T.opens tree.new))) }
 {
     let request = match read {
         Ok(request) => request,
@@ -83,7 +83,9 @@ fn run_request<'n, 'i, 't, 'o, L: Feed, T: Tree, W: Sink, E: Sink>(
     request: Request<'n>,
     err: &mut E,
 ) -> Result<u8, Fault<'n>>
-    ensures run { DoesRun (λ bytes files. RequestRuns (given_of request.entry) files bytes)
+    ensures run { DoesRun (λ bytes files run. (opens : ℕ) × RequestRuns (given_of request.entry) files bytes run opens
+        × OpensAtMost opens (⟦<Session<'i, 't, 'o, L, T, W> as Streams>⟧.seen session.old)
+        (⟦<Session<'i, 't, 'o, L, T, W> as Streams>⟧.seen session.new))
         (λ notes. TellsAll (E.shown err.old) (E.shown err.new) notes) result
         (⟦<Session<'i, 't, 'o, L, T, W> as Streams>⟧.seen session.old)
         (⟦<Session<'i, 't, 'o, L, T, W> as Streams>⟧.seen session.new) }
@@ -128,8 +130,8 @@ fn run_request<'n, 'i, 't, 'o, L: Feed, T: Tree, W: Sink, E: Sink>(
 
 // Prints the text of help and of the version, and tells that of what is wrong with the words.
 fn print_clap<W: Sink, E: Sink>(error: &Error, text: &str, out: &mut W, err: &mut E) -> u8
-    ensures { IsAnswered (kind_of error.now) text.now result
-        (W.shown out.old) (W.shown out.new) (E.shown err.old) (E.shown err.new) }
+    ensures { (run : Run) × ClapRuns (kind_of error.now) text.now run × (run.failures ≡ no_failures)
+        × Runs run result (W.shown out.old) (W.shown out.new) (E.shown err.old) (E.shown err.new) }
 {
     if error.use_stderr() {
         let _ = write_all(err, text.as_bytes());
