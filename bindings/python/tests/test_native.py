@@ -415,7 +415,7 @@ for own, other in (first, second), (second, first):
             self.assertEqual((type(again), str(again), again.status, again.note),
                              (sums_hash.Refused, "the function has no output of that length", 1, "kept"))
         self.assertEqual(sums_hash.Refused.__module__, "sums_hash")
-        # as 1.1.0 wrote it
+        # as it was written when the class was one of Python
         again = pickle.loads(b"csums_hash\nRefused\np0\n(I1\ntp1\nRp2\n(dp3\nVstatus\np4\nI1\nsb.")
         self.assertEqual((type(again), again.status), (sums_hash.Refused, 1))
         self.assertRaises(AttributeError, pickle.dumps, sums_hash.Refused.__new__(sums_hash.Refused))
