@@ -2,8 +2,8 @@
 # What tools/build, tools/install, tools/uninstall, tools/package and the checks share: the version, the C library's
 # files, and where each file of an installation goes. They run at the top of the repository.
 #
-# CC, CFLAGS and LDFLAGS are taken from the environment. LIBDIR is the folder of libraries below the prefix, lib where
-# it is not set; one that begins with the prefix is fine.
+# CC, CC_AARCH64, CFLAGS and LDFLAGS are taken from the environment. LIBDIR is the folder of libraries below the prefix,
+# lib where it is not set; one that begins with the prefix is fine.
 
 version=$(cat VERSION)
 # What would break a program that is linked already changes the first number, and so the name that it asks for.
@@ -12,6 +12,31 @@ soname=libsums_hash.so.${version%%.*}
 completions=completion
 # The provider for OpenSSL, where tools/build lib has made it.
 provider_module=lib/ossl-modules/sums.so
+
+# processor_of LEVEL: the processor that a build of this level is for, as `uname -m` names it
+processor_of() {
+    case $1 in aarch64) echo aarch64 ;; *) echo x86_64 ;; esac
+}
+
+# compiler_for PROCESSOR: the C compiler: CC, or for aarch64 on another machine a cross compiler, which CC_AARCH64 may name
+compiler_for() {
+    if [ "$1" != aarch64 ] || [ "$(uname -m)" = aarch64 ]; then
+        echo "${CC:-cc}"
+    else
+        echo "${CC_AARCH64:-aarch64-linux-gnu-gcc}"
+    fi
+}
+
+# make_runnable PROGRAM FILE: writes FILE, a script by which this machine runs a program for aarch64; whether it can
+make_runnable() {
+    emulator=
+    if [ "$(uname -m)" != aarch64 ]; then
+        emulator='qemu-aarch64 -L /usr/aarch64-linux-gnu'
+        command -v qemu-aarch64 > /dev/null || return
+    fi
+    printf '#!/bin/sh\nexec %s "%s" "$@"\n' "$emulator" "$(realpath "$1")" > "$2"
+    chmod 755 "$2"
+}
 
 # refuse TEXT: ends with a fault of the words
 refuse() {
@@ -99,12 +124,12 @@ text_for() {
 # library has nothing to do at its beginning and end: its bytes depend on the archive and the linker alone.
 shared() {
     case ${3-} in
-        '') needed= ;;
+        '' | aarch64) needed= ;;
         x86-64) needed=,-z,x86-64-baseline ;;
         *) needed=,-z,$3 ;;
     esac
     # shellcheck disable=SC2086 # CC and the flags are words
-    ${CC:-cc} ${CFLAGS-} -shared -nostartfiles -o "$2" -Wl,-soname,"$soname" \
+    $(compiler_for "$(processor_of "${3-}")") ${CFLAGS-} -shared -nostartfiles -o "$2" -Wl,-soname,"$soname" \
         -Wl,--version-script=bindings/c/sums_hash.map -Wl,--build-id=sha1,--hash-style=gnu \
         -Wl,-z,text,-z,defs,-z,relro,-z,now,-z,noexecstack"$needed" ${LDFLAGS-} \
         -Wl,--whole-archive "$1" -Wl,--no-whole-archive
@@ -143,7 +168,9 @@ functions() {
 }
 
 # Each of the next eight calls DO MODE FILE PLACE for each file that belongs to it, DO link TARGET PLACE for each link,
-# and DO text - PLACE for each file that text_for writes. PLACE is below the prefix.
+# and DO text - PLACE for each file that text_for writes. PLACE is below the prefix. `built_in` is the folder with the
+# bin/ and lib/ that tools/build has made, as aarch64/, and empty where they stand here.
+built_in=
 
 # program_texts DO [ZSH]: the program's manual pages and completions; ZSH is the folder for those of zsh
 program_texts() {
@@ -170,6 +197,7 @@ documents() {
     for document in README.md CHANGELOG.md LICENSE-MIT LICENSE-APACHE THIRD-PARTY docs/*.md bindings/*/README.md \
         web/README.md bindings/openssl/*.cnf bindings/c/sums_hash.h crates/*/CALLING.md crates/source/src/device.rt \
         crates/sumlist/src/files.rt crates/sums/src/main.rt crates/sums/src/progress.rt crates/sums/src/watched.rt \
+        packaging/aarch64.c \
         $(find crates/*/specs -type f); do
         "$1" 644 "$document" "share/doc/sums/$document"
     done
@@ -187,8 +215,8 @@ library_texts() {
 
 # library_files DO [LIBDIR]: the C library
 library_files() {
-    "$1" 644 lib/libsums_hash.a "${2:-lib}/libsums_hash.a"
-    "$1" 755 "lib/$soname" "${2:-lib}/$soname"
+    "$1" 644 "${built_in}lib/libsums_hash.a" "${2:-lib}/libsums_hash.a"
+    "$1" 755 "${built_in}lib/$soname" "${2:-lib}/$soname"
     "$1" link "$soname" "${2:-lib}/libsums_hash.so"
     library_texts "$1" "${2-}"
 }
@@ -200,13 +228,13 @@ provider_text() {
 
 # provider_files DO [LIBDIR]: the provider for OpenSSL
 provider_files() {
-    "$1" 644 "$provider_module" "${2:-lib}/ossl-modules/sums.so"
+    "$1" 644 "$built_in$provider_module" "${2:-lib}/ossl-modules/sums.so"
     provider_text "$1"
 }
 
 # program_files DO: the program, sums-parallel and the documents
 program_files() {
-    "$1" 755 bin/sums bin/sums
+    "$1" 755 "${built_in}bin/sums" bin/sums
     program_texts "$1"
     parallel_files "$1"
     documents "$1"
