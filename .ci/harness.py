@@ -85,9 +85,13 @@ def finish():
 
 
 def preloaded(name):
-    """A C file of this folder as a library that LD_PRELOAD takes, built by the kit's compiler."""
-    tools = os.path.join(os.path.dirname(os.path.dirname(os.path.realpath(shutil.which("rt")))), "toolchain/bin")
-    library = os.path.abspath(f"{name}.so")
-    flags = ["-O1", "-shared", "-fPIC", "-nostdlib", f"-fuse-ld={tools}/ld.lld"]
-    subprocess.run([f"{tools}/clang", *flags, "-o", library, f"{HERE}/{name}.c"], check=True)
+    """A C file of this folder as a library that LD_PRELOAD takes, built by the kit's compiler, or by the system's where
+    there is no kit."""
+    library, compiler = os.path.abspath(f"{name}.so"), ["cc"]
+    kit = shutil.which("rt")
+    if kit:
+        tools = os.path.join(os.path.dirname(os.path.dirname(os.path.realpath(kit))), "toolchain/bin")
+        compiler = [f"{tools}/clang", f"-fuse-ld={tools}/ld.lld"]
+    flags = ["-O1", "-shared", "-fPIC", "-nostdlib"]
+    subprocess.run([*compiler, *flags, "-o", library, f"{HERE}/{name}.c"], check=True)
     return library
