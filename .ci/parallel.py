@@ -372,7 +372,7 @@ def parts(program):
         same(f"a file that {name} meanwhile", run, harness.run(program, ["hash", "-a", "blake3", "changes"]))
     fill("changes", 50 * MIB)
     fill("another", 50 * MIB)
-    path = faulty(program, 'case "$1 $*" in "part "*" 16384 "*) mv another changes ;; esac')
+    path = faulty(program, 'case "$1 $*" in "part "*"--first 16384 "*) mv another changes ;; esac')
     run = front(path, ["-j1", "--block=33554432", "hash", "-a", "blake3", "changes"])
     same("a file that is replaced meanwhile", run, harness.run(program, ["hash", "-a", "blake3", "changes"]))
 
