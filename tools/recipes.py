@@ -920,7 +920,8 @@ LONG = {
                              "crate": in_clone("docs/CONTRIBUTING.md", "crate")},
     "docs/RELEASING.md": {"staged": source_build, "second": second_builder},
     "docs/BENCHMARKS.md": {name: in_clone("docs/BENCHMARKS.md", name)
-                           for name in ["speed", "speed-parts", "speed-hashers", "speed-library", "speed-languages"]},
+                           for name in ["speed", "speed-parts", "speed-hashers", "speed-library", "speed-provider",
+                                        "speed-languages"]},
 }
 
 
