@@ -179,6 +179,8 @@ def try_pasted(page, work):
         ("the first digits of a digest", digest["sha256"][:16], "wrong", None),
         ("an untagged line without a hash", digest["sha256"] + "  a.iso", "wrong", None),
         ("a digest under another hash", "blake3:" + digest["sha256"], "wrong", None),
+        ("one of an unusual length", sums(work, "hash", "-a", "blake2b", "-l", "48", "a.iso").stdout.decode().split()[0], "wrong", None),
+        ("the same under its hash", "blake2b:" + sums(work, "hash", "-a", "blake2b", "-l", "48", "a.iso").stdout.decode().split()[0], "ok", "BLAKE2b-384"),
     ):
         page.anew()
         page.paste(text)

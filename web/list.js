@@ -7,7 +7,7 @@ const LINE_END = 10;
 const LABELS = { SHA256: 'sha256', SHA512: 'sha512', BLAKE3: 'blake3', BLAKE2b: 'blake2b', BLAKE2s: 'blake2s' };
 const ESCAPES = { '\\': '\\', n: '\n', r: '\r' };
 const DIGITS = /^[0-9A-Fa-f]+$/;
-// Of a digest that is pasted alone: what has fewer digits is a part of one, or says little.
+// Of a digest that is pasted alone, 32 bytes: what is shorter is a part of one, or says little.
 const FEWEST_DIGITS = 64;
 const utf8 = new TextDecoder('utf-8', { fatal: true, ignoreBOM: true });
 
@@ -120,13 +120,20 @@ export function parseList(bytes, hash, most = Infinity) {
   return { lines, needsHash };
 }
 
-/** Of a digest alone: its digits, and the functions that it may be of, one hash where `hash` is one. Else null. */
+/** The functions that digests of so many digits are of where no hash is named: those of usual lengths. */
+function usual(digits) {
+  const all = Object.keys(HASHES).map((hash) => sized(hash, digits)).filter(Boolean);
+  return all.filter(({ hash, length }) => length === HASHES[hash].digest || digits === FEWEST_DIGITS);
+}
+
+/** Of a digest alone: its digits, and the functions that it may be of, one where it names its hash or `hash` does. Else null. */
 export function parseDigest(text, hash) {
   const found = /^(?:(sha-?256|sha-?512|blake2b|blake2s|blake3)\s*[:=]\s*)?([0-9a-f]+)$/i.exec(text.trim());
   if (!found) return null;
   const [named, digest] = [found[1]?.toLowerCase().replace('-', ''), found[2].toLowerCase()];
-  const hashes = named ? [named] : hash ? [hash] : Object.keys(HASHES);
-  return { digest, of: digest.length < FEWEST_DIGITS ? [] : hashes.map((it) => sized(it, digest.length)).filter(Boolean) };
+  if (digest.length < FEWEST_DIGITS) return { digest, of: [] };
+  const one = named ?? hash;
+  return { digest, of: one ? [sized(one, digest.length)].filter(Boolean) : usual(digest.length) };
 }
 
 // What the names of lists say of the hash; the first that fits counts.

@@ -192,12 +192,14 @@ class Run {
     byId('stop').textContent = 'Stop';
     this.#worker = new Worker(workerUrl);
     this.#worker.onmessage = ({ data }) => this.#told(data);
-    this.#worker.onerror = (event) => this.#broken(event.message);
+    this.#worker.onerror = (event) => this.#broken(event.message ?? 'no worker');
     this.#worker.postMessage({ module: moduleBytes, jobs: this.#jobs.map(({ file, functions }) => ({ file, functions })) });
     this.#tellSpeed();
   }
 
   #told({ id, taken, digests, fault, broken }) {
+    // what was on its way when the worker ended
+    if (!this.#worker) return;
     if (broken !== undefined) return this.#broken(broken);
     const job = this.#jobs[id];
     const isDone = taken === undefined;
@@ -268,7 +270,8 @@ class Run {
     for (const row of this.#rows) if (!row.result) this.#table.draw(row, 'stopped');
     byId('stop').textContent = 'Go on';
     const told = counts(this.#rows).map(([result, count]) => `${count} ${result}`);
-    this.#say('', [`Stopped: ${[...told, `${plural(this.#left, 'file')} not read`].join(', ')}`]);
+    const state = verdictOf(this.#rows).state === 'wrong' ? 'wrong' : '';
+    this.#say(state, [`Stopped: ${[...told, `${plural(this.#left, 'file')} not read`].join(', ')}`]);
   }
 }
 

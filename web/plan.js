@@ -68,7 +68,7 @@ function listRows(list, { files, chosen }, before) {
 
 /** The rows of a digest that was pasted alone: each file is compared with it. */
 function digestRows({ digest, of }, { files }) {
-  if (!of.length) return { rows: [settled('the pasted digest', RESULT.malformed, ['it is too short, or no hash here has digests of its length'])], notes: [] };
+  if (!of.length) return { rows: [settled('the pasted digest', RESULT.malformed, ['it is too short, or no hash here has digests of its length; one of another length needs its hash, chosen above'])], notes: [] };
   const rows = files.entries().map(([path, file]) => waiting(shown(path), file, of, digest));
   const notes = files.count > 1 ? ['A digest is of one file. Each file was compared with it.'] : [];
   return { rows, notes };

@@ -12,6 +12,7 @@ import time
 import urllib.request
 
 START_SECONDS = 60
+TIMEOUTS = {"script": 600000, "pageLoad": 300000}  # milliseconds
 ELEMENT = "element-6066-11e4-a52e-4f735466cecf"
 
 
@@ -45,7 +46,7 @@ class Chromium:
         self.process = subprocess.Popen(words, env=environment, stdout=subprocess.DEVNULL, stderr=subprocess.DEVNULL)
         options = {"args": ["--headless=new", "--no-sandbox", "--hide-scrollbars", f"--user-data-dir={self.home}/profile",
             f"--window-size={width},{height}"]}
-        asked = {"goog:chromeOptions": options, "goog:loggingPrefs": {"browser": "ALL", "performance": "ALL"}}
+        asked = {"timeouts": TIMEOUTS, "goog:chromeOptions": options, "goog:loggingPrefs": {"browser": "ALL", "performance": "ALL"}}
         self.session = ""
         made = soon(lambda: self.call("POST", "/session", capabilities={"alwaysMatch": asked}))
         self.session = f"/session/{made['sessionId']}"
@@ -126,6 +127,7 @@ class Firefox:
         settings = {
             "marionette.port": port, "ui.systemUsesDarkTheme": int(dark), "browser.shell.checkDefaultBrowser": False,
             "datareporting.policy.dataSubmissionEnabled": False, "toolkit.telemetry.enabled": False,
+            "privacy.reduceTimerPrecision": False,
         }
         with open(f"{self.home}/user.js", "w", encoding="utf-8") as file:
             file.writelines(f"user_pref({json.dumps(name)}, {json.dumps(value)});\n" for name, value in settings.items())
@@ -137,6 +139,7 @@ class Firefox:
         self.rest, self.count = b"", 0
         self.message()
         self.version = self.call("WebDriver:NewSession")["capabilities"]["browserVersion"]
+        self.call("WebDriver:SetTimeouts", **TIMEOUTS)
 
     def message(self):
         """The next message, which has its length before it."""

@@ -9,7 +9,7 @@ import { pathToFileURL } from 'node:url';
 import { Files, shown } from '../../web/names.js';
 import { jobsOf, keyOf, rowsOf, settle } from '../../web/plan.js';
 
-const [program, folder, rounds = '600'] = process.argv.slice(2);
+const [program, folder, rounds = '400'] = process.argv.slice(2);
 const { hash } = await import(pathToFileURL(resolve(folder, 'node.js')));
 const KINDS = [null, 'sha256', 'sha512', 'blake2b', 'blake2s', 'blake3'];
 const AT_ONCE = 100; // lists in a run of the program
