@@ -1,7 +1,8 @@
 #!/usr/bin/env python3
 """Drives the page that checks downloads in browsers without a screen, from a file and from a server: files, folders,
-what is dropped and what is pasted, lists in each form, wrong and missing files, odd names, a file of 3 GB, Stop. What it
-shows is compared with `sums check`, and no request may leave. What is not installed is told at the end, and not tried.
+what is dropped and what is pasted, lists in each form, wrong and missing files, odd names, a file of 3 GB, Stop. What
+it shows is compared with `sums check`, and no request may leave. What is not installed is told at the end, and not
+tried.
 usage: .ci/browsers.py PROGRAM PAGE [chromium|firefox]..     SHOTS names a folder for pictures of the page
 """
 
@@ -34,6 +35,8 @@ HUGE_MEMORY = 600 << 10  # KiB that a process of the browser may have of its own
 TAB, SPACE = "\ue004", " "
 EVIL = "<img src=x onerror=alert(1)>\u202etxt.exe"
 LINES = 200000
+SIZES = {"a.iso": 9000001, "empty": 0, "b c.txt": 5, "step": 4 << 20, "ü.dat": 70000, "back\\slash": 3}
+TITLES = {"sha256": "SHA-256", "sha512": "SHA-512", "blake2b": "BLAKE2b", "blake2s": "BLAKE2s", "blake3": "BLAKE3"}
 
 
 def sums(work, *words):
@@ -47,7 +50,8 @@ READ = """
     const id = (name) => document.getElementById(name);
     const results = texts('#rows td:nth-child(2)');
     return {
-        verdict: id('verdict').textContent, state: id('results').className, notes: texts('#notes li'), added: id('added').textContent,
+        verdict: id('verdict').textContent, state: id('results').className,
+        notes: texts('#notes li'), added: id('added').textContent,
         rows: texts('#rows th').map((name, at) => `${name}: ${results[at]}`), details: texts('#rows td:nth-child(3)'),
         isWorking: !id('progress').hidden, speed: id('speed').textContent, more: id('more').textContent,
     };
@@ -63,15 +67,25 @@ class Page:
 
     def anew(self, chosen=""):
         self.browser.script("document.getElementById('anew').click()")
-        self.browser.script(
-            "const it = document.getElementById('hash'); it.value = arguments[0]; it.dispatchEvent(new Event('change'))", chosen)
+        self.choose(chosen)
+
+    def choose(self, chosen):
+        """Chooses a hash by its name."""
+        self.browser.script("""
+            const select = document.getElementById('hash');
+            select.value = arguments[0];
+            select.dispatchEvent(new Event('change'));
+        """, chosen)
 
     def files(self, *paths, by="files"):
         self.browser.keys(by, "\n".join(map(str, paths)))
 
     def paste(self, text):
-        self.browser.script(
-            "const it = document.getElementById('text'); it.value = arguments[0]; it.dispatchEvent(new Event('input'))", text)
+        self.browser.script("""
+            const area = document.getElementById('text');
+            area.value = arguments[0];
+            area.dispatchEvent(new Event('input'));
+        """, text)
         time.sleep(0.5)
 
     def read(self):
@@ -100,8 +114,9 @@ class Page:
 
 def make_files(work):
     """Files of several sizes and names, and lists of them by each hash, with lines of every kind."""
-    for name, size in (("a.iso", 9000001), ("empty", 0), ("b c.txt", 5), ("step", 4 << 20), ("ü.dat", 70000), ("back\\slash", 3)):
-        (work / name).write_bytes(bytes((at * 7 + size) & 255 for at in range(65536)) * (size // 65536) + bytes(size % 65536))
+    for name, size in SIZES.items():
+        block = bytes((at * 7 + size) & 255 for at in range(65536))
+        (work / name).write_bytes(block * (size // 65536) + bytes(size % 65536))
     (work / EVIL.replace("/", "")).write_bytes(b"evil")
     names = sorted(it.name for it in work.iterdir())
     for name in HASHES:
@@ -144,10 +159,14 @@ def try_lists(page, work, files):
     page.anew()
     page.files(work / "sha256sums", work / "blake3sums", *files)
     got = page.judged(2 + len(files))["rows"]
-    wanted = report_of(work, "-a", "sha256", "sha256sums") + report_of(work, "-a", "blake3", "blake3sums")
-    number = len(wanted) // 2
-    prefixed = [re.sub(r"^(?=line \d+: MALFORMED$)", "sha256sums: " if at < number else "blake3sums: ", it) for at, it in enumerate(wanted)]
-    harness.same("two lists", sorted(got), sorted(prefixed))
+    wanted = of_several(work, "sha256") + of_several(work, "blake3")
+    harness.same("two lists", sorted(got), sorted(wanted))
+
+
+def of_several(work, name):
+    """The report of a list as one of several: its malformed lines have its name before them."""
+    report = report_of(work, "-a", name, f"{name}sums")
+    return [f"{name}sums: {it}" if re.match(r"line \d+: MALFORMED$", it) else it for it in report]
 
 
 def try_chosen(page, work):
@@ -157,30 +176,38 @@ def try_chosen(page, work):
     page.files(work / "any name", by="lists")
     page.files(work / "a.iso")
     shown = page.judged(2)
-    harness.same("a list whose name says no hash", (shown["rows"], shown["notes"][:1]),
-        (["line 1: MALFORMED", "a.iso: NOT LISTED"], ["any name: its lines do not say which hash they are of. Choose it above."]))
-    page.browser.script("const it = document.getElementById('hash'); it.value = 'blake2b'; it.dispatchEvent(new Event('change'))")
+    harness.same("a list whose name says no hash", shown["rows"], ["line 1: MALFORMED", "a.iso: NOT LISTED"])
+    harness.same("what it lacks", shown["notes"][0],
+        "any name: its lines do not say which hash they are of. Choose it above.")
+    page.choose("blake2b")
     harness.same("the same when it is chosen", page.judged(2)["rows"], ["a.iso: OK"])
     (work / "none.sums").write_bytes(b"# nothing\n")
     page.anew()
     page.files(work / "none.sums", work / "a.iso")
     shown = page.judged(2)
-    harness.same("a list of no entries", (shown["rows"], shown["notes"][0], shown["state"]), (["a.iso: NOT LISTED"], "none.sums: no entries.", ""))
+    harness.same("a list of no entries", (shown["rows"], shown["notes"][0], shown["state"]),
+        (["a.iso: NOT LISTED"], "none.sums: no entries.", ""))
+
+
+def digest_of(work, name, *words):
+    """The digest of the image."""
+    return sums(work, "hash", "-a", name, *words, "a.iso").stdout.decode().split()[0]
 
 
 def try_pasted(page, work):
-    digest = {name: sums(work, "hash", "-a", name, "a.iso").stdout.decode().split()[0] for name in HASHES}
+    digest = {name: digest_of(work, name) for name in HASHES}
+    unusual = digest_of(work, "blake2b", "-l", "48")
     wrong = digest["sha256"][:-1] + ("1" if digest["sha256"][-1] == "0" else "0")
     for what, text, state, detail in (
-        *((f"a digest by {name}", digest[name], "ok", {"sha256": "SHA-256", "sha512": "SHA-512", "blake2b": "BLAKE2b", "blake2s": "BLAKE2s", "blake3": "BLAKE3"}[name]) for name in HASHES),
+        *((f"a digest by {name}", digest[name], "ok", TITLES[name]) for name in HASHES),
         ("one with its hash before it, in upper case", "sha256:" + digest["sha256"].upper(), "ok", "SHA-256"),
         ("a tagged line", f"SHA256 (a.iso) = {digest['sha256']}", "ok", "SHA-256"),
         ("a wrong digest", wrong, "wrong", None),
         ("the first digits of a digest", digest["sha256"][:16], "wrong", None),
         ("an untagged line without a hash", digest["sha256"] + "  a.iso", "wrong", None),
         ("a digest under another hash", "blake3:" + digest["sha256"], "wrong", None),
-        ("one of an unusual length", sums(work, "hash", "-a", "blake2b", "-l", "48", "a.iso").stdout.decode().split()[0], "wrong", None),
-        ("the same under its hash", "blake2b:" + sums(work, "hash", "-a", "blake2b", "-l", "48", "a.iso").stdout.decode().split()[0], "ok", "BLAKE2b-384"),
+        ("one of an unusual length", unusual, "wrong", None),
+        ("the same under its hash", "blake2b:" + unusual, "ok", "BLAKE2b-384"),
     ):
         page.anew()
         page.paste(text)
@@ -194,27 +221,32 @@ def try_pasted(page, work):
     page.anew()
     page.files(work / "a.iso")
     shown = page.judged(1)
-    harness.same("no list: a digest", (shown["rows"], shown["details"]), (["a.iso: DIGEST"], ["SHA-256 " + digest["sha256"]]))
+    harness.same("no list: a digest", (shown["rows"], shown["details"]),
+        (["a.iso: DIGEST"], ["SHA-256 " + digest["sha256"]]))
 
 
 def try_names(page, work):
-    digest = sums(work, "hash", "-a", "sha256", "a.iso").stdout.decode().split()[0]
+    digest = digest_of(work, "sha256")
     page.anew()
     page.paste(f"SHA256 ({EVIL}) = {digest}\nSHA256 (\u2066x\u2069) = {digest}\n\\SHA256 (a\\nb) = {digest}")
     page.files(work / "a.iso")
     shown = page.judged(1)
-    wanted = ["<img src=x onerror=alert(1)>\\u{202e}txt.exe: MISSING", "\\u{2066}x\\u{2069}: MISSING", "a\\nb: MISSING", "a.iso: NOT LISTED"]
-    harness.same("names of markup, and that turn the text", shown["rows"], wanted)
-    harness.same("no element is made of a name", page.browser.script("return document.querySelectorAll('img, #rows script').length"), 0)
+    wanted = ["<img src=x onerror=alert(1)>\\u{202e}txt.exe", "\\u{2066}x\\u{2069}", "a\\nb"]
+    harness.same("names of markup, and that turn the text", shown["rows"],
+        [*(f"{name}: MISSING" for name in wanted), "a.iso: NOT LISTED"])
+    made = page.browser.script("return document.querySelectorAll('img, #rows script').length")
+    harness.same("no element is made of a name", made, 0)
     page.anew()
     page.paste(f"SHA256 (pool/main/a.iso) = {digest}")
     page.files(work / "a.iso")
     shown = page.judged(1)
-    harness.same("a name with a folder that is not here", (shown["rows"], shown["details"]), (["pool/main/a.iso: OK"], ["SHA-256, of the file a.iso"]))
+    harness.same("a name with a folder that is not here", (shown["rows"], shown["details"]),
+        (["pool/main/a.iso: OK"], ["SHA-256, of the file a.iso"]))
     page.anew()
     page.paste(f"SHA256 (one/a.iso) = {digest}\nSHA256 (two/a.iso) = {digest}")
     page.files(work / "a.iso")
-    harness.same("two such names", page.judged(1)["rows"], ["one/a.iso: MISSING", "two/a.iso: MISSING", "a.iso: NOT LISTED"])
+    harness.same("two such names", page.judged(1)["rows"],
+        ["one/a.iso: MISSING", "two/a.iso: MISSING", "a.iso: NOT LISTED"])
 
 
 def folder_of(work):
@@ -251,7 +283,8 @@ def try_dropped_folder(page, top, wanted):
     page.browser.drop([str(top)])
     if page.browser.script("return location.protocol") == "file:":
         shown = page.wait(lambda it: it["added"], "answer")
-        harness.judge("dropped on a file: a folder", "choose it as" in shown["added"] and not shown["rows"], shown["added"])
+        is_told = "choose it as" in shown["added"] and not shown["rows"]
+        harness.judge("dropped on a file: a folder", is_told, shown["added"])
     else:
         harness.same("dropped: a folder", sorted(page.judged(5)["rows"]), sorted(wanted))
 
@@ -266,7 +299,8 @@ def try_again(page, work):
     harness.same("a file", page.judged(1)["rows"], ["changing: OK"])
     (work / "changing").write_bytes(b"behind")
     page.files(work / "changing")
-    harness.same("the same after a change", page.wait(lambda it: "FAILED" in it["rows"][0], "FAILED")["rows"], ["changing: FAILED"])
+    shown = page.wait(lambda it: "FAILED" in it["rows"][0], "FAILED")
+    harness.same("the same after a change", shown["rows"], ["changing: FAILED"])
 
 
 def try_many_lines(page, work):
@@ -277,8 +311,10 @@ def try_many_lines(page, work):
     page.anew()
     page.files(work / "many.sha256", work / "a.iso")
     shown = page.judged(2)
-    harness.same("a list of many lines", (shown["verdict"], "a.iso: FAILED" in shown["rows"], len(shown["rows"]), shown["more"]),
-        (f"Something is wrong: 1 FAILED, {LINES - 1} MISSING", True, 1001, f"{LINES - 1001} more rows of the kinds above, which are counted, and not shown."))
+    harness.same("a list of many lines", shown["verdict"], f"Something is wrong: 1 FAILED, {LINES - 1} MISSING")
+    harness.judge("its wrong line", "a.iso: FAILED" in shown["rows"])
+    harness.same("how many lines are shown", (len(shown["rows"]), shown["more"]),
+        (1001, f"{LINES - 1001} more rows of the kinds above, which are counted, and not shown."))
 
 
 # ---- a long file
@@ -347,7 +383,8 @@ def try_huge(page, work):
     page.browser.script("document.getElementById('stop').focus()")
     page.browser.press(SPACE)
     shown = page.wait(lambda it: it["verdict"], "end")
-    harness.same("Stop", (shown["verdict"], shown["rows"][0]), ("Stopped: 1 NOT LISTED, 1 file not read", "huge.iso: stopped"))
+    harness.same("Stop", (shown["verdict"], shown["rows"][0]),
+        ("Stopped: 1 NOT LISTED, 1 file not read", "huge.iso: stopped"))
     time.sleep(1)
     harness.same("nothing goes on", page.read()["speed"], shown["speed"])
     page.browser.press(SPACE)
@@ -369,11 +406,11 @@ def try_keyboard(page):
     harness.same("the Tab key", reached, ["files", "folder", "lists", "text", "hash", "anew"])
     nameless = page.browser.script("""
         return [...document.querySelectorAll('input, textarea, select, button, progress')]
-            .filter((it) => !(it.labels?.length && it.labels[0].textContent.trim()) && !it.textContent.trim()).map((it) => it.id);
+            .filter((it) => !it.labels?.[0]?.textContent.trim() && !it.textContent.trim()).map((it) => it.id);
     """)
     harness.same("controls without a name", nameless, [])
-    live = page.browser.script("return ['verdict', 'added'].map((it) => !!document.getElementById(it).closest('[role=status]'))")
-    harness.same("what is told aloud", live, [True, True])
+    live = page.browser.script("return document.querySelectorAll('[role=status] #verdict, #added[role=status]').length")
+    harness.same("what is told aloud", live, 2)
 
 
 class Server(http.server.ThreadingHTTPServer):
@@ -400,24 +437,37 @@ class Server(http.server.ThreadingHTTPServer):
         self.address = f"http://127.0.0.1:{self.server_address[1]}"
 
 
-# Each way to ask a server, by a script in the page; what stands there is what was thrown at once.
+# Each way to ask a server, by a script in the page.
 ATTEMPTS = """
     const address = arguments[0] + '/asked-by-';
-    const attempts = {
-        fetch: () => fetch(address + 'fetch').catch(() => {}), nocors: () => fetch(address + 'nocors', { mode: 'no-cors' }).catch(() => {}),
-        beacon: () => navigator.sendBeacon(address + 'beacon', 'x'), xhr: () => { const it = new XMLHttpRequest(); it.open('GET', address + 'xhr'); it.send(); },
-        image: () => { document.body.append(Object.assign(new Image(), { src: address + 'image' })); },
-        style: () => { const it = document.createElement('link'); it.rel = 'stylesheet'; it.href = address + 'style'; document.head.append(it); },
-        script: () => { const it = document.createElement('script'); it.src = address + 'script'; document.head.append(it); },
-        frame: () => { const it = document.createElement('iframe'); it.src = address + 'frame'; document.body.append(it); },
-        socket: () => new WebSocket(address.replace('http', 'ws') + 'socket'), events: () => new EventSource(address + 'events'),
-        worker: () => new Worker(address + 'worker'), imported: () => import(address + 'import').catch(() => {}),
-        form: () => { const it = document.createElement('form'); it.action = address + 'form'; document.body.append(it); it.submit(); },
-        prefetch: () => { const it = document.createElement('link'); it.rel = 'prefetch'; it.href = address + 'prefetch'; document.head.append(it); },
-        media: () => { const it = document.createElement('video'); it.src = address + 'media'; document.body.append(it); },
-        font: () => new FontFace('x', `url(${address}font)`).load().catch(() => {}),
+    const made = (name, properties, parent = document.head) => {
+        const element = Object.assign(document.createElement(name), properties);
+        parent.append(element);
+        return element;
     };
-    for (const attempt of Object.values(attempts)) try { attempt(); } catch {}
+    const attempts = [
+        () => fetch(address + 'fetch').catch(() => {}),
+        () => fetch(address + 'nocors', { mode: 'no-cors' }).catch(() => {}),
+        () => navigator.sendBeacon(address + 'beacon', 'x'),
+        () => {
+            const request = new XMLHttpRequest();
+            request.open('GET', address + 'xhr');
+            request.send();
+        },
+        () => made('img', { src: address + 'image' }, document.body),
+        () => made('link', { rel: 'stylesheet', href: address + 'style' }),
+        () => made('link', { rel: 'prefetch', href: address + 'prefetch' }),
+        () => made('script', { src: address + 'script' }),
+        () => made('iframe', { src: address + 'frame' }, document.body),
+        () => made('video', { src: address + 'media' }, document.body),
+        () => made('form', { action: address + 'form' }, document.body).submit(),
+        () => new WebSocket(address.replace('http', 'ws') + 'socket'),
+        () => new EventSource(address + 'events'),
+        () => new Worker(address + 'worker'),
+        () => import(address + 'import').catch(() => {}),
+        () => new FontFace('x', `url(${address}font)`).load().catch(() => {}),
+    ];
+    for (const attempt of attempts) try { attempt(); } catch {}
 """
 
 

@@ -189,7 +189,8 @@ def try_command(work):
         file.write(REFUSED["a table"])
     run = subprocess.run([os.path.join(TOOLS, "lower.py"), wrong, made], capture_output=True, text=True, check=False)
     told = (run.returncode, run.stderr, os.path.exists(made))
-    harness.judge("what the script says", told == (1, f"tools/lower.py: {wrong}: not known: the section 4\n", False), told)
+    wanted = (1, f"tools/lower.py: {wrong}: not known: the section 4\n", False)
+    harness.same("what the script says", told, wanted)
 
 
 # ---- what the lowered module does
@@ -198,6 +199,10 @@ BESIDE = """
 const fs = require('fs');
 const make = (file) => new WebAssembly.Instance(new WebAssembly.Module(fs.readFileSync(file))).exports;
 const [first, lowered] = process.argv.slice(1).map(make);
+const endOf = (call) => {
+    try { call(); } catch (error) { return error.constructor.name; }
+    return '';
+};
 let state = 12345;
 const next = (bound) => { state = (Math.imul(state, 1103515245) + 12345) >>> 0; return (state >>> 8) % bound; };
 const names = Object.keys(first).filter((name) => name !== 'memory');
@@ -211,7 +216,7 @@ for (let round = 0; round < 20; round++) for (const name of names) {
 }
 // both end at the end of the memory, and behind it
 for (const place of [65536n, 65535n, 2n ** 32n - 1n, 2n ** 64n - 1n]) for (const name of names) {
-    const ends = [first, lowered].map((it) => { try { it[name](place, 1n); return ''; } catch (error) { return error.constructor.name; } });
+    const ends = [first, lowered].map((it) => endOf(() => it[name](place, 1n)));
     if (ends[0] !== ends[1]) { differences++; console.log(`function ${name} at ${place}: ${ends}`); }
 }
 console.log(`${names.length} functions, ${differences} differences`);

@@ -2,10 +2,10 @@
 """Writes a module of WebAssembly whose addresses have 64 bits as one whose addresses have 32, which every engine takes.
 usage: tools/lower.py IN OUT
 
-In the code an address stays a number of 64 bits, and is cut to its low 32 where an instruction uses it. So the code, the
-places in memory and the types of the exports are those of the first module. The memory of the second ends below 4 GiB.
-As long as the first module stays below that too, no address has more than 32 bits, nothing is cut off, and the second
-does what the first does. Custom sections describe the code of the first, and are left out.
+In the code an address stays a number of 64 bits, and is cut to its low 32 where an instruction uses it. So the code,
+the places in memory and the types of the exports are those of the first module. The memory of the second ends below
+4 GiB. As long as the first module stays below that too, no address has more than 32 bits, nothing is cut off, and the
+second does what the first does. Custom sections describe the code of the first, and are left out.
 
 A module with anything that is not known here is refused, with status 1: imports, tables, several memories, a memory
 that the code itself grows, and each instruction that is in no table below.
@@ -250,7 +250,8 @@ def lower_data(section):
         known(section.number() == 0 and section.byte() == CONST_WIDE, "a segment without a place")
         place = section.signed_number()
         known(place < 2**31 and section.byte() == END, "a segment whose place is computed")
-        segments.append(number(0) + bytes([CONST_WORD]) + signed_number(place) + bytes([END]) + sized(section.part().data))
+        put = bytes([CONST_WORD]) + signed_number(place) + bytes([END])
+        segments.append(number(0) + put + sized(section.part().data))
     return number(count) + b"".join(segments)
 
 

@@ -57,8 +57,12 @@ def source_of_policy(text):
 def policy(script, style):
     """What the browser lets the page do: its own script and style, the module, a worker, and no request at all."""
     return "; ".join([
-        "default-src 'none'", f"script-src {source_of_policy(script)} 'wasm-unsafe-eval'", f"style-src {source_of_policy(style)}",
-        "worker-src blob:", "base-uri 'none'", "form-action 'none'",
+        "default-src 'none'",
+        f"script-src {source_of_policy(script)} 'wasm-unsafe-eval'",
+        f"style-src {source_of_policy(style)}",
+        "worker-src blob:",
+        "base-uri 'none'",
+        "form-action 'none'",
     ])
 
 
@@ -77,7 +81,8 @@ def page(module, version):
         assert not re.search(r"</(script|style)|<!--", text, re.I), "what ends its element early"
     parts = {
         "POLICY": policy(script, style), "STYLE": style, "SCRIPT": script, "WORKER": worker,
-        "VERSION": html.escape(version), "NOTICES": notices(), "MODULE": base64.b64encode(zlib.compress(module, 9)).decode(),
+        "VERSION": html.escape(version), "NOTICES": notices(),
+        "MODULE": base64.b64encode(zlib.compress(module, 9)).decode(),
     }
     return re.sub(r"@([A-Z]+)@", lambda it: parts[it[1]], read("web/page.html"))
 

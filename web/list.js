@@ -95,13 +95,14 @@ function parseLine(bytes, hash) {
   const parts = mark === '(' ? tagged(word, rest) : (mark === ' ' || mark === '*') && untagged(word, rest, hash);
   if (!parts || !DIGITS.test(parts.digits)) return MALFORMED;
   const name = nameOf(parts.body, isEscaped, parts.digits.length);
-  return name === null ? MALFORMED : { name, hash: parts.hash, length: parts.length, digest: parts.digits.toLowerCase() };
+  if (name === null) return MALFORMED;
+  return { name, hash: parts.hash, length: parts.length, digest: parts.digits.toLowerCase() };
 }
 
 /**
- * The lines of a list that are not skipped, `{ number, entry }` each, where an entry is `{ name, hash, length, digest }`
- * or MALFORMED. `needsHash` says that a malformed one would be an entry if some hash were named. Where there are more
- * than `most` lines, null.
+ * The lines of a list that are not skipped, `{ number, entry }` each, where an entry is `{ name, hash, length,
+ * digest }` or MALFORMED. `needsHash` says that a malformed one would be an entry if some hash were named. Where there
+ * are more than `most` lines, null.
  */
 export function parseList(bytes, hash, most = Infinity) {
   const lines = [];
@@ -126,7 +127,7 @@ function usual(digits) {
   return all.filter(({ hash, length }) => length === HASHES[hash].digest || digits === FEWEST_DIGITS);
 }
 
-/** Of a digest alone: its digits, and the functions that it may be of, one where it names its hash or `hash` does. Else null. */
+/** Of a digest alone: its digits, and the functions that it may be of, one where it or `hash` names it. Else null. */
 export function parseDigest(text, hash) {
   const found = /^(?:(sha-?256|sha-?512|blake2b|blake2s|blake3)\s*[:=]\s*)?([0-9a-f]+)$/i.exec(text.trim());
   if (!found) return null;

@@ -17,6 +17,9 @@ export const lastPart = (path) => path.slice(path.lastIndexOf('/') + 1);
 const folderOf = (path) => path.slice(0, path.lastIndexOf('/') + 1);
 const topOf = (path) => path.slice(0, path.indexOf('/') + 1);
 
+/** What a path means that is there, and is no file. */
+const NO_FILE = { path: '', file: null };
+
 /** The folder above, within the folder that was added, or null. */
 const above = (folder) => folderOf(folder.slice(0, -1)) || null;
 
@@ -42,8 +45,8 @@ export class Files {
   }
 
   /**
-   * What a list at this path names, `{ path, file }`: from the folder of the list, or else from the top of a folder. A
-   * path that is there and no file has `file: null`. Where there is none, or several, null.
+   * What a list at this path names, `{ path, file }`: from the folder of the list, or else from the top of a folder.
+   * Where that is there and no file, NO_FILE; where there is nothing, or several, null.
    */
   named(listPath, name) {
     const own = this.#from(folderOf(listPath), name);
@@ -68,7 +71,8 @@ export class Files {
     for (const part of parts) {
       if (part === '' || part === '.') continue;
       const next = part === '..' ? above(at) : `${at}${part}/`;
-      if (!this.#folders.has(next)) return this.#byPath.has(`${at}${part}`) ? { path: `${at}${part}`, file: null } : null;
+      // a file on the way leads to none
+      if (!this.#folders.has(next)) return this.#byPath.has(`${at}${part}`) ? NO_FILE : null;
       at = next;
     }
     return this.#at(`${at}${last}`);
@@ -76,6 +80,6 @@ export class Files {
 
   #at(path) {
     if (this.#byPath.has(path)) return { path, file: this.#byPath.get(path) };
-    return path.endsWith('/') || this.#folders.has(`${path}/`) ? { path, file: null } : null;
+    return path.endsWith('/') || this.#folders.has(`${path}/`) ? NO_FILE : null;
   }
 }

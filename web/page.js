@@ -8,6 +8,8 @@ const LIST_BYTES = 2 ** 26;
 const MOST_SHOWN = 1000; // rows of one result
 const DRAW_AFTER = 100; // milliseconds
 const TYPING = 300; // milliseconds without a key
+const NO_DROPPED_FOLDER =
+  'This browser does not let the page read a folder that was dropped: choose it as “A whole folder”.';
 
 const byId = (id) => document.getElementById(id);
 const element = (name, properties) => Object.assign(document.createElement(name), properties);
@@ -48,10 +50,11 @@ function tellAdded() {
   byId('added').textContent = told.length ? `Added: ${told.join(' and ')}.` : '';
 }
 
-/** Adds files, of which `isList` says which are lists by their names. One of the same path takes the place of another. */
+/** Adds files, of which `isList` says which are lists. One of the same path takes the place of another. */
 async function add(found, isList) {
   const mine = generation;
-  const lists = await Promise.all(found.filter(({ path }) => isList(lastPart(path))).map(({ path, file }) => listOf(path, file)));
+  const named = found.filter(({ path }) => isList(lastPart(path)));
+  const lists = await Promise.all(named.map(({ path, file }) => listOf(path, file)));
   if (mine !== generation) return;
   for (const { path, file } of found) added.files.add(path, file);
   const paths = new Set(found.map((it) => it.path));
@@ -84,8 +87,9 @@ async function filesIn(entry, before) {
 
 /** What was dropped, with the files of folders, which Chromium does not give to a page that is a file itself. */
 async function dropped(transfer) {
-  const items = [...transfer.items].filter((it) => it.kind === 'file').map((it) => [it.webkitGetAsEntry?.(), it.getAsFile()]);
-  const found = items.map(([entry, file]) => entry?.isDirectory ? filesIn(entry, '') : [{ path: file.name, file }]);
+  const items = [...transfer.items].filter((it) => it.kind === 'file');
+  const both = items.map((it) => [it.webkitGetAsEntry?.(), it.getAsFile()]);
+  const found = both.map(([entry, file]) => entry?.isDirectory ? filesIn(entry, '') : [{ path: file.name, file }]);
   return (await Promise.all(found)).flat();
 }
 
@@ -123,7 +127,8 @@ class Table {
 
   #tellMore() {
     const hidden = this.#count - this.#lines.size;
-    byId('more').textContent = hidden ? `${plural(hidden, 'more row')} of the kinds above, which are counted, and not shown.` : '';
+    const text = `${plural(hidden, 'more row')} of the kinds above, which are counted, and not shown.`;
+    byId('more').textContent = hidden ? text : '';
   }
 }
 
@@ -193,7 +198,8 @@ class Run {
     this.#worker = new Worker(workerUrl);
     this.#worker.onmessage = ({ data }) => this.#told(data);
     this.#worker.onerror = (event) => this.#broken(event.message ?? 'no worker');
-    this.#worker.postMessage({ module: moduleBytes, jobs: this.#jobs.map(({ file, functions }) => ({ file, functions })) });
+    const jobs = this.#jobs.map(({ file, functions }) => ({ file, functions }));
+    this.#worker.postMessage({ module: moduleBytes, jobs });
     this.#tellSpeed();
   }
 
@@ -233,7 +239,8 @@ class Run {
     byId('bar').value = total ? taken : 1;
     const speed = taken / seconds;
     const rest = this.#left ? `, ${Math.ceil((total - taken) / speed)} s left` : `, ${seconds.toFixed(1)} s`;
-    byId('speed').textContent = `${sizeOf(taken)} of ${sizeOf(total)}${seconds > 1 && taken ? `, ${sizeOf(speed)} a second${rest}` : ''}`;
+    const told = seconds > 1 && taken ? `, ${sizeOf(speed)} a second${rest}` : '';
+    byId('speed').textContent = `${sizeOf(taken)} of ${sizeOf(total)}${told}`;
   }
 
   #say(state, [text = '', ...advice]) {
@@ -296,8 +303,16 @@ function anew() {
 
 const over = (isOver) => document.body.classList.toggle('over', isOver);
 
-for (const id of ['files', 'folder']) byId(id).addEventListener('change', (event) => add(taken(event.target), isListName));
-byId('lists').addEventListener('change', (event) => add(taken(event.target), () => true));
+const onChange = (id, does) => byId(id).addEventListener('change', (event) => does(event.target));
+
+onChange('files', (input) => add(taken(input), isListName));
+onChange('folder', (input) => add(taken(input), isListName));
+onChange('lists', (input) => add(taken(input), () => true));
+onChange('hash', (select) => {
+  added.chosen = select.value || null;
+  start();
+});
+onChange('missing', (box) => byId('details').classList.toggle('without-missing', !box.checked));
 byId('text').addEventListener('input', () => {
   clearTimeout(typing);
   typing = setTimeout(() => {
@@ -305,11 +320,6 @@ byId('text').addEventListener('input', () => {
     start();
   }, TYPING);
 });
-byId('hash').addEventListener('change', () => {
-  added.chosen = byId('hash').value || null;
-  start();
-});
-byId('missing').addEventListener('change', (event) => byId('details').classList.toggle('without-missing', !event.target.checked));
 byId('stop').addEventListener('click', () => run.isWorking ? run.interrupt() : start());
 byId('anew').addEventListener('click', anew);
 addEventListener('dragover', (event) => {
@@ -325,7 +335,7 @@ addEventListener('drop', async (event) => {
     const found = await dropped(event.dataTransfer);
     if (found.length && mine === generation) add(found, isListName);
   } catch {
-    byId('added').textContent = 'This browser does not let the page read a folder that was dropped: choose it as “A whole folder”.';
+    byId('added').textContent = NO_DROPPED_FOLDER;
   }
 });
 

@@ -6,17 +6,32 @@ import { lastPart, shown } from './names.js';
 
 // A list with more lines is for `sums check`, which keeps one at a time.
 const MOST_LINES = 500000;
+const TOO_MANY_LINES = `it has more than ${MOST_LINES} lines: use sums check`;
+const NO_DIGEST =
+  'it is too short, or no hash here has digests of its length; one of another length needs its hash, chosen above';
 // Of what failed, the names that are told beside the verdict.
 const MOST_NAMES = 3;
 
 /** The results of a row, as `sums check` names them, and two more: a file that no list names, and a digest alone. */
 export const RESULT = {
-  ok: 'OK', failed: 'FAILED', missing: 'MISSING', unreadable: 'UNREADABLE', malformed: 'MALFORMED', unlisted: 'NOT LISTED', digest: 'DIGEST',
+  ok: 'OK',
+  failed: 'FAILED',
+  missing: 'MISSING',
+  unreadable: 'UNREADABLE',
+  malformed: 'MALFORMED',
+  unlisted: 'NOT LISTED',
+  digest: 'DIGEST',
 };
 const IN_ORDER = Object.values(RESULT);
 const WRONG = [RESULT.failed, RESULT.unreadable, RESULT.malformed];
 
-export const TITLES = { sha256: 'SHA-256', sha512: 'SHA-512', blake2b: 'BLAKE2b', blake2s: 'BLAKE2s', blake3: 'BLAKE3' };
+export const TITLES = {
+  sha256: 'SHA-256',
+  sha512: 'SHA-512',
+  blake2b: 'BLAKE2b',
+  blake2s: 'BLAKE2s',
+  blake3: 'BLAKE3',
+};
 export const titleOf = ({ hash, length }) => TITLES[hash] + (length === HASHES[hash].digest ? '' : `-${8 * length}`);
 export const keyOf = ({ hash, length }) => `${hash} ${length}`;
 
@@ -24,10 +39,10 @@ export const keyOf = ({ hash, length }) => `${hash} ${length}`;
 
 const settled = (label, result, detail = []) => ({ label, result, detail });
 
-/** A row that waits for the digests of a file by these functions; one of them has to be `digest`, where there is one. */
+/** A row that waits for the digests of a file by these functions, one of which has to be `digest` if there is one. */
 const waiting = (label, file, of, digest, remark = '') => ({ label, file, of, digest, remark, result: '', detail: [] });
 
-/** The row of an entry. A file that was added by itself may be named with a folder, if no other name ends like this one. */
+/** The row of an entry. A file that was added by itself may be named with a folder, if no other name ends like it. */
 function entryRow(entry, list, files, endings) {
   const isEnding = endings.get(lastPart(entry.name)) === entry.name;
   const named = files.named(list.path, entry.name);
@@ -55,7 +70,7 @@ function listRows(list, { files, chosen }, before) {
   const name = shown(list.name);
   if (list.fault) return { rows: [settled(name, RESULT.unreadable, [list.fault])], notes: [] };
   const parsed = parseList(list.bytes, chosen ?? hashOfList(list.name), MOST_LINES);
-  if (!parsed) return { rows: [settled(name, RESULT.unreadable, [`it has more than ${MOST_LINES} lines: use sums check`])], notes: [] };
+  if (!parsed) return { rows: [settled(name, RESULT.unreadable, [TOO_MANY_LINES])], notes: [] };
   const { lines, needsHash } = parsed;
   const notes = [];
   if (!lines.length) notes.push(`${name}: no entries.`);
@@ -68,7 +83,7 @@ function listRows(list, { files, chosen }, before) {
 
 /** The rows of a digest that was pasted alone: each file is compared with it. */
 function digestRows({ digest, of }, { files }) {
-  if (!of.length) return { rows: [settled('the pasted digest', RESULT.malformed, ['it is too short, or no hash here has digests of its length; one of another length needs its hash, chosen above'])], notes: [] };
+  if (!of.length) return { rows: [settled('the pasted digest', RESULT.malformed, [NO_DIGEST])], notes: [] };
   const rows = files.entries().map(([path, file]) => waiting(shown(path), file, of, digest));
   const notes = files.count > 1 ? ['A digest is of one file. Each file was compared with it.'] : [];
   return { rows, notes };
@@ -81,8 +96,8 @@ function otherRows(rows, { files, lists }, row) {
 }
 
 /**
- * The rows and the notes of what was added: `files`, `lists` of `{ name, path, file, bytes }`, or with a `fault` in place
- * of bytes, the pasted text, and the hash that was chosen, or null.
+ * The rows and the notes of what was added: `files`, `lists` of `{ name, path, file, bytes }`, or with a `fault` in
+ * place of bytes, the pasted text, and the hash that was chosen, or null.
  */
 export function rowsOf(added) {
   const pasted = added.text.trim() && parseDigest(added.text, added.chosen);
@@ -118,13 +133,15 @@ export function settle(row, { digests, fault }) {
   if (fault !== undefined) return Object.assign(row, { result: RESULT.unreadable, detail: [fault] });
   const code = (text) => ({ code: text });
   if (row.digest === undefined) {
-    return Object.assign(row, { result: RESULT.digest, detail: row.of.flatMap((it) => [`${titleOf(it)} `, code(digests.get(keyOf(it)))]) });
+    const detail = row.of.flatMap((it) => [`${titleOf(it)} `, code(digests.get(keyOf(it)))]);
+    return Object.assign(row, { result: RESULT.digest, detail });
   }
   const right = row.of.find((it) => digests.get(keyOf(it)) === row.digest);
   if (right) return Object.assign(row, { result: RESULT.ok, detail: [`${titleOf(right)}${row.remark}`] });
   const named = row.of.map(titleOf).join(', ');
   const got = row.of.length === 1 ? ['it is ', code(digests.get(keyOf(row.of[0]))), ', and '] : [];
-  return Object.assign(row, { result: RESULT.failed, detail: [`${named}${row.remark}: `, ...got, 'it should be ', code(row.digest)] });
+  const detail = [`${named}${row.remark}: `, ...got, 'it should be ', code(row.digest)];
+  return Object.assign(row, { result: RESULT.failed, detail });
 }
 
 // ---- all rows together
@@ -156,7 +173,8 @@ export function verdictOf(rows) {
   if (!all.length) return { state: '', text: '', advice: [] };
   const has = (results) => all.some(([result]) => results.includes(result));
   const state = has(WRONG) ? 'wrong' : all.every(([result]) => result === RESULT.ok) ? 'ok' : '';
-  const opening = { wrong: 'Something is wrong: ', ok: 'All is well: ' }[state] ?? (has([RESULT.ok]) ? 'Well as far as it goes: ' : '');
+  const neither = has([RESULT.ok]) ? 'Well as far as it goes: ' : '';
+  const opening = { wrong: 'Something is wrong: ', ok: 'All is well: ' }[state] ?? neither;
   return {
     state,
     text: opening + all.map(([result, count]) => `${count} ${result}`).join(', '),

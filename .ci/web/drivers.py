@@ -1,4 +1,4 @@
-"""Browsers without a screen, by their own protocols: Chromium by chromedriver, Firefox by Marionette, which it has in it.
+"""Browsers without a screen, by their own protocols: Chromium by chromedriver, Firefox by Marionette, which is in it.
 Both are those of Debian: apt-get install chromium chromium-driver firefox-esr."""
 
 import base64
@@ -44,9 +44,12 @@ class Chromium:
         words = ["chromedriver", f"--port={self.port}"]
         environment = {**os.environ, "HOME": self.home}
         self.process = subprocess.Popen(words, env=environment, stdout=subprocess.DEVNULL, stderr=subprocess.DEVNULL)
-        options = {"args": ["--headless=new", "--no-sandbox", "--hide-scrollbars", f"--user-data-dir={self.home}/profile",
-            f"--window-size={width},{height}"]}
-        asked = {"timeouts": TIMEOUTS, "goog:chromeOptions": options, "goog:loggingPrefs": {"browser": "ALL", "performance": "ALL"}}
+        flags = ["--headless=new", "--no-sandbox", "--hide-scrollbars", f"--user-data-dir={self.home}/profile"]
+        asked = {
+            "timeouts": TIMEOUTS,
+            "goog:chromeOptions": {"args": [*flags, f"--window-size={width},{height}"]},
+            "goog:loggingPrefs": {"browser": "ALL", "performance": "ALL"},
+        }
         self.session = ""
         made = soon(lambda: self.call("POST", "/session", capabilities={"alwaysMatch": asked}))
         self.session = f"/session/{made['sessionId']}"
@@ -93,7 +96,8 @@ class Chromium:
             self.devtools("Input.dispatchDragEvent", type=kind, x=300, y=300, data=data)
 
     def resize(self, width, height):
-        self.devtools("Emulation.setDeviceMetricsOverride", width=width, height=height, deviceScaleFactor=1, mobile=False)
+        screen = {"width": width, "height": height, "deviceScaleFactor": 1, "mobile": False}
+        self.devtools("Emulation.setDeviceMetricsOverride", **screen)
 
     def screenshot(self):
         return base64.b64decode(self.call("GET", "/screenshot"))
@@ -130,9 +134,11 @@ class Firefox:
             "privacy.reduceTimerPrecision": False,
         }
         with open(f"{self.home}/user.js", "w", encoding="utf-8") as file:
-            file.writelines(f"user_pref({json.dumps(name)}, {json.dumps(value)});\n" for name, value in settings.items())
+            for name, value in settings.items():
+                file.write(f"user_pref({json.dumps(name)}, {json.dumps(value)});\n")
         sizes = {"MOZ_HEADLESS_WIDTH": str(width), "MOZ_HEADLESS_HEIGHT": str(height)}
-        words = ["firefox-esr", "--headless", "--marionette", "--remote-allow-system-access", "--no-remote", "--profile", self.home]
+        flags = ["--headless", "--marionette", "--remote-allow-system-access", "--no-remote", "--profile", self.home]
+        words = ["firefox-esr", *flags]
         environment = {**os.environ, "HOME": self.home, **sizes}
         self.process = subprocess.Popen(words, env=environment, stdout=subprocess.DEVNULL, stderr=subprocess.DEVNULL)
         self.socket = soon(lambda: socket.create_connection(("127.0.0.1", port)))
@@ -177,7 +183,7 @@ class Firefox:
         self.call("WebDriver:ElementSendKeys", id=found[ELEMENT], text=text)
 
     def folder(self, identity, path):
-        """The event of a folder that is chosen, whose files come by an input of a script's own: no protocol chooses one."""
+        """The event of a folder that is chosen, with files of an input of a script's own: no protocol chooses one."""
         files = sorted(os.path.join(above, name) for above, _, names in os.walk(path) for name in names)
         self.given(files)
         self.script("""
@@ -192,7 +198,10 @@ class Firefox:
 
     def given(self, paths):
         """An input that has these files."""
-        self.script("document.body.append(Object.assign(document.createElement('input'), { type: 'file', multiple: true, id: 'given' }))")
+        self.script("""
+            const input = document.createElement('input');
+            document.body.append(Object.assign(input, { type: 'file', multiple: true, id: 'given' }));
+        """)
         self.keys("given", "\n".join(paths))
 
     def press(self, *keys):
@@ -207,7 +216,8 @@ class Firefox:
             const dataTransfer = new DataTransfer();
             for (const file of input.files) dataTransfer.items.add(file);
             input.remove();
-            for (const kind of ['dragover', 'drop']) document.body.dispatchEvent(new DragEvent(kind, { dataTransfer, bubbles: true, cancelable: true }));
+            const how = { dataTransfer, bubbles: true, cancelable: true };
+            for (const kind of ['dragover', 'drop']) document.body.dispatchEvent(new DragEvent(kind, how));
         """)
 
     def resize(self, width, height):
@@ -220,8 +230,8 @@ class Firefox:
         """What the console has of errors of the page."""
         script = """
             return Cc["@mozilla.org/consoleservice;1"].getService(Ci.nsIConsoleService).getMessageArray()
-                .filter((it) => it instanceof Ci.nsIScriptError && !(it.flags & it.warningFlag) && /^(file|http|blob)/.test(it.sourceName))
-                .map((it) => it.errorMessage);
+                .filter((it) => it instanceof Ci.nsIScriptError && !(it.flags & it.warningFlag))
+                .filter((it) => /^(file|http|blob)/.test(it.sourceName)).map((it) => it.errorMessage);
         """
         self.call("Marionette:SetContext", value="chrome")
         try:
@@ -231,7 +241,8 @@ class Firefox:
 
     def requests(self):
         """What its own list of the page's resources has."""
-        return self.script("return performance.getEntriesByType('resource').map((it) => it.name).filter((it) => !/^(blob|data):/.test(it))")
+        names = self.script("return performance.getEntriesByType('resource').map((it) => it.name)")
+        return [it for it in names if not it.startswith(("blob:", "data:"))]
 
     def quit(self):
         try:

@@ -31,20 +31,38 @@ const digits = (count) => Array.from({ length: count }, () => oneOf('0123456789a
 
 /** The files of the folder. */
 const FILES = new Map(Object.entries({
-  a: 'one', 'b c': 'two', 'sub/x': 'three', 'sub/deep/y': '', 'ü': 'four', 'new\nline': 'five', 'back\\slash': 'six', '(x) = y': 'seven', '-': 'eight', ' a': 'nine',
-  '*a': 'ten', '#': 'eleven', '\ufeffa': 'twelve', 'a\r': 'thirteen', '\u202ea': 'fourteen', n: 'fifteen',
+  a: 'one', 'b c': 'two', 'sub/x': 'three', 'sub/deep/y': '', 'ü': 'four', 'new\nline': 'five', 'back\\slash': 'six',
+  '(x) = y': 'seven', '-': 'eight', ' a': 'nine', '*a': 'ten', '#': 'eleven', '\ufeffa': 'twelve', 'a\r': 'thirteen',
+  '\u202ea': 'fourteen', n: 'fifteen',
 }));
 /** Other names of some of them. */
-const OTHERS = new Map(Object.entries({ './a': 'a', 'sub/../a': 'a', 'sub//x': 'sub/x', './/a': 'a', 'sub/deep/../x': 'sub/x', 'sub/./x': 'sub/x' }));
-const PATHS = [...FILES.keys(), ...OTHERS.keys(), 'none/../a', 'sub/none', '/none', '../none', 'a/b', 'a/', 'a/.', 'sub', 'sub/', './', 'sub/..', 'sub/deep/../../sub'];
-const WRITTEN = PATHS.map((it) => it.replace(/[\\\n\r]/g, (special) => ({ '\\': '\\\\', '\n': '\\n', '\r': '\\r' })[special]));
-const ODD = ['a) = b', 'a\\b', 'a\\\\b', 'a\\nb', 'a\\rb', 'a\\', '\\', '\\\\', '\\n', '\xff', 'a\0b', 'a\rb', '', '\x7f', '\u2028', '\xed\xa0\x80', '\xf4\x90\x80\x80', '\xc0\x80', '__proto__', 'toString'];
-const LABELS = ['SHA256', 'SHA512', 'BLAKE3', 'BLAKE2b', 'BLAKE2s', 'BLAKE2b-512', 'BLAKE2b-256', 'BLAKE2b-8', 'BLAKE2b-08', 'BLAKE2b-12', 'BLAKE2b-520', 'BLAKE2b-0', 'BLAKE2b-', 'BLAKE2s-256', 'BLAKE2s-128', 'BLAKE2s-264', 'BLAKE2s-008', 'sha256', 'BLAKE3-256', 'SHA256-256', 'toString', '__proto__', '', 'BLAKE2b-+8', 'BLAKE2b-8 ', 'BLAKE2b-1e2'];
+const OTHERS = new Map(Object.entries({
+  './a': 'a', 'sub/../a': 'a', 'sub//x': 'sub/x', './/a': 'a', 'sub/deep/../x': 'sub/x', 'sub/./x': 'sub/x',
+}));
+const NO_FILES = [
+  'none/../a', 'sub/none', '/none', '../none', 'a/b', 'a/', 'a/.', 'sub', 'sub/', './', 'sub/..', 'sub/deep/../../sub',
+];
+const PATHS = [...FILES.keys(), ...OTHERS.keys(), ...NO_FILES];
+const ESCAPES = { '\\': '\\\\', '\n': '\\n', '\r': '\\r' };
+const WRITTEN = PATHS.map((it) => it.replace(/[\\\n\r]/g, (special) => ESCAPES[special]));
+// what no name is: as bytes, of which some are no UTF-8
+const NO_NAMES = ['\xff', '\xed\xa0\x80', '\xf4\x90\x80\x80', '\xc0\x80'];
+const ODD = [
+  'a) = b', 'a\\b', 'a\\\\b', 'a\\nb', 'a\\rb', 'a\\', '\\', '\\\\', '\\n', 'a\0b', 'a\rb', '', '\x7f', '\u2028',
+  '__proto__', 'toString', ...NO_NAMES,
+];
+const LABELS = [
+  'SHA256', 'SHA512', 'BLAKE3', 'BLAKE2b', 'BLAKE2s', 'BLAKE2b-512', 'BLAKE2b-256', 'BLAKE2b-8', 'BLAKE2b-08',
+  'BLAKE2b-12', 'BLAKE2b-520', 'BLAKE2b-0', 'BLAKE2b-', 'BLAKE2s-256', 'BLAKE2s-128', 'BLAKE2s-264', 'BLAKE2s-008',
+  'sha256', 'BLAKE3-256', 'SHA256-256', 'toString', '__proto__', '', 'BLAKE2b-+8', 'BLAKE2b-8 ', 'BLAKE2b-1e2',
+];
 const LENGTHS = [0, 1, 2, 3, 16, 32, 62, 63, 64, 65, 66, 96, 126, 127, 128, 129, 130];
-const FUNCTIONS = { SHA256: ['sha256', 32], SHA512: ['sha512', 64], BLAKE3: ['blake3', 32], BLAKE2b: ['blake2b', 64], BLAKE2s: ['blake2s', 32], 'BLAKE2b-256': ['blake2b', 32], 'BLAKE2b-8': ['blake2b', 1], 'BLAKE2s-128': ['blake2s', 16] };
+const FUNCTIONS = {
+  SHA256: ['sha256', 32], SHA512: ['sha512', 64], BLAKE3: ['blake3', 32], BLAKE2b: ['blake2b', 64],
+  BLAKE2s: ['blake2s', 32], 'BLAKE2b-256': ['blake2b', 32], 'BLAKE2b-8': ['blake2b', 1], 'BLAKE2s-128': ['blake2s', 16],
+};
 
-/** Bytes of a text whose characters are bytes, or else as UTF-8. */
-const bytesOf = (text) => (/^[\0-\xff]*$/.test(text) && /[\x80-\xff]/.test(text) && ODD.includes(text) ? Buffer.from(text, 'latin1') : Buffer.from(text));
+const bytesOf = (text) => Buffer.from(text, NO_NAMES.includes(text) ? 'latin1' : 'utf8');
 
 function drawnName() {
   return below(3) ? oneOf(WRITTEN) : oneOf([...PATHS, ...ODD]);
@@ -75,7 +93,8 @@ function oddity() {
   const begin = often('', '\\', '#', ' ');
   const end = often('', '\r', '\r\r', ' ');
   const untagged = () => [digits(oneOf(LENGTHS)), often(' ', '', '  '), oneOf([' ', '*', ' ', '', '(']), drawnName()];
-  const tagged = () => [oneOf(LABELS), often(' (', '(', '  ( '), drawnName(), often(') = ', ')= ', ') =', ')  = '), digits(oneOf(LENGTHS))];
+  const equals = often(') = ', ')= ', ') =', ')  = ');
+  const tagged = () => [oneOf(LABELS), often(' (', '(', '  ( '), drawnName(), equals, digits(oneOf(LENGTHS))];
   return [begin, ...(below(2) ? untagged() : tagged()), end];
 }
 
@@ -84,20 +103,29 @@ function line(kind) {
   let bytes = Buffer.concat((below(3) ? entry(kind) : oddity()).map(bytesOf));
   for (let changes = below(8) - 5; changes > 0; changes--) {
     const at = below(bytes.length + 1);
-    bytes = Buffer.concat([bytes.subarray(0, at), Buffer.from(oneOf([' ', '\\', '(', ')', '=', '0', 'g', '\r', '\0', '#', '*', '\n'])), bytes.subarray(at + below(2))]);
+    const other = oneOf([' ', '\\', '(', ')', '=', '0', 'g', '\r', '\0', '#', '*', '\n']);
+    bytes = Buffer.concat([bytes.subarray(0, at), Buffer.from(other), bytes.subarray(at + below(2))]);
   }
   return bytes;
 }
 
-const drawnList = (kind) => Buffer.concat([...Array.from({ length: below(40) }, () => Buffer.concat([line(kind), Buffer.from('\n')])), below(2) ? line(kind) : Buffer.alloc(0)]);
+/** Up to 40 lines, of which the last may have no end. */
+function drawnList(kind) {
+  const lines = Array.from({ length: below(40) }, () => [line(kind), Buffer.from('\n')]).flat();
+  return Buffer.concat(below(2) ? [...lines, line(kind)] : lines);
+}
 
 /** Lines about the longest that there are. */
 function edges() {
-  const tagged = [32732, 32733, 32734, 32735, 32736].flatMap((count) => ['\\'.repeat(count), `${'\\'.repeat(count)}x`, '\\'.repeat(2 * count)]);
+  const slashes = (count) => '\\'.repeat(count);
+  const counts = [32732, 32733, 32734, 32735, 32736];
+  const escaped = counts.flatMap((it) => [slashes(it), `${slashes(it)}x`, slashes(2 * it)]);
+  const long = [65449, 65450, 65451, 65452, 65453, 65469, 65470, 65471, 65536].map((it) => 'n'.repeat(it));
   const lines = [
-    ...tagged.flatMap((it) => [`SHA256 (${it}) = ${digits(64)}`, `\\SHA256 (${it}) = ${digits(64)}`]),
-    ...[65449, 65450, 65451, 65452, 65453, 65469, 65470, 65471, 65536].flatMap((count) => [`SHA256 (${'n'.repeat(count)}) = ${digits(64)}`, `${digits(64)}  ${'n'.repeat(count)}`, `#${'n'.repeat(count)}`, `${'n'.repeat(count)}\r`]),
-    ...['BLAKE2b-12 (a) = abc', 'BLAKE2b-4 (a) = a', 'BLAKE2s-12 (a) = abc', '', '#', '\\', '\\\\', '\\#', '\r', '\r\r', ' ', '(', 'SHA256 (', 'SHA256 () = ', ') = ', '\0'],
+    ...escaped.flatMap((it) => [`SHA256 (${it}) = ${digits(64)}`, `\\SHA256 (${it}) = ${digits(64)}`]),
+    ...long.flatMap((it) => [`SHA256 (${it}) = ${digits(64)}`, `${digits(64)}  ${it}`, `#${it}`, `${it}\r`]),
+    'BLAKE2b-12 (a) = abc', 'BLAKE2b-4 (a) = a', 'BLAKE2s-12 (a) = abc', '', '#', '\\', '\\\\', '\\#', '\r', '\r\r',
+    ' ', '(', 'SHA256 (', 'SHA256 () = ', ') = ', '\0',
   ];
   return Buffer.from(lines.join('\n'));
 }
@@ -126,13 +154,16 @@ function ofProgram(kind, names) {
 function ofPage(kind, lists) {
   const files = new Files();
   for (const [path, content] of FILES) files.add(`top/${path}`, { content });
-  const { rows, notes } = rowsOf({ files, text: '', chosen: kind, lists: lists.map(([name, bytes]) => ({ name, path: `top/${name}`, bytes })) });
+  const added = lists.map(([name, bytes]) => ({ name, path: `top/${name}`, bytes }));
+  const { rows, notes } = rowsOf({ files, text: '', chosen: kind, lists: added });
   for (const job of jobsOf(rows)) {
-    const digests = new Map(job.functions.map((it) => [keyOf(it), hash(it.hash, job.file.content, { outputLength: it.length })]));
+    const digestOf = (it) => hash(it.hash, job.file.content, { outputLength: it.length });
+    const digests = new Map(job.functions.map((it) => [keyOf(it), digestOf(it)]));
     for (const row of job.rows) settle(row, { digests });
   }
   const report = rows.filter((it) => it.result !== 'NOT LISTED').map((it) => `${it.label}: ${it.result}`);
-  const remarks = notes.map((it) => it.replace(': no entries.', ': no entries').replace(/: its lines do not say .*/, ': untagged lines need -a'));
+  const remark = (note) => note.replace(/(: no entries)\.$/, '$1').replace(/: its lines.*/, ': untagged lines need -a');
+  const remarks = notes.map(remark);
   return { report, remarks };
 }
 
@@ -142,7 +173,8 @@ function differs(kind, lists) {
   for (const what of ['report', 'remarks']) {
     const at = theirs[what].findIndex((it, line) => it !== ours[what][line]);
     if (at < 0 && theirs[what].length === ours[what].length) continue;
-    console.log(`${kind}: ${what}, line ${at}: sums check ${JSON.stringify(theirs[what][at])?.slice(0, 200)}, the page ${JSON.stringify(ours[what][at])?.slice(0, 200)}`);
+    const [wanted, got] = [theirs, ours].map((it) => JSON.stringify(it[what][at])?.slice(0, 200));
+    console.log(`${kind}: ${what}, line ${at}: sums check ${wanted}, the page ${got}`);
     return true;
   }
   for (const line of ours.report) {
@@ -172,5 +204,6 @@ try {
 } finally {
   rmSync(work, { recursive: true });
 }
-console.log(`SEED=${first}: ${written} lists, ${Object.entries(results).map(([result, count]) => `${count} ${result}`).join(', ')}`);
+const told = Object.entries(results).map(([result, count]) => `${count} ${result}`);
+console.log(`SEED=${first}: ${written} lists, ${told.join(', ')}`);
 process.exit(different ? 1 : 0);

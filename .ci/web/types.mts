@@ -1,10 +1,12 @@
 // What a user in TypeScript writes; tsc refuses what the types do not say.
-import { createHash, createHmac, deriveKey, getHashes, hash, hashOf, hashPieces, hkdfSync, Refused, toHex } from 'sums-hash';
+import { createHash, createHmac, deriveKey, hash, hashOf, hashPieces, hkdfSync } from 'sums-hash';
+import { getHashes, Refused, toHex } from 'sums-hash';
 import { bind, type Library, type Message } from 'sums-hash/library';
 
 const digits: string = hash('sha256', 'abc');
 const bytes: Uint8Array = hash('blake2b', new Uint8Array(3), { key: 'k', outputLength: 20, outputEncoding: 'buffer' });
-const base64: string = createHash('blake3', { context: 'c' }).update('a').update(new DataView(new ArrayBuffer(1))).digest('base64');
+const derived: Message = createHash('blake3', { context: 'c' }).update('a').update(new DataView(new ArrayBuffer(1)));
+const base64: string = derived.digest('base64');
 const raw: Uint8Array = createHmac('sha512', bytes, { outputLength: 32 }).copy().digest();
 const output: Uint8Array = createHash('blake3').output(1000, 2n ** 63n);
 const key: ArrayBuffer = hkdfSync('blake2s', 'm', 's', 'i', 42);

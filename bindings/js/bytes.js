@@ -4,21 +4,23 @@ const encoder = new TextEncoder();
 
 // What a view says of itself, which no subclass and no property of its own can change.
 const getter = (prototype, name) => Object.getOwnPropertyDescriptor(prototype, name).get;
+const ofPlace = (prototype) => ['buffer', 'byteOffset', 'byteLength'].map((name) => getter(prototype, name));
 const ARRAY = Object.getPrototypeOf(Uint8Array.prototype);
-const [arrayBuffer, arrayOffset, arrayLength] = ['buffer', 'byteOffset', 'byteLength'].map((it) => getter(ARRAY, it));
-const [viewBuffer, viewOffset, viewLength] = ['buffer', 'byteOffset', 'byteLength'].map((it) => getter(DataView.prototype, it));
+const ARRAY_PLACE = ofPlace(ARRAY);
+const VIEW_PLACE = ofPlace(DataView.prototype);
 const arrayKeys = ARRAY.keys;
 const arrayTag = getter(ARRAY, Symbol.toStringTag);
 
 function viewed(view) {
   // undefined of a DataView
-  if (arrayTag.call(view) === undefined) return new Uint8Array(viewBuffer.call(view), viewOffset.call(view), viewLength.call(view));
+  const isArray = arrayTag.call(view) !== undefined;
   // throws where the buffer is gone, or too short by now
-  arrayKeys.call(view);
-  return new Uint8Array(arrayBuffer.call(view), arrayOffset.call(view), arrayLength.call(view));
+  if (isArray) arrayKeys.call(view);
+  return new Uint8Array(...(isArray ? ARRAY_PLACE : VIEW_PLACE).map((it) => it.call(view)));
 }
 
-const isBuffer = (data) => data instanceof ArrayBuffer || (typeof SharedArrayBuffer === 'function' && data instanceof SharedArrayBuffer);
+const isOne = (data, kind) => typeof kind === 'function' && data instanceof kind;
+const isBuffer = (data) => isOne(data, ArrayBuffer) || isOne(data, globalThis.SharedArrayBuffer);
 
 export const isBytes = (data) => typeof data === 'string' || ArrayBuffer.isView(data) || isBuffer(data);
 
@@ -60,6 +62,7 @@ const ENCODINGS = {
 
 /** What makes the text of bytes, by the name of an encoding; nothing named, or `buffer`, leaves the bytes. */
 export function encoderOf(encoding = 'buffer') {
-  if (typeof encoding !== 'string' || !Object.hasOwn(ENCODINGS, encoding)) throw new TypeError(`there is no encoding ${String(encoding)}`);
+  const isThere = typeof encoding === 'string' && Object.hasOwn(ENCODINGS, encoding);
+  if (!isThere) throw new TypeError(`there is no encoding ${String(encoding)}`);
   return ENCODINGS[encoding];
 }

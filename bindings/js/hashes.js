@@ -1,8 +1,8 @@
 // SPDX-License-Identifier: MIT OR Apache-2.0
 
 /**
- * Of each hash, in bytes: its longest digest, and the shortest that it has; its longest key, its salt, its state, and the
- * state of HMAC over it, as `sums_hash.h` has them. 0 says that it takes none, or has none.
+ * Of each hash, in bytes: its longest digest, and the shortest that it has; its longest key, its salt, its state, and
+ * the state of HMAC over it, as `sums_hash.h` has them. 0 says that it takes none, or has none.
  */
 export const HASHES = {
   sha256: { digest: 32, least: 32, key: 0, salt: 0, state: 112, hmac: 224 },
@@ -17,9 +17,11 @@ const ALIASES = { blake2b512: 'blake2b', blake2s256: 'blake2s' };
 
 /** The name in `HASHES` of a hash that a caller names. */
 export function hashName(name) {
-  const known = typeof name === 'string' && Object.hasOwn(ALIASES, name) ? ALIASES[name] : name;
-  if (typeof known !== 'string' || !Object.hasOwn(HASHES, known)) throw new TypeError(`there is no hash ${String(name)}`);
-  return known;
+  if (typeof name === 'string') {
+    if (Object.hasOwn(HASHES, name)) return name;
+    if (Object.hasOwn(ALIASES, name)) return ALIASES[name];
+  }
+  throw new TypeError(`there is no hash ${String(name)}`);
 }
 
 export const getHashes = () => Object.keys(HASHES);

@@ -19,5 +19,6 @@ export class Refused extends RangeError {
   readonly status: number;
 }
 
-export type { Bytes, Encoding, HashName, HashOptions, HmacName, Message, PiecesName, TextEncoding } from './library.js';
+export type { BufferOptions, Bytes, Encoding, HashName, HashOptions, HmacName, Message } from './library.js';
+export type { PiecesName, Source, TextEncoding, TextOptions } from './library.js';
 import type { HashName } from './library.js';

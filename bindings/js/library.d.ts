@@ -9,7 +9,7 @@ export type HmacName = Exclude<HashName, 'blake3'>;
 export type PiecesName = Exclude<HashName, 'sha512'>;
 
 export interface HashOptions {
-  /** The bytes of the digest: 1 to 64 of BLAKE2b, 1 to 32 of BLAKE2s, any number of BLAKE3, and the usual one of SHA-2. */
+  /** The bytes of the digest: 1 to 64 of BLAKE2b, 1 to 32 of BLAKE2s, any number of BLAKE3. */
   outputLength?: number;
   /** 1 to 64 bytes for BLAKE2b, 1 to 32 for BLAKE2s, 32 for BLAKE3. */
   key?: Bytes;
@@ -20,6 +20,18 @@ export interface HashOptions {
   /** BLAKE3: the digest is a key that is derived for this context. */
   context?: Bytes;
 }
+
+/** Options of a digest that is a text, in hexadecimal digits where no encoding is named, or bytes. */
+export type TextOptions = TextEncoding | (HashOptions & { outputEncoding?: TextEncoding });
+export type BufferOptions = 'buffer' | (HashOptions & { outputEncoding: 'buffer' });
+
+/** What a Blob or a File is. */
+interface BlobLike {
+  readonly size: number;
+  slice(begin?: number, end?: number): unknown;
+  arrayBuffer(): Promise<ArrayBuffer>;
+}
+export type Source = Bytes | BlobLike | { getReader(): unknown } | AsyncIterable<Bytes> | Iterable<Bytes>;
 
 /** A message in pieces. It may be dropped at any time. */
 export interface Message {
@@ -40,21 +52,18 @@ export interface Library {
   /** Begins an HMAC. `outputLength` is from half a digest to the whole. */
   createHmac(algorithm: HmacName, key: Bytes, options?: { outputLength?: number }): Message;
   /** The digest of bytes, in hexadecimal digits where no other encoding is named. */
-  hash(algorithm: HashName, data: Bytes, options?: TextEncoding | (HashOptions & { outputEncoding?: TextEncoding })): string;
-  hash(algorithm: HashName, data: Bytes, options: 'buffer' | (HashOptions & { outputEncoding: 'buffer' })): Uint8Array;
+  hash(algorithm: HashName, data: Bytes, options?: TextOptions): string;
+  hash(algorithm: HashName, data: Bytes, options: BufferOptions): Uint8Array;
   /** The same of a Blob or a File, of a stream of the web or of Node, or of whatever gives pieces one by one. */
-  hashOf(algorithm: HashName, source: Source, options?: TextEncoding | (HashOptions & { outputEncoding?: TextEncoding })): Promise<string>;
-  hashOf(algorithm: HashName, source: Source, options: 'buffer' | (HashOptions & { outputEncoding: 'buffer' })): Promise<Uint8Array>;
-  /** The digests of all pieces of bytes, one behind the other. Each piece has `pieceLength` bytes, the last maybe fewer. */
+  hashOf(algorithm: HashName, source: Source, options?: TextOptions): Promise<string>;
+  hashOf(algorithm: HashName, source: Source, options: BufferOptions): Promise<Uint8Array>;
+  /** The digests of all pieces of bytes, one behind the other. A piece has `pieceLength` bytes, the last or less. */
   hashPieces(algorithm: PiecesName, data: Bytes, pieceLength: number, options?: { outputLength?: number }): Uint8Array;
   /** HKDF: a key of so many bytes, up to 255 digests. */
   hkdfSync(algorithm: HmacName, material: Bytes, salt: Bytes, info: Bytes, length: number): ArrayBuffer;
   /** BLAKE3: a key of so many bytes, 32 where none are named, from material, for a context. */
   deriveKey(context: Bytes, material: Bytes, length?: number): Uint8Array;
 }
-
-export type Source = Bytes | { readonly size: number; slice(begin?: number, end?: number): unknown; arrayBuffer(): Promise<ArrayBuffer> }
-  | { getReader(): unknown } | AsyncIterable<Bytes> | Iterable<Bytes>;
 
 /**
  * The functions over a module that the caller has compiled, as in a worker. `instance` is one of it that nobody else

@@ -29,7 +29,8 @@ function outputLengthOf({ outputLength }, { byDefault, least, most }) {
 /** The lengths of digests of a hash. */
 function lengthsOf(name) {
   const { digest, least } = HASHES[name];
-  return name === 'blake3' ? { byDefault: digest, least: 1, most: LONGEST } : { byDefault: digest, least, most: digest };
+  if (name === 'blake3') return { byDefault: digest, least: 1, most: LONGEST };
+  return { byDefault: digest, least, most: digest };
 }
 
 /** What a hash works under, by its options. One that is there is bytes: a key that is undefined is no missing key. */
@@ -95,12 +96,13 @@ export function bind(module, instance) {
     const name = hmacName(algorithm);
     const { digest, hmac } = HASHES[name];
     const lengths = { byDefault: digest, least: digest / 2, most: digest };
-    const form = { kind: `hmac_${name}`, length: outputLengthOf(optionsOf(options, ['outputLength']), lengths), size: hmac };
+    const length = outputLengthOf(optionsOf(options, ['outputLength']), lengths);
+    const form = { kind: `hmac_${name}`, length, size: hmac };
     const secret = bytesOf(key, 'the key');
     return beginMessage(machine, form, () => machine.call(`${form.kind}_init`, machine.slot, ...machine.put(secret)));
   }
 
-  /** A message by the options of `hash` and `hashOf`, where a string is the encoding of the digest, and that encoding. */
+  /** A message by the options of `hash` and `hashOf`, a string among them being the encoding, and that encoding. */
   function begun(algorithm, options) {
     const all = typeof options === 'string' ? { outputEncoding: options } : options;
     const { outputEncoding = 'hex', ...rest } = optionsOf(all, [...HASH_OPTIONS, 'outputEncoding']);
@@ -148,7 +150,9 @@ export function bind(module, instance) {
     const count = Math.max(LANES, Math.floor(CHUNK / Math.max(piece, length)));
     // pieces that are too long to be there together are messages
     const isShort = count * piece <= ROOM / 2;
-    const digests = (part) => isShort ? digestsAtOnce({ name, length, piece }, part) : hash(name, part, { outputLength: length, outputEncoding: 'buffer' });
+    const atOnce = (part) => digestsAtOnce({ name, length, piece }, part);
+    const alone = (part) => hash(name, part, { outputLength: length, outputEncoding: 'buffer' });
+    const digests = isShort ? atOnce : alone;
     const step = isShort ? count : 1;
     for (let first = 0; first * piece < all.length; first += step) {
       result.set(digests(all.subarray(first * piece, (first + step) * piece)), first * length);

@@ -48,7 +48,7 @@ class Message {
     this.#going();
     const all = bytesOf(data);
     this.#whole(() => {
-      for (let at = 0; at < all.length; at += CHUNK) this.#add(all.length <= CHUNK ? all : all.subarray(at, at + CHUNK));
+      for (let at = 0; at < all.length; at += CHUNK) this.#add(all.subarray(at, at + CHUNK));
     });
     return this;
   }
@@ -62,7 +62,8 @@ class Message {
   /** The digest, with which the message ends. */
   digest(encoding) {
     const encode = encoderOf(encoding);
-    const result = encode(this.#kind === 'blake3' ? this.output(this.#length) : this.#whole((machine) => this.#finished(machine)));
+    const isBlake3 = this.#kind === 'blake3';
+    const result = encode(isBlake3 ? this.output(this.#length) : this.#whole((machine) => this.#finished(machine)));
     this.#over = TAKEN;
     this.#machine.forget(this.#state);
     this.#state = null;
@@ -85,7 +86,9 @@ class Message {
     if (from < 0n || from + BigInt(length) > LAST) throw new Refused(END_OF_OUTPUT);
     const result = new Uint8Array(length);
     return this.#whole((machine) => {
-      for (let at = 0; at < length; at += CHUNK) result.set(outputOf(machine, from + BigInt(at), Math.min(CHUNK, length - at)), at);
+      for (let at = 0; at < length; at += CHUNK) {
+        result.set(outputOf(machine, from + BigInt(at), Math.min(CHUNK, length - at)), at);
+      }
       return result;
     });
   }

@@ -5,22 +5,29 @@ import crypto from 'node:crypto';
 import { readFileSync } from 'node:fs';
 import test from 'node:test';
 import { Worker } from 'node:worker_threads';
-import { createHash, createHmac, deriveKey, getHashes, hash, hashOf, hashPieces, hkdfSync, Refused, toHex } from '../node.js';
+import { createHash, createHmac, deriveKey, getHashes, hash, hashOf, hashPieces, hkdfSync, Refused } from '../node.js';
 import { bind } from '../library.js';
 
 const refuses = (kind, call) => assert.throws(call, kind, call.toString());
 const of = (length) => new Uint8Array(length);
 
+const NO_HASHES = ['md5', '', 'SHA256', 'toString', '__proto__', undefined, null, 3, {}, ['sha256'], Symbol('sha256')];
+const OF_BYTES = ['key', 'salt', 'personal', 'context'];
+
 test('words that no call takes', () => {
-  for (const name of ['md5', '', 'SHA256', 'toString', '__proto__', undefined, null, 3, {}, ['sha256'], Symbol('sha256')]) {
-    for (const call of [createHash, (it) => createHmac(it, ''), (it) => hash(it, ''), (it) => hkdfSync(it, '', '', '', 1), (it) => hashPieces(it, '', 1)]) refuses(TypeError, () => call(name));
+  for (const name of NO_HASHES) {
+    refuses(TypeError, () => createHash(name));
+    refuses(TypeError, () => createHmac(name, ''));
+    refuses(TypeError, () => hash(name, ''));
+    refuses(TypeError, () => hkdfSync(name, '', '', '', 1));
+    refuses(TypeError, () => hashPieces(name, '', 1));
   }
   for (const data of [undefined, null, 3, {}, [1], true, new Map(), { length: 4 }, 3n, Symbol('x'), () => 'x']) {
     refuses(TypeError, () => createHash('sha256').update(data));
     refuses(TypeError, () => createHmac('sha256', data));
     refuses(TypeError, () => hkdfSync('sha256', data, '', '', 1));
     refuses(TypeError, () => deriveKey(data, ''));
-    for (const option of ['key', 'salt', 'personal', 'context']) refuses(TypeError, () => createHash('blake2b', { [option]: data }));
+    for (const option of OF_BYTES) refuses(TypeError, () => createHash('blake2b', { [option]: data }));
   }
   for (const length of [0, -1, 65, 1.5, NaN, Infinity, '32', 2 ** 53, 32n, null]) {
     refuses(RangeError, () => createHash('blake2b', { outputLength: length }));
@@ -28,7 +35,9 @@ test('words that no call takes', () => {
     refuses(RangeError, () => hashPieces('blake2b', 'abc', 1, { outputLength: length }));
   }
   for (const size of [0, -1, 1.5, NaN, undefined, 1n]) refuses(RangeError, () => hashPieces('sha256', 'abc', size));
-  for (const encoding of ['utf8', 'HEX', 'toString', null, 3, {}]) refuses(TypeError, () => hash('sha256', '', { outputEncoding: encoding }));
+  for (const outputEncoding of ['utf8', 'HEX', 'toString', null, 3, {}]) {
+    refuses(TypeError, () => hash('sha256', '', { outputEncoding }));
+  }
   for (const encoding of ['hex', 'latin1', null]) refuses(TypeError, () => createHash('sha256').update('61', encoding));
 });
 
@@ -39,14 +48,16 @@ test('options that a hash does not take, or of another length', () => {
   refuses(TypeError, () => createHmac('blake3', 'k'));
   refuses(TypeError, () => hkdfSync('blake3', '', '', '', 1));
   refuses(TypeError, () => hashPieces('sha512', 'abc', 1));
-  for (const option of ['key', 'salt', 'personal', 'context']) refuses(TypeError, () => createHash('sha256', { [option]: of(32) }));
+  for (const option of OF_BYTES) refuses(TypeError, () => createHash('sha256', { [option]: of(32) }));
   for (const option of ['salt', 'personal']) refuses(TypeError, () => createHash('blake3', { [option]: of(32) }));
   refuses(TypeError, () => createHash('blake2s', { context: 'c' }));
   refuses(TypeError, () => createHash('blake3', { key: of(32), context: 'c' }));
   for (const length of [0, 31, 33]) refuses(Refused, () => createHash('blake3', { key: of(length) }));
   for (const length of [0, 65]) refuses(Refused, () => createHash('blake2b', { key: of(length) }));
   refuses(Refused, () => createHash('blake2s', { key: of(33) }));
-  for (const option of ['salt', 'personal']) for (const length of [0, 8, 17]) refuses(Refused, () => createHash('blake2b', { [option]: of(length) }));
+  for (const option of ['salt', 'personal']) {
+    for (const length of [0, 8, 17]) refuses(Refused, () => createHash('blake2b', { [option]: of(length) }));
+  }
   for (const length of [15, 33]) refuses(RangeError, () => createHmac('sha256', 'k', { outputLength: length }));
   refuses(RangeError, () => createHash('sha256', { outputLength: 20 }));
   refuses(Refused, () => hkdfSync('sha256', 'm', '', '', 8161));
@@ -58,7 +69,9 @@ test('options that a hash does not take, or of another length', () => {
 
 test('outputs of BLAKE3 at their ends', () => {
   const message = createHash('blake3').update('abc');
-  for (const [length, seek] of [[2, 2n ** 64n - 2n], [0, 2n ** 64n], [1, 2n ** 70n], [2, -1n]]) refuses(Refused, () => message.output(length, seek));
+  for (const [length, seek] of [[2, 2n ** 64n - 2n], [0, 2n ** 64n], [1, 2n ** 70n], [2, -1n]]) {
+    refuses(Refused, () => message.output(length, seek));
+  }
   for (const seek of [-1, 1.5, NaN, 2 ** 53, '0', null]) refuses(RangeError, () => message.output(2, seek));
   for (const length of [-1, 2 ** 40, undefined, 1n]) refuses(RangeError, () => message.output(length));
   assert.equal(message.output(1, 2n ** 64n - 2n).length, 1);
@@ -87,7 +100,9 @@ test('messages that createHash did not make', () => {
   refuses(TypeError, () => constructor.call({}));
   refuses(TypeError, () => new (class extends constructor {})());
   for (const thing of [{}, Object.create(constructor.prototype), structuredClone(message), new Proxy(message, {})]) {
-    for (const name of ['update', 'digest', 'copy', 'output']) refuses(TypeError, () => constructor.prototype[name].call(thing, 'x'));
+    for (const name of ['update', 'digest', 'copy', 'output']) {
+      refuses(TypeError, () => constructor.prototype[name].call(thing, 'x'));
+    }
   }
   assert.deepEqual(Reflect.ownKeys(message), []);
   assert.equal(JSON.stringify(message), '{}');
@@ -125,7 +140,16 @@ test('views that lie, and buffers that are gone or short by now', () => {
 });
 
 test('code that runs in the middle', () => {
-  const options = { get outputLength() { createHash('blake2b').update('x'.repeat(500)); return 32; }, get key() { hash('blake3', 'y'); return Uint8Array.of(1); } };
+  const options = {
+    get outputLength() {
+      createHash('blake2b').update('x'.repeat(500));
+      return 32;
+    },
+    get key() {
+      hash('blake3', 'y');
+      return Uint8Array.of(1);
+    },
+  };
   assert.equal(hash('blake2b', 'm', options), hash('blake2b', 'm', { outputLength: 32, key: Uint8Array.of(1) }));
   const key = of(64).fill(1);
   const keyed = createHash('blake2b', { key });
@@ -136,7 +160,9 @@ test('code that runs in the middle', () => {
 test('many at once, that go on in any order', () => {
   const all = Array.from({ length: 3000 }, (_, at) => [createHash(getHashes()[at % 5]), at]);
   for (let round = 0; round < 3; round++) for (const [message, at] of all) message.update(`${at}/${round}`);
-  for (const [message, at] of all.reverse()) assert.equal(message.digest('hex'), hash(getHashes()[at % 5], `${at}/0${at}/1${at}/2`));
+  for (const [message, at] of all.reverse()) {
+    assert.equal(message.digest('hex'), hash(getHashes()[at % 5], `${at}/0${at}/1${at}/2`));
+  }
 });
 
 test('an update of 300 MiB, and one byte at a time', () => {
@@ -182,40 +208,51 @@ function deep(call) {
   call();
 }
 
+const STACK_DATA = 'x'.repeat(3000);
+
+/** Ways to begin a message, each with the digest that it has of some data by another way. */
+const WAYS = [
+  ...getHashes().map((name) => [() => createHash(name), (data) => hash(name, data)]),
+  [() => createHmac('sha256', 'k'), (data) => crypto.createHmac('sha256', 'k').update(data).digest('hex')],
+];
+
+/**
+ * One message where there may be no stack: whether it has its digest, or was lost, or has changed nothing. Nothing is
+ * thrown, since a frame below may catch it.
+ */
+function attempt(begin, digestOf) {
+  const message = begin();
+  let digest;
+  try {
+    digest = message.update(STACK_DATA).digest('hex');
+  } catch (error) {
+    if (!(error instanceof RangeError)) return 'wrong';
+    try {
+      digest = message.digest('hex');
+    } catch {
+      return 'lost';
+    }
+    // what failed before it began has changed nothing
+    if (digest === digestOf('')) return 'nothing';
+  }
+  return digest === digestOf(STACK_DATA) ? 'right' : 'wrong';
+}
+
 test('a stack that runs out ends the message that it meets, and no other', () => {
-  let [lost, right, frames] = [0, 0, 0];
+  const seen = { lost: 0, nothing: 0, right: 0, wrong: 0 };
   const bystanders = getHashes().map((name) => createHash(name).update('by'));
-  for (const name of [...getHashes(), 'hmac']) {
-    for (let round = 0; round < 5; round++) {
-      frames = 0;
-      try {
-        deep(() => {
-          if (frames++ > 200) return;
-          const message = name === 'hmac' ? createHmac('sha256', 'k') : createHash(name);
-          const data = 'x'.repeat(3000);
-          let digest;
-          try {
-            digest = message.update(data).digest('hex');
-          } catch (error) {
-            if (!(error instanceof RangeError)) throw error;
-            lost++;
-            let second;
-            try { second = message.digest('hex'); } catch { return; }
-            // what failed before it began has changed nothing
-            digest = second;
-            if (digest === (name === 'hmac' ? createHmac('sha256', 'k').digest('hex') : hash(name, ''))) return;
-          }
-          right++;
-          assert.equal(digest, name === 'hmac' ? crypto.createHmac('sha256', 'k').update(data).digest('hex') : hash(name, data));
-        });
-      } catch (error) {
-        if (!(error instanceof RangeError)) throw error;
-      }
+  for (const way of Array(5).fill(WAYS).flat()) {
+    let frames = 0;
+    try {
+      deep(() => frames++ > 200 || seen[attempt(...way)]++);
+    } catch (error) {
+      if (!(error instanceof RangeError)) throw error;
     }
   }
-  assert.ok(lost > 0 && right > 0, `${lost} lost, ${right} right`);
-  getHashes().forEach((name, at) => assert.equal(bystanders[at].update('stander').digest('hex'), hash(name, 'bystander')));
-  assert.equal(hash('blake3', 'abc'), '6437b3ac38465133ffb63b75273a8db548c558465d79db03fd359c6cd5bd9d85');
+  assert.ok(seen.lost > 0 && seen.right > 0 && seen.wrong === 0, JSON.stringify(seen));
+  for (const [at, name] of getHashes().entries()) {
+    assert.equal(bystanders[at].update('stander').digest('hex'), hash(name, 'bystander'));
+  }
 });
 
 test('a source that fails, and one that gives no bytes', async () => {
@@ -225,7 +262,9 @@ test('a source that fails, and one that gives no bytes', async () => {
   const stream = new ReadableStream({ pull(controller) { controller.enqueue(3); }, cancel() { cancelled = true; } });
   await assert.rejects(hashOf('sha256', stream), TypeError);
   assert.ok(cancelled);
-  for (const source of [undefined, null, 3, {}, new Map([[1, 2]])]) await assert.rejects(hashOf('sha256', source), TypeError);
+  for (const source of [undefined, null, 3, {}, new Map([[1, 2]])]) {
+    await assert.rejects(hashOf('sha256', source), TypeError);
+  }
   await assert.rejects(hashOf('md5', 'abc'), TypeError);
 });
 
@@ -234,7 +273,9 @@ test('a module of its own, in a worker too', async () => {
   assert.equal(WebAssembly.Module.imports(module).length, 0);
   assert.equal(bind(module).hash('sha256', 'abc'), hash('sha256', 'abc'));
   assert.equal(bind(module, new WebAssembly.Instance(module)).hash('sha256', 'abc'), hash('sha256', 'abc'));
-  const code = `import(${JSON.stringify(new URL('../node.js', import.meta.url).href)}).then((it) => require('worker_threads').parentPort.postMessage(it.hash('blake3', 'abc')))`;
-  const worker = new Worker(code, { eval: true });
-  assert.equal(await new Promise((resolve, reject) => worker.on('message', resolve).on('error', reject)), hash('blake3', 'abc'));
+  const code = `import(require('worker_threads').workerData)
+    .then((it) => require('worker_threads').parentPort.postMessage(it.hash('blake3', 'abc')))`;
+  const worker = new Worker(code, { eval: true, workerData: new URL('../node.js', import.meta.url).href });
+  const told = await new Promise((resolve, reject) => worker.on('message', resolve).on('error', reject));
+  assert.equal(told, hash('blake3', 'abc'));
 });

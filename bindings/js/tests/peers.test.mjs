@@ -7,6 +7,7 @@ import test from 'node:test';
 import { createHash, createHmac, getHashes, hash, hashOf, hashPieces, hkdfSync, toHex } from '../node.js';
 
 const THEIRS = { sha256: 'sha256', sha512: 'sha512', blake2b: 'blake2b512', blake2s: 'blake2s256' };
+const theirs = (name, data) => crypto.createHash(THEIRS[name]).update(data).digest('hex');
 const random = (length) => crypto.randomBytes(length);
 const below = (bound) => crypto.randomInt(bound);
 const oneOf = (all) => all[below(all.length)];
@@ -27,9 +28,9 @@ test('several random messages at once, in random pieces', () => {
       const data = random(below(round % 3 ? 400 : 9000));
       for (const it of oneOf(pairs)) it.update(data);
     }
-    for (const [ours, theirs] of pairs) {
+    for (const [ours, other] of pairs) {
       const copy = ours.copy();
-      const digest = theirs.digest('hex');
+      const digest = other.digest('hex');
       assert.equal(ours.digest('hex'), digest);
       assert.equal(copy.digest('hex'), digest);
     }
@@ -42,8 +43,9 @@ test('each length about blocks and chunks, in one piece and in two', () => {
     for (const name of getHashes()) {
       const digest = hash(name, data.subarray(0, length));
       const cut = below(length + 1);
-      assert.equal(createHash(name).update(data.subarray(0, cut)).update(data.subarray(cut, length)).digest('hex'), digest);
-      if (THEIRS[name]) assert.equal(digest, crypto.createHash(THEIRS[name]).update(data.subarray(0, length)).digest('hex'));
+      const message = createHash(name).update(data.subarray(0, cut)).update(data.subarray(cut, length));
+      assert.equal(message.digest('hex'), digest);
+      if (THEIRS[name]) assert.equal(theirs(name, data.subarray(0, length)), digest);
     }
   }
 });
@@ -67,20 +69,29 @@ test('the names and the encodings of node:crypto', () => {
     assert.deepEqual(Buffer.from(hash(name, 'x', 'buffer')), crypto.createHash(name).update('x').digest());
   }
   assert.equal(hash('sha256', '\ud800'), crypto.createHash('sha256').update('\ud800').digest('hex'));
-  assert.equal(createHash('sha256').update('abc', 'utf8').update(Buffer.from('d'), 'hex').digest('hex'), hash('sha256', 'abcd'));
+  const named = createHash('sha256').update('abc', 'utf8').update(Buffer.from('d'), 'hex');
+  assert.equal(named.digest('hex'), hash('sha256', 'abcd'));
 });
+
+/** Lengths of pieces, each with the most bytes of a message. */
+const SIZES = [
+  [1, 5000], [64, 40000], [1000, 40000], [1024, 40000], [5000, 600000], [300000, 3000000], [2 ** 21, 2 ** 22 + 5],
+];
 
 test('pieces are the digests of the pieces', () => {
   for (const name of ['sha256', 'blake2b', 'blake2s', 'blake3']) {
-    for (const [size, most] of [[1, 5000], [64, 40000], [1000, 40000], [1024, 40000], [5000, 600000], [300000, 3000000], [2 ** 21, 2 ** 22 + 5]]) {
+    for (const [size, most] of SIZES) {
       const data = random(below(most) + 1);
-      const digests = times(Math.ceil(data.length / size), (at) => hash(name, data.subarray(at * size, (at + 1) * size)));
+      const pieces = times(Math.ceil(data.length / size), (at) => data.subarray(at * size, (at + 1) * size));
+      const digests = pieces.map((it) => hash(name, it));
       assert.equal(toHex(hashPieces(name, data, size)), digests.join(''));
     }
     assert.equal(hashPieces(name, '', 7).length, 0);
     assert.equal(toHex(hashPieces(name, 'abc', Number.MAX_SAFE_INTEGER)), hash(name, 'abc'));
   }
-  assert.equal(toHex(hashPieces('blake2b', 'abcd', 3, { outputLength: 20 })), hash('blake2b', 'abc', { outputLength: 20 }) + hash('blake2b', 'd', { outputLength: 20 }));
+  const short = { outputLength: 20 };
+  const both = hash('blake2b', 'abc', short) + hash('blake2b', 'd', short);
+  assert.equal(toHex(hashPieces('blake2b', 'abcd', 3, short)), both);
 });
 
 test('a long output in one call is that of many short ones', () => {
@@ -94,8 +105,10 @@ test('streams of the web and of Node, Blobs, and what gives pieces', async () =>
   const data = random(9 << 20);
   const digest = hash('blake3', data);
   const parts = [data.subarray(0, 5), data.subarray(5)];
-  const sources = [data, data.buffer.slice(data.byteOffset, data.byteOffset + data.length), new Blob([data]), new Blob([data]).stream(), Readable.from(parts), parts];
+  const buffer = data.buffer.slice(data.byteOffset, data.byteOffset + data.length);
+  const sources = [data, buffer, new Blob([data]), new Blob([data]).stream(), Readable.from(parts), parts];
   for (const source of sources) assert.equal(await hashOf('blake3', source), digest);
   assert.equal(await hashOf('sha256', new Blob([]), 'base64'), hash('sha256', '', 'base64'));
-  assert.equal(toHex(await hashOf('blake2b', new Blob(['abc']), { key: 'k', outputEncoding: 'buffer' })), hash('blake2b', 'abc', { key: 'k' }));
+  const keyed = await hashOf('blake2b', new Blob(['abc']), { key: 'k', outputEncoding: 'buffer' });
+  assert.equal(toHex(keyed), hash('blake2b', 'abc', { key: 'k' }));
 });

@@ -4,8 +4,8 @@ import { readFileSync } from 'node:fs';
 
 /** The rows of a table, each with its cells by their headings. */
 export function table(path) {
-  const lines = readFileSync(`${process.env.TABLES}/${path}.tsv`, 'utf8').split('\n').filter((it) => it && !it.startsWith('#'));
-  const [headings, ...rows] = lines.map((it) => it.split('\t'));
+  const lines = readFileSync(`${process.env.TABLES}/${path}.tsv`, 'utf8').split('\n');
+  const [headings, ...rows] = lines.filter((it) => it && !it.startsWith('#')).map((it) => it.split('\t'));
   return rows.map((cells) => Object.fromEntries(headings.map((heading, at) => [heading, cells[at]])));
 }
 

@@ -14,7 +14,7 @@ test('each hash of "abc"', () => {
 });
 
 test('SHA-2', () => {
-  for (const { hash: name, message, digest } of table('vectors/sha2')) assert.equal(hash(name, spelled(message)), digest);
+  for (const row of table('vectors/sha2')) assert.equal(hash(row.hash, spelled(row.message)), row.digest);
 });
 
 test('BLAKE2, with keys, salts and personalizations', () => {
@@ -35,7 +35,8 @@ test('BLAKE3 from a position on, with keys and contexts', () => {
 
 test('HMAC', () => {
   for (const { hash: name, key, text, tag } of table('vectors/hmac')) {
-    assert.equal(createHmac(name, spelled(key), { outputLength: tag.length / 2 }).update(spelled(text)).digest('hex'), tag);
+    const message = createHmac(name, spelled(key), { outputLength: tag.length / 2 }).update(spelled(text));
+    assert.equal(message.digest('hex'), tag);
   }
 });
 
