@@ -921,7 +921,7 @@ LONG = {
     "docs/RELEASING.md": {"staged": source_build, "second": second_builder},
     "docs/BENCHMARKS.md": {name: in_clone("docs/BENCHMARKS.md", name)
                            for name in ["speed", "speed-parts", "speed-hashers", "speed-library", "speed-provider",
-                                        "speed-languages"]},
+                                        "speed-languages", "speed-javascript"]},
 }
 
 
