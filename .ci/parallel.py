@@ -541,7 +541,7 @@ def long_names(program):
     words = ["hash", "-a", "sha256", *names]
     with open("begun", "wb"):
         path = faulty(program, f'echo >> "{os.path.abspath("begun")}"')
-    run = front(program, ["-S", "2/:", *words], PATH=os.path.dirname(path) + ":" + os.environ["PATH"])
+    run = front(program, ["-S", "2/:", "--block=3000000", *words], PATH=os.path.dirname(path) + ":" + os.environ["PATH"])
     same("long names", run, harness.run(program, words))
     judge("long names there", len(content("begun")) > 2, content("begun"))
 
