@@ -13,11 +13,11 @@ pub mod MacLines
 pub mod Deriving
 pub mod CutParts
 pub mod Starting
-pub mod Clean
 pub mod Listing
 pub mod Reporting
 pub mod Names
 pub mod Opening
+pub mod Behind
 pub mod Gathering
 pub mod Rejoining
 pub mod Telling

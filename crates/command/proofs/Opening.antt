@@ -6,8 +6,8 @@ use Rattle.std.specs.Borrow.{Bor}
 use Rattle.std.specs.List.{sum_by}
 use Rattle.request.specs.CommandLine.{Text}
 use Rattle.sumlist.specs.Report.{Files}
-use Rattle.command.specs.Lines.{content_of, is_input}
-use Rattle.command.specs.Streams.{OpensAtMost, Seen, opens_from, opens_of}
+use Rattle.command.specs.Lines.{content_of, is_input, opens_of}
+use Rattle.command.specs.inside.Seen.{OpensAtMost, Seen, opens_from}
 use Rattle.command.proofs.Names.{all_names, one_more}
 
 -- ---- the names that a loop has gone through

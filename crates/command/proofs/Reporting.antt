@@ -1,20 +1,22 @@
 -- The run of `check` over lists: what one list's run ends with, and how many files all of them open.
-use Rattle.std.proofs.Common.{◌≡◌, ◌≢◌, ◌≤◌, ◌+◌, ◌∙◌, ℕ, List, [], ◌∷◌, ◌++◌, Option, Some, None, Bool, true, false}
+use Rattle.std.proofs.Common.{◌≡◌, ◌≢◌, ◌≤◌, ◌+◌, ◌-◌, ◌^◌, ◌∙◌, ℕ, List, [], ◌∷◌, ◌++◌, Option, Some, None, Bool, true, false}
 use Rattle.std.proofs.Common.{Result, Ok, sym, ap, subst, arith, inl, inr, length, refl}
 use Rattle.std.proofs.Common.{if◌then◌else◌, ◌==◌}
-use Rattle.std.specs.List.{list_all, slice_split, onto_first, sum_by}
+use Rattle.std.specs.List.{slice_split, onto_first, sum_by}
 use Rattle.std.proofs.lemmas.List.Sums.{sum_by-cons}
 use Rattle.request.specs.CommandLine.{Text}
 use Rattle.sumlist.specs.Lines.{lines, without_empty_last}
-use Rattle.sumlist.specs.Report.{Files}
+use Rattle.sumlist.specs.Report.{Files, summary_of}
 use Rattle.sumlist.specs.declared.kind.Kind.{Kind}
-use Rattle.command.specs.Checking.{ListRuns, is_fine, report_status}
-use Rattle.command.specs.Lines.{content_of, is_input}
+use Rattle.sumlist.specs.Tally.{is_clean}
+use Rattle.command.specs.Checking.{ListRuns}
+use Rattle.command.specs.Lines.{content_of, is_input, opens_of}
 use Rattle.command.specs.Run.{Run}
-use Rattle.command.specs.Streams.{IfTold, OpensAtMost, Seen, opens_from, opens_of}
+use Rattle.command.specs.inside.Seen.{IfTold, OpensAtMost, Seen, opens_from}
 use Rattle.command.specs.declared.fault.Fault.{Fault}
 use Rattle.command.specs.inside.Reading.{Leaves}
 use Rattle.command.proofs.Going.{told_where}
+use Rattle.command.proofs.Refused.{ends, not_both, refused_ends}
 
 -- ---- one list
 
@@ -32,13 +34,16 @@ runs_light : (is_summed : Bool) (files : Files) (kind : Option Kind) (list : Opt
     (content : Option (List ℕ)) (run : Run) (s : ℕ) → ListRuns is_summed files kind list name content run
     → run.ending ≡ Ok s → s ≢ 3
 runs_light is_summed files kind list name None run s runs is e =
-    let other = sym is ∙ ap (λ (r : Run). r.ending) runs.2 in absurd (cc)
+    refused_ends 0 false name None run s (inl runs) is
 runs_light is_summed files kind list name (Some bytes) run s runs is e = elim runs.2 [
   | inl p ↦
-      let same = sym is ∙ ap (λ (r : Run). r.ending) p.2 in
-      let one : s ≡ report_status runs.0 = cc in
-      status_light (list_all is_fine runs.0) s one e
-  | inr p ↦ let other = sym is ∙ ap (λ (r : Run). r.ending) p.4 in absurd (cc)
+      let same = sym is ∙ ap ends p in
+      let one : s ≡ (if is_clean (summary_of runs.0) then 0 else 1) = cc in
+      status_light (is_clean (summary_of runs.0)) s one e
+  | inr p ↦ elim p [
+    | inl q ↦ not_both run _ s (ap ends q) is
+    | inr q ↦ refused_ends (2 ^ 64 - 1) (is_input name) name (Some bytes) q.1 s q.3 (sym (ap ends q.4) ∙ is)
+  ]
 ]
 
 pub list_whole : (is_summed : Bool) (kind : Option Kind) (are_named : Bool) (files : Files) (name : Text)

@@ -14,15 +14,14 @@ use Rattle.request.specs.CommandLine.{Text}
 use Rattle.source.specs.Counts.{count_after}
 use Rattle.source.specs.Written.{Done, Failed, Shown}
 use Rattle.sumlist.specs.Report.{Files}
-use Rattle.command.specs.Run.{Run, Failures, failures_of, no_failures, refused_by}
-use Rattle.command.specs.Cutting.{StartsRuns, part_count, start_lines}
-use Rattle.command.specs.Keying.{Prints}
-use Rattle.command.specs.Troubles.{Trouble, cannot_write, trouble_of}
+use Rattle.command.specs.Run.{Prints, Run}
+use Rattle.command.specs.Cutting.{StartsRuns}
+use Rattle.command.specs.inside.Troubles.{cannot_write, trouble_of}
 use Rattle.command.specs.declared.fault.Fault.{Fault}
-use Rattle.command.specs.inside.Cutting.{CountsParts, MayRefuseStarts, TellsByte}
+use Rattle.command.specs.inside.Cutting.{CountsParts, MayRefuseStarts, TellsByte, part_count, start_lines}
 use Rattle.command.specs.inside.Reading.{failed}
-use Rattle.command.proofs.Refused.{Counted-file, Counted-none, Does-refused}
-use Rattle.command.proofs.Tagging.{Taken}
+use Rattle.command.proofs.Refused.{Counted-file, Counted-none, unread_by}
+use Rattle.command.proofs.Tagging.{Taken, Taken-refused, Taken-said}
 
 -- ---- the positions of first chunks
 
@@ -96,11 +95,6 @@ known_fewer n least most i has (Some m) some is byte known =
     (known.0, counts_none n i m some (none_there has (1024 * (n * i)) (length m) is byte))
 
 -- ---- the same, where the files are told
-
-starts-other : (name : Text) (t : Trouble) → MayRefuseStarts name t → t ≡ cannot_write → ⊥
-starts-other name t (inl p) is = let e = sym p ∙ is in cc
-starts-other name t (inr (inl p)) is = let e = sym p ∙ is in cc
-starts-other name t (inr (inr p)) is = p
 
 module _ (n : ℕ) (name : Text) where
   -- what the halves know, and that nothing has failed
@@ -192,15 +186,9 @@ module _ (n : ℕ) (name : Text) where
   starts_stopped None tree f answer old new i j u v counted stopped none still = tt
   starts_stopped (Some input) None f answer old new i j u v counted stopped none still = tt
   starts_stopped (Some input) (Some files) f answer old new i j u v counted stopped none still =
-      let t : Trouble = trouble_of f in
-      let failures : Failures = failures_of false (files name) t in (
-        refused_by t failures,
-        inr (t, counted.0, refl),
-        Does-refused t failures f answer old new stopped refl
-            (starts-other name t counted.0) none,
-        refl,
-        Counted-file (files name) t i j u v still counted.1,
-      )
+      Taken-refused (StartsRuns n name files) false (files name) f answer old new i j u v
+      (inl (unread_by false name (files name) (trouble_of f) counted.0)) stopped none
+      (Counted-file (files name) (trouble_of f) i j u v still counted.1)
 
   -- their first chunks were printed, or a write failed
   pub starts_printed : (bytes : Option (List ℕ)) (tree : Option Files) (count : ℕ) (answer : Result ℕ Fault)
@@ -210,27 +198,11 @@ module _ (n : ℕ) (name : Text) where
       → TellsStarts bytes tree answer old new i j u v
   starts_printed None tree count answer old new i j u v counted still printed = tt
   starts_printed (Some input) None count answer old new i j u v counted still printed = tt
-  starts_printed (Some input) (Some files) count answer old new i j u v counted still printed = of_answer answer printed
+  starts_printed (Some input) (Some files) count answer old new i j u v counted still printed =
+      Taken-said (StartsRuns n name files) (start_lines n count) answer old new i j u v
+      (λ run told. inr (runs (files name) run counted.0 told)) printed (Counted-none i j u v still counted.1)
     where
       runs : (content : Option (List ℕ)) (run : Run) → IsSomeAnd content (λ m. count ≡ part_count n m)
           → Prints (start_lines n count) 0 run → IsSomeAnd content (λ m. Prints (start_lines n (part_count n m)) 0 run)
       runs None run is prints = is
       runs (Some m) run is prints = subst (λ (k : ℕ). Prints (start_lines n k) 0 run) is prints
-
-      of_answer : (a : Result ℕ Fault) → MatchResult a (λ s. (s ≡ 0) × Done old new (start_lines n count))
-          (λ fault. (trouble_of fault ≡ cannot_write) × Failed old new (start_lines n count))
-          → Taken (StartsRuns n name files) a old new i j u v
-      of_answer (Ok s) q = (
-        record { text = start_lines n count; notes = []; ending = Ok 0; failures = no_failures },
-        inl (runs (files name) _ counted.0 (inl refl)),
-        record { ending = ap Ok (sym q.0); out = q.1 },
-        refl,
-        Counted-none i j u v still counted.1,
-      )
-      of_answer (Err f) q = (
-        record { text = start_lines n count; notes = []; ending = Err cannot_write; failures = no_failures },
-        inl (runs (files name) _ counted.0 (inr refl)),
-        record { ending = ap Err (sym q.0); out = q.1 },
-        refl,
-        Counted-none i j u v still counted.1,
-      )

@@ -1,16 +1,15 @@
 -- Worked values of the visible form of names, of where parts begin, and of the run over one list and those behind it,
 -- computed: a wrong escape, digit or class of characters does not check, nor a part too many or too few.
-use Rattle.std.proofs.Common.{◌≡◌, ℕ, ◌^◌, List, [], ◌∷◌, ◌++◌, Some, Ok, true, refl, codes, replicate}
+use Rattle.std.proofs.Common.{◌≡◌, ℕ, ◌^◌, List, [], ◌∷◌, ◌++◌, Some, Err, true, refl, codes, replicate}
 use Rattle.std.specs.Char.{encode_utf8}
 use Rattle.std.specs.Fmt.{digits}
 use Rattle.std.specs.Str.{chars}
 use Rattle.hex.specs.Hex.{encode_with}
-use Rattle.command.specs.Cutting.{part_count, start_lines}
+use Rattle.command.specs.inside.Cutting.{part_count, start_lines}
 use Rattle.sumlist.specs.Report.{no_lines, report_from, summary_of, untagged, skipped, malformed}
 use Rattle.sumlist.specs.declared.summary.Summary.{Summary}
-use Rattle.command.specs.Checking.{hinted, noted}
-use Rattle.command.specs.Run.{Run, ends, followed, no_failures, refused_by}
-use Rattle.command.specs.Troubles.{cannot_read, told}
+use Rattle.command.specs.inside.Faults.{hinted, noted}
+use Rattle.command.specs.Run.{Run, end_of, followed, of_name, prints, stops}
 use Rattle.command.specs.Visible.{visible}
 
 -- LF, CR, a backslash, ESC, TAB and DEL
@@ -39,8 +38,8 @@ unfolding visible chars encode_utf8
 visible_plain = refl
 
 -- a name that would be a line of its own
-told_example : told (cannot_read (120 ∷ 10 ∷ codes "sums: out of memory"))
-    ≡ codes "sums: x\\nsums: out of memory: cannot read\n"
+told_example : (end_of (Err (of_name (120 ∷ 10 ∷ codes "sums: out of memory") (codes ": cannot read\n")))).1
+    ≡ codes "sums: x\\nsums: out of memory: cannot read\n" ∷ []
 unfolding visible chars encode_utf8
 told_example = refl
 
@@ -67,14 +66,15 @@ unfolding digits
 starts_of_all = refl
 
 -- a list that is not there, and behind it one with an untagged line, of which the numbers are told
-followed_example : (let last : Run = ends [] [] (Ok 0) no_failures in
-    let numbers : Summary = record no_lines { malformed = 1; needs_kind = true } in
-    let list : Run = ends (report_from (Some (codes "l")) 1 (untagged ∷ []))
-    (noted true (Some (codes "l")) numbers ++ hinted (codes "l") numbers) (Ok 1) no_failures in
-    followed (refused_by (cannot_read (codes "none")) no_failures) (followed list last))
-    ≡ ends (codes "l: line 1: MALFORMED\n") (codes "sums: none: cannot read\n"
-    ∷ codes "sums: l: 0 OK, 0 failed, 0 missing, 0 unreadable, 0 too long, 1 malformed, 0 skipped\n"
-    ∷ codes "sums: l: untagged lines need -a\n" ∷ []) (Ok 1) no_failures
+followed_example : (let numbers : Summary = record no_lines { malformed = 1; needs_kind = true } in
+    let list : Run = record (prints (report_from (Some (codes "l")) 1 (untagged ∷ [])) 1) {
+      notes = noted true (Some (codes "l")) numbers ++ hinted (codes "l") numbers;
+    } in followed (stops (of_name (codes "none") (codes ": cannot read\n"))) (followed list (prints [] 0)))
+    ≡ record (prints (codes "l: line 1: MALFORMED\n") 1) {
+      notes = codes "sums: none: cannot read\n"
+          ∷ codes "sums: l: 0 OK, 0 failed, 0 missing, 0 unreadable, 0 too long, 1 malformed, 0 skipped\n"
+          ∷ codes "sums: l: untagged lines need -a\n" ∷ [];
+    }
 unfolding visible chars digits encode_utf8 report_from
 followed_example = refl
 

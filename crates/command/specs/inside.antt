@@ -1,7 +1,9 @@
 -- What the clauses of private functions say, and how private types are seen: of use inside alone.
+pub mod Troubles
 pub mod Faults
 pub mod Reading
 pub mod Printing
+pub mod Seen
 pub mod Streams
 pub mod Making
 pub mod Keys

@@ -4,13 +4,13 @@ ghost use Rattle.std.specs.Prelude.{◌≡◌, ℕ, ◌*◌, ◌^◌, ◌<◌, �
 ghost use Rattle.std.specs.Prelude.{IfSome, IsErrOf, MatchOption, None, OnOk, Some};
 ghost use Rattle.std.specs.Option.{SomeIff};
 ghost use Rattle.source.specs.Counts.{count_after};
-ghost use Rattle.command.specs.Run.{Counted};
-ghost use Rattle.command.specs.Cutting.{PartRuns, behind_chunks, cut, first_chunks};
-ghost use Rattle.command.specs.Lines.{is_input};
+ghost use Rattle.command.specs.inside.Troubles.{Counted};
+ghost use Rattle.command.specs.Cutting.{PartRuns, cut};
+ghost use Rattle.command.specs.Lines.{is_input, opens_of};
 ghost use Rattle.command.specs.inside.Cutting as spec;
-ghost use Rattle.command.specs.inside.Cutting.{MakesPart, IsRoom};
+ghost use Rattle.command.specs.inside.Cutting.{MakesPart, IsRoom, behind_chunks, first_chunks};
 ghost use Rattle.command.specs.inside.Reading.{failed};
-ghost use Rattle.command.specs.Streams.{OpensAtMost, DoesRun, opens_of};
+ghost use Rattle.command.specs.inside.Seen.{OpensAtMost, DoesRun};
 ghost use Rattle.command.specs.inside.Streams.{IfContent, SameStreams};
 ghost use Rattle.task.specs.inside.Possible.{IsPlace};
 

@@ -13,13 +13,13 @@ ghost use Rattle.sumlist.specs.Tagged.{tagged, tagged_len};
 ghost use Rattle.task.specs.inside.Possible.{HasDigest, IsPartSize};
 ghost use Rattle.command.specs.Run.{TellsAll};
 ghost use Rattle.command.specs.Hashing.{HashesAll};
-ghost use Rattle.command.specs.Lines.{FitsPlace, digest_line};
+ghost use Rattle.command.specs.Lines.{FitsPlace, digest_line, opens_of};
 ghost use Rattle.command.specs.inside.Keys.{HasBytes, MakesOf, made_bytes};
 ghost use Rattle.command.specs.inside.Making.{made_len};
 ghost use Rattle.command.specs.inside.Hashed.{PrintsName, Settles};
 ghost use Rattle.command.specs.inside.Printing.{PrintsListed};
 ghost use Rattle.command.specs.inside.Reading.{Leaves, Reads, failed};
-ghost use Rattle.command.specs.Streams.{OpensAtMost, DoesRun, opens_of};
+ghost use Rattle.command.specs.inside.Seen.{OpensAtMost, DoesRun};
 ghost use Rattle.command.specs.inside.Streams.{AfterReading, IfContent, SameStreams};
 ghost use Rattle.command.specs.declared.fault.Fault.TheVariants.{BadName};
 

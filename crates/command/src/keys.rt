@@ -1,11 +1,11 @@
 // The command `kdf`: a key that is derived from key material.
 
 ghost use Rattle.std.specs.Prelude.{◌≡◌, ◌*◌, ◌-◌, ◌≤◌, [], length, option_map, IfOk, IfSome};
-ghost use Rattle.command.specs.Keying.{KdfRuns, derived_by, expanded};
-ghost use Rattle.command.specs.Keying as spec;
+ghost use Rattle.command.specs.Keying.{KdfRuns};
+ghost use Rattle.command.specs.inside.Keys as spec;
 ghost use Rattle.command.specs.inside.Printing as printing;
-ghost use Rattle.command.specs.inside.Keys.{Extracts, PrintsDerived, PrintsKey, function_with};
-ghost use Rattle.command.specs.Streams.{OpensAtMost, DoesRun};
+ghost use Rattle.command.specs.inside.Keys.{Extracts, PrintsDerived, PrintsKey, function_with, derived_by, expanded};
+ghost use Rattle.command.specs.inside.Seen.{OpensAtMost, DoesRun};
 ghost use Rattle.command.specs.inside.Streams.{AfterFile, SameStreams};
 ghost use Rattle.task.specs.Deriving.{by_blake3};
 ghost use Rattle.task.specs.inside.Views.{derivation_shown};

@@ -3,10 +3,10 @@
 ghost use Rattle.std.specs.Prelude.{◌≡◌, ◌+◌, ◌*◌, ◌^◌, ◌<◌, ◌≤◌, [], false, true, IfOk, IfSome, IsErrOf, Some};
 ghost use Rattle.source.specs.Counts.{count_after};
 ghost use Rattle.source.specs.Written.{Writes};
-ghost use Rattle.command.specs.Cutting.{StartsRuns, start_lines};
-ghost use Rattle.command.specs.inside.Cutting.{CountsParts, TellsByte};
+ghost use Rattle.command.specs.Cutting.{StartsRuns};
+ghost use Rattle.command.specs.inside.Cutting.{CountsParts, TellsByte, start_lines};
 ghost use Rattle.command.specs.inside.Reading.{failed};
-ghost use Rattle.command.specs.Streams.{OpensAtMost, DoesRun};
+ghost use Rattle.command.specs.inside.Seen.{OpensAtMost, DoesRun};
 ghost use Rattle.command.specs.inside.Streams.{SameStreams};
 ghost use Rattle.task.specs.inside.Possible.{IsPartLength};
 

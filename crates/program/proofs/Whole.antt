@@ -1,9 +1,8 @@
 -- A run of the program is that of its request, with the last trouble told.
 use Rattle.std.proofs.Common.{◌≡◌, ℕ, List, [], ◌∷◌, ◌++◌, Option, Some, None, Result, Ok, Err, IfOk, IfSome, refl}
-use Rattle.std.proofs.Common.{sym, ap, ◌∙◌, ◌⊎◌, ◌+◌, ◌≤◌, inl, inr, subst, append-nil, arith}
+use Rattle.std.proofs.Common.{sym, ap, ◌∙◌, ◌⊎◌, ◌+◌, ◌≤◌, Bool, false, inl, inr, subst, append-nil, arith}
 use Rattle.std.specs.Prelude.{IsErrAnd, OnOk}
 use Rattle.std.proofs.KnownBytes.{Appends-nil}
-use Rattle.std.proofs.lemmas.Result.{err_from_is_err_and}
 use Rattle.source.specs.Written.{Done, Failed, Shown}
 use Rattle.sumlist.specs.Report.{Files}
 use Rattle.request.specs.CommandLine.{ErrorKind, Given, IsAmong, IsWrong, OfProgram, Reads, Text, fault_of, given_of, kind_of}
@@ -12,14 +11,20 @@ use Rattle.request.specs.declared.request.Request.{Request}
 use Rattle.request.specs.declared.request.WordsFault.{WordsFault}
 use Rattle.request.specs.declared.request.WordsFault.TheVariants as words_fault
 use Rattle.task.specs.Parameters.{IsAsDefined}
-use Rattle.task.specs.Tasks.{Asked, asked}
+use Rattle.task.specs.Tagging.{KeyText}
+use Rattle.task.specs.Tagging as key_text
+use Rattle.task.specs.Tasks.{Asked, asked, tags}
+use Rattle.task.specs.declared.tagging.Mac.{Mac}
 use Rattle.task.specs.declared.fault.TaskFault.{TaskFault}
 use Rattle.task.specs.declared.fault.TaskFault.TheVariants as task
 use Rattle.task.specs.inside.Views.{task_shown}
-use Rattle.command.specs.Run.{Counted, Run, Printed, Runs, Does, Tells, TellsAll, ending_told, no_failures}
-use Rattle.command.specs.Run.{ends, refused_by, status_at}
-use Rattle.command.specs.Troubles.{cannot_write, of_task, out_of_memory, status_of, told, trouble_of}
+use Rattle.command.specs.Run.{Counted, Run, Runs, Tells, TellsAll, end_of, prints, stops}
+use Rattle.command.specs.Run.{cannot_write as run_cannot_write, out_of_memory as run_out_of_memory}
+use Rattle.command.specs.Lines.{opens_of}
+use Rattle.command.specs.inside.Seen.{Does, key_opens}
+use Rattle.command.specs.inside.Troubles.{cannot_write, of_task, out_of_memory, shown, status_of, told, trouble_of}
 use Rattle.command.specs.declared.fault.Fault.{Fault}
+use Rattle.command.proofs.Refused.{Does-refused}
 use Rattle.command.proofs.Telling.{TellsAll-append, TellsAll-one}
 use Rattle.program.specs.Program.{ClapRuns, ProgramRuns, RequestRuns, TaskRuns, most_opens}
 
@@ -33,16 +38,16 @@ read_as words (Ok r) reads passes fault = (reads, passes)
 read_as words (Err words_fault.OutOfMemory) reads passes fault = tt
 read_as words (Err (words_fault.Words e)) reads passes fault = fault e refl
 
-Counted-none : (i u : ℕ) → Counted no_failures i i u u
+Counted-none : (i u : ℕ) → Counted [] i i u u
 Counted-none i u = (omega arith, omega arith)
 
 Runs-done : (run : Run) (status : ℕ) (out_old out_new err_old err_new : Shown)
     → Does run (Ok status) out_old out_new → TellsAll err_old err_new run.notes
     → Runs run status out_old out_new err_old err_new
 Runs-done run status out_old out_new err_old err_new takes tells = record {
-  status = sym (ap status_at takes.ending);
+  status = sym (ap (λ e. (end_of e).0) takes.ending);
   out = takes.out;
-  err = subst (TellsAll err_old err_new) (sym (ap (λ l. run.notes ++ l) (ap ending_told takes.ending) ∙
+  err = subst (TellsAll err_old err_new) (sym (ap (λ e. run.notes ++ (end_of e).1) takes.ending ∙
       append-nil run.notes)) tells;
 }
 
@@ -51,9 +56,9 @@ Runs-stopped : (run : Run) (f : Fault) (status : ℕ) (out_old out_new err_old e
     → status ≡ status_of (trouble_of f) → Tells err_mid err_new (told (trouble_of f))
     → Runs run status out_old out_new err_old err_new
 Runs-stopped run f status out_old out_new err_old err_mid err_new takes tells is last = record {
-  status = is ∙ sym (ap status_at takes.ending);
+  status = is ∙ sym (ap (λ e. (end_of e).0) takes.ending);
   out = takes.out;
-  err = subst (TellsAll err_old err_new) (sym (ap (λ l. run.notes ++ l) (ap ending_told takes.ending)))
+  err = subst (TellsAll err_old err_new) (sym (ap (λ e. run.notes ++ (end_of e).1) takes.ending))
       (TellsAll-append err_old err_mid err_new run.notes (told (trouble_of f) ∷ []) tells
       (TellsAll-one err_mid err_new (told (trouble_of f)) last));
 }
@@ -96,6 +101,13 @@ opens_always None tree task x y most = tt
 opens_always (Some bytes) None task x y most = tt
 opens_always (Some bytes) (Some files) task x y most = most bytes files
 
+-- a key is read of a file, or given
+pub tag_opens : (mac : Mac) (is_raw : Bool) (key : KeyText) (wanted : Option (List ℕ)) (name : Text) (files : Files)
+    (bytes : List ℕ) (x y : ℕ) → y ≤ x + (key_opens key + opens_of name)
+    → y ≤ x + most_opens (tags mac is_raw key wanted name) files bytes
+tag_opens mac is_raw (key_text.bytes key) wanted name files bytes x y most = omega (arith, most)
+tag_opens mac is_raw (key_text.file key) wanted name files bytes x y most = most
+
 requested : (r : Given) (task : Asked) (files : Files) (bytes : List ℕ) (run : Run) (x y : ℕ) → asked r ≡ Ok task
     → TaskRuns task files bytes run → y ≤ x + most_opens task files bytes
     → (opens : ℕ) × RequestRuns r files bytes run opens × (y ≤ x + opens)
@@ -130,13 +142,9 @@ quiet_task (Some bytes) (Some files) r task answer out_old out_new err i j u v x
     (h.0, requested r task files bytes h.0 x y is h.1 (most bytes files), h.2, rw h.3 refl, h.4)
 
 refused : (r : Given) (e : TaskFault) (files : Files) (bytes : List ℕ) → IsAsDefined task_shown (asked r) (Err e)
-    → RequestRuns r files bytes (refused_by (trouble_of (of_task e)) no_failures) 0
+    → RequestRuns r files bytes (stops (shown (trouble_of (of_task e)))) 0
 refused r (task.Usage fault) files bytes judged = inl (rw judged (refl, refl))
 refused r task.OutOfMemory files bytes judged = inr (refl, refl)
-
-nothing_printed : (e : TaskFault) (s : Shown) → Printed (Err (trouble_of (of_task e))) s s []
-nothing_printed (task.Usage fault) s = (refl, Appends-nil s.contents)
-nothing_printed task.OutOfMemory s = (refl, Appends-nil s.contents)
 
 pub no_task : (first : Option (List ℕ)) (tree : Option Files) (r : Given) (e : TaskFault) (answer : Result ℕ Fault)
     (out err : Shown) (i u x : ℕ)
@@ -144,21 +152,20 @@ pub no_task : (first : Option (List ℕ)) (tree : Option Files) (r : Given) (e :
     → Requested first tree r answer out out err err i i u u x x
 no_task None tree r e answer out err i u x stop judged = tt
 no_task (Some bytes) None r e answer out err i u x stop judged = tt
-no_task (Some bytes) (Some files) r e answer out err i u x stop judged =
-    let s = err_from_is_err_and answer stop in (
-      refused_by (trouble_of (of_task e)) no_failures,
-      (0, refused r e files bytes judged, omega arith),
-      rw (s.1, s.2) (record { ending = refl; out = nothing_printed e out }),
-      refl,
-      Counted-none i u,
-    )
+no_task (Some bytes) (Some files) r e answer out err i u x stop judged = (
+  stops (shown (trouble_of (of_task e))),
+  (0, refused r e files bytes judged, omega arith),
+  Does-refused (trouble_of (of_task e)) [] (of_task e) answer out out stop refl refl,
+  refl,
+  Counted-none i u,
+)
 
 -- the text of wrong words is told
 pub clap_told : (kind : ErrorKind) (text : Text) (status : ℕ) (out_old out_new err_old err_new : Shown) → IsWrong kind
     → status ≡ 2 → out_new ≡ out_old → Tells err_old err_new text
-    → (run : Run) × ClapRuns kind text run × (run.failures ≡ no_failures) × Runs run status out_old out_new err_old err_new
+    → (run : Run) × ClapRuns kind text run × (run.failures ≡ []) × Runs run status out_old out_new err_old err_new
 clap_told kind text status out_old out_new err_old err_new wrong is none tells = (
-  ends [] (text ∷ []) (Ok 2) no_failures,
+  record (prints [] 2) { notes = text ∷ [] },
   (λ _. refl, λ right. absurd (right wrong)),
   refl,
   record {
@@ -172,15 +179,15 @@ clap_told kind text status out_old out_new err_old err_new wrong is none tells =
 pub clap_printed : (kind : ErrorKind) (text : Text) (status : ℕ) (out_old out_new err_old err_new : Shown)
     → (IsWrong kind → ⊥) → ((status ≡ 0) × Done out_old out_new text × (err_new ≡ err_old))
     ⊎ ((status ≡ 3) × Failed out_old out_new text × Tells err_old err_new (told cannot_write))
-    → (run : Run) × ClapRuns kind text run × (run.failures ≡ no_failures) × Runs run status out_old out_new err_old err_new
+    → (run : Run) × ClapRuns kind text run × (run.failures ≡ []) × Runs run status out_old out_new err_old err_new
 clap_printed kind text status out_old out_new err_old err_new right (inl p) = (
-  ends text [] (Ok 0) no_failures,
+  prints text 0,
   (λ wrong. absurd (right wrong), λ _. inl refl),
   refl,
   record { status = p.0; out = p.1; err = p.2 },
 )
 clap_printed kind text status out_old out_new err_old err_new right (inr p) = (
-  ends text [] (Err cannot_write) no_failures,
+  record (stops run_cannot_write) { text = text; is_whole = false },
   (λ wrong. absurd (right wrong), λ _. inr refl),
   refl,
   record { status = p.0; out = p.1; err = TellsAll-one err_old err_new (told cannot_write) p.2 },
@@ -228,7 +235,7 @@ module _ (words : List Text) where
   run_without_memory None tree status out err_old err_new i u x is last = tt
   run_without_memory (Some bytes) None status out err_old err_new i u x is last = tt
   run_without_memory (Some bytes) (Some files) status out err_old err_new i u x is last = (
-    refused_by out_of_memory no_failures,
+    stops run_out_of_memory,
     0,
     record {
       status = is;
@@ -243,7 +250,7 @@ module _ (words : List Text) where
   pub run_answered : (first : Option (List ℕ)) (tree : Option Files) (kind : ErrorKind) (text : Text) (status : ℕ)
       (out_old out_new err_old err_new : Shown) (i u x : ℕ)
       → OfProgram (λ app. IsAmong kind (fault_of app words))
-      → (run : Run) × ClapRuns kind text run × (run.failures ≡ no_failures) × Runs run status out_old out_new err_old err_new
+      → (run : Run) × ClapRuns kind text run × (run.failures ≡ []) × Runs run status out_old out_new err_old err_new
       → Program first tree words status out_old out_new err_old err_new i i u u x x
   run_answered None tree kind text status out_old out_new err_old err_new i u x among h = tt
   run_answered (Some bytes) None kind text status out_old out_new err_old err_new i u x among h = tt

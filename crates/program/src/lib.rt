@@ -1,11 +1,11 @@
 //! A whole run of `sums`: from the words to the status.
 #![tactic(auto)]
 
-ghost use Rattle.std.specs.Prelude.{◌≡◌, IfSome, List, ℕ, map};
+ghost use Rattle.std.specs.Prelude.{◌≡◌, [], IfSome, List, ℕ, map};
 ghost use Rattle.request.specs.CommandLine.{Text, given_of, kind_of};
 ghost use Rattle.request.specs.inside.Reading.{IsRead};
-ghost use Rattle.command.specs.Run.{Run, Runs, TellsAll, no_failures};
-ghost use Rattle.command.specs.Streams.{DoesRun, OpensAtMost};
+ghost use Rattle.command.specs.Run.{Run, Runs, TellsAll};
+ghost use Rattle.command.specs.inside.Seen.{DoesRun, OpensAtMost};
 ghost use Rattle.command.specs.inside.Streams.{SameStreams};
 ghost use Rattle.program.specs.Program.{ClapRuns, ProgramRuns, RequestRuns};
 
@@ -130,7 +130,7 @@ fn run_request<'n, 'i, 't, 'o, L: Feed, T: Tree, W: Sink, E: Sink>(
 
 // Prints the text of help and of the version, and tells that of what is wrong with the words.
 fn print_clap<W: Sink, E: Sink>(error: &Error, text: &str, out: &mut W, err: &mut E) -> u8
-    ensures { (run : Run) × ClapRuns (kind_of error.now) text.now run × (run.failures ≡ no_failures)
+    ensures { (run : Run) × ClapRuns (kind_of error.now) text.now run × (run.failures ≡ [])
         × Runs run result (W.shown out.old) (W.shown out.new) (E.shown err.old) (E.shown err.new) }
 {
     if error.use_stderr() {

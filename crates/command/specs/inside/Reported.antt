@@ -5,7 +5,7 @@ use Rattle.source.specs.Written.{Shown}
 use Rattle.sumlist.specs.declared.kind.Kind.{Kind}
 use Rattle.command.specs.Checking.{ListRuns}
 use Rattle.command.specs.Lines.{content_of, is_input}
-use Rattle.command.specs.Streams.{Seen}
+use Rattle.command.specs.inside.Seen.{Seen}
 use Rattle.command.specs.declared.fault.Fault.{Fault}
 use Rattle.command.specs.inside.Hashed.{RunsOne}
 

@@ -1,6 +1,6 @@
 use Rattle.std.proofs.Common.{◌-◌}
 use Rattle.source.proofs.Writing.{Writing}
-use Rattle.command.specs.Cutting.{start_lines}
+use Rattle.command.specs.inside.Cutting.{start_lines}
 use Rattle.command.proofs.Starting.{lines_from}
 use Rattle.command.proofs.starts.write_starts.Given as goal
 

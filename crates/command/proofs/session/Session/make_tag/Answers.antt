@@ -19,3 +19,6 @@ pub returns-in-Blake2s-hash-clause-tag : goal.returns-in-Blake2s-hash-clause-tag
 returns-in-Blake2s-hash-clause-tag g c is_raw =
     let law = c.hash_laws.ensures.blake2s in
     rw (c.in-Hmac.is, c.in-Blake2s-hash.is) (rw (law.0, law.1, law.3) at c.hmac-in-Blake2s-hash.ensures.tag is_raw)
+
+pub returns-in-Blake3-clause-tag : goal.returns-in-Blake3-clause-tag
+returns-in-Blake3-clause-tag g c is_raw = rw c.in-Blake3.is (c.blake3.ensures.tag is_raw)

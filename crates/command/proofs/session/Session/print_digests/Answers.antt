@@ -3,8 +3,7 @@ use Rattle.std.proofs.Common.{arith}
 use Rattle.std.proofs.Common.{take_all}
 use Rattle.std.proofs.lemmas.List.{drop_all}
 use Rattle.std.specs.List.{sum_by}
-use Rattle.command.specs.Lines.{digest_line, is_input}
-use Rattle.command.specs.Streams.{opens_of}
+use Rattle.command.specs.Lines.{digest_line, is_input, opens_of}
 use Rattle.command.specs.inside.Streams.{seen_of}
 use Rattle.command.proofs.Given.{line_whole, name_runs}
 use Rattle.command.proofs.Going.{Same-trans, goes-end, goes-next, goes-start, goes-stop}

@@ -1,7 +1,7 @@
 use Rattle.std.proofs.Common.{drop, map, take}
 use Rattle.std.specs.List.{sum_by}
-use Rattle.command.specs.Lines.{digest_line, is_input}
-use Rattle.command.specs.Streams.{OpensAtMost, opens_of}
+use Rattle.command.specs.Lines.{digest_line, is_input, opens_of}
+use Rattle.command.specs.inside.Seen.{OpensAtMost}
 use Rattle.command.specs.inside.Streams.{SameStreams, seen_of}
 use Rattle.command.proofs.Given.{line_whole, name_runs}
 use Rattle.command.proofs.Going.{Goes}

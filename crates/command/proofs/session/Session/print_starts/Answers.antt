@@ -1,5 +1,5 @@
 use Rattle.std.proofs.Common.{refl}
-use Rattle.command.specs.Cutting.{start_lines}
+use Rattle.command.specs.inside.Cutting.{start_lines}
 use Rattle.command.proofs.Starting.{starts_printed, starts_stopped}
 use Rattle.command.proofs.Printing.{unwritten}
 use Rattle.command.proofs.session.Session.print_starts.Goals as goal
