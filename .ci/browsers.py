@@ -6,6 +6,7 @@ tried.
 usage: .ci/browsers.py PROGRAM PAGE [chromium|firefox]..     SHOTS names a folder for pictures of the page
 """
 
+import base64
 import contextlib
 import http.server
 import json
@@ -18,6 +19,7 @@ import sys
 import tempfile
 import threading
 import time
+import zlib
 
 import harness
 
@@ -394,6 +396,20 @@ def try_huge(page, work):
     path.unlink()
 
 
+def try_broken(browser, work):
+    """A browser that does not take the module says so, and nothing is OK."""
+    text = pathlib.Path(PAGE).read_text(encoding="utf-8")
+    other = base64.b64encode(zlib.compress(b"no module")).decode()
+    broken = re.sub(r'(id="module">)[^<]*', lambda it: it[1] + other, text)
+    (work / "broken.html").write_text(broken, encoding="utf-8")
+    page = Page(browser, (work / "broken.html").as_uri())
+    page.files(work / "a.iso")
+    shown = page.wait(lambda it: it["verdict"], "verdict")
+    told = shown["verdict"].startswith("This browser cannot run the hashes: ")
+    harness.judge("a module that the browser refuses", told and shown["state"] == "wrong", shown["verdict"])
+    harness.same("what it says of the file", (shown["rows"], shown["isWorking"]), (["a.iso: not read"], False))
+
+
 # ---- what the browser shows and lets through
 
 
@@ -540,6 +556,8 @@ def try_browser(kind, work, files):
         try_keyboard(page)
         try_huge(page, work)
         harness.same("faults in the console, from a file", browser.faults(), [])
+        try_broken(browser, work)
+        browser.faults()
         try_requests(browser, work, files)
     finally:
         browser.quit()

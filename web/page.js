@@ -258,6 +258,8 @@ class Run {
 
   #broken(message) {
     this.stop();
+    this.#mark('not read');
+    byId('progress').hidden = true;
     this.#say('wrong', [`This browser cannot run the hashes: ${message}`]);
   }
 
@@ -267,6 +269,11 @@ class Run {
     this.#worker = null;
   }
 
+  /** Says so of each row that has no result. */
+  #mark(text) {
+    for (const row of this.#rows) if (!row.result) this.#table.draw(row, text);
+  }
+
   get isWorking() {
     return this.#worker !== null && this.#left > 0;
   }
@@ -274,7 +281,7 @@ class Run {
   /** Stops, and says how far it came. */
   interrupt() {
     this.stop();
-    for (const row of this.#rows) if (!row.result) this.#table.draw(row, 'stopped');
+    this.#mark('stopped');
     byId('stop').textContent = 'Go on';
     const told = counts(this.#rows).map(([result, count]) => `${count} ${result}`);
     const state = verdictOf(this.#rows).state === 'wrong' ? 'wrong' : '';
