@@ -22,11 +22,12 @@ export async function* piecesOfBlob(blob) {
     const buffer = await next;
     if (buffer.byteLength !== Math.min(STEP, blob.size - at)) throw new Error('the file has changed');
     // the next piece is read while this one is hashed
-    next = read(at + STEP);
-    next.catch(() => {});
+    next = at + STEP < blob.size ? read(at + STEP) : null;
+    next?.catch(() => {});
     yield new Uint8Array(buffer);
     giveBack(buffer);
   }
+  // what is empty has to be there too
   await next;
 }
 
