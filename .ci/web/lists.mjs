@@ -4,7 +4,7 @@
 import { spawnSync } from 'node:child_process';
 import { mkdirSync, mkdtempSync, rmSync, writeFileSync } from 'node:fs';
 import { tmpdir } from 'node:os';
-import { join, resolve } from 'node:path';
+import { join, posix, resolve } from 'node:path';
 import { pathToFileURL } from 'node:url';
 import { Files, shown } from '../../web/names.js';
 import { jobsOf, keyOf, rowsOf, settle } from '../../web/plan.js';
@@ -139,7 +139,9 @@ function shownLine(reported) {
   const name = found[1].replace(/\\[\\nr]/g, (it) => ({ '\\\\': '\\', '\\n': '\n', '\\r': '\r' })[it]);
   // what no file of a system can be called cannot be added to the page
   const isTooLong = name.split('/').some((part) => Buffer.byteLength(part) > 255);
-  return `${shown(name)}: ${isTooLong ? 'MISSING' : found[2]}`;
+  // nor can what lies outside the folder, which `sums check` finds
+  const isOutside = found[2] === 'UNREADABLE' && (name.startsWith('/') || /^\.\.(\/|$)/.test(posix.normalize(name)));
+  return `${shown(name)}: ${isTooLong || isOutside ? 'MISSING' : found[2]}`;
 }
 
 /** What the program reports of lists, and on which of them it remarks. */
