@@ -1,6 +1,6 @@
 -- Lists that are joined one behind another, as the definition of `join` says it.
-use Rattle.std.proofs.Common.{◌≡◌, ◌∙◌, ◌+◌, ℕ, List, [], ◌∷◌, ◌++◌, Ok, Err, refl, sym, ap, inl, inr, subst, append-nil, append_assoc}
-use Rattle.std.proofs.Common.{Option, None, Some, IfSome}
+use Rattle.std.proofs.Common.{◌≡◌, ◌∙◌, ◌+◌, ℕ, List, [], ◌∷◌, ◌++◌, Ok, Err, refl, sym, ap, inl, inr, subst}
+use Rattle.std.proofs.Common.{append-nil, append_assoc, Option, None, Some, IfSome}
 use Rattle.std.specs.Borrow.{Bor}
 use Rattle.b3.specs.declared.row.PartValue.{PartValue}
 use Rattle.request.specs.CommandLine.{Text}
@@ -26,6 +26,15 @@ pub behind : (parts told more all : List PartValue) → all ≡ told ++ more →
 behind parts told more all is = ap (λ ps. parts ++ ps) is ∙ sym (append_assoc parts told more)
 
 module _ (files : Files) where
+  -- the first of them, and then the others
+  first_join : (input : List ℕ) (list : Text) (lists : List Text) (parts told : List PartValue)
+      (r : Result (List PartValue) Run) (t : AllListed files input (list ∷ lists) told)
+      → AreInRow ((parts ++ t.0) ++ t.1)
+      → JoinsLists files (left_by (list ∷ []) input) (parts ++ t.0) lists r
+      → JoinsLists files input parts (list ∷ lists) r
+  first_join input list lists parts told r t row rest =
+      inr (t.0, t.3, front_row 0 1024 (parts ++ t.0) t.1 row, rest)
+
   -- all of them
   pub all_join : (input : List ℕ) (lists : List Text) (parts told : List PartValue) → AllListed files input lists told
       → AreInRow (parts ++ told) → JoinsLists files input parts lists (Ok (parts ++ told))
@@ -34,13 +43,9 @@ module _ (files : Files) where
       let is = behind parts t.0 t.1 told t.2 in
       let all : AreInRow ((parts ++ t.0) ++ t.1) = subst AreInRow is row in
       let left = left_by (list ∷ []) input in
-      inr (
-        t.0,
-        t.3,
-        front_row 0 1024 (parts ++ t.0) t.1 all,
-        subst (λ (ps : List PartValue). JoinsLists files left (parts ++ t.0) lists (Ok ps)) (sym is)
-            (all_join left lists (parts ++ t.0) t.1 t.4 all),
-      )
+      first_join input list lists parts told (Ok (parts ++ told)) t all
+      (subst (λ (ps : List PartValue). JoinsLists files left (parts ++ t.0) lists (Ok ps)) (sym is)
+      (all_join left lists (parts ++ t.0) t.1 t.4 all))
 
   -- or up to the first that is not
   pub halt_join : (input : List ℕ) (before : List Text) (list : Text) (after : List Text) (parts told : List PartValue)
@@ -58,14 +63,10 @@ module _ (files : Files) where
       let is = behind parts t.0 t.1 told t.2 in
       let all : AreInRow ((parts ++ t.0) ++ t.1) = subst AreInRow is row in
       let left = left_by (first ∷ []) input in
-      inr (
-        t.0,
-        t.3,
-        front_row 0 1024 (parts ++ t.0) t.1 all,
-        halt_join left before list after (parts ++ t.0) t.1 run t.4 all
-            (subst (λ (ps : List PartValue). Halts ps (is_input list) list (content_of list (left_by before left) files) run)
-            is halts),
-      )
+      let content = content_of list (left_by before left) files in
+      first_join input first (before ++ list ∷ after) parts told (Err run) t all
+      (halt_join left before list after (parts ++ t.0) t.1 run t.4 all
+      (subst (λ (ps : List PartValue). Halts ps (is_input list) list content run) is halts))
 
 -- a list whose lines were not joined is one that may halt
 pub not_joined : (list : Bor Text) (first : Option (List ℕ)) (old new : Joiner) (fault : JoinFault)
@@ -73,4 +74,5 @@ pub not_joined : (list : Bor Text) (first : Option (List ℕ)) (old new : Joiner
     → IfSome first (λ text. JoinsList {T = Unit {0}} list.now (Some text) old new (Err (of_join fault list)))
 not_joined list None old new fault stops = tt
 not_joined list (Some text) old new Read stops = λ parts joined. inr (inl refl)
-not_joined list (Some text) old new (Line n fault) stops = λ parts joined. inr (inr (n, fault, refl, stops parts joined))
+not_joined list (Some text) old new (Line n fault) stops =
+    λ parts joined. inr (inr (n, fault, refl, stops parts joined))

@@ -5,7 +5,8 @@ use Rattle.std.specs.Prelude.{IsErrAnd, OnOk}
 use Rattle.std.proofs.KnownBytes.{Appends-nil}
 use Rattle.source.specs.Written.{Done, Failed, Shown}
 use Rattle.sumlist.specs.Report.{Files}
-use Rattle.request.specs.CommandLine.{ErrorKind, Given, IsAmong, IsWrong, OfProgram, Reads, Text, fault_of, given_of, kind_of}
+use Rattle.request.specs.CommandLine.{ErrorKind, Given, IsAmong, IsWrong, OfProgram, Reads, Text, fault_of, given_of}
+use Rattle.request.specs.CommandLine.{kind_of}
 use Rattle.request.specs.inside.Reading.{IsRead}
 use Rattle.request.specs.declared.request.Request.{Request}
 use Rattle.request.specs.declared.request.WordsFault.{WordsFault}
@@ -217,7 +218,8 @@ module _ (words : List Text) where
       → status ≡ status_of (trouble_of f) → Tells err_mid err_new (told (trouble_of f))
       → Program first tree words status out_old out_new err_old err_new i j u v x y
   run_stopped None tree r f status out_old out_new err_old err_mid err_new i j u v x y passes read h is last = tt
-  run_stopped (Some bytes) None r f status out_old out_new err_old err_mid err_new i j u v x y passes read h is last = tt
+  run_stopped (Some bytes) None r f status out_old out_new err_old err_mid err_new i j u v x y passes read h is last =
+      tt
   run_stopped (Some bytes) (Some files) r f status out_old out_new err_old err_mid err_new i j u v x y passes read h is
       last = (
         h.0,
@@ -258,13 +260,13 @@ module _ (words : List Text) where
       (h.0, 0, h.3, rw h.2 (Counted-none i u), omega arith, inr (inl (kind, text, among, h.1, refl)))
 
   -- the streams are handed back as the session left them
-  pub handed_back : {L T W : Type 0} (shown : W → Shown) (reads : L → ℕ) (failures opens : T → ℕ) (first : Option (List ℕ))
-      (tree : Option Files) (status : ℕ)
-      → (out_old err_old err_new : Shown) (i u x : ℕ) (out out_end : W) (input input_end : L) (files files_end : T)
+  pub handed_back : {L T W : Type 0} (shown : W → Shown) (reads : L → ℕ) (failures opens : T → ℕ)
+      (first : Option (List ℕ)) (tree : Option Files) (status : ℕ) (out_old err_old err_new : Shown) (i u x : ℕ)
+      (out out_end : W) (input input_end : L) (files files_end : T)
       → out_end ≡ out → input_end ≡ input → files_end ≡ files
       → Program first tree words status out_old (shown out) err_old err_new i (reads input) u (failures files) x
       (opens files)
       → Program first tree words status out_old (shown out_end) err_old err_new i (reads input_end) u
       (failures files_end) x (opens files_end)
-  handed_back shown reads failures opens first tree status out_old err_old err_new i u x out out_end input input_end files
-      files_end o p q h = rw (o, p, q) h
+  handed_back shown reads failures opens first tree status out_old err_old err_new i u x out out_end input input_end
+      files files_end o p q h = rw (o, p, q) h

@@ -36,8 +36,9 @@ pub IsAhead_more : (b : List ℕ) (n i : ℕ) (w out : List (List ℕ)) (x y : L
     → IsAhead b (n + 1) i (slice_set w n x) (slice_set out n y)
 IsAhead_more b n i w out x y fits room before word key = (
   filled_more (λ k x. slice_index x i ≡ slice_index (schedule b 64) k) w n x [] fits before.0 word,
-  filled_more (λ k y. slice_index y i ≡ add64 (slice_index round_constants k) (slice_index (schedule b 64) k)) out n y []
-      room before.1 (key ∙ ap (add64 (slice_index round_constants n)) word),
+  (let keyed : ℕ → ℕ = λ k. add64 (slice_index round_constants k) (slice_index (schedule b 64) k) in
+      filled_more (λ k y. slice_index y i ≡ keyed k) out n y [] room before.1
+      (key ∙ ap (add64 (slice_index round_constants n)) word)),
 )
 
 -- the same number of words, spelled another way

@@ -24,4 +24,5 @@ pub round_keyed : (m : ℕ) (v : List ℕ) (k w key c s z j : ℕ) → key ≡ (
     ≡ (t1 + (z + j) % m) % m ∷ slice_index v 0 ∷ slice_index v 1 ∷ slice_index v 2
     ∷ (slice_index v 3 + t1) % m ∷ slice_index v 4 ∷ slice_index v 5 ∷ slice_index v 6 ∷ []
 round_keyed m v k w key c s z j keyed =
-    rw (keyed, keyed_first m k w (slice_index v 7) c s, d_before_sigma m k w (slice_index v 7) c s (slice_index v 3)) refl
+    let h = slice_index v 7 in
+    rw (keyed, keyed_first m k w h c s, d_before_sigma m k w h c s (slice_index v 3)) refl

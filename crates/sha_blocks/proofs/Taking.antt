@@ -190,10 +190,12 @@ module _ (words_after : List ℕ → ℕ → List ℕ) (compressed : List ℕ �
         rw sum (mod-eq_of_lt (omega arith)) in
         let ones : List ℕ = replicate (n - used - 1) 0 in
         let others : List ℕ = replicate (n - length count) 0 in
-        let joined : 0x80 ∷ replicate (n - used - 1 + (n - length count)) 0 ++ count ≡ 0x80 ∷ ones ++ (others ++ count) =
+        let joined : 0x80 ∷ replicate (n - used - 1 + (n - length count)) 0 ++ count
+        ≡ 0x80 ∷ ones ++ (others ++ count) =
         rw (← replicate-append-replicate) (ap (λ (xs : List ℕ). 0x80 ∷ xs) (append_assoc ones others count)) in
         let same : (m ++ front) ++ y ≡ p =
-        rw (is, take-replicate {X = ℕ} (n - length count) n 0 (omega arith), begins, all, zeros, joined, append_assoc) refl in
+        let taken = take-replicate {X = ℕ} (n - length count) n 0 (omega arith) in
+        rw (is, taken, begins, all, zeros, joined, append_assoc) refl in
         value_after h' p (length m / n + 1 + 1) (rw same at last)
 
 -- the beginning of a padding
@@ -207,7 +209,8 @@ pub padding_begins : (n k : ℕ) → 0 < k → k ≤ n
     → take {A = ℕ} k (slice_set (replicate {A = ℕ} n 0) 0 0x80) ≡ 0x80 ∷ replicate (k - 1) 0
 padding_begins n k some fits =
     let one : k ≡ k - 1 + 1 = omega arith in
-    ap (λ (j : ℕ). take {A = ℕ} j (slice_set (replicate {A = ℕ} n 0) 0 0x80)) one ∙ padding_front n (k - 1) (omega arith)
+    ap (λ (j : ℕ). take {A = ℕ} j (slice_set (replicate {A = ℕ} n 0) 0 0x80)) one
+    ∙ padding_front n (k - 1) (omega arith)
 
 -- the end of a padding: the count of the bits of n bytes
 pub bits_counted : (w : Width) (most taken n : ℕ) (count : List ℕ) → taken ≡ n → n * 8 < most

@@ -16,8 +16,8 @@ pub record Function : Type 0 where
   pub limit : ℕ
   pub of : List ℕ → List ℕ
 
--- each of them (FIPS 180-4, 1, 6.2 and 6.4; RFC 7693, 2.1 and 3.3, without a key; the BLAKE3 paper, 2.1 and 2.6, where no
--- other length is asked for)
+-- each of them (FIPS 180-4, 1, 6.2 and 6.4; RFC 7693, 2.1 and 3.3, without a key; the BLAKE3 paper, 2.1 and 2.6, where
+-- no other length is asked for)
 abbrev pub function : Alg → Function
 function Sha256 = record { out = 32; block = 64; limit = 2 ^ 61 - 1; of = sha256 }
 function Sha512 = record { out = 64; block = 128; limit = 2 ^ 125 - 1; of = sha512 }

@@ -34,8 +34,8 @@ label_of_160_bits = refl
 labelled_example : HasForm (codes "BLAKE2b-8 (a) = b) = 6B") None (Blake2b 1) (0x6b ∷ []) (codes "a) = b")
 unfolding digits decode_pairs
 labelled_example =
-    labelled_form None (codes "BLAKE2b-8") (codes "6B") (Blake2b 1) (0x6b ∷ []) (codes "a) = b") (omega arith, omega arith)
-    (inr refl) refl refl
+    labelled_form None (codes "BLAKE2b-8") (codes "6B") (Blake2b 1) (0x6b ∷ []) (codes "a) = b")
+    (omega arith, omega arith) (inr refl) refl refl
 
 -- an empty line in the middle counts, an empty last one does not
 lines_example : lines (97 ∷ 10 ∷ 10 ∷ 98 ∷ 10 ∷ []) ≡ (97 ∷ []) ∷ [] ∷ (98 ∷ []) ∷ []

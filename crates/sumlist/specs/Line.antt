@@ -27,8 +27,8 @@ IsSkipped line = IsLine line × ((core line ≡ []) ⊎ (slice_index (core line)
 abbrev pub SpellsTag : Alg → List ℕ → List ℕ → Type 0
 SpellsTag alg tag digits = IsInRange alg × (length digits ≡ 2 * digest_len alg) × (decode_of digits ≡ Ok tag)
 
--- digits, a space, a space or `*`, and a body, where the kind and the number of digits tell the algorithm, and without a
--- kind there are no such texts; or a label, which names the algorithm, a body in brackets, and digits
+-- digits, a space, a space or `*`, and a body, where the kind and the number of digits tell the algorithm, and without
+-- a kind there are no such texts; or a label, which names the algorithm, a body in brackets, and digits
 abbrev pub HasForm : List ℕ → Option Kind → Alg → List ℕ → List ℕ → Type 0
 HasForm text kind alg tag body = (digits : List ℕ) × SpellsTag alg tag digits
     × (((kind ≡ Some (alg_kind alg)) × (mark : ℕ) × ((mark ≡ 32) ⊎ (mark ≡ 42)) × (text ≡ digits ++ 32 ∷ mark ∷ body))

@@ -21,8 +21,8 @@ pub returns-in-Ok-run_request : goal.returns-in-Ok-run_request
 returns-in-Ok-run_request g c words read =
     let left = c.run_request.new.session in
     let given = rw c.in-Ok.is at read in
-    handed_back words g.W.Sink.shown g.L.Feed.failure_count g.T.Tree.failure_count g.T.Tree.opens _ _ _ _ _ _ _ _ _ left.out.now _
-    left.input.now _ left.tree.now _ (search rules) (search rules) (search rules)
+    handed_back words g.W.Sink.shown g.L.Feed.failure_count g.T.Tree.failure_count g.T.Tree.opens _ _ _ _ _ _ _ _ _
+    left.out.now _ left.input.now _ left.tree.now _ (search rules) (search rules) (search rules)
     (run_done words _ _ (given_of c.in-Ok.request) _ _ _ _ _ _ _ _ _ _ _ given.1 given.0
     c.in-Ok-run_request.ensures.run)
 
@@ -30,7 +30,7 @@ pub returns-in-Err : goal.returns-in-Err
 returns-in-Err g c words read =
     let left = c.run_request.new.session in
     let given = rw c.in-Ok.is at read in
-    handed_back words g.W.Sink.shown g.L.Feed.failure_count g.T.Tree.failure_count g.T.Tree.opens _ _ _ _ _ _ _ _ _ left.out.now _
-    left.input.now _ left.tree.now _ (search rules) (search rules) (search rules)
+    handed_back words g.W.Sink.shown g.L.Feed.failure_count g.T.Tree.failure_count g.T.Tree.opens _ _ _ _ _ _ _ _ _
+    left.out.now _ left.input.now _ left.tree.now _ (search rules) (search rules) (search rules)
     (run_stopped words _ _ (given_of c.in-Ok.request) c.in-Err.fault _ _ _ _ _ _ _ _ _ _ _ _ given.1 given.0
     c.in-Err.ensures.run c.tell-in-Err.ensures.status c.tell-in-Err.ensures.told)

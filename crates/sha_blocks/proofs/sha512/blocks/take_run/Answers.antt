@@ -14,4 +14,5 @@ blocks-2-preserved c = λ run keyed.
 
 pub returns : goal.returns
 returns c = λ run keyed.
-    c.blocks-2.invariant run keyed ∙ ap (fold_l compress c.args.h.now) (take_all c.blocks-2.i run (omega (arith, keyed.0)))
+    c.blocks-2.invariant run keyed
+    ∙ ap (fold_l compress c.args.h.now) (take_all c.blocks-2.i run (omega (arith, keyed.0)))

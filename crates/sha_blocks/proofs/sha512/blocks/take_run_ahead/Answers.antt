@@ -38,5 +38,7 @@ returns-clause-value c = λ run keyed.
 pub returns-clause-next : goal.returns-clause-next
 returns-clause-next c = (
   omega arith,
-  λ j lt. (IsAhead_at (slice_index_or c.args.other.now j []) _ 80 j _ _ (omega arith) (c.blocks-2.invariant.ahead j lt)).1,
+  λ j lt.
+      let b = slice_index_or c.args.other.now j [] in
+      (IsAhead_at b _ 80 j _ _ (omega arith) (c.blocks-2.invariant.ahead j lt)).1,
 )

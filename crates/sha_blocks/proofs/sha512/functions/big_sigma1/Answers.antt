@@ -3,5 +3,6 @@ use Rattle.sha_blocks.proofs.Rotations.{rotated_three}
 use Rattle.sha_blocks.proofs.sha512.functions.big_sigma1.Goals as goal
 
 pub returns-then-level-lt3 : goal.returns-then-level-lt3
-returns-then-level-lt3 c = rw (c.rotate_right-then-level-lt3-2.ensures, c.rotate_right-then-level-lt3.ensures, c.rotate_right.ensures)
+returns-then-level-lt3 c =
+    rw (c.rotate_right-then-level-lt3-2.ensures, c.rotate_right-then-level-lt3.ensures, c.rotate_right.ensures)
     (rotated_three 64 c.args.x 14 4 23 (omega arith) (omega arith))

@@ -21,5 +21,7 @@ turns-preserved c = record {
 pub returns-clause-keyed : goal.returns-clause-keyed
 returns-clause-keyed c = (
   omega arith,
-  λ i lt. (IsAhead_at (slice_index_or c.args.blocks.now i []) _ 80 i _ _ (omega arith) (c.turns.invariant.ahead i lt)).1,
+  λ i lt.
+      let b = slice_index_or c.args.blocks.now i [] in
+      (IsAhead_at b _ 80 i _ _ (omega arith) (c.turns.invariant.ahead i lt)).1,
 )
