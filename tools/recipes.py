@@ -29,6 +29,7 @@ NAMES = ["big", "a b", " a  b ", 'it\'s "so"', "$(touch PWNED)", "`touch PWNED`"
          "\\n", "*", "~", "#x", "%s", "!x", "größe"]
 CHUNK = 1024
 PIECE = os.urandom(1 << 20)
+REGISTRY = "/usr/share/cargo/registry"
 IS_COMMAND = re.compile(r"(?<![/\w])(sums (hash|mac|kdf|check|part|join)|sums-parallel -|rt (try|check)|sudo |tools/\w+|bench/\w+)")
 
 
@@ -851,10 +852,10 @@ def clone(bench):
 
 
 def works(bench, page, name, folder, text=None, **variables):
-    """A recipe that ends with status 0, whatever it prints."""
+    """A recipe each command of which ends with status 0, whatever it prints."""
 
     def case():
-        got = bench.run(text or bench.text(page, name), folder, "bash", seconds=7200, **variables)
+        got = bench.run("set -e\n" + (text or bench.text(page, name)), folder, "bash", seconds=7200, **variables)
         if got[0]:
             raise Wrong(f"status {got[0]}: {(got[1] + got[2]).decode(errors='replace')[-1500:]}")
         print(got[1].decode(errors="replace"), end="")
@@ -864,6 +865,16 @@ def works(bench, page, name, folder, text=None, **variables):
 
 def in_clone(page, name):
     return lambda bench: works(bench, page, name, clone(bench))
+
+
+def languages(bench):
+    """The examples of the languages. Cargo takes the crates of Debian where they are installed, and else the network."""
+    home = os.path.join(bench.work, "cargo")
+    os.makedirs(home, exist_ok=True)
+    if os.path.isdir(REGISTRY):
+        write(home, "config.toml", '[source.crates-io]\nreplace-with = "debian"\n'
+              f'[source.debian]\ndirectory = "{REGISTRY}"\n[net]\noffline = true\n')
+    works(bench, "docs/CONTRIBUTING.md", "languages", clone(bench), CARGO_HOME=home)
 
 
 def readme_try(bench):
@@ -916,7 +927,7 @@ def second_builder(bench):
 
 LONG = {
     "README.md": {"try": readme_try, "package": readme_package},
-    "docs/CONTRIBUTING.md": {"build": source_build, "languages": in_clone("docs/CONTRIBUTING.md", "languages"),
+    "docs/CONTRIBUTING.md": {"build": source_build, "languages": languages,
                              "crate": in_clone("docs/CONTRIBUTING.md", "crate")},
     "docs/RELEASING.md": {"staged": source_build, "second": second_builder},
     "docs/BENCHMARKS.md": {name: in_clone("docs/BENCHMARKS.md", name)
