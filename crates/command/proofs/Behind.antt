@@ -1,6 +1,6 @@
 -- Lists that are joined one behind another, as the definition of `join` says it.
 use Rattle.std.proofs.Common.{◌≡◌, ◌∙◌, ◌+◌, ℕ, List, [], ◌∷◌, ◌++◌, Ok, Err, refl, sym, ap, inl, inr, subst}
-use Rattle.std.proofs.Common.{append-nil, append_assoc, Option, None, Some, IfSome}
+use Rattle.std.proofs.Common.{append-nil, append_assoc, Option, None, Some, IfSome, Result}
 use Rattle.std.specs.Borrow.{Bor}
 use Rattle.b3.specs.declared.row.PartValue.{PartValue}
 use Rattle.request.specs.CommandLine.{Text}
@@ -27,12 +27,12 @@ behind parts told more all is = ap (λ ps. parts ++ ps) is ∙ sym (append_assoc
 
 module _ (files : Files) where
   -- the first of them, and then the others
-  first_join : (input : List ℕ) (list : Text) (lists : List Text) (parts told : List PartValue)
-      (r : Result (List PartValue) Run) (t : AllListed files input (list ∷ lists) told)
+  first_join : (input : List ℕ) (list : Text) (listed lists : List Text) (parts told : List PartValue)
+      (r : Result (List PartValue) Run) (t : AllListed files input (list ∷ listed) told)
       → AreInRow ((parts ++ t.0) ++ t.1)
       → JoinsLists files (left_by (list ∷ []) input) (parts ++ t.0) lists r
       → JoinsLists files input parts (list ∷ lists) r
-  first_join input list lists parts told r t row rest =
+  first_join input list listed lists parts told r t row rest =
       inr (t.0, t.3, front_row 0 1024 (parts ++ t.0) t.1 row, rest)
 
   -- all of them
@@ -43,7 +43,7 @@ module _ (files : Files) where
       let is = behind parts t.0 t.1 told t.2 in
       let all : AreInRow ((parts ++ t.0) ++ t.1) = subst AreInRow is row in
       let left = left_by (list ∷ []) input in
-      first_join input list lists parts told (Ok (parts ++ told)) t all
+      first_join input list lists lists parts told (Ok (parts ++ told)) t all
       (subst (λ (ps : List PartValue). JoinsLists files left (parts ++ t.0) lists (Ok ps)) (sym is)
       (all_join left lists (parts ++ t.0) t.1 t.4 all))
 
@@ -64,7 +64,7 @@ module _ (files : Files) where
       let all : AreInRow ((parts ++ t.0) ++ t.1) = subst AreInRow is row in
       let left = left_by (first ∷ []) input in
       let content = content_of list (left_by before left) files in
-      first_join input first (before ++ list ∷ after) parts told (Err run) t all
+      first_join input first before (before ++ list ∷ after) parts told (Err run) t all
       (halt_join left before list after (parts ++ t.0) t.1 run t.4 all
       (subst (λ (ps : List PartValue). Halts ps (is_input list) list content run) is halts))
 
