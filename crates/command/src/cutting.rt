@@ -29,9 +29,9 @@ const RUN: u64 = 1024;
 impl<'i, 't, 'o, L: Feed, T: Tree, W: Sink> Session<'i, 't, 'o, L, T, W> {
     /// Prints the line of a part of the file: its bytes from the first chunk of a place on, in as many
     /// chunks as that has or to the end. Answers 0. The faults are `CannotRead`, `NoBytes` where none stand
-    /// there, `MoreThanPart` where they are more than can be a part there, `TooLong` where they end past
-    /// byte 2^64 - 1, `CannotWrite` and `OutOfMemory`. Where the part is one of standard input, no byte
-    /// behind it is read.
+    /// there, `MoreThanPart` where they are more than can be a part there, in its place `TooLong` where a
+    /// part there has room up to byte 2^64 - 1, `CannotWrite` and `OutOfMemory`. Where the part is one of
+    /// standard input, no byte behind it is read.
     pub fn print_part<'n>(&mut self, place: Place, name: &'n str) -> Result<u8, Fault<'n>>
         ensures run { DoesRun (λ bytes files. PartRuns place.first place.chunks name.entry.now files bytes)
             (λ notes. notes ≡ [])
