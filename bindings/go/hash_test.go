@@ -12,6 +12,7 @@ import (
 	stdhash "hash"
 	"io"
 	"math/rand"
+	"strings"
 	"sync"
 	"testing"
 	"testing/iotest"
@@ -63,17 +64,33 @@ func TestSum(t *testing.T) {
 	eachHash(t, func(t *testing.T, begin func() stdhash.Hash) {
 		h := begin()
 		want := written(h, t)
-		if len(want) != h.Size() || h.BlockSize()%64 != 0 || h.BlockSize() == 0 {
-			t.Error("sizes", len(want), h.Size(), h.BlockSize())
+		if len(want) != h.Size() {
+			t.Error("sizes", len(want), h.Size())
 		}
-		// it appends, with room behind the slice and without, and leaves what stands before and the input
+		// it appends, in the room behind the slice where there is enough, and leaves what stands before and the input
 		for _, room := range []int{0, 1, 7, 500} {
 			b := append([]byte("before"), make([]byte, room)...)[:6]
-			if sum := h.Sum(b); string(sum[:6]) != "before" || !bytes.Equal(sum[6:], want) {
+			if sum := h.Sum(b); string(sum[:6]) != "before" || !bytes.Equal(sum[6:], want) || room == 500 && &sum[0] != &b[0] {
 				t.Error("room", room)
 			}
 		}
 	})
+}
+
+// TestBlocks tries the blocks of the standards, of which HMAC over a hash makes use.
+func TestBlocks(t *testing.T) {
+	eachHash(t, func(t *testing.T, begin func() stdhash.Hash) {
+		wide := strings.Contains(t.Name(), "512") || strings.Contains(t.Name(), "blake2b")
+		if block := begin().BlockSize(); block != map[bool]int{true: 128, false: 64}[wide] {
+			t.Error(block)
+		}
+	})
+	defer func() {
+		if recover() != ErrNotBegun {
+			t.Error("a block of no function")
+		}
+	}()
+	new(Hash).BlockSize()
 }
 
 func TestPieces(t *testing.T) {
@@ -255,6 +272,9 @@ func TestEndOfOutput(t *testing.T) {
 	if n, err := o.Read(make([]byte, 10)); n != 0 || err != io.EOF {
 		t.Error("behind the end", n, err)
 	}
+	if n, err := o.Read(nil); n != 0 || err != nil {
+		t.Error("no bytes behind the end", n, err)
+	}
 	for _, seek := range []struct {
 		offset int64
 		whence int
@@ -286,8 +306,12 @@ func TestRefusals(t *testing.T) {
 		{refusal(NewBLAKE2b(64, make([]byte, 65))), ErrKeyLength},
 		{refusal(NewBLAKE2s(32, make([]byte, 33))), ErrKeyLength},
 		{refusal(NewBLAKE2bSalted(64, nil, make([]byte, 15), nil)), ErrKeyLength},
+		{refusal(NewBLAKE2bSalted(64, nil, make([]byte, 17), nil)), ErrKeyLength},
+		{refusal(NewBLAKE2bSalted(64, nil, nil, []byte{})), ErrKeyLength},
 		{refusal(NewBLAKE2sSalted(32, nil, nil, make([]byte, 9))), ErrKeyLength},
+		{refusal(NewBLAKE2sSalted(32, nil, nil, make([]byte, 7))), ErrKeyLength},
 		{refusal(NewBLAKE3Keyed(nil)), ErrKeyLength},
+		{refusal(NewBLAKE3Keyed(make([]byte, 33))), ErrKeyLength},
 		{refusal(HKDFSHA256(8161, nil, nil, nil)), ErrEndOfOutput},
 		{refusal(HKDFBLAKE2b(1<<60, nil, nil, nil)), ErrEndOfOutput},
 		{refusal(HKDFSHA512(-1, nil, nil, nil)), ErrEndOfOutput},
@@ -304,6 +328,28 @@ func TestRefusals(t *testing.T) {
 			t.Error(i, c.got)
 		}
 	}
+}
+
+// TestLongest tries a message that has all bytes that SHA-256 takes, by the count in its state.
+func TestLongest(t *testing.T) {
+	h := NewSHA256()
+	must(h.Write(make([]byte, 64+2*mostWaiting)))
+	for i, word := range h.state {
+		if word == 64+2*mostWaiting {
+			h.state[i] = 1<<61 - 64
+		}
+	}
+	must(h.Write(make([]byte, 63)))
+	if n, err := h.Write(make([]byte, 2*mostWaiting)); n != 0 || err != ErrInputTooLong {
+		t.Error("a piece", n, err)
+	}
+	must(h.Write([]byte{1}))
+	defer func() {
+		if recover() != ErrInputTooLong {
+			t.Error("a digest of too many bytes")
+		}
+	}()
+	h.Sum(nil)
 }
 
 // TestStatuses tries those that have an error of their own, and others, as a later library may answer.
@@ -325,6 +371,19 @@ func TestStatuses(t *testing.T) {
 	}
 }
 
+// keysOf are the calls of HKDF over each hash, with the most bytes of a key.
+var keysOf = map[string]struct {
+	whole   func(int, []byte, []byte, []byte) ([]byte, error)
+	extract func([]byte, []byte) ([]byte, error)
+	expand  func(int, []byte, []byte) ([]byte, error)
+	most    int
+}{
+	"sha256":  {HKDFSHA256, HKDFExtractSHA256, HKDFExpandSHA256, 8160},
+	"sha512":  {HKDFSHA512, HKDFExtractSHA512, HKDFExpandSHA512, 16320},
+	"blake2b": {HKDFBLAKE2b, HKDFExtractBLAKE2b, HKDFExpandBLAKE2b, 16320},
+	"blake2s": {HKDFBLAKE2s, HKDFExtractBLAKE2s, HKDFExpandBLAKE2s, 8160},
+}
+
 // RFC 5869, appendix A.1
 func TestHKDF(t *testing.T) {
 	bytesOf := func(digits string) []byte { return must(hex.DecodeString(digits)) }
@@ -338,21 +397,11 @@ func TestHKDF(t *testing.T) {
 	if !bytes.Equal(must(HKDFExpandSHA256(42, prk, info)), want) {
 		t.Error("expand")
 	}
-	for i, of := range []struct {
-		whole   func(int, []byte, []byte, []byte) ([]byte, error)
-		extract func([]byte, []byte) ([]byte, error)
-		expand  func(int, []byte, []byte) ([]byte, error)
-		most    int
-	}{
-		{HKDFSHA256, HKDFExtractSHA256, HKDFExpandSHA256, 8160},
-		{HKDFSHA512, HKDFExtractSHA512, HKDFExpandSHA512, 16320},
-		{HKDFBLAKE2b, HKDFExtractBLAKE2b, HKDFExpandBLAKE2b, 16320},
-		{HKDFBLAKE2s, HKDFExtractBLAKE2s, HKDFExpandBLAKE2s, 8160},
-	} {
+	for name, of := range keysOf {
 		for _, size := range []int{0, 1, 42, of.most} {
 			whole := must(of.whole(size, material, salt, info))
 			if !bytes.Equal(whole, must(of.expand(size, must(of.extract(material, salt)), info))) || len(whole) != size {
-				t.Error("two steps", i, size)
+				t.Error("two steps", name, size)
 			}
 		}
 	}
