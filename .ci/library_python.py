@@ -132,10 +132,11 @@ def told_by_rust():
         ("blake2s_salted", hashlib.blake2s(data, **settings, salt=salt[:8], person=person[:8]).digest()),
     ]
     lines = whole + whole
+    settings = {"length": 100, "seek": 2**40 + 7}
     whole = [
-        ("blake3", sums_hash.blake3(data).digest(100, seek=7)),
-        ("blake3_keyed", sums_hash.blake3(data, key=key).digest(100, seek=7)),
-        ("blake3_derive", sums_hash.blake3(data, derive_key_context="a context").digest(100, seek=7)),
+        ("blake3", sums_hash.blake3(data).digest(**settings)),
+        ("blake3_keyed", sums_hash.blake3(data, key=key).digest(**settings)),
+        ("blake3_derive", sums_hash.blake3(data, derive_key_context="c" * 100).digest(**settings)),
     ]
     lines += whole + [line for line in whole for _ in range(2)]
     whole = [("sha256", hashlib.sha256(data).digest()), ("sha512", hashlib.sha512(data).digest())]
@@ -146,9 +147,10 @@ def told_by_rust():
         lines += [("hkdf " + name, key_of), ("extract " + name, prk), ("hkdf " + name, key_of)]
     lines += [("hmac " + name, hmac.new(key, data, name).digest()) for name in sums_hash.DIGEST_SIZES]
     lines += of_pieces(data, 77, 20)
-    refusals = ["DigestLength", "KeyLength", "EndOfOutput", "KeyLength", "PieceLength", "OutputLength", "DigestLength",
-                "OutputLength"]
-    return [f"{name} {value.hex()}" for name, value in lines] + ["refused " + name for name in refusals]
+    names = ["", "DigestLength", "KeyLength", "InputTooLong", "", "EndOfOutput", "PieceLength", "OutputLength"]
+    statuses = [1, 2, 5, 2, 6, 7, 1, 7, 1, 1, 1, 1, 1, 3]
+    refusals = [f"refused {names[status]}: {sums_hash.Refused(status)}" for status in statuses]
+    return [f"{name} {value.hex()}" for name, value in lines] + refusals
 
 
 def main():

@@ -1,6 +1,13 @@
 //! Calls each function of the crate of Rust, and prints what it gives, for .ci/library_python to compare.
 
+use std::io::Write;
+
 use sums_hash::*;
+
+/// A position that no 32 bits hold.
+const FAR: u64 = (1 << 40) + 7;
+/// A context that is longer than a block.
+const CONTEXT: [u8; 100] = [b'c'; 100];
 
 fn told(name: &str, bytes: &[u8]) {
     let digits: String = bytes.iter().map(|byte| format!("{byte:02x}")).collect();
@@ -31,6 +38,20 @@ fn pieces_of_each_length() -> Result<(), Refusal> {
             of_each(|digest, piece| blake3(digest, 0, piece), &out)?;
         }
     }
+    Ok(())
+}
+
+/// A message of all bytes comes to a writer in pieces of any length, and to `update` as one.
+fn written() -> Result<(), Refusal> {
+    let data: Vec<u8> = (0..200_000u32).map(|i| (i.wrapping_mul(2654435761) >> 24) as u8).collect();
+    let (mut whole, mut pieces) = (Sha512::new(), Sha512::new());
+    whole.update(&data)?;
+    assert_eq!(pieces.write(&data[..70_000]).unwrap(), 70_000);
+    pieces.write_all(&data[70_000..]).unwrap();
+    pieces.flush().unwrap();
+    assert_eq!(whole.finish(), sha512(&data));
+    assert_eq!(pieces.finish(), sha512(&data));
+    assert_eq!(std::io::Error::from(Refusal::InputTooLong).kind(), std::io::ErrorKind::InvalidInput);
     Ok(())
 }
 
@@ -68,20 +89,20 @@ fn main() -> Result<(), Refusal> {
     }
 
     let mut out = [0; 100];
-    blake3(&mut out, 7, &input)?;
+    blake3(&mut out, FAR, &input)?;
     told("blake3", &out);
-    blake3_keyed(&mut out, 7, &input, key32)?;
+    blake3_keyed(&mut out, FAR, &input, key32)?;
     told("blake3_keyed", &out);
-    blake3_derive(&mut out, 7, &input, b"a context")?;
+    blake3_derive(&mut out, FAR, &input, &CONTEXT)?;
     told("blake3_derive", &out);
     for (name, mut hasher) in [
         ("blake3", Blake3::new()),
         ("blake3_keyed", Blake3::keyed(key32)),
-        ("blake3_derive", Blake3::derive(b"a context")),
+        ("blake3_derive", Blake3::derive(&CONTEXT)),
     ] {
         for _ in 0..2 {
             pieces().try_for_each(|piece| hasher.update(piece))?;
-            hasher.output(7, &mut out)?;
+            hasher.output(FAR, &mut out)?;
             told(name, &out);
             hasher.reset();
         }
@@ -134,6 +155,7 @@ fn main() -> Result<(), Refusal> {
     blake2s_pieces(&mut digests[..20 * 13], 20, &input, 77)?;
     told("blake2s_pieces", &digests[..20 * 13]);
     pieces_of_each_length()?;
+    written()?;
 
     for refusal in [
         Blake2b::new(65, b"").err(),
@@ -144,8 +166,14 @@ fn main() -> Result<(), Refusal> {
         blake3_pieces(&mut digests, &input, 76).err(),
         blake2b_pieces(&mut digests, 65, &input, 0).err(),
         blake2s_pieces(&mut digests, 20, &input, 77).err(),
+        blake2s_pieces(&mut digests, 33, &input, 77).err(),
+        Blake2b::new(20, key)?.finish(&mut out[..19]).err(),
+        Blake2s::new(20, key)?.finish(&mut out[..21]).err(),
+        HmacSha256::new(key)?.finish(&mut out[..15]).err(),
+        HmacSha256::new(key)?.finish(&mut out[..33]).err(),
     ] {
-        println!("refused {}", refusal.map_or("nothing".into(), |refusal| format!("{refusal:?}")));
+        println!("refused {}", refusal.map_or("nothing".into(), |refusal| format!("{refusal:?}: {refusal}")));
     }
+    println!("refused InputTooLong: {}", Refusal::InputTooLong);
     Ok(())
 }

@@ -4,7 +4,10 @@
 use std::fmt::Debug;
 
 use blobby::{Blob2Iterator, Blob3Iterator, Blob4Iterator};
-use digest::{dev, Digest, DynDigest, ExtendableOutput, FixedOutputReset, HashMarker, KeyInit, Mac, Update, XofReader};
+use digest::crypto_common::{BlockSizeUser, KeySizeUser};
+use digest::{
+    dev, Digest, DynDigest, ExtendableOutput, FixedOutputReset, HashMarker, Key, KeyInit, Mac, Update, XofReader,
+};
 use hkdf::SimpleHkdf;
 use hmac::SimpleHmac;
 use sums_hash::traits::*;
@@ -124,14 +127,23 @@ fn as_any_digest() {
     assert_eq!(digest, sums_hash::sha512(b""));
 }
 
+fn message_of(data: &[u8]) -> Blake3 {
+    let mut message = Blake3::default();
+    Update::update(&mut message, data);
+    message
+}
+
 #[test]
 fn output_of_blake3() {
     let (mut whole, mut read) = ([0; 1000], [0; 1000]);
     sums_hash::blake3(&mut whole, 0, b"abc").unwrap();
-    let mut message = Blake3::default();
-    Update::update(&mut message, b"abc");
-    let mut reader = message.finalize_xof();
+    let mut reader = message_of(b"abc").finalize_xof();
     for piece in read.chunks_mut(33) {
+        reader.read(piece);
+    }
+    assert_eq!(read, whole);
+    let mut reader = message_of(b"abc").finalize_xof();
+    for piece in read.chunks_mut(256) {
         reader.read(piece);
     }
     assert_eq!(read, whole);
@@ -274,6 +286,42 @@ mod with_std {
         assert_eq!(reader.seek(SeekFrom::Current(-1)).unwrap_err().kind(), ErrorKind::InvalidInput);
         assert_eq!(Read::read(&mut reader, &mut []).unwrap(), 0);
     }
+}
+
+/// A hash or tag has blocks of so many bytes, by which HMAC over it is defined.
+fn has_block<H: BlockSizeUser>(block: usize) {
+    assert_eq!(H::block_size(), block, "{}", std::any::type_name::<H>());
+}
+
+/// A key of the type that `KeyInit::new` takes has so many bytes.
+fn has_key<M: KeyInit + Mac>(key: usize) {
+    assert_eq!(M::key_size(), key, "{}", std::any::type_name::<M>());
+    let bytes = vec![7; key];
+    let (new, of_slice) = (<M as KeyInit>::new(Key::<M>::from_slice(&bytes)), <M as KeyInit>::new_from_slice(&bytes));
+    assert_eq!(new.finalize().into_bytes(), of_slice.unwrap().finalize().into_bytes());
+}
+
+#[test]
+fn blocks_and_keys() {
+    has_block::<Sha256>(64);
+    has_block::<Sha512>(128);
+    has_block::<Blake2b512>(128);
+    has_block::<Blake2s256>(64);
+    has_block::<Blake3>(64);
+    has_block::<HmacSha256>(64);
+    has_block::<HmacSha512>(128);
+    has_block::<HmacBlake2b512>(128);
+    has_block::<HmacBlake2s256>(64);
+    has_block::<Blake2bMac512>(128);
+    has_block::<Blake2sMac256>(64);
+    has_block::<Blake3Mac>(64);
+    has_key::<HmacSha256>(64);
+    has_key::<HmacSha512>(128);
+    has_key::<HmacBlake2b512>(128);
+    has_key::<HmacBlake2s256>(64);
+    has_key::<Blake2bMac512>(64);
+    has_key::<Blake2sMac256>(32);
+    has_key::<Blake3Mac>(32);
 }
 
 #[test]

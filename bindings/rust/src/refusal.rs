@@ -58,3 +58,16 @@ pub(crate) fn checked(status: u32) -> Result<(), Refusal> {
         _ => Err(Refusal::Other(status)),
     }
 }
+
+#[cfg(test)]
+mod tests {
+    use super::*;
+
+    #[test]
+    fn statuses() {
+        assert_eq!(checked(0), Ok(()));
+        for status in [4, 8, u32::MAX] {
+            assert_eq!(checked(status), Err(Refusal::Other(status)));
+        }
+    }
+}
