@@ -146,18 +146,31 @@ library() {
     pkgconfig "\${pcfiledir}" "\${prefix}" "\${prefix}" "\${libdir}/libsums_hash.a" > "$2/sums_hash.pc"
 }
 
-# has_openssl: whether the C compiler finds the headers of OpenSSL 3, which the provider is built with
-has_openssl() {
-    # shellcheck disable=SC2086 # CC and the flags are words
-    echo '#include <openssl/core_dispatch.h>' | ${CC:-cc} ${CFLAGS-} -E - > /dev/null 2>&1
+# compile_with_openssl PROCESSOR WORD..: the C compiler for this processor, with the headers of OpenSSL. Debian keeps
+# two of them apart for each processor. Where another's are not installed, this machine's are taken: they say the same
+# to the provider, which packaging/check_arm64 tries.
+compile_with_openssl() {
+    openssl_compiler=$(compiler_for "$1")
+    [ "$1" = "$(uname -m)" ] || openssl_compiler="$openssl_compiler -idirafter /usr/include/$(uname -m)-linux-gnu"
+    shift
+    # shellcheck disable=SC2086 # the compiler and its flags are words
+    $openssl_compiler "$@"
 }
 
-# provider LIBRARY FILE [FOLDER]: the provider for OpenSSL, a module over the shared library LIBRARY, which the loader
-# looks for in FOLDER first. It links nothing of OpenSSL.
+# has_openssl PROCESSOR: whether the C compiler for it finds the headers of OpenSSL 3, which the provider is built with
+has_openssl() {
+    # shellcheck disable=SC2086 # the flags are words
+    echo '#include <openssl/core_dispatch.h>' |
+        compile_with_openssl "$1" ${CFLAGS-} -E - > /dev/null 2>&1
+}
+
+# provider LIBRARY FILE [FOLDER [PROCESSOR]]: the provider for OpenSSL, a module over the shared library LIBRARY, which
+# the loader looks for in FOLDER first. It links nothing of OpenSSL.
 provider() {
     mkdir -p "$(dirname "$2")"
-    # shellcheck disable=SC2086 # CC and the flags are words
-    ${CC:-cc} -std=gnu11 ${CFLAGS:--O2 -fstack-protector-strong -D_FORTIFY_SOURCE=2} -fPIC -shared -fvisibility=hidden \
+    # shellcheck disable=SC2086 # the flags are words
+    compile_with_openssl "${4:-$(uname -m)}" -std=gnu11 \
+        ${CFLAGS:--O2 -fstack-protector-strong -D_FORTIFY_SOURCE=2} -fPIC -shared -fvisibility=hidden \
         -ffile-prefix-map="$PWD"=. -Ibindings/c -o "$2" bindings/openssl/sums.c "$1" \
         ${LDFLAGS:--Wl,-z,relro,-z,now,-z,noexecstack} -Wl,-z,defs,--as-needed,--build-id=sha1 ${3:+-Wl,-rpath,"$3"}
 }
