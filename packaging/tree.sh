@@ -1,7 +1,8 @@
 # shellcheck shell=sh disable=SC2154
-# What tools/package and its checks share: the files of a release, of what was built for several levels of x86-64. It
-# runs at the top of the repository, after tools/installed.sh, whose names it takes. BUILT/LEVEL/sums and
-# BUILT/LEVEL/libhash_c.a are there for each of $levels, which are named lowest first.
+# What tools/package and its checks share: the files of a release, of what was built for several levels of x86-64, or
+# for aarch64, which has one. It runs at the top of the repository, after tools/installed.sh, whose names it takes.
+# BUILT/LEVEL/sums and BUILT/LEVEL/libhash_c.a are there for each of $levels, which are named lowest first and are for
+# $processor.
 
 # launcher FILE LIBEXEC: the program that begins the build for this processor; LIBEXEC is where the builds are if they
 # are not beside it, and empty where there is no such place
@@ -12,9 +13,14 @@ launcher() {
         ${LDFLAGS:--Wl,-z,relro,-z,now,-z,noexecstack} -Wl,--build-id=sha1
 }
 
-# program_builds BUILT ROOT PREFIX: the launcher, and the program for each level
+# program_builds BUILT ROOT PREFIX: the launcher, and the program for each level; where the processor has one, the
+# program alone
 program_builds() {
     mkdir -p "$2/bin"
+    if [ "$levels" = aarch64 ]; then
+        install -m 755 "$1/aarch64/sums" "$2/bin/sums"
+        return
+    fi
     launcher "$2/bin/sums" "${3:+$3/libexec/sums}"
     chmod 755 "$2/bin/sums"
     for level in $levels; do
@@ -24,7 +30,7 @@ program_builds() {
 }
 
 # library_builds BUILT ROOT LIBDIR: the library for each level, the lowest in the usual place, the others where the
-# loader looks first on a processor that has their level; and one archive of all levels
+# loader looks first on a processor that has their level; and the archive
 library_builds() {
     place=$2/$3
     for level in $levels; do
@@ -34,9 +40,18 @@ library_builds() {
         is_whole "$place/$soname" || refuse "the archive of $level has not the header's calls"
         place=$2/$3/glibc-hwcaps/$(above "$level")
     done
-    # shellcheck disable=SC2086 # a level has no space
-    packaging/fat "$1" "$2/$3/libsums_hash.a" $levels
+    archive "$1" "$2/$3/libsums_hash.a"
     ln -s "$soname" "$2/$3/libsums_hash.so"
+}
+
+# archive BUILT FILE: one archive of all levels
+archive() {
+    if [ "$levels" = aarch64 ]; then
+        install -D -m 644 "$1/aarch64/libhash_c.a" "$2"
+    else
+        # shellcheck disable=SC2086 # a level has no space
+        packaging/fat "$1" "$2" $levels
+    fi
 }
 
 # provider_build ROOT PREFIX LIBDIR: the provider for OpenSSL, over the shared library that the loader takes; where
@@ -44,7 +59,7 @@ library_builds() {
 provider_build() {
     # shellcheck disable=SC2016 # $ORIGIN is the loader's
     case $2 in '') from='$ORIGIN/..' ;; *) from= ;; esac
-    provider "$1/$3/$soname" "$1/$3/ossl-modules/sums.so" "$from"
+    provider "$1/$3/$soname" "$1/$3/ossl-modules/sums.so" "$from" "$processor"
     chmod 644 "$1/$3/ossl-modules/sums.so"
 }
 

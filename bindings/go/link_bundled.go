@@ -4,5 +4,6 @@
 
 package hash
 
-// #cgo linux,amd64 LDFLAGS: ${SRCDIR}/libsums_hash.a
+// #cgo linux,amd64 LDFLAGS: ${SRCDIR}/libsums_hash_amd64.a
+// #cgo linux,arm64 LDFLAGS: ${SRCDIR}/libsums_hash_arm64.a
 import "C"

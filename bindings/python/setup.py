@@ -17,6 +17,8 @@ FLAGS = ["-std=gnu11", "-O2", "-fvisibility=hidden", "-Wall", "-Wextra", "-Wno-m
 # the calls of the library stay inside, and no path of the builder's is kept
 LINKED = ["-Wl,--exclude-libs,ALL", "-Wl,-s"]
 ARCHIVE = "libsums_hash.a"
+# what the extension is built for: this machine, unless a cross build names another
+PLATFORM = sysconfig.get_platform()
 
 
 def refuse(text):
@@ -30,8 +32,10 @@ def check_python():
         refuse(f"it needs Python 3.11 or later, and this is {platform.python_version()}")
     if sysconfig.get_config_var("Py_GIL_DISABLED"):
         refuse("it has no build for a free-threaded CPython, which has no limited API")
-    if platform.libc_ver()[0] != "glibc" or platform.machine() != "x86_64":
-        refuse("it is for Linux on x86-64 with glibc")
+    # a Python of 32 bits names the processor that it runs on, too
+    is_known = PLATFORM in ("linux-x86_64", "linux-aarch64") and sys.maxsize > 2**32
+    if platform.libc_ver()[0] != "glibc" or not is_known:
+        refuse("it is for Linux on x86-64 or arm64, of 64 bits, with glibc")
 
 
 def version():
@@ -57,10 +61,10 @@ def library():
 
 
 def platform_tag(linked):
-    """A wheel with the archive in it needs of glibc what 2.14 has, so that it runs where 2.17 is. One that is linked
-    with a shared library is for a system that has it."""
+    """A wheel with the archive in it needs of glibc what 2.14 has, on arm64 2.17, so that it runs where 2.17 is. One
+    that is linked with a shared library is for a system that has it."""
     has_archive = any(os.path.basename(word) == ARCHIVE for word in linked)
-    return sysconfig.get_platform().replace("linux-", "manylinux2014_" if has_archive else "linux_")
+    return PLATFORM.replace("linux-", "manylinux2014_" if has_archive else "linux_")
 
 
 check_python()

@@ -27,8 +27,8 @@ try:
 except ImportError as _fault:
     _tried = ", ".join(f"_native{suffix}" for suffix in EXTENSION_SUFFIXES)
     raise ImportError(
-        f"sums_hash needs its extension for CPython 3.11 or later, on Linux on x86-64 with glibc: {_fault} "
-        f"(tried {_tried} in {__path__[0]})", name="sums_hash._native", path=__path__[0],
+        "sums_hash needs its extension for CPython 3.11 or later, on Linux on x86-64 or arm64 with glibc: "
+        f"{_fault} (tried {_tried} in {__path__[0]})", name="sums_hash._native", path=__path__[0],
     ) from _fault
 
 if sys.version_info >= (3, 12):
