@@ -140,6 +140,20 @@ each_tree() {
     for case_file in "$work/trees"/*; do "$@" "$case_file" || return; done
 }
 
+# adds_up FILE: adds up the cases of a script, whose output FILE has; whether all of them passed
+adds_up() {
+    case_last=$(tail -n 1 "$1")
+    case $case_last in
+        *[0-9]' passed, '[0-9]*' failed')
+            passed=$((passed + ${case_last%% passed*}))
+            case_last=${case_last#*, }
+            case_last=${case_last%% failed*} ;;
+        *) case_last=1 ;;
+    esac
+    failed=$((failed + case_last))
+    [ "$case_last" = 0 ]
+}
+
 # finish: what was not tried, and the last line with its status
 finish() {
     printf '%s' "$missing"

@@ -7,6 +7,7 @@ import copy
 import hashlib
 import hmac
 import io
+import os
 import pickle
 import random
 import re
@@ -132,6 +133,7 @@ class Buffers(unittest.TestCase):
         sums_hash.hkdf("sha256", data, 9, salt=data, info=data)
         data.append(0)
 
+    @unittest.skipIf("QEMU_CPU" in os.environ, "qemu does not hold a program to its limit of memory")
     def test_no_second_copy(self):
         """A mapping of 1 GiB is hashed where there is room for no copy of it."""
         program = """
