@@ -5,7 +5,7 @@ use Rattle.std.proofs.Common.{length, slice_set}
 use Rattle.sha2.proofs.Schedule512.{rounds_next, slice_index-schedule_next}
 use Rattle.sha2.specs.Sha512.{add64, round, round_constants, rounds, schedule}
 use Rattle.sha2.specs.Sha512.{small_sigma0, small_sigma1}
-use Rattle.sha_blocks.specs.inside.Schedules512.{IsAhead}
+use Rattle.sha_blocks.specs.inside.Schedules512.{IsAhead, IsKeyedTo, IsWrittenTo}
 use Rattle.sha_blocks.proofs.Rounds.{filled_more}
 
 -- ---- the schedule
@@ -30,16 +30,18 @@ next_word_at b t fits a x y z u made ex ey ez eu =
     (sym (slice_index-schedule_next b 64 (t + 16) (omega arith) fits))
 
 -- one more word in a lane
-pub IsAhead_more : (b : List ℕ) (n i : ℕ) (w out : List (List ℕ)) (x y : List ℕ) → n < length w → n < length out
-    → IsAhead b n i w out → slice_index x i ≡ slice_index (schedule b 64) n
-    → slice_index y i ≡ add64 (slice_index round_constants n) (slice_index x i)
-    → IsAhead b (n + 1) i (slice_set w n x) (slice_set out n y)
-IsAhead_more b n i w out x y fits room before word key = (
-  filled_more (λ k x. slice_index x i ≡ slice_index (schedule b 64) k) w n x [] fits before.0 word,
-  (let keyed : ℕ → ℕ = λ k. add64 (slice_index round_constants k) (slice_index (schedule b 64) k) in
-      filled_more (λ k y. slice_index y i ≡ keyed k) out n y [] room before.1
-      (key ∙ ap (add64 (slice_index round_constants n)) word)),
-)
+pub IsWrittenTo_more : (b : List ℕ) (n i : ℕ) (w : List (List ℕ)) (x : List ℕ) → n < length w → IsWrittenTo b n i w
+    → slice_index x i ≡ slice_index (schedule b 64) n → IsWrittenTo b (n + 1) i (slice_set w n x)
+IsWrittenTo_more b n i w x fits before word =
+    filled_more (λ k x. slice_index x i ≡ slice_index (schedule b 64) k) w n x [] fits before word
+
+-- one more with its constant added
+pub IsKeyedTo_more : (b : List ℕ) (n i x : ℕ) (out : List (List ℕ)) (y : List ℕ) → n < length out
+    → IsKeyedTo b n i out → x ≡ slice_index (schedule b 64) n
+    → slice_index y i ≡ add64 (slice_index round_constants n) x → IsKeyedTo b (n + 1) i (slice_set out n y)
+IsKeyedTo_more b n i x out y room before word key =
+    filled_more (λ k y. slice_index y i ≡ add64 (slice_index round_constants k) (slice_index (schedule b 64) k)) out n y []
+    room before (key ∙ ap (add64 (slice_index round_constants n)) word)
 
 -- the same number of words, spelled another way
 pub IsAhead_at : (b : List ℕ) (m n i : ℕ) (w out : List (List ℕ)) → m ≡ n → IsAhead b m i w out

@@ -13,6 +13,6 @@ mod message;
 pub mod pieces;
 mod ring;
 pub mod schedules;
-mod sha512;
+pub mod sha512;
 mod table;
 mod value;

@@ -1,4 +1,4 @@
-// SHA-512 by blocks (FIPS 180-4, section 6.4).
+//! SHA-512 by blocks (FIPS 180-4, section 6.4).
 
 pub use blocks::compress_blocks512;
 pub(crate) use ring::compress_block;
@@ -6,5 +6,5 @@ pub(crate) use ring::compress_block;
 mod blocks;
 mod functions;
 mod ring;
-mod schedules;
+pub mod schedules;
 mod table;

@@ -1,10 +1,10 @@
-// The schedules of four blocks at once (FIPS 180-4, section 6.4.2): a vector has one word of each.
+//! The schedules of four blocks at once (FIPS 180-4, section 6.4.2): a vector has one word of each.
 
 ghost use Rattle.std.specs.Prelude.{◌≡◌, ◌<◌, ◌≤◌, ◌+◌, ◌*◌, ◌^◌, ◌/◌, ℕ, List, [], slice_index, slice_index_or};
 ghost use Rattle.std.specs.Prelude.{bit_xor, length};
 ghost use Rattle.std.specs.Int.{w64, rotate_right};
 ghost use Rattle.sha2.specs.Sha512;
-ghost use Rattle.sha_blocks.specs.inside.Schedules512.{AreKeyed, IsAhead};
+ghost use Rattle.sha_blocks.specs.inside.Schedules512.{AreKeyed, IsAhead, IsWrittenTo};
 
 use super::functions::word;
 use super::table::K;
@@ -15,28 +15,28 @@ use std::simd::prelude::*;
 pub(crate) type Schedules = [[u64; 4]; 80];
 
 /// Room for the words alone.
-pub(crate) type Words = [u64x4; 80];
+pub type Words = [u64x4; 80];
 
-// The sums of words.
+/// The sums of words.
 #[inline(always)]
-fn add(x: u64x4, y: u64x4) -> u64x4
+pub fn add(x: u64x4, y: u64x4) -> u64x4
     ensures { (i : ℕ) → i < 4 → slice_index result i ≡ Sha512.add64 (slice_index x i) (slice_index y i) }
 {
     x + y
 }
 
-// Three words of each, xored.
+/// Three words of each, xored.
 #[inline(always)]
-fn xor(x: u64x4, y: u64x4, z: u64x4) -> u64x4
+pub fn xor(x: u64x4, y: u64x4, z: u64x4) -> u64x4
     ensures { (i : ℕ) → i < 4
         → slice_index result i ≡ bit_xor (bit_xor (slice_index x i) (slice_index y i)) (slice_index z i) }
 {
     x ^ y ^ z
 }
 
-// Each word rotated right by r.
+/// Each word rotated right by r.
 #[inline(always)]
-fn rotated(x: u64x4, r: u64) -> u64x4
+pub fn rotated(x: u64x4, r: u64) -> u64x4
     requires low { 0 < r }
     requires high { r < 64 }
     ensures { (i : ℕ) → i < 4 → slice_index result i ≡ rotate_right w64 (slice_index x i) r }
@@ -78,9 +78,9 @@ fn next_word(first: u64x4, second: u64x4, tenth: u64x4, fifteenth: u64x4) -> u64
     add(known, small_sigma1(fifteenth))
 }
 
-// The words with the constant of round t added.
+/// The words with the constant of round t added.
 #[inline(always)]
-fn keyed(w: u64x4, t: usize) -> [u64; 4]
+pub fn keyed(w: u64x4, t: usize) -> [u64; 4]
     requires { t < 80 }
     ensures { (i : ℕ) → i < 4
         → slice_index result i ≡ Sha512.add64 (slice_index Sha512.round_constants t) (slice_index w i) }
@@ -117,7 +117,18 @@ pub(crate) fn load(blocks: &[[u8; 128]; 4], words: &mut Words, out: &mut Schedul
     }
 }
 
-/// Word t + 16 of each schedule, after all those before it.
+/// Puts word t + 16 of each schedule behind those before it.
+#[inline(always)]
+pub fn extend(words: &mut Words, t: usize)
+    requires { t + 16 < 80 }
+    ensures written { (i : ℕ) → i < 4 → (b : List ℕ) → IsWrittenTo b (t + 16) i words.old
+        → IsWrittenTo b (t + 17) i words.new }
+    ensures words { length words.new ≡ 80 }
+{
+    words[t + 16] = next_word(words[t], words[t + 1], words[t + 9], words[t + 14]);
+}
+
+/// The same with the constant of its round added too.
 #[inline(always)]
 pub(crate) fn step(words: &mut Words, out: &mut Schedules, t: usize)
     requires { t + 16 < 80 }
@@ -126,9 +137,8 @@ pub(crate) fn step(words: &mut Words, out: &mut Schedules, t: usize)
     ensures words { length words.new ≡ 80 }
     ensures out { length out.new ≡ 80 }
 {
-    let word = next_word(words[t], words[t + 1], words[t + 9], words[t + 14]);
-    words[t + 16] = word;
-    out[t + 16] = keyed(word, t + 16);
+    extend(words, t);
+    out[t + 16] = keyed(words[t + 16], t + 16);
 }
 
 #[inline(always)]

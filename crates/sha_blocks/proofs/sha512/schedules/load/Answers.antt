@@ -1,7 +1,7 @@
 use Rattle.std.proofs.Common.{[], arith, slice_index_or, sym, ◌∙◌}
 use Rattle.std.proofs.lemmas.List.{length-set}
 use Rattle.sha2.proofs.Schedule512.{slice_index-schedule_first}
-use Rattle.sha_blocks.proofs.Rounds512.{IsAhead_at, IsAhead_more}
+use Rattle.sha_blocks.proofs.Rounds512.{IsAhead_at, IsKeyedTo_more, IsWrittenTo_more}
 use Rattle.sha_blocks.proofs.sha512.schedules.load.Goals as goal
 
 pub first-init : goal.first-init
@@ -21,7 +21,10 @@ first-preserved c =
       ahead = λ i lt.
           let b = slice_index_or c.args.blocks.now i [] in
           let word = c.block_words-word.ensures i lt ∙ sym (slice_index-schedule_first b 64 t (omega arith)) in
-          IsAhead_more b t i _ _ _ _ (omega arith) (omega arith) (at.ahead i lt) word (c.keyed.ensures i lt);
+          (
+            IsWrittenTo_more b t i _ _ (omega arith) (at.ahead i lt).0 word,
+            IsKeyedTo_more b t i _ _ _ (omega arith) (at.ahead i lt).1 word (c.keyed.ensures i lt),
+          );
     }
 
 pub returns-clause-ahead : goal.returns-clause-ahead
