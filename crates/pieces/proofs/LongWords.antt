@@ -10,7 +10,7 @@ word_of a b c d e f g h =
     a + 256 * (b + 256 * (c + 256 * (d + 256 * (e + 256 * (f + 256 * (g + 256 * (h + 256 * 0)))))))
 
 -- eight bytes of a list as a word
-le_word : (x : List ℕ) (at p q r s t u v w : ℕ) → p ≡ at → q ≡ at + 1 → r ≡ at + 2 → s ≡ at + 3 → t ≡ at + 4
+pub le_word : (x : List ℕ) (at p q r s t u v w : ℕ) → p ≡ at → q ≡ at + 1 → r ≡ at + 2 → s ≡ at + 3 → t ≡ at + 4
     → u ≡ at + 5 → v ≡ at + 6 → w ≡ at + 7
     → word_of (slice_index x p) (slice_index x q) (slice_index x r) (slice_index x s) (slice_index x t)
     (slice_index x u) (slice_index x v) (slice_index x w) ≡ little_number 8 (drop at x)

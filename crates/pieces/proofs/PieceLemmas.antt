@@ -1,6 +1,8 @@
 -- The pieces of a buffer, and their digests one behind the other.
 use Rattle.std.proofs.Common.{◌≡◌, ℕ, ◌+◌, ◌-◌, ◌*◌, ◌/◌, ◌<◌, ◌≤◌, List, ◌++◌, length, take, drop, refl, arith}
-use Rattle.std.proofs.Common.{◌∙◌, add-one, min, length-drop}
+use Rattle.std.proofs.Common.{◌∙◌, ◌⊎◌, ◌≢◌, [], inl, inr, add-one, min, length-drop, slice_index_or, slice_set}
+use Rattle.std.proofs.lemmas.Grind.{get_or-set_at}
+use Rattle.std.proofs.lemmas.List.{get_or-set_other}
 use Rattle.std.proofs.lemmas.List.{take_all, take_min}
 use Rattle.std.proofs.lemmas.Nat.{le-div}
 use Rattle.std.proofs.Math.Nat.{mul-le-mul_left, mul-le-mul_right, div-mul-le_self}
@@ -39,9 +41,9 @@ pub room_within : (size k total : ℕ) → k ≤ total → size * k ≤ size * t
 room_within size k total below = mul-le-mul_left size below
 
 -- the rows of a group are small
-pub rows_small : (i lanes most : ℕ) → i ≤ lanes → lanes ≤ 8 → most ≤ 64 → i * (most * 1) < 9223372036854775808
+pub rows_small : (i lanes most : ℕ) → i ≤ lanes → lanes ≤ 8 → most ≤ 128 → i * (most * 1) < 9223372036854775808
 rows_small i lanes most lane few small =
-    let rows : i * most ≤ i * 64 = mul-le-mul_left i small in
+    let rows : i * most ≤ i * 128 = mul-le-mul_left i small in
     omega arith
 
 -- a piece as it is cut off, which may be short at the end
@@ -61,3 +63,12 @@ unfolding first_digests
 digest_more hash n size k bytes out next row m is made before put =
     let more : size * (k + 1) ≡ size * k + size = omega arith in
     rw (more, add-one) (put ∙ rw (before, made, is) refl)
+
+-- what holds of the rows so far holds with one row more
+pub row_more : (P : ℕ → List ℕ → Type 0) (rows : List (List ℕ)) (i : ℕ) (row : List ℕ) → i < length rows → P i row
+    → ((k : ℕ) → k < i → P k (slice_index_or rows k []))
+    → (k : ℕ) → (k ≡ i) ⊎ (k ≢ i) → k < i + 1 → P k (slice_index_or (slice_set rows i row) k [])
+row_more P rows i row within here before k (inl same) h =
+    rw (get_or-set_at rows i k row [] same within, same) here
+row_more P rows i row within here before k (inr other) h =
+    rw (get_or-set_other rows i k row [] other) (before k (omega (arith, other)))

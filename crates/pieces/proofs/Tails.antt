@@ -1,152 +1,154 @@
--- The last bytes of a piece with the padding of SHA-256 after them, and the blocks before.
-use Rattle.std.proofs.Common.{◌≡◌, ℕ, zero, suc, ◌+◌, ◌-◌, ◌*◌, ◌/◌, ◌%◌, ◌^◌, ◌<◌, ◌≤◌}
-use Rattle.std.proofs.Common.{List, [], ◌∷◌, ◌++◌, length, take, drop, replicate, slice_set, slice_index_or}
-use Rattle.std.proofs.Common.{refl, sym, ap, ◌∙◌, arith, w64, append_assoc, length-append, length-drop}
-use Rattle.std.proofs.lemmas.List.{take-append-drop, set-append_right, drop-replicate, drop-append-le, take-append-le}
-use Rattle.std.proofs.lemmas.List.{length-take-le, take-take, drop-take, drop-drop, take_at, drop_at, length-replicate}
-use Rattle.std.proofs.Math.Seq.{take-append-add}
-use Rattle.std.specs.Int.{to_be_bytes}
+-- The last bytes of a piece with the padding of SHA-2 after them, and the blocks before. `words_after p k` is the hash
+-- value after the first k blocks of p, and a block has n bytes.
+use Rattle.std.proofs.Common.{◌≡◌, ℕ, suc, ◌+◌, ◌-◌, ◌*◌, ◌/◌, ◌%◌, ◌<◌, ◌≤◌, List, ◌∷◌, ◌++◌, length, take, drop}
+use Rattle.std.proofs.Common.{[], add-one, replicate, slice_index_or, slice_set, refl, sym, ap, ◌∙◌, arith, length-append, length-drop}
 use Rattle.std.specs.List.{flat_map}
-use Rattle.sha2.specs.Sha256.{compress, hash_after, initial_hash_256, padded_message, padding, sha256, digest_bytes}
-use Rattle.sha2.proofs.Absorbing256.{hash_after_next}
-use Rattle.sha_blocks.proofs.Taking.{padding_front}
+use Rattle.std.proofs.lemmas.List.{append-nil, drop_all, length-replicate, length-take, length-take-le, set-append_right, take-append-drop, take-replicate}
+use Rattle.std.proofs.lemmas.List.{take-take, take_all}
+use Rattle.std.proofs.Math.Nat.{div-add-mod, mod-lt}
+use Rattle.std.proofs.Math.Seq.{take-append-add}
+use Rattle.words.specs.Words.{padded}
+use Rattle.sha_blocks.specs.inside.Taken.{HasTaken}
+use Rattle.sha_blocks.proofs.Taking.{padded_here, padded_over}
+use Rattle.pieces.proofs.PieceChains.{length_piece, piece_from, row_of}
+use Rattle.pieces.proofs.PieceLemmas.{whole_within}
 
--- a tail as it is written: bytes, the mark, zeros and the count of bits
-pub tail_written : (rest first last bits : List ℕ) (r z : ℕ) → r ≡ length rest → r + z < 128
-    → take r first ≡ rest → drop r first ≡ drop r (replicate 128 0)
-    → take (r + (z + 1) + 8) last ≡ take (r + (z + 1)) (slice_set first r 0x80) ++ bits
-    → take (r + (z + 1) + 8) last ≡ rest ++ (0x80 ∷ replicate z 0 ++ bits)
-tail_written rest first last bits r z len fits front back put =
-    let zeros : List ℕ = replicate (128 - r) 0 in
-    let whole : first ≡ rest ++ zeros =
-    sym (take-append-drop r first) ∙ rw (front, back, drop-replicate {X = ℕ} r 128 0) refl in
-    let none : r - r ≡ 0 = omega arith in
-    let marked : slice_set (rest ++ zeros) r 0x80 ≡ rest ++ slice_set zeros 0 0x80 =
-    set-append_right rest zeros r r 0x80 (sym len) (omega arith) ∙ rw none refl in
-    let begins : take (r + (z + 1)) (rest ++ slice_set zeros 0 0x80) ≡ rest ++ (0x80 ∷ replicate z 0) =
-    ap (λ (j : ℕ). take (j + (z + 1)) (rest ++ slice_set zeros 0 0x80)) len
-    ∙ take-append-add rest (slice_set zeros 0 0x80) (z + 1)
-    ∙ ap (λ (x : List ℕ). rest ++ x) (padding_front (128 - r) z (omega arith)) in
-    put ∙ ap (λ (x : List ℕ). take (r + (z + 1)) (slice_set x r 0x80) ++ bits) whole
-    ∙ ap (λ (x : List ℕ). take (r + (z + 1)) x ++ bits) marked
-    ∙ ap (λ (x : List ℕ). x ++ bits) begins
-    ∙ append_assoc rest (0x80 ∷ replicate z 0) bits
+-- the mark behind bytes, where zeros stood
+pub marked_from : (n len : ℕ) (bytes block : List ℕ) → length bytes ≡ len → len < n → block ≡ padded n bytes
+    → slice_set block len 0x80 ≡ bytes ++ (0x80 ∷ replicate (n - 1 - len) 0)
+marked_from n len bytes block size short is =
+    let zeros : n - length bytes ≡ suc (n - 1 - len) = omega arith in
+    let none : len - len ≡ 0 = omega arith in
+    rw (is, zeros)
+    (set-append_right bytes (0 ∷ replicate (n - 1 - len) 0) len len 0x80 (omega arith) (omega arith) ∙ rw none refl)
 
--- the bytes of a piece from its byte a on
-piece_from : (x : List ℕ) (s n a : ℕ) → a ≤ n → drop a (take n (drop s x)) ≡ take (n - a) (drop (s + a) x)
-piece_from x s n a h =
-    let size : n ≡ a + (n - a) = omega arith in
-    ap (λ (k : ℕ). drop a (take k (drop s x))) size ∙ drop-take a (n - a) (drop s x)
-    ∙ ap (λ (ys : List ℕ). take (n - a) ys) (drop-drop a s x)
-
-length_piece : (x : List ℕ) (s n : ℕ) → s + n ≤ length x → length (take n (drop s x)) ≡ n
-length_piece x s n h = length-take-le n (drop s x) (omega (arith, length-drop s x))
-
--- the tail of a piece, and its padding
-pub tail_is : (x : List ℕ) (s n at count : ℕ) → s + n ≤ length x → at ≡ s + 64 * (n / 64) → count ≡ n % 64
-    → take count (drop at x) ++ padding n ≡ drop (64 * (n / 64)) (padded_message (take n (drop s x)))
-tail_is x s n at count fits place short =
-    let a : ℕ = 64 * (n / 64) in
-    let m : List ℕ = take n (drop s x) in
-    let size : length m ≡ n = length_piece x s n fits in
-    let left : n - a ≡ n % 64 = omega arith in
-    rw (
-      drop-append-le a m (padding (length m)) (omega arith),
-      size,
-      piece_from x s n a (omega arith),
-      left,
-      place,
-      short,
-    ) refl
-
--- a block before the tail
-pub block_whole : (x : List ℕ) (s n k : ℕ) → s + n ≤ length x → k * 64 + 64 ≤ n
-    → take 64 (drop (s + 64 * k) x) ≡ take 64 (drop (k * 64) (padded_message (take n (drop s x))))
-block_whole x s n k fits inside =
-    let a : ℕ = k * 64 in
-    let m : List ℕ = take n (drop s x) in
-    let size : length m ≡ n = length_piece x s n fits in
-    let same : 64 * k ≡ a = omega arith in
-    rw (
-      drop-append-le a m (padding (length m)) (omega arith),
-      take-append-le 64 (drop a m) (padding (length m)) (omega (arith, length-drop a m)),
-      piece_from x s n a (omega arith),
-      take-take 64 (n - a) (drop (s + a) x) (omega arith),
-      same,
-    ) refl
-
--- a row of rows of 128 bytes that lie one behind the other
-row_of : (bs : List (List ℕ)) → ((i : ℕ) → i < length bs → length (slice_index_or bs i []) ≡ 128)
-    → (i : ℕ) → i < length bs → take 128 (drop (128 * i) (flat_map (λ x. x) bs)) ≡ slice_index_or bs i []
-row_of [] sizes i h = absurd (omega arith)
-row_of (b ∷ bs) sizes zero h = take_at b (flat_map (λ x. x) bs) 128 (sizes 0 (omega arith))
-row_of (b ∷ bs) sizes (suc i) h =
-    let size : length b ≡ 128 = sizes 0 (omega arith) in
-    let next : 128 * suc i ≡ 128 + 128 * i = omega arith in
-    rw (
-      next,
-      ← drop-drop (128 * i) 128 (b ++ flat_map (λ x. x) bs),
-      drop_at b (flat_map (λ x. x) bs) 128 size,
+-- a block with the mark is whole
+pub length-marked : (n len : ℕ) (bytes : List ℕ) → length bytes ≡ len → len < n
+    → length (bytes ++ (0x80 ∷ replicate (n - 1 - len) 0)) ≡ n
+length-marked n len bytes size short =
+    omega (
+      arith,
+      length-append bytes (0x80 ∷ replicate (n - 1 - len) 0),
+      length-replicate {A = ℕ} (n - 1 - len) 0,
     )
-    (row_of bs (λ j l. sizes (suc j) (omega arith)) i (omega arith))
 
--- a block of a tail
-tail_block : (bs : List (List ℕ)) (flat p : List ℕ) (i n last k place : ℕ) → flat ≡ flat_map (λ x. x) bs
-    → ((j : ℕ) → j < length bs → length (slice_index_or bs j []) ≡ 128) → i < length bs → last ≤ 2 → k < last
-    → place ≡ 128 * i → take (64 * last) (slice_index_or bs i []) ≡ drop (64 * n) p
-    → take 64 (drop (place + 64 * k) flat) ≡ take 64 (drop ((n + k) * 64) p)
-tail_block bs flat p i n last k place is sizes lane few below at tail =
-    let row : List ℕ = slice_index_or bs i [] in
-    let whole : ℕ = 128 * i in
-    let a : ℕ = 64 * k in
-    let cut : 64 * last ≡ a + (64 * last - a) = omega arith in
-    let rows : take 128 (drop whole (flat_map (λ x. x) bs)) ≡ row = row_of bs sizes i lane in
-    let within : drop a row ≡ take (128 - a) (drop (whole + a) (flat_map (λ x. x) bs)) =
-    ap (drop a) (sym rows) ∙ piece_from (flat_map (λ x. x) bs) whole 128 a (omega arith) in
-    let inside : drop a (take (64 * last) row) ≡ take (64 * last - a) (drop a row) =
-    ap (λ (j : ℕ). drop a (take j row)) cut ∙ drop-take a (64 * last - a) row in
-    let there : drop a (take (64 * last) row) ≡ drop (64 * n + a) p = ap (drop a) tail ∙ drop-drop a (64 * n) p in
-    let scale : 64 * n + a ≡ (n + k) * 64 = omega arith in
-    rw (is, at, ← scale, ← there, inside, take-take 64 (64 * last - a) (drop a row) (omega arith), within)
-    (sym (take-take 64 (128 - a) (drop (whole + a) (flat_map (λ x. x) bs)) (omega arith)))
+-- the beginning of such a block
+marked_front : (n len z : ℕ) (bytes : List ℕ) → length bytes ≡ len → z ≤ n - 1 - len
+    → take (len + (z + 1)) (bytes ++ (0x80 ∷ replicate (n - 1 - len) 0)) ≡ bytes ++ (0x80 ∷ replicate z 0)
+marked_front n len z bytes size fits =
+    let back : List ℕ = 0x80 ∷ replicate (n - 1 - len) 0 in
+    let front : take (z + 1) back ≡ 0x80 ∷ replicate z 0 =
+    rw add-one (ap (λ (xs : List ℕ). 0x80 ∷ xs) (take-replicate z (n - 1 - len) 0 fits)) in
+    ap (λ (k : ℕ). take (k + (z + 1)) (bytes ++ back)) (sym size) ∙ take-append-add bytes back (z + 1)
+    ∙ ap (λ (xs : List ℕ). bytes ++ xs) front
 
--- one block of a tail more
-pub tail_more : (bs : List (List ℕ)) (flat p h next : List ℕ) (i n last k place : ℕ) → flat ≡ flat_map (λ x. x) bs
-    → ((j : ℕ) → j < length bs → length (slice_index_or bs j []) ≡ 128) → i < length bs → last ≤ 2 → k < last
-    → place ≡ 128 * i → take (64 * last) (slice_index_or bs i []) ≡ drop (64 * n) p
-    → h ≡ hash_after initial_hash_256 p (n + k) → next ≡ compress h (take 64 (drop (place + 64 * k) flat))
-    → next ≡ hash_after initial_hash_256 p (n + (k + 1))
-tail_more bs flat p h next i n last k place is sizes lane few below at tail before made =
-    let more : n + (k + 1) ≡ n + k + 1 = omega arith in
-    rw (more, hash_after_next initial_hash_256 p (n + k), ← before)
-    (made ∙ ap (compress h) (tail_block bs flat p i n last k place is sizes lane few below at tail))
+-- a block whose last bytes are a count is whole
+pub length-ended : (n : ℕ) (row count : List ℕ) → length row ≡ n → length count ≤ n
+    → length (take (n - length count) row ++ count) ≡ n
+length-ended n row count size fits =
+    omega (
+      arith,
+      length-append (take (n - length count) row) count,
+      length-take-le (n - length count) row (omega arith),
+    )
 
--- one whole block more
-pub whole_more : (x h next : List ℕ) (s n k : ℕ) → s + n ≤ length x → k * 64 + 64 ≤ n
-    → h ≡ hash_after initial_hash_256 (padded_message (take n (drop s x))) k
-    → next ≡ compress h (take 64 (drop (s + 64 * k) x))
-    → next ≡ hash_after initial_hash_256 (padded_message (take n (drop s x))) (k + 1)
-whole_more x h next s n k fits inside before made =
-    rw (hash_after_next initial_hash_256 (padded_message (take n (drop s x))) k, ← before)
-    (made ∙ ap (compress h) (block_whole x s n k fits inside))
+-- a block as a count is put to its end
+pub ended_from : (n : ℕ) (old next count : List ℕ) → length old ≡ n → length count ≤ n
+    → take (n - length count + length count) next ≡ take (n - length count) old ++ count
+    → drop (n - length count + length count) next ≡ drop (n - length count + length count) old
+    → next ≡ take (n - length count) old ++ count
+ended_from n old next count size fits front back =
+    let all : ℕ = n - length count + length count in
+    let none : drop all old ≡ [] = drop_all all old (omega arith) in
+    sym (take-append-drop all next) ∙ rw (front, back, none) (append-nil _)
 
--- how many blocks a piece has with its padding
-blocks_of : (m : List ℕ) (n : ℕ) → length m ≡ n → length (padded_message m) / 64 ≡ n / 64 + (n % 64 + 72) / 64
-blocks_of m n size =
-    let z : ℕ = (119 - n % 64) % 64 in
-    let bits : List ℕ = to_be_bytes w64 (n * 8 % 2 ^ 64) in
-    let eight : length bits ≡ 8 = refl in
-    let zeros : List ℕ = replicate z 0 in
-    let tail : length (padding n) ≡ z + 9 =
-    omega (arith, length-append zeros bits, length-replicate {A = ℕ} z 0) in
-    rw size (omega (arith, length-append m (padding n)))
+-- a block of some that lie one behind the other
+pub row_taken : (n i at : ℕ) (rows : List (List ℕ)) (flat : List ℕ) → flat ≡ flat_map (λ x. x) rows
+    → ((j : ℕ) → j < length rows → length (slice_index_or rows j []) ≡ n) → i < length rows → at ≡ n * (0 + i)
+    → take n (drop (at + 0) flat) ≡ slice_index_or rows i []
+row_taken n i at rows flat is sizes lane place =
+    let there : at + 0 ≡ n * i = omega arith in rw (there, is) (row_of n rows sizes i lane)
 
--- the digest of a piece
-pub digest_is : (x h bytes : List ℕ) (s n last : ℕ) → s + n ≤ length x → last ≡ (n % 64 + 72) / 64
-    → h ≡ hash_after initial_hash_256 (padded_message (take n (drop s x))) (n / 64 + last) → bytes ≡ digest_bytes h 8
-    → bytes ≡ sha256 (take n (drop s x))
-unfolding sha256
-digest_is x h bytes s n last fits count made is =
-    is ∙ ap (λ v. digest_bytes v 8) made
-    ∙ ap (λ k. digest_bytes (hash_after initial_hash_256 (padded_message (take n (drop s x))) k) 8)
-    (ap (λ k. n / 64 + k) count ∙ sym (blocks_of (take n (drop s x)) n (length_piece x s n fits)))
+module _ (words_after : List ℕ → ℕ → List ℕ) (compressed : List ℕ → List ℕ → List ℕ) (n : ℕ) (pos : 0 < n)
+    (on_front : (p q : List ℕ) (k : ℕ) → k * n ≤ length p → words_after (p ++ q) k ≡ words_after p k)
+    (next_block : (p : List ℕ) (k : ℕ) → words_after p (k + 1) ≡ compressed (words_after p k) (take n (drop (k * n) p)))
+  where
+    -- one whole block more
+    pub whole_more : (x h next : List ℕ) (s len k : ℕ) → k < len / n → h ≡ words_after (take len (drop s x)) k
+        → next ≡ compressed h (take n (drop (s + n * k) x)) → next ≡ words_after (take len (drop s x)) (k + 1)
+    whole_more x h next s len k within before made =
+        let inside : n * (k + 1) ≤ len = whole_within n len (k + 1) (omega arith) in
+        let place : k * n ≡ n * k = omega arith in
+        rw (
+          next_block (take len (drop s x)) k,
+          ← before,
+          place,
+          piece_from x s len (n * k) (omega arith),
+          take-take n (len - n * k) (drop (s + n * k) x) (omega arith),
+        ) made
+
+    -- the hash value after the whole blocks, and the bytes after these
+    held : (x h : List ℕ) (s len : ℕ) → s + len ≤ length x → h ≡ words_after (take len (drop s x)) (len / n)
+        → HasTaken words_after n h (take (len % n) (drop (s + (len - len % n)) x)) (take len (drop s x))
+    unfolding HasTaken
+    held x h s len fits is =
+        let m : List ℕ = take len (drop s x) in
+        let size : length m ≡ len = length_piece x s len fits in
+        let blocks : len - len % n ≡ len / n * n = omega (arith, div-add-mod len n) in
+        let left : len % n ≡ len - len / n * n = omega (arith, div-add-mod len n) in
+        let rest : List ℕ = take (len % n) (drop (s + (len - len % n)) x) in
+        let cut : rest ≡ drop (len / n * n) m =
+        rw (blocks, left) (sym (piece_from x s len (len / n * n) (omega (arith, div-add-mod len n)))) in
+        let short : length rest ≤ len % n = omega (arith, length-take (len % n) (drop (s + (len - len % n)) x)) in
+        (rw size is, rw size (take_all (len % n) rest short ∙ cut))
+
+    -- the hash value of a message whose last block has room for the count
+    pub ended_here : (x h row next count p : List ℕ) (s len : ℕ) → s + len ≤ length x → len % n + length count < n
+        → h ≡ words_after (take len (drop s x)) (len / n)
+        → row ≡ take (len % n) (drop (s + (len - len % n)) x) ++ (0x80 ∷ replicate (n - 1 - len % n) 0)
+        → next ≡ compressed h (take (n - length count) row ++ count)
+        → p ≡ take len (drop s x) ++ (0x80 ∷ replicate ((2 * n - 1 - length count - len % n) % n) 0 ++ count)
+        → next ≡ words_after p (length p / n)
+    ended_here x h row next count p s len fits room before is made all =
+        let m : List ℕ = take len (drop s x) in
+        let r : ℕ = len % n in
+        let z : ℕ = n - length count - r - 1 in
+        let rest : List ℕ = take r (drop (s + (len - r)) x) in
+        let size : length m ≡ len = length_piece x s len fits in
+        let short : length rest ≡ r = length_piece x (s + (len - r)) r (omega (arith, div-add-mod len n)) in
+        let front : List ℕ = 0x80 ∷ replicate z 0 in
+        let long : length front ≡ z + 1 = omega (arith, length-replicate {A = ℕ} z 0) in
+        let placed : take (r + length front) row ≡ take r rest ++ front =
+        rw (long, is, take_all r rest (omega arith)) (marked_front n r z rest short (omega arith)) in
+        let whole : length row ≡ n = rw is (length-marked n r rest short (omega arith)) in
+        padded_here words_after compressed n pos on_front next_block h rest m front count row
+        (take (n - length count) row ++ count) next p (held x h s len fits before) (rw size (omega arith)) (rw size refl)
+        (rw size placed) (length-ended n row count whole (omega arith)) refl made (rw size all)
+
+    -- the hash value of one whose count goes on in a block of its own
+    pub ended_over : (x h row first zeros next count p : List ℕ) (s len : ℕ) → s + len ≤ length x
+        → n ≤ len % n + length count → length count < n → h ≡ words_after (take len (drop s x)) (len / n)
+        → row ≡ take (len % n) (drop (s + (len - len % n)) x) ++ (0x80 ∷ replicate (n - 1 - len % n) 0)
+        → first ≡ compressed h row → zeros ≡ replicate n 0
+        → next ≡ compressed first (take (n - length count) zeros ++ count)
+        → p ≡ take len (drop s x) ++ (0x80 ∷ replicate ((2 * n - 1 - length count - len % n) % n) 0 ++ count)
+        → next ≡ words_after p (length p / n)
+    ended_over x h row first zeros next count p s len fits over few before is taken none made all =
+        let m : List ℕ = take len (drop s x) in
+        let r : ℕ = len % n in
+        let z : ℕ = n - r - 1 in
+        let rest : List ℕ = take r (drop (s + (len - r)) x) in
+        let size : length m ≡ len = length_piece x s len fits in
+        let below : r < n = mod-lt len pos in
+        let short : length rest ≡ r = length_piece x (s + (len - r)) r (omega (arith, div-add-mod len n)) in
+        let front : List ℕ = 0x80 ∷ replicate z 0 in
+        let long : length front ≡ z + 1 = omega (arith, length-replicate {A = ℕ} z 0) in
+        let placed : take (r + length front) row ≡ take r rest ++ front =
+        rw (long, is, take_all r rest (omega arith)) (marked_front n r z rest short (omega arith)) in
+        let whole : length row ≡ n = rw is (length-marked n r rest short below) in
+        let ended : length (take (n - length count) zeros ++ count) ≡ n =
+        length-ended n zeros count (rw none (length-replicate {A = ℕ} n 0)) (omega arith) in
+        padded_over words_after compressed n pos on_front next_block h rest m front count row first
+        (take (n - length count) zeros ++ count) next p (held x h s len fits before) (rw size (omega arith)) few
+        (rw size refl) (rw size placed) whole taken ended
+        (ap (λ (xs : List ℕ). take (n - length count) xs ++ count) none) made (rw size all)

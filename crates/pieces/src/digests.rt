@@ -33,8 +33,9 @@ fn checked_count(size: usize, piece_len: usize, len: usize, out_len: usize) -> R
     }
 }
 
-// The starts of `count` pieces, the first of which is piece `done`. The last of them fills the lanes that are left.
-fn starts_of<const LANES: usize>(
+/// The starts of `count` pieces, the first of which is piece `done`. The last of them fills the lanes that are left.
+#[inline(always)]
+pub(crate) fn starts_of<const LANES: usize>(
     done: usize,
     count: usize,
     piece_len: usize,

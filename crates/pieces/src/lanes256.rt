@@ -1,15 +1,19 @@
 // SHA-256 on a block in each of eight lanes (FIPS 180-4, section 6.2.2): a vector has one word of each.
 
 ghost use Rattle.std.specs.Prelude.{◌≡◌, ◌<◌, ◌≤◌, ◌+◌, ◌*◌, ℕ, List, length, take, drop, slice_index, [], ◌∷◌};
+ghost use Rattle.std.proofs.Common.{rules};
 ghost use Rattle.sha2.specs.Sha256;
 ghost use Rattle.sha_blocks.specs.inside.Schedules.{IsWindowAt};
 ghost use Rattle.words.specs.inside.Lanes.{lane8};
 ghost use Rattle.pieces.specs.inside.Words.{reversed};
 
+use crate::sha_lanes::HashValues;
 use crate::word_bytes::{bytes_of, words_of};
+use sha_blocks::Value256;
 use sha_blocks::schedules::{add, advance, keyed, rotated, xor};
 use std::simd::prelude::*;
-use words::lanes::message_lanes;
+use words::IV32;
+use words::lanes::{message_lanes, same_lanes};
 
 #[inline(always)]
 fn big_sigma0(x: u32x8) -> u32x8
@@ -206,11 +210,25 @@ fn block_words(bytes: &[u8], starts: &[usize; 8], at: usize) -> [u32x8; 16]
     ]
 }
 
-/// Takes a block into the hash value in each lane: the one that begins `at` bytes after the lane's start.
-pub(crate) fn take_blocks(h: &mut [u32x8; 8], bytes: &[u8], starts: &[usize; 8], at: usize)
-    requires { (i : ℕ) → i < 8 → slice_index starts.now i + at + 64 ≤ length bytes.now }
-    ensures { (i : ℕ) → i < 8 → lane8 i h.new
-        ≡ Sha256.compress (lane8 i h.old) (take 64 (drop (slice_index starts.now i + at) bytes.now)) }
-{
-    *h = take_words(*h, block_words(bytes, starts, at));
+impl HashValues<Value256, 8, 64> for [u32x8; 8] {
+    type Room = ();
+
+    ghost lane = { λ i s. lane8 i s };
+
+    #[inline(always)]
+    #[tactic(auto, unfolding(sha2::specs::Sha256::hash_after))]
+    fn start() -> [u32x8; 8] {
+        same_lanes(&IV32)
+    }
+
+    #[inline(always)]
+    fn room() {}
+
+    fn take_blocks(&mut self, _room: &mut (), bytes: &[u8], starts: &[usize; 8], at: usize) {
+        *self = take_words(*self, block_words(bytes, starts, at));
+    }
+
+    ghost some_lanes = { Prim.search rules };
+
+    ghost few_lanes = { Prim.search rules };
 }

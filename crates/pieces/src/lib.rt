@@ -7,6 +7,7 @@ pub use blake2s_lanes::blake2s;
 pub use blake3_lanes::blake3;
 pub use fault::Fault;
 pub use sha256_lanes::sha256;
+pub use sha512_lanes::sha512;
 
 mod blake2b_lanes;
 mod blake2s_lanes;
@@ -16,7 +17,10 @@ mod digests;
 mod fault;
 mod lanes2;
 mod lanes256;
+mod lanes512;
 mod last_blocks;
 mod piece_hash;
 mod sha256_lanes;
+mod sha512_lanes;
+mod sha_lanes;
 mod word_bytes;

@@ -4,100 +4,16 @@ ghost use Rattle.std.specs.Prelude.{◌≡◌, ◌<◌, ◌≤◌, ◌+◌, ◌*
 ghost use Rattle.std.specs.Prelude.{None, Some, MatchResult, slice_index, slice_index_or};
 ghost use Rattle.std.proofs.Common.{rules};
 ghost use Rattle.sha2.specs.Sha256;
-ghost use Rattle.words.specs.inside.Lanes.{lane8};
 ghost use Rattle.pieces.specs.Pieces.{digests};
 ghost use Rattle.pieces.specs.Faults.{piece_fault};
 
 use crate::digests::write_digests;
 use crate::fault::Fault;
-use crate::lanes256::take_blocks;
 use crate::piece_hash::PieceHash;
+use crate::sha_lanes::final_values;
 use sha_blocks::{Value256, digest256};
 use std::simd::prelude::*;
-use words::lanes::{lane_rows, same_lanes};
-use words::{IV32, write_at};
-
-// How many blocks the last bytes of a message of `len` bytes and its padding fill.
-fn last_blocks(len: usize) -> usize
-    ensures value { result ≡ (len % 64 + 72) / 64 }
-{
-    (len % 64 + 72) / 64
-}
-
-// The last bytes of a message of `len` bytes and its padding (FIPS 180-4, section 5.1.1), which fill one block or two.
-fn tail_of(rest: &[u8], len: usize) -> [u8; 128]
-    requires { length rest.now ≡ len % 64 }
-    ensures value { take (64 * ((len % 64 + 72) / 64)) result ≡ rest.now ++ Sha256.padding len }
-    ensures whole { length result ≡ 128 }
-{
-    let bits = (len as u64).wrapping_mul(8).to_be_bytes();
-    let mut tail = [0; 128];
-    write_at(&mut tail, 0, rest);
-    tail[rest.len()] = 0x80;
-    write_at(&mut tail, 64 * last_blocks(len) - 8, &bits);
-    tail
-}
-
-// That of the piece that begins at `start`.
-#[inline(always)]
-fn piece_tail(bytes: &[u8], start: usize, piece_len: usize) -> [u8; 128]
-    requires { start + piece_len ≤ length bytes.now }
-    ensures value { take (64 * ((piece_len % 64 + 72) / 64)) result
-        ≡ drop (64 * (piece_len / 64)) (Sha256.padded_message (take piece_len (drop start bytes.now))) }
-    ensures whole { length result ≡ 128 }
-{
-    let end = start + piece_len;
-    tail_of(&bytes[end - piece_len % 64..end], piece_len)
-}
-
-// Those of eight pieces.
-#[inline(always)]
-fn piece_tails(bytes: &[u8], starts: &[usize; 8], piece_len: usize) -> [[u8; 128]; 8]
-    requires { (i : ℕ) → i < 8 → slice_index starts.now i + piece_len ≤ length bytes.now }
-    ensures value { (i : ℕ) → i < 8 → take (64 * ((piece_len % 64 + 72) / 64)) (slice_index_or result i [])
-        ≡ drop (64 * (piece_len / 64))
-        (Sha256.padded_message (take piece_len (drop (slice_index starts.now i) bytes.now))) }
-    ensures whole { (i : ℕ) → i < 8 → length (slice_index_or result i []) ≡ 128 }
-{
-    [
-        piece_tail(bytes, starts[0], piece_len),
-        piece_tail(bytes, starts[1], piece_len),
-        piece_tail(bytes, starts[2], piece_len),
-        piece_tail(bytes, starts[3], piece_len),
-        piece_tail(bytes, starts[4], piece_len),
-        piece_tail(bytes, starts[5], piece_len),
-        piece_tail(bytes, starts[6], piece_len),
-        piece_tail(bytes, starts[7], piece_len),
-    ]
-}
-
-// The hash values after the whole blocks of eight pieces.
-fn values_of(bytes: &[u8], starts: &[usize; 8], piece_len: usize) -> [u32x8; 8]
-    requires { (i : ℕ) → i < 8 → slice_index starts.now i + piece_len ≤ length bytes.now }
-    ensures { (i : ℕ) → i < 8 → lane8 i result ≡ Sha256.hash_after Sha256.initial_hash_256
-        (Sha256.padded_message (take piece_len (drop (slice_index starts.now i) bytes.now))) (piece_len / 64) }
-{
-    let mut values = same_lanes(&IV32);
-    'each: for block in 0..piece_len / 64 {
-        take_blocks(&mut values, bytes, starts, 64 * block);
-    }
-    values
-}
-
-// Takes the last blocks too.
-fn take_tails(values: &mut [u32x8; 8], tails: &[[u8; 128]; 8], last: usize)
-    requires few { last ≤ 2 }
-    requires whole { (i : ℕ) → i < 8 → length (slice_index_or tails.now i []) ≡ 128 }
-    ensures { (i : ℕ) → i < 8 → (p : List ℕ) (n : ℕ)
-        → take (64 * last) (slice_index_or tails.now i []) ≡ drop (64 * n) p
-        → lane8 i values.old ≡ Sha256.hash_after Sha256.initial_hash_256 p n
-        → lane8 i values.new ≡ Sha256.hash_after Sha256.initial_hash_256 p (n + last) }
-{
-    let places = [0, 128, 256, 384, 512, 640, 768, 896];
-    'last: for block in 0..last {
-        take_blocks(values, tails.as_flattened(), &places, 64 * block);
-    }
-}
+use words::lanes::lane_rows;
 
 // The bytes of a hash value.
 #[inline(always)]
@@ -126,9 +42,8 @@ impl PieceHash<8, 32> for Lanes256 {
     }
 
     fn side_by_side(&self, bytes: &[u8], starts: &[usize; 8], piece_len: usize) -> [[u8; 32]; 8] {
-        let mut values = values_of(bytes, starts, piece_len);
-        let tails = piece_tails(bytes, starts, piece_len);
-        take_tails(&mut values, &tails, last_blocks(piece_len));
+        let count = (piece_len as u64).wrapping_mul(8).to_be_bytes();
+        let values = final_values::<Value256, [u32x8; 8], 8, 64>(bytes, starts, piece_len, &count);
         let [h0, h1, h2, h3, h4, h5, h6, h7] = lane_rows(values);
         [
             bytes_of(h0),

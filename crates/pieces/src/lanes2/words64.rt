@@ -37,17 +37,17 @@ fn xor3(x: u64x4, y: u64x4, z: u64x4) -> u64x4
     x ^ y ^ z
 }
 
-// The bytes of four words.
+/// The bytes of four words.
 #[inline(always)]
-fn bytes_of(x: u64x4) -> u8x32
+pub(crate) fn bytes_of(x: u64x4) -> u8x32
     ensures { (i j : ℕ) → i < 4 → j < 8 → slice_index result (8 * i + j) ≡ slice_index x i / 256 ^ j % 256 }
 {
     x.to_le_bytes()
 }
 
-// The words of bytes.
+/// The words of bytes.
 #[inline(always)]
-fn words_of(x: u8x32) -> u64x4
+pub(crate) fn words_of(x: u8x32) -> u64x4
     ensures { (i : ℕ) → i < 4 → slice_index result i ≡ number_l 256 (chunk (8 * i) 8 x) }
 {
     u64x4::from_le_bytes(x)

@@ -14,7 +14,7 @@ side_by_side-rows-requires g c =
     let small = g.met.H.PieceHash.small in (
       omega arith,
       (
-        rows_small g.row.LANES g.row.LANES g.row.MOST (omega arith) few small,
+        rows_small g.row.LANES g.row.LANES g.row.MOST (omega arith) few (omega (arith, small)),
         (omega arith, (c.requires.piece, c.starts_of-starts.ensures.fits)),
       ),
     )
@@ -22,7 +22,7 @@ side_by_side-rows-requires g c =
 pub offset_bounds-rows-i : goal.offset_bounds-rows-i
 offset_bounds-rows-i g c =
     let fits = rows_small c.rows.i g.row.LANES g.row.MOST (omega (arith, c.requires.lanes)) g.met.H.PieceHash.few_lanes
-    g.met.H.PieceHash.small in
+    (omega (arith, g.met.H.PieceHash.small)) in
     omega arith
 
 pub put_digest-requires : goal.put_digest-requires

@@ -5,16 +5,8 @@ use Rattle.std.proofs.lemmas.Bool.{cases_eq}
 use Rattle.std.proofs.lemmas.Grind.{get_or-set_at}
 use Rattle.std.proofs.lemmas.List.{get_or-set_other}
 use Rattle.words.specs.Words.{padded}
+use Rattle.pieces.proofs.PieceLemmas.{row_more}
 use Rattle.pieces.proofs.last_blocks.padded_tails.Goals as goal
-
--- what holds of the rows so far holds with one row more
-row_more : (P : ℕ → List ℕ → Type 0) (rows : List (List ℕ)) (i : ℕ) (row : List ℕ) → i < length rows → P i row
-    → ((k : ℕ) → k < i → P k (slice_index_or rows k []))
-    → (k : ℕ) → (k ≡ i) ⊎ (k ≢ i) → k < i + 1 → P k (slice_index_or (slice_set rows i row) k [])
-row_more P rows i row within here before k (inl same) h =
-    rw (get_or-set_at rows i k row [] same within, same) here
-row_more P rows i row within here before k (inr other) h =
-    rw (get_or-set_other rows i k row [] other) (before k (omega (arith, other)))
 
 pub lanes-preserved : goal.lanes-preserved
 lanes-preserved g c = record {

@@ -1,33 +1,29 @@
-use Rattle.std.proofs.Common.{◌≡◌, ◌<◌, ◌+◌, ◌*◌, ◌/◌, ℕ, List, [], arith, ap, ◌∙◌, take, drop, length}
+use Rattle.std.proofs.Common.{◌≡◌, ◌<◌, ◌^◌, ◌%◌, ◌*◌, ℕ, List, [], arith, ap, refl, ◌∙◌, take, drop, length}
 use Rattle.std.proofs.Common.{slice_index, slice_index_or}
+use Rattle.std.specs.Int.{to_be_bytes, w64}
 use Rattle.std.proofs.lemmas.List.{take_all}
-use Rattle.sha2.specs.Sha256.{digest_bytes, hash_after, initial_hash_256, padded_message, sha256}
+use Rattle.sha2.specs.Sha256.{digest_bytes, padded_message, sha256}
 use Rattle.sha2.proofs.Facts256.{length-sha256}
 use Rattle.words.proofs.LaneLemmas.{below_eight}
-use Rattle.pieces.proofs.Tails.{digest_is}
+use Rattle.pieces.proofs.PieceChains.{length_piece}
 use Rattle.pieces.proofs.sha256_lanes.Lanes256PieceHash832.side_by_side.Goals as goal
 
 pub returns-clause-value : goal.returns-clause-value
+unfolding sha256
 returns-clause-value c =
     let n : ℕ = c.args.piece_len in
     let x : List ℕ = c.args.bytes.now in
-    let last : ℕ = c.last_blocks.result in
     let start : ℕ → ℕ = slice_index c.args.starts.now in
-    let padded : ℕ → List ℕ = λ i. padded_message (take n (drop (start i) x)) in
-    let tail : (i : ℕ) → i < 8 → take (64 * last) (slice_index_or c.piece_tails-tails.result i [])
-    ≡ drop (64 * (n / 64)) (padded i) =
-    λ i lt. ap (λ k. take (64 * k) (slice_index_or c.piece_tails-tails.result i [])) c.last_blocks.ensures.value
-    ∙ c.piece_tails-tails.ensures.value i lt in
-    let value : (i : ℕ) → i < 8 → slice_index_or c.lane_rows.result i []
-    ≡ hash_after initial_hash_256 (padded i) (n / 64 + last) =
-    λ i lt. c.lane_rows.ensures i lt
-    ∙ c.take_tails.ensures i lt (padded i) (n / 64) (tail i lt) (c.values_of-values.ensures i lt) in
+    let count : c.to_be_bytes-count.result ≡ to_be_bytes w64 (n * 8 % 2 ^ 64) = c.to_be_bytes-count.ensures in
     let row : (i : ℕ) → i < 8 → (bytes : List ℕ) → bytes ≡ digest_bytes (slice_index_or c.lane_rows.result i []) 8
     → take 32 bytes ≡ sha256 (take n (drop (start i) x)) =
     λ i lt bytes is.
-    let digest : bytes ≡ sha256 (take n (drop (start i) x)) = digest_is x _ bytes (start i) n last
-    (c.requires.fits i lt) c.last_blocks.ensures.value (value i lt) is in
-    take_all 32 bytes (omega (arith, ap length digest, length-sha256 (take n (drop (start i) x)))) ∙ digest in
+    let m : List ℕ = take n (drop (start i) x) in
+    let size : length m ≡ n = length_piece x (start i) n (c.requires.fits i lt) in
+    let digest : bytes ≡ sha256 m =
+    is ∙ ap (λ h. digest_bytes h 8) (c.lane_rows.ensures i lt
+    ∙ c.final_values-values.ensures i lt (padded_message m) (rw (size, count) refl)) in
+    take_all 32 bytes (omega (arith, ap length digest, length-sha256 m)) ∙ digest in
     below_eight _
     (row 0 (omega arith) _ c.bytes_of.ensures)
     (row 1 (omega arith) _ c.bytes_of-2.ensures)

@@ -1,0 +1,75 @@
+// The SHA-512 digests of pieces, four side by side.
+
+ghost use Rattle.std.specs.Prelude.{◌≡◌, ◌<◌, ◌≤◌, ◌+◌, ◌*◌, ◌/◌, [], ℕ, length, take, drop};
+ghost use Rattle.std.specs.Prelude.{None, Some, MatchResult, slice_index, slice_index_or};
+ghost use Rattle.std.proofs.Common.{rules};
+ghost use Rattle.sha2.specs.Sha512;
+ghost use Rattle.pieces.specs.Pieces.{digests};
+ghost use Rattle.pieces.specs.Faults.{piece_fault};
+
+use crate::digests::write_digests;
+use crate::fault::Fault;
+use crate::lanes2::words64::lane_rows;
+use crate::piece_hash::PieceHash;
+use crate::sha_lanes::final_values;
+use sha_blocks::{Value512, digest512};
+use std::simd::prelude::*;
+use words::level;
+
+// The bytes of a hash value.
+#[inline(always)]
+fn bytes_of(h: [u64; 8]) -> [u8; 64]
+    ensures { result ≡ Sha512.digest_bytes h 8 }
+{
+    Value512 { h }.bytes()
+}
+
+// SHA-512, four pieces side by side.
+struct Lanes512;
+
+impl PieceHash<4, 64> for Lanes512 {
+    ghost size = { λ _. 64 };
+
+    ghost digest = { λ _. Sha512.sha512 };
+
+    #[inline(always)]
+    fn digest_len(&self) -> usize {
+        64
+    }
+
+    // Below x86-64-v3 one after the other is faster.
+    #[inline(always)]
+    fn fewest(&self, _piece_len: usize) -> usize {
+        if level() < 3 { usize::MAX } else { 3 }
+    }
+
+    fn side_by_side(&self, bytes: &[u8], starts: &[usize; 4], piece_len: usize) -> [[u8; 64]; 4] {
+        let count = (8 * piece_len as u128).to_be_bytes();
+        let values = final_values::<Value512, [u64x4; 8], 4, 128>(bytes, starts, piece_len, &count);
+        let [h0, h1, h2, h3] = lane_rows(values);
+        [bytes_of(h0), bytes_of(h1), bytes_of(h2), bytes_of(h3)]
+    }
+
+    fn one(&self, piece: &[u8]) -> [u8; 64] {
+        digest512(piece)
+    }
+
+    ghost some_lanes = { Prim.search rules };
+
+    ghost few_lanes = { Prim.search rules };
+
+    ghost small = { Prim.search rules };
+}
+
+/// Fills `out` with the SHA-512 digests (FIPS 180-4, section 6.4) of the pieces of `piece_len` bytes that `bytes` is
+/// cut into, one behind the other; the last piece may be shorter, and no bytes have no piece. `Fault::PieceLength`
+/// where `piece_len` is 0, and else `Fault::OutputLength` where `out` has other than 64 bytes a piece; nothing is
+/// written then.
+pub fn sha512(bytes: &[u8], piece_len: usize, out: &mut [u8]) -> Result<(), Fault>
+    ensures { MatchResult result
+        (λ _. (piece_fault 64 piece_len (length bytes.now) (length out.old) ≡ None)
+        × (out.new ≡ digests Sha512.sha512 piece_len bytes.now))
+        (λ e. (piece_fault 64 piece_len (length bytes.now) (length out.old) ≡ Some e) × (out.new ≡ out.old)) }
+{
+    write_digests(&Lanes512, bytes, piece_len, out)
+}
