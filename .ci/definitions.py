@@ -264,6 +264,7 @@ def pieces():
     shorter = (1, 63, 64, 65, 127, 128, 129, 1023, 1024, 1025)
     alone = {
         "sha256": (shorter, lambda piece: hashlib.sha256(piece).digest()),
+        "sha512": ((*shorter, 111, 112), lambda piece: hashlib.sha512(piece).digest()),
         "blake2b": (shorter, lambda piece: blake2("blake2b", piece, 64)),
         "blake2s": (shorter, lambda piece: blake2("blake2s", piece, 32)),
         "blake3": ((*shorter, 8191, 8192, 8193), lambda piece: output(tree(mode_of(), 0, piece), 0, 32)),

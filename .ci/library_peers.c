@@ -294,6 +294,8 @@ static void blake3_round(const uint8_t *text, size_t length) {
 
 PIECES(sha256, 32, sums_sha256_pieces(out, out_len, text, length, piece_len),
        digest(EVP_sha256(), want, text + at, piece))
+PIECES(sha512, 64, sums_sha512_pieces(out, out_len, text, length, piece_len),
+       digest(EVP_sha512(), want, text + at, piece))
 PIECES(blake2b, 1 + below(64), sums_blake2b_pieces(out, out_len, digest_len, text, length, piece_len),
        must(blake2b(want, text + at, NULL, digest_len, piece, 0) == 0, "blake2b"))
 PIECES(blake2s, 1 + below(32), sums_blake2s_pieces(out, out_len, digest_len, text, length, piece_len),
@@ -330,6 +332,7 @@ int main(int count, char **words) {
         hkdf_blake2b_round(text, length);
         hkdf_blake2s_round(text, length);
         sha256_pieces_round(text, length);
+        sha512_pieces_round(text, length);
         blake2b_pieces_round(text, length);
         blake2s_pieces_round(text, length);
         blake3_pieces_round(text, length);

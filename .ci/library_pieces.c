@@ -28,6 +28,16 @@ static uint32_t sha256_whole(uint8_t *out, size_t digest_len, const uint8_t *inp
     sums_sha256(out, input, input_len);
     return SUMS_OK;
 }
+static uint32_t sha512_pieces(uint8_t *out, size_t out_len, size_t digest_len, const uint8_t *input, size_t input_len,
+                              size_t piece_len) {
+    (void)digest_len;
+    return sums_sha512_pieces(out, out_len, input, input_len, piece_len);
+}
+static uint32_t sha512_whole(uint8_t *out, size_t digest_len, const uint8_t *input, size_t input_len) {
+    (void)digest_len;
+    sums_sha512(out, input, input_len);
+    return SUMS_OK;
+}
 static uint32_t blake2b_whole(uint8_t *out, size_t digest_len, const uint8_t *input, size_t input_len) {
     return sums_blake2b(out, digest_len, input, input_len, NULL, 0);
 }
@@ -45,6 +55,7 @@ static uint32_t blake3_whole(uint8_t *out, size_t digest_len, const uint8_t *inp
 
 static const struct kind kinds[] = {
     {"sha256_pieces", 32, 0, sha256_pieces, sha256_whole},
+    {"sha512_pieces", 64, 0, sha512_pieces, sha512_whole},
     {"blake2b_pieces", 64, 1, sums_blake2b_pieces, blake2b_whole},
     {"blake2s_pieces", 32, 1, sums_blake2s_pieces, blake2s_whole},
     {"blake3_pieces", 32, 0, blake3_pieces, blake3_whole},

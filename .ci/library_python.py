@@ -70,6 +70,7 @@ def of_pieces(data, length, size):
     BLAKE3 by an object for each."""
     pieces = [data[at : at + length] for at in range(0, len(data), length)]
     yield "sha256_pieces", b"".join(hashlib.sha256(piece).digest() for piece in pieces)
+    yield "sha512_pieces", b"".join(hashlib.sha512(piece).digest() for piece in pieces)
     yield "blake3_pieces", b"".join(sums_hash.blake3(piece).digest() for piece in pieces)
     yield "blake2b_pieces", b"".join(hashlib.blake2b(piece, digest_size=size).digest() for piece in pieces)
     yield "blake2s_pieces", b"".join(hashlib.blake2s(piece, digest_size=size).digest() for piece in pieces)

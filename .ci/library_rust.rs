@@ -20,22 +20,26 @@ fn pieces_of_each_length() -> Result<(), Refusal> {
     let about = [1024, 4096, 65536].into_iter().flat_map(|middle| middle - 1..=middle + 1);
     for length in (1..=300).chain(about) {
         for end in (0..=20).flat_map(|count| [0, 1, length / 2, length - 1].map(|rest| count * length + rest)) {
-            let of_each = |alone: fn(&mut [u8], &[u8]) -> Result<(), Refusal>, out: &[u8]| {
+            let of_each = |alone: fn(&mut [u8], &[u8]) -> Result<(), Refusal>, size: usize, out: &[u8]| {
                 let mut want = vec![0; out.len()];
                 let pieces = data[..end].chunks(length);
-                want.chunks_mut(32).zip(pieces).try_for_each(|(digest, piece)| alone(digest, piece))?;
+                want.chunks_mut(size).zip(pieces).try_for_each(|(digest, piece)| alone(digest, piece))?;
                 assert_eq!(out, want, "{end} bytes in pieces of {length}");
                 Ok(())
             };
-            let mut out = vec![0; 32 * data[..end].chunks(length).len()];
+            let count = data[..end].chunks(length).len();
+            let mut out = vec![0; 64 * count];
+            sha512_pieces(&mut out, &data[..end], length)?;
+            of_each(|digest, piece| Ok(digest.copy_from_slice(&sha512(piece))), 64, &out)?;
+            out.truncate(32 * count);
             sha256_pieces(&mut out, &data[..end], length)?;
-            of_each(|digest, piece| Ok(digest.copy_from_slice(&sha256(piece))), &out)?;
+            of_each(|digest, piece| Ok(digest.copy_from_slice(&sha256(piece))), 32, &out)?;
             blake2b_pieces(&mut out, 32, &data[..end], length)?;
-            of_each(|digest, piece| blake2b(digest, piece, b""), &out)?;
+            of_each(|digest, piece| blake2b(digest, piece, b""), 32, &out)?;
             blake2s_pieces(&mut out, 32, &data[..end], length)?;
-            of_each(|digest, piece| blake2s(digest, piece, b""), &out)?;
+            of_each(|digest, piece| blake2s(digest, piece, b""), 32, &out)?;
             blake3_pieces(&mut out, &data[..end], length)?;
-            of_each(|digest, piece| blake3(digest, 0, piece), &out)?;
+            of_each(|digest, piece| blake3(digest, 0, piece), 32, &out)?;
         }
     }
     Ok(())
@@ -148,6 +152,9 @@ fn main() -> Result<(), Refusal> {
     let mut digests = [0; 32 * 13];
     sha256_pieces(&mut digests, &input, 77)?;
     told("sha256_pieces", &digests);
+    let mut long_digests = [0; 64 * 13];
+    sha512_pieces(&mut long_digests, &input, 77)?;
+    told("sha512_pieces", &long_digests);
     blake3_pieces(&mut digests, &input, 77)?;
     told("blake3_pieces", &digests);
     blake2b_pieces(&mut digests[..20 * 13], 20, &input, 77)?;

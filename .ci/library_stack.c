@@ -68,6 +68,7 @@ static void pieces(void) {
     for (size_t i = 0; i < 3; i++) {
         size_t length = 100 * lengths[i] - 1;
         sums_sha256_pieces(out, 100 * 32, text, length, lengths[i]);
+        sums_sha512_pieces(out, 100 * 64, text, length, lengths[i]);
         sums_blake2b_pieces(out, 100 * 64, 64, text, length, lengths[i]);
         sums_blake2s_pieces(out, 100 * 32, 32, text, length, lengths[i]);
         sums_blake3_pieces(out, 100 * 32, text, length, lengths[i]);

@@ -27,8 +27,6 @@ createHash('blake2b', { Key: 'k' });
 message.update(3);
 // @ts-expect-error there is no such encoding
 message.digest('latin1');
-// @ts-expect-error there are no pieces of SHA-512
-hashPieces('sha512', 'x', 1);
 
 try {
   library.deriveKey('context', key, 64);

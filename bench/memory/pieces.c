@@ -12,7 +12,7 @@
 enum { KIB = 1024, LONGEST = KIB * KIB, MOST_PIECES = KIB };
 
 static EVP_MD_CTX *context;
-static const EVP_MD *evp_blake2b, *evp_blake2s, *evp_sha256;
+static const EVP_MD *evp_blake2b, *evp_blake2s, *evp_sha256, *evp_sha512;
 static uint8_t digests[MOST_PIECES * DIGEST];
 
 static size_t pieces(size_t length, size_t piece) {
@@ -23,6 +23,9 @@ static size_t pieces(size_t length, size_t piece) {
 
 static void ours_sha256(const uint8_t *input, size_t length, size_t piece, uint8_t *digest) {
     sums_sha256_pieces(digests, 32 * pieces(length, piece), input, length, piece);
+}
+static void ours_sha512(const uint8_t *input, size_t length, size_t piece, uint8_t *digest) {
+    sums_sha512_pieces(digests, 64 * pieces(length, piece), input, length, piece);
 }
 static void ours_blake2b(const uint8_t *input, size_t length, size_t piece, uint8_t *digest) {
     sums_blake2b_pieces(digests, 64 * pieces(length, piece), 64, input, length, piece);
@@ -75,10 +78,12 @@ static void in_c(const uint8_t *input, size_t length, uint8_t *digest) {
     }
 
 EACH(each_sha256, 32, sums_sha256(to, from, count))
+EACH(each_sha512, 64, sums_sha512(to, from, count))
 EACH(each_blake2b, 64, sums_blake2b(to, 64, from, count, NULL, 0))
 EACH(each_blake2s, 32, sums_blake2s(to, 32, from, count, NULL, 0))
 EACH(each_blake3, 32, sums_blake3(to, 32, 0, from, count))
 EACH(openssl_sha256, 32, openssl(evp_sha256, from, count, to))
+EACH(openssl_sha512, 64, openssl(evp_sha512, from, count, to))
 EACH(openssl_blake2b, 64, openssl(evp_blake2b, from, count, to))
 EACH(openssl_blake2s, 32, openssl(evp_blake2s, from, count, to))
 EACH(libb2_blake2b, 64, blake2b(to, from, NULL, 64, count, 0))
@@ -89,6 +94,8 @@ EACH(c_blake3, 32, in_c(from, count, to))
 
 static const struct way ways_sha256[] = {
     {"ours", ours_sha256}, {"ours, each", each_sha256}, {"OpenSSL, each", openssl_sha256}};
+static const struct way ways_sha512[] = {
+    {"ours", ours_sha512}, {"ours, each", each_sha512}, {"OpenSSL, each", openssl_sha512}};
 static const struct way ways_blake2b[] = {
     {"ours", ours_blake2b},
     {"ours, each", each_blake2b},
@@ -115,6 +122,7 @@ static const struct function {
     const struct way *ways;
 } functions[] = {
     {"SHA-256", COUNT(ways_sha256), ways_sha256},
+    {"SHA-512", COUNT(ways_sha512), ways_sha512},
     {"BLAKE2b", COUNT(ways_blake2b), ways_blake2b},
     {"BLAKE2s", COUNT(ways_blake2s), ways_blake2s},
     {"BLAKE3", COUNT(ways_blake3), ways_blake3},
@@ -152,7 +160,8 @@ int main(int count, char **words) {
     evp_blake2b = EVP_MD_fetch(NULL, "BLAKE2B-512", NULL);
     evp_blake2s = EVP_MD_fetch(NULL, "BLAKE2S-256", NULL);
     evp_sha256 = EVP_MD_fetch(NULL, "SHA256", NULL);
-    if (!context || !evp_blake2b || !evp_blake2s || !evp_sha256) return 2;
+    evp_sha512 = EVP_MD_fetch(NULL, "SHA512", NULL);
+    if (!context || !evp_blake2b || !evp_blake2s || !evp_sha256 || !evp_sha512) return 2;
     uint8_t *input = random_bytes(LONGEST);
     for (size_t i = 0; i < COUNT(functions); i++)
         if (wrong_outputs(&functions[i], input, compared, COUNT(compared)) ||

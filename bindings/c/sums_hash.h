@@ -68,16 +68,17 @@ uint32_t sums_blake3_derive(uint8_t *out, size_t out_len, uint64_t position,
 void sums_sha256(uint8_t out[32], const uint8_t *input, size_t input_len);
 void sums_sha512(uint8_t out[64], const uint8_t *input, size_t input_len);
 
-/* ---- The pieces of a buffer, each a whole message: SHA-256, BLAKE2 and BLAKE3, without a key
+/* ---- The pieces of a buffer, each a whole message: SHA-2, BLAKE2 and BLAKE3, without a key
  *
  * Write the digests of the pieces of the input, one behind the other. Every piece has piece_len bytes, and the last may
  * have fewer; no input has no piece. A digest is the one that the function has of the piece alone: 32 bytes of SHA-256
- * (FIPS 180-4, 6.2) and of BLAKE3 (its paper, 2), digest_len of BLAKE2 (RFC 7693, 3), which are 1 to 64 of BLAKE2b and
- * 1 to 32 of BLAKE2s. Where there are enough whole pieces, several are hashed side by side; of BLAKE3 those of at most
- * 1,024 bytes.
+ * (FIPS 180-4, 6.2) and of BLAKE3 (its paper, 2), 64 of SHA-512 (FIPS 180-4, 6.4), digest_len of BLAKE2 (RFC 7693, 3),
+ * which are 1 to 64 of BLAKE2b and 1 to 32 of BLAKE2s. Where there are enough whole pieces, several are hashed side by
+ * side; of BLAKE3 those of at most 1,024 bytes, and of SHA-512 where the library is built for x86-64-v3.
  * Answer SUMS_OK, SUMS_DIGEST_LENGTH, or else SUMS_PIECE_LENGTH where piece_len is 0, or else SUMS_OUTPUT_LENGTH where
  * out_len is not the length of a digest times the number of pieces: input_len / piece_len, rounded up. */
 uint32_t sums_sha256_pieces(uint8_t *out, size_t out_len, const uint8_t *input, size_t input_len, size_t piece_len);
+uint32_t sums_sha512_pieces(uint8_t *out, size_t out_len, const uint8_t *input, size_t input_len, size_t piece_len);
 uint32_t sums_blake2b_pieces(uint8_t *out, size_t out_len, size_t digest_len,
                              const uint8_t *input, size_t input_len, size_t piece_len);
 uint32_t sums_blake2s_pieces(uint8_t *out, size_t out_len, size_t digest_len,

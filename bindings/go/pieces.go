@@ -42,6 +42,13 @@ func SHA256Pieces(data []byte, pieceLen int) ([]byte, error) {
 	})
 }
 
+// SHA512Pieces is the same by SHA-512 (FIPS 180-4, 6.4), with digests of 64 bytes.
+func SHA512Pieces(data []byte, pieceLen int) ([]byte, error) {
+	return digests(64, data, pieceLen, func(c piecewise) C.uint32_t {
+		return C.sums_sha512_pieces(c.out, c.outLen, c.in, c.inLen, c.pieceLen)
+	})
+}
+
 // BLAKE2bPieces is the same by BLAKE2b (RFC 7693, 3), with digests of size bytes, 1 to 64.
 func BLAKE2bPieces(size int, data []byte, pieceLen int) ([]byte, error) {
 	return digests(size, data, pieceLen, func(c piecewise) C.uint32_t {

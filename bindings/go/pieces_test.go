@@ -5,6 +5,7 @@ package hash_test
 import (
 	"bytes"
 	"crypto/sha256"
+	"crypto/sha512"
 	"math"
 	"math/rand"
 	"testing"
@@ -20,6 +21,7 @@ var functions = map[string]struct {
 	alone  func(piece []byte) []byte
 }{
 	"SHA-256": {hash.SHA256Pieces, sha256Of},
+	"SHA-512": {hash.SHA512Pieces, sha512Of},
 	"BLAKE2b": {
 		func(data []byte, pieceLen int) ([]byte, error) { return hash.BLAKE2bPieces(blake2Len, data, pieceLen) },
 		func(piece []byte) []byte { return digestOf(hash.NewBLAKE2b(blake2Len, nil))(piece) },
@@ -33,6 +35,11 @@ var functions = map[string]struct {
 
 func sha256Of(data []byte) []byte {
 	digest := sha256.Sum256(data)
+	return digest[:]
+}
+
+func sha512Of(data []byte) []byte {
+	digest := sha512.Sum512(data)
 	return digest[:]
 }
 

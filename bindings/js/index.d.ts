@@ -20,5 +20,5 @@ export class Refused extends RangeError {
 }
 
 export type { BufferOptions, Bytes, Encoding, HashName, HashOptions, HmacName, Message } from './library.js';
-export type { PiecesName, Source, TextEncoding, TextOptions } from './library.js';
+export type { Source, TextEncoding, TextOptions } from './library.js';
 import type { HashName } from './library.js';

@@ -6,7 +6,6 @@ export type TextEncoding = 'hex' | 'base64' | 'base64url';
 export type Encoding = TextEncoding | 'buffer';
 export type HashName = 'sha256' | 'sha512' | 'blake2b' | 'blake2s' | 'blake3' | 'blake2b512' | 'blake2s256';
 export type HmacName = Exclude<HashName, 'blake3'>;
-export type PiecesName = Exclude<HashName, 'sha512'>;
 
 export interface HashOptions {
   /** The bytes of the digest: 1 to 64 of BLAKE2b, 1 to 32 of BLAKE2s, any number of BLAKE3. */
@@ -58,7 +57,7 @@ export interface Library {
   hashOf(algorithm: HashName, source: Source, options?: TextOptions): Promise<string>;
   hashOf(algorithm: HashName, source: Source, options: BufferOptions): Promise<Uint8Array>;
   /** The digests of all pieces of bytes, one behind the other. A piece has `pieceLength` bytes, the last or less. */
-  hashPieces(algorithm: PiecesName, data: Bytes, pieceLength: number, options?: { outputLength?: number }): Uint8Array;
+  hashPieces(algorithm: HashName, data: Bytes, pieceLength: number, options?: { outputLength?: number }): Uint8Array;
   /** HKDF: a key of so many bytes, up to 255 digests. */
   hkdfSync(algorithm: HmacName, material: Bytes, salt: Bytes, info: Bytes, length: number): ArrayBuffer;
   /** BLAKE3: a key of so many bytes, 32 where none are named, from material, for a context. */

@@ -142,7 +142,6 @@ export function bind(module, instance) {
   function hashPieces(algorithm, data, pieceLength, options) {
     const name = hashName(algorithm);
     const { digest, least } = HASHES[name];
-    if (name === 'sha512') throw new TypeError('there are no pieces of sha512');
     const length = outputLengthOf(optionsOf(options, ['outputLength']), { byDefault: digest, least, most: digest });
     const piece = whole(pieceLength, 'pieceLength', 1, Number.MAX_SAFE_INTEGER);
     const all = bytesOf(data);

@@ -899,6 +899,11 @@ static uint32_t run_sha256_pieces(const struct whole *whole)
     return sums_sha256_pieces(whole->out, whole->length, IN(0), whole->piece_length);
 }
 
+static uint32_t run_sha512_pieces(const struct whole *whole)
+{
+    return sums_sha512_pieces(whole->out, whole->length, IN(0), whole->piece_length);
+}
+
 static uint32_t run_blake2b_pieces(const struct whole *whole)
 {
     return sums_blake2b_pieces(whole->out, whole->length, whole->digest_size, IN(0), whole->piece_length);
@@ -1076,6 +1081,7 @@ static PyObject *digests(struct whole *whole, const struct kind *kind, PyObject 
     }
 
 PIECES(sha256, SHA256)
+PIECES(sha512, SHA512)
 PIECES_OF_SIZE(blake2b, BLAKE2B)
 PIECES_OF_SIZE(blake2s, BLAKE2S)
 PIECES(blake3, BLAKE3)
@@ -1100,6 +1106,7 @@ static PyMethodDef functions[] = {
      "hkdf_expand(name, prk, length, *, info=b'')\n--\n\nA key of so many bytes, of a pseudorandom key that is as long "
      "as a digest or longer."},
     {"sha256_pieces", WITH_WORDS(sha256_pieces), DOC_OF_PIECES(sha256, "", "SHA-256 (FIPS 180-4)", "32")},
+    {"sha512_pieces", WITH_WORDS(sha512_pieces), DOC_OF_PIECES(sha512, "", "SHA-512 (FIPS 180-4)", "64")},
     {"blake2b_pieces", WITH_WORDS(blake2b_pieces),
      DOC_OF_PIECES(blake2b, ", digest_size=64", "BLAKE2b (RFC 7693)", "digest_size")},
     {"blake2s_pieces", WITH_WORDS(blake2s_pieces),

@@ -47,7 +47,6 @@ test('options that a hash does not take, or of another length', () => {
   refuses(TypeError, () => createHmac('sha256', 'k', { key: 'k' }));
   refuses(TypeError, () => createHmac('blake3', 'k'));
   refuses(TypeError, () => hkdfSync('blake3', '', '', '', 1));
-  refuses(TypeError, () => hashPieces('sha512', 'abc', 1));
   for (const option of OF_BYTES) refuses(TypeError, () => createHash('sha256', { [option]: of(32) }));
   for (const option of ['salt', 'personal']) refuses(TypeError, () => createHash('blake3', { [option]: of(32) }));
   refuses(TypeError, () => createHash('blake2s', { context: 'c' }));

@@ -79,7 +79,7 @@ const SIZES = [
 ];
 
 test('pieces are the digests of the pieces', () => {
-  for (const name of ['sha256', 'blake2b', 'blake2s', 'blake3']) {
+  for (const name of ['sha256', 'sha512', 'blake2b', 'blake2s', 'blake3']) {
     for (const [size, most] of SIZES) {
       const data = random(below(most) + 1);
       const pieces = times(Math.ceil(data.length / size), (at) => data.subarray(at * size, (at + 1) * size));

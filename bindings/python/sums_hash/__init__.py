@@ -23,6 +23,7 @@ try:
     from ._native import (
         Refused, blake2b, blake2b_pieces, blake2s, blake2s_pieces, blake3, blake3_pieces, hkdf, hkdf_expand,
         hkdf_extract, hmac_blake2b, hmac_blake2s, hmac_digest, hmac_sha256, hmac_sha512, sha256, sha256_pieces, sha512,
+        sha512_pieces,
     )
 except ImportError as _fault:
     _tried = ", ".join(f"_native{suffix}" for suffix in EXTENSION_SUFFIXES)
@@ -42,7 +43,7 @@ __all__ = [
     "blake2b", "blake2s", "blake3", "sha256", "sha512",
     "hmac_sha256", "hmac_sha512", "hmac_blake2b", "hmac_blake2s", "hmac_digest",
     "hkdf", "hkdf_extract", "hkdf_expand",
-    "sha256_pieces", "blake2b_pieces", "blake2s_pieces", "blake3_pieces",
+    "sha256_pieces", "sha512_pieces", "blake2b_pieces", "blake2s_pieces", "blake3_pieces",
 ]
 
 # The bytes of a digest under HMAC and HKDF.

@@ -113,7 +113,8 @@ class Lengths(unittest.TestCase):
         # memory that is not there, and is never read
         for power in (57, 58, 59, 60, 62):
             data = (ctypes.c_ubyte * 2**power).from_address(id(None))
-            for pieces in (sums_hash.sha256_pieces, sums_hash.blake2b_pieces, sums_hash.blake3_pieces):
+            for pieces in (sums_hash.sha256_pieces, sums_hash.sha512_pieces, sums_hash.blake2b_pieces,
+                           sums_hash.blake3_pieces):
                 self.assertRaises((MemoryError, OverflowError), pieces, data, 1)
 
     def test_of_another_class(self):
@@ -146,6 +147,7 @@ class Words(unittest.TestCase):
             "hmac_sha256": "(key, msg=None, *, usedforsecurity=True)",
             "hkdf": "(name, material, length, *, salt=b'', info=b'')",
             "sha256_pieces": "(data, piece_len)",
+            "sha512_pieces": "(data, piece_len)",
             "blake2b_pieces": "(data, piece_len, digest_size=64)",
             "blake2s_pieces": "(data, piece_len, digest_size=32)",
         }
@@ -168,8 +170,8 @@ class Words(unittest.TestCase):
             for name in ("digest", "hexdigest"):
                 with self.assertRaisesRegex(TypeError, rf"\b{name}\(\)"):
                     getattr(fresh(kind), name)(1, 2, 3)
-        for name in ("hmac_digest", "hkdf", "hkdf_extract", "hkdf_expand", "sha256_pieces", "blake2b_pieces",
-                     "blake2s_pieces", "blake3_pieces"):
+        for name in ("hmac_digest", "hkdf", "hkdf_extract", "hkdf_expand", "sha256_pieces", "sha512_pieces",
+                     "blake2b_pieces", "blake2s_pieces", "blake3_pieces"):
             with self.assertRaisesRegex(TypeError, rf"\b{name}\(\)"):
                 getattr(sums_hash, name)()
         for name in ("fanout", "depth", "leaf_size", "node_offset", "node_depth", "inner_size", "last_node",

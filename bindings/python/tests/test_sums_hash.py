@@ -237,6 +237,8 @@ class Keys(unittest.TestCase):
 OF_PIECES = {
     "sha256": (lambda data, length, _: sums_hash.sha256_pieces(data, length),
                lambda piece, _: hashlib.sha256(piece).digest()),
+    "sha512": (lambda data, length, _: sums_hash.sha512_pieces(data, length),
+               lambda piece, _: hashlib.sha512(piece).digest()),
     "blake2b": (sums_hash.blake2b_pieces, lambda piece, size: hashlib.blake2b(piece, digest_size=size).digest()),
     "blake2s": (sums_hash.blake2s_pieces, lambda piece, size: hashlib.blake2s(piece, digest_size=size).digest()),
     "blake3": (lambda data, length, _: sums_hash.blake3_pieces(data, length),

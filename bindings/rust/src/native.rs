@@ -92,6 +92,13 @@ extern "C" {
         input_len: usize,
         piece_len: usize,
     ) -> u32;
+    pub fn sums_sha512_pieces(
+        out: *mut u8,
+        out_len: usize,
+        input: *const u8,
+        input_len: usize,
+        piece_len: usize,
+    ) -> u32;
     pub fn sums_blake2b_pieces(
         out: *mut u8,
         out_len: usize,

@@ -21,6 +21,12 @@ pub fn sha256_pieces(out: &mut [u8], input: &[u8], piece_len: usize) -> Result<(
     checked(unsafe { native::sums_sha256_pieces(into, out.len(), from, input.len(), piece_len) })
 }
 
+/// The digests by SHA-512 (FIPS 180-4, 6.4), of 64 bytes, of the pieces of `input`, as of [`sha256_pieces`].
+pub fn sha512_pieces(out: &mut [u8], input: &[u8], piece_len: usize) -> Result<(), Refusal> {
+    let (into, from) = (out.as_mut_ptr(), input.as_ptr());
+    checked(unsafe { native::sums_sha512_pieces(into, out.len(), from, input.len(), piece_len) })
+}
+
 /// The digests by BLAKE2b (RFC 7693, 3) of the pieces of `input`, as of [`sha256_pieces`]. A digest has `digest_len`
 /// bytes, 1 to 64, and `out` has so many for each piece.
 pub fn blake2b_pieces(out: &mut [u8], digest_len: usize, input: &[u8], piece_len: usize) -> Result<(), Refusal> {

@@ -2,6 +2,7 @@
 
 ghost use Rattle.std.specs.Prelude.{◌≡◌, ◌≢◌, [], Some, MatchResult, length};
 ghost use Rattle.sha2.specs.Sha256.{sha256};
+ghost use Rattle.sha2.specs.Sha512.{sha512};
 ghost use Rattle.words.specs.Blake2.{blake2b, blake2s};
 ghost use Rattle.blake2.specs.Blake2.{blake2, unsalted};
 ghost use Rattle.b3.specs.Bytes.{slice};
@@ -37,6 +38,19 @@ pub extern "C" fn sums_sha256_pieces(out: &mut [u8], input: &[u8], piece_len: us
     ensures kept { result ≢ SUMS_OK → out.new ≡ out.old }
 {
     status_of(pieces::sha256(input, piece_len, out))
+}
+
+/// Fills `out` with the SHA-512 digests (FIPS 180-4, section 6.4) of the pieces of `piece_len` bytes that `input` is
+/// cut into, one behind the other; the last piece may be shorter, and no bytes have no piece. `SUMS_PIECE_LENGTH`
+/// where `piece_len` is 0, and else `SUMS_OUTPUT_LENGTH` where `out` has other than 64 bytes a piece.
+#[unsafe(no_mangle)]
+#[tactic(auto, unfolding(crate::specs::Statuses::piece_status))]
+pub extern "C" fn sums_sha512_pieces(out: &mut [u8], input: &[u8], piece_len: usize) -> u32
+    ensures status { result ≡ piece_status (piece_fault 64 piece_len (length input.now) (length out.old)) }
+    ensures digests { result ≡ SUMS_OK → out.new ≡ digests sha512 piece_len input.now }
+    ensures kept { result ≢ SUMS_OK → out.new ≡ out.old }
+{
+    status_of(pieces::sha512(input, piece_len, out))
 }
 
 /// Fills `out` with the BLAKE2b digests of `digest_len` bytes, without a key (RFC 7693, section 3.3), of the pieces of
