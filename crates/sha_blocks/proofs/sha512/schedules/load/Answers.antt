@@ -20,8 +20,7 @@ first-preserved c =
       out = rw length-set at.out;
       ahead = λ i lt.
           let b = slice_index_or c.args.blocks.now i [] in
-          let word = c.block_words-word.ensures i lt ∙ sym (slice_index-schedule_first b 64 t (omega arith)) in
-          (
+          let word = c.block_words-word.ensures i lt ∙ sym (slice_index-schedule_first b 64 t (omega arith)) in (
             IsWrittenTo_more b t i _ _ (omega arith) (at.ahead i lt).0 word,
             IsKeyedTo_more b t i _ _ _ (omega arith) (at.ahead i lt).1 word (c.keyed.ensures i lt),
           );
