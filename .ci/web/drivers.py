@@ -13,6 +13,8 @@ import urllib.request
 
 START_SECONDS = 60
 TIMEOUTS = {"script": 600000, "pageLoad": 300000}  # milliseconds
+# names of files go to a driver as UTF-8, whatever the locale of the tests
+UTF_8 = {"LC_ALL": "C.UTF-8"}
 ELEMENT = "element-6066-11e4-a52e-4f735466cecf"
 
 
@@ -42,7 +44,7 @@ class Chromium:
         self.home = tempfile.mkdtemp()
         self.port = free_port()
         words = ["chromedriver", f"--port={self.port}"]
-        environment = {**os.environ, "HOME": self.home}
+        environment = {**os.environ, **UTF_8, "HOME": self.home}
         self.process = subprocess.Popen(words, env=environment, stdout=subprocess.DEVNULL, stderr=subprocess.DEVNULL)
         flags = ["--headless=new", "--no-sandbox", "--hide-scrollbars", f"--user-data-dir={self.home}/profile"]
         asked = {
@@ -139,7 +141,7 @@ class Firefox:
         sizes = {"MOZ_HEADLESS_WIDTH": str(width), "MOZ_HEADLESS_HEIGHT": str(height)}
         flags = ["--headless", "--marionette", "--remote-allow-system-access", "--no-remote", "--profile", self.home]
         words = ["firefox-esr", *flags]
-        environment = {**os.environ, "HOME": self.home, **sizes}
+        environment = {**os.environ, **UTF_8, "HOME": self.home, **sizes}
         self.process = subprocess.Popen(words, env=environment, stdout=subprocess.DEVNULL, stderr=subprocess.DEVNULL)
         self.socket = soon(lambda: socket.create_connection(("127.0.0.1", port)))
         self.rest, self.count = b"", 0
