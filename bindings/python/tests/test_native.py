@@ -17,6 +17,7 @@ import subprocess
 import sys
 import tempfile
 import threading
+import tracemalloc
 import unittest
 import warnings
 
@@ -650,7 +651,72 @@ assert os.getpid() == 1
 """
 
 
+AFTERWARDS = """
+import os, threading, warnings, sums_hash
+warnings.simplefilter("ignore")
+hasher, data, faults = sums_hash.sha256(bytes({LONG})), bytes({LONG}), []
+def feed():
+    try:
+        for _ in range(200):
+            hasher.update(data)
+    except RuntimeError as fault:
+        faults.append(fault)
+child = os.fork()
+if child == 0:
+    threads = [threading.Thread(target=feed) for _ in range(4)]
+    for thread in threads:
+        thread.start()
+    for thread in threads:
+        thread.join()
+    os._exit(faults != [] or hasher.digest() != sums_hash.sha256(bytes(801 * {LONG})).digest())
+print(os.waitpid(child, 0)[1])
+"""
+
+
+def lets_others_run(call):
+    """Whether one of many such calls lets go of the interpreter, so that a thread goes on that waits for it."""
+    ran, turn = [], threading.Lock()
+    turn.acquire()
+
+    def other():
+        with turn:
+            ran.append(True)
+
+    thread = threading.Thread(target=other)
+    thread.start()
+    before = sys.getswitchinterval()
+    sys.setswitchinterval(1000)
+    try:
+        turn.release()
+        for _ in range(20000):
+            call()
+            if ran:
+                break
+        return bool(ran)
+    finally:
+        sys.setswitchinterval(before)
+        thread.join()
+
+
 class Threads(unittest.TestCase):
+    def test_from_which_length_on_others_run(self):
+        """A call lets go of the interpreter where an input or its output has 2,048 bytes, and not where all are
+        shorter."""
+        for size, runs in ((2048, True), (2047, False)):
+            data, hasher, output = bytes(size), sums_hash.sha256(), sums_hash.blake3()
+            for name, call in {
+                "update": lambda: hasher.update(data), "a message": lambda: sums_hash.blake2s(data),
+                "output": lambda: output.digest(size), "a key": lambda: sums_hash.hmac_sha256(data),
+                "hmac_digest": lambda: sums_hash.hmac_digest(b"", data, "sha256"),
+                "a derived key": lambda: sums_hash.hkdf("sha256", b"", size),
+                "material": lambda: sums_hash.hkdf("sha256", data, 1),
+                "salt": lambda: sums_hash.hkdf("sha256", b"", 1, salt=data),
+                "info": lambda: sums_hash.hkdf("sha256", b"", 1, info=data),
+                "pieces": lambda: sums_hash.sha256_pieces(data, 64 if runs else size),
+            }.items():
+                with self.subTest(call=name, size=size):
+                    self.assertEqual(lets_others_run(call), runs)
+
     def test_all_at_once(self):
         """Pieces, copies and digests of one object by eight threads, short and long; each piece is taken whole."""
         pieces = [b"x" * (1 + i * 997 % (2 * LONG)) for i in range(100)]
@@ -686,6 +752,10 @@ class Threads(unittest.TestCase):
         if told == "refused\n":
             self.skipTest("the system refuses a namespace of processes")
         self.assertEqual(told, "0\nTrue\n")
+
+    def test_forked_afterwards(self):
+        """An object that was used before the process was forked works in each, by several threads too."""
+        self.assertEqual(in_process(AFTERWARDS.format(LONG=LONG)), "0\n")
 
     def test_forked_pools(self):
         with warnings.catch_warnings():
@@ -799,12 +869,71 @@ def every_call():
         lambda: sums_hash.blake2s_pieces(DATA, 9, 33), lambda: sums_hash.blake2s_pieces(DATA, 9, -1),
         lambda: sums_hash.hkdf("SHA256", b"m", 5, salt=None, info=None), lambda: sums_hash.hkdf(b"sha256", b"m", 5),
         lambda: sums_hash.blake2b(fanout="1"), lambda: sums_hash.blake2b(depth=2**70),
+        lambda: sums_hash.blake2b(salt="text"), lambda: sums_hash.blake2b(person=1), lambda: sums_hash.blake2b(key=""),
+        lambda: sums_hash.hkdf("sha256", b"m", -1), lambda: sums_hash.hkdf("sha256", b"m", "5"),
+        lambda: sums_hash.hkdf_expand("sha256", bytes(32), -1), lambda: sums_hash.hkdf_expand("md5", bytes(32), 5),
         lambda: pickle.loads(pickle.dumps(sums_hash.Refused(9))), lambda: sums_hash.Refused(),
         lambda: sums_hash.Refused(None).__reduce__(),
     )
 
 
+WITHOUT_MEMORY = """
+import importlib.util, pickle, sys, _testcapi, sums_hash
+from test_native import every_call
+
+def fails(call, number):
+    # whether the allocation of this number was refused, where the call says so
+    _testcapi.set_nomemory(number, number + 1)
+    try:
+        call()
+    except MemoryError:
+        return True
+    except (TypeError, ValueError, BufferError, AttributeError, ImportError, pickle.PicklingError):
+        pass
+    except SystemError as fault:
+        # the interpreter's own, where it has no memory for the frame of a traceback or for the name of a type
+        assert str(fault) in ("error return without exception set",
+                              "execution of module sums_hash._native failed without setting an exception"), fault
+    finally:
+        _testcapi.remove_mem_hooks()
+    return False
+
+spec = importlib.util.spec_from_file_location("sums_hash._native", sums_hash._native.__file__)
+
+def load():
+    spec.loader.exec_module(spec.loader.create_module(spec))
+
+told = [fails(call, number) for call in every_call() for number in range(40)]
+assert sum(told) > 1000, sum(told)
+assert sum(fails(load, number) for number in range(300)) > 50
+assert sums_hash.sha256(b"abc").hexdigest().startswith("ba7816bf")
+print("ended")
+"""
+
+
+class Memory(unittest.TestCase):
+    def test_refused(self):
+        """Where memory is refused a call is a MemoryError, or one that it is in any case, or does without."""
+        try:
+            import _testcapi  # noqa: F401
+        except ImportError:
+            self.skipTest("this Python has no module that refuses memory")
+        self.assertEqual(in_process(WITHOUT_MEMORY), "ended\n")
+
+
 class References(unittest.TestCase):
+    def test_no_lock_is_kept(self):
+        """An object whose calls let others run has a lock, which goes with it."""
+        tracemalloc.start()
+        try:
+            sums_hash.sha256(bytes(LONG))
+            before = tracemalloc.get_traced_memory()[0]
+            for _ in range(1000):
+                sums_hash.sha256(bytes(LONG))
+            self.assertLess(tracemalloc.get_traced_memory()[0] - before, 10000)
+        finally:
+            tracemalloc.stop()
+
     def test_none_is_kept(self):
         counts = [sys.getallocatedblocks]
         if hasattr(sys, "gettotalrefcount"):
