@@ -1,5 +1,6 @@
 """What the Python scripts of .ci share: their words, the folder they work in, runs of the program, the count of
-cases and the last line, and calls of C that are loaded before the program's own."""
+cases and the last line, and calls of C that are loaded before the program's own. With STOPS=1 in the environment a
+script ends at its first case that is wrong."""
 
 import contextlib
 import os
@@ -70,6 +71,8 @@ def judge(name, is_right, *shown):
         print(f"{name}: wrong")
         for line in shown:
             print(f"    {line}"[:SHOWN])
+    if os.environ.get("STOPS"):
+        finish()
     return False
 
 

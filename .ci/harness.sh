@@ -1,7 +1,7 @@
 # shellcheck shell=sh
 # What the shell scripts of .ci share. They source it first: `here` is then this folder, `work` a new one that goes at
-# the end, and cases are counted. POSIX functions have no variables of their own, so those of this file begin with
-# `case_`.
+# the end, and cases are counted. With STOPS=1 in the environment a script ends at its first case that is wrong. POSIX
+# functions have no variables of their own, so those of this file begin with `case_`.
 set -u
 here=$(cd "$(dirname "$0")" && pwd) || exit 1
 work=$(mktemp -d) || exit 1
@@ -32,6 +32,7 @@ holds() {
         failed=$((failed + 1))
         echo "$case_name: wrong"
         head -c 2000 "$work/said"
+        if [ -n "${STOPS-}" ]; then finish; exit 1; fi
     fi
 }
 
