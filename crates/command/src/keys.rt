@@ -7,7 +7,7 @@ ghost use Rattle.command.specs.inside.Printing as printing;
 ghost use Rattle.command.specs.inside.Keys.{Extracts, PrintsDerived, PrintsKey, function_with, derived_by, expanded};
 ghost use Rattle.command.specs.inside.Seen.{OpensAtMost, DoesRun};
 ghost use Rattle.command.specs.inside.Streams.{AfterFile, SameStreams};
-ghost use Rattle.task.specs.Deriving.{by_blake3};
+ghost use Rattle.task.specs.Tasks.{by_blake3};
 ghost use Rattle.task.specs.inside.Views.{derivation_shown};
 
 use crate::fault::Fault;

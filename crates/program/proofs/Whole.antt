@@ -1,23 +1,20 @@
 -- A run of the program is that of its request, with the last trouble told.
 use Rattle.std.proofs.Common.{◌≡◌, ℕ, List, [], ◌∷◌, ◌++◌, Option, Some, None, Result, Ok, Err, IfOk, IfSome, refl}
 use Rattle.std.proofs.Common.{sym, ap, ◌∙◌, ◌⊎◌, ◌+◌, ◌≤◌, Bool, false, inl, inr, subst, append-nil, arith}
-use Rattle.std.specs.Prelude.{IsErrAnd, OnOk}
+use Rattle.std.specs.Prelude.{IsErrAnd}
 use Rattle.std.proofs.KnownBytes.{Appends-nil}
 use Rattle.source.specs.Written.{Done, Failed, Shown}
 use Rattle.sumlist.specs.Report.{Files}
-use Rattle.request.specs.CommandLine.{ErrorKind, Given, IsAmong, IsWrong, OfProgram, Reads, Text, fault_of, given_of}
-use Rattle.request.specs.CommandLine.{kind_of}
+use Rattle.request.specs.CommandLine.{AreRead, ErrorKind, Given, IsWrong, Text, given_of, kind_of}
 use Rattle.request.specs.inside.Reading.{IsRead}
 use Rattle.request.specs.declared.request.Request.{Request}
 use Rattle.request.specs.declared.request.WordsFault.{WordsFault}
 use Rattle.request.specs.declared.request.WordsFault.TheVariants as words_fault
-use Rattle.task.specs.Parameters.{IsAsDefined}
-use Rattle.task.specs.Tagging.{KeyText}
-use Rattle.task.specs.Tagging as key_text
-use Rattle.task.specs.Tasks.{Asked, asked, tags}
+use Rattle.task.specs.Tasks.{Asked, Source, asked, in_file, tags, these}
 use Rattle.task.specs.declared.tagging.Mac.{Mac}
 use Rattle.task.specs.declared.fault.TaskFault.{TaskFault}
 use Rattle.task.specs.declared.fault.TaskFault.TheVariants as task
+use Rattle.task.specs.inside.Seen.{IsAsDefined}
 use Rattle.task.specs.inside.Views.{task_shown}
 use Rattle.command.specs.Run.{Counted, Run, Runs, Tells, TellsAll, end_of, prints, stops}
 use Rattle.command.specs.Run.{cannot_write as run_cannot_write, out_of_memory as run_out_of_memory}
@@ -31,13 +28,11 @@ use Rattle.program.specs.Program.{ClapRuns, ProgramRuns, RequestRuns, TaskRuns, 
 
 -- what `line` promises of its answer, as one fact
 pub read_as : (words : List Text) (read : Result Request WordsFault)
-    → IfOk read (λ r. OfProgram (λ app. Reads app words (given_of r))) → OnOk read (OfProgram (λ app. fault_of app
-    words ≡ []))
-    → ((e : _) → read ≡ Err (words_fault.Words e) → OfProgram (λ app. IsAmong (kind_of e) (fault_of app words)))
-    → IsRead words read
-read_as words (Ok r) reads passes fault = (reads, passes)
-read_as words (Err words_fault.OutOfMemory) reads passes fault = tt
-read_as words (Err (words_fault.Words e)) reads passes fault = fault e refl
+    → IfOk read (λ r. AreRead words (Ok (given_of r)))
+    → ((e : _) → read ≡ Err (words_fault.Words e) → AreRead words (Err (kind_of e))) → IsRead words read
+read_as words (Ok r) reads fault = reads
+read_as words (Err words_fault.OutOfMemory) reads fault = tt
+read_as words (Err (words_fault.Words e)) reads fault = fault e refl
 
 Counted-none : (i u : ℕ) → Counted [] i i u u
 Counted-none i u = (omega arith, omega arith)
@@ -103,11 +98,11 @@ opens_always (Some bytes) None task x y most = tt
 opens_always (Some bytes) (Some files) task x y most = most bytes files
 
 -- a key is read of a file, or given
-pub tag_opens : (mac : Mac) (is_raw : Bool) (key : KeyText) (wanted : Option (List ℕ)) (name : Text) (files : Files)
-    (bytes : List ℕ) (x y : ℕ) → y ≤ x + (key_opens key + opens_of name)
+pub tag_opens : (mac : Mac) (is_raw : Bool) (key : Source (List ℕ)) (wanted : Option (List ℕ)) (name : Text)
+    (files : Files) (bytes : List ℕ) (x y : ℕ) → y ≤ x + (key_opens key + opens_of name)
     → y ≤ x + most_opens (tags mac is_raw key wanted name) files bytes
-tag_opens mac is_raw (key_text.bytes key) wanted name files bytes x y most = omega (arith, most)
-tag_opens mac is_raw (key_text.file key) wanted name files bytes x y most = most
+tag_opens mac is_raw (these key) wanted name files bytes x y most = omega (arith, most)
+tag_opens mac is_raw (in_file key) wanted name files bytes x y most = most
 
 requested : (r : Given) (task : Asked) (files : Files) (bytes : List ℕ) (run : Run) (x y : ℕ) → asked r ≡ Ok task
     → TaskRuns task files bytes run → y ≤ x + most_opens task files bytes
@@ -197,37 +192,37 @@ clap_printed kind text status out_old out_new err_old err_new right (inr p) = (
 module _ (words : List Text) where
   pub run_done : (first : Option (List ℕ)) (tree : Option Files) (r : Given) (status : ℕ)
       (out_old out_new err_old err_new : Shown) (i j u v x y : ℕ)
-      → OfProgram (λ app. fault_of app words ≡ []) → OfProgram (λ app. Reads app words r)
+      → AreRead words (Ok r)
       → Requested first tree r (Ok status) out_old out_new err_old err_new i j u v x y
       → Program first tree words status out_old out_new err_old err_new i j u v x y
-  run_done None tree r status out_old out_new err_old err_new i j u v x y passes read h = tt
-  run_done (Some bytes) None r status out_old out_new err_old err_new i j u v x y passes read h = tt
-  run_done (Some bytes) (Some files) r status out_old out_new err_old err_new i j u v x y passes read h = (
+  run_done None tree r status out_old out_new err_old err_new i j u v x y read h = tt
+  run_done (Some bytes) None r status out_old out_new err_old err_new i j u v x y read h = tt
+  run_done (Some bytes) (Some files) r status out_old out_new err_old err_new i j u v x y read h = (
     h.0,
     h.1.0,
     Runs-done h.0 status out_old out_new err_old err_new h.2 h.3,
     h.4,
     h.1.2,
-    inl (r, passes, read, h.1.1),
+    inl (r, read, h.1.1),
   )
 
   pub run_stopped : (first : Option (List ℕ)) (tree : Option Files) (r : Given) (f : Fault) (status : ℕ)
       (out_old out_new err_old err_mid err_new : Shown) (i j u v x y : ℕ)
-      → OfProgram (λ app. fault_of app words ≡ []) → OfProgram (λ app. Reads app words r)
+      → AreRead words (Ok r)
       → Requested first tree r (Err f) out_old out_new err_old err_mid i j u v x y
       → status ≡ status_of (trouble_of f) → Tells err_mid err_new (told (trouble_of f))
       → Program first tree words status out_old out_new err_old err_new i j u v x y
-  run_stopped None tree r f status out_old out_new err_old err_mid err_new i j u v x y passes read h is last = tt
-  run_stopped (Some bytes) None r f status out_old out_new err_old err_mid err_new i j u v x y passes read h is last =
+  run_stopped None tree r f status out_old out_new err_old err_mid err_new i j u v x y read h is last = tt
+  run_stopped (Some bytes) None r f status out_old out_new err_old err_mid err_new i j u v x y read h is last =
       tt
-  run_stopped (Some bytes) (Some files) r f status out_old out_new err_old err_mid err_new i j u v x y passes read h is
+  run_stopped (Some bytes) (Some files) r f status out_old out_new err_old err_mid err_new i j u v x y read h is
       last = (
         h.0,
         h.1.0,
         Runs-stopped h.0 f status out_old out_new err_old err_mid err_new h.2 h.3 is last,
         h.4,
         h.1.2,
-        inl (r, passes, read, h.1.1),
+        inl (r, read, h.1.1),
       )
 
   pub run_without_memory : (first : Option (List ℕ)) (tree : Option Files) (status : ℕ) (out err_old err_new : Shown)
@@ -251,7 +246,7 @@ module _ (words : List Text) where
 
   pub run_answered : (first : Option (List ℕ)) (tree : Option Files) (kind : ErrorKind) (text : Text) (status : ℕ)
       (out_old out_new err_old err_new : Shown) (i u x : ℕ)
-      → OfProgram (λ app. IsAmong kind (fault_of app words))
+      → AreRead words (Err kind)
       → (run : Run) × ClapRuns kind text run × (run.failures ≡ []) × Runs run status out_old out_new err_old err_new
       → Program first tree words status out_old out_new err_old err_new i i u u x x
   run_answered None tree kind text status out_old out_new err_old err_new i u x among h = tt

@@ -1,5 +1,7 @@
--- The command line of the program, as what a parse by `clap` reads of it.
-use Rattle.std.specs.Prelude.{◌≡◌, ◌≢◌, ℕ, Bool, true, false, List, [], ◌∷◌, Option, Some, codes, map, fold}
+-- The command line of the program, as what a parse by `clap` reads of it. `clap` judges which options there are, which
+-- of them take a value or a number, what has to be there, and the names of `-a`.
+use Rattle.std.specs.Prelude.{◌≡◌, ◌≢◌, Bool, true, false, List, [], ◌∷◌, Option, Some, Result, MatchResult, codes}
+use Rattle.std.specs.Prelude.{fold, map, slice_get}
 use Rattle.std.specs.Borrow.{Bor}
 use Rattle.std.specs.Option.{option_map_or}
 use Rattle.std.specs.Str.{bytes_eq}
@@ -17,100 +19,59 @@ use Rattle.clap.specs.declared.builder.action.ArgAction.TheVariants.{Append, Set
 abbrev pub NameList : Type 0
 NameList = Bor (List (Bor Text))
 
--- their texts
-abbrev pub names_of : NameList → List Text
-names_of names = map (λ n. n.now) names.now
+-- an option `-x` that takes a value; the id of an option or a flag is its name
+abbrev pub letter : Text → Rule
+letter name = record (new_rule name) { short = slice_get name 0; value_names = 1 }
 
--- the names of ALG
-abbrev pub algorithm_names : List Text
-algorithm_names = map (λ k. k.0) kinds
-
--- the names of MAC
-abbrev pub mac_names : List Text
-mac_names = codes "hmac-sha256" ∷ codes "hmac-sha512" ∷ codes "hmac-blake2b" ∷ codes "hmac-blake2s" ∷ codes
-    "blake2b" ∷ codes "blake2s" ∷ codes "blake3" ∷ []
-
--- an option `-x` that takes a value
-abbrev pub short_rule : ℕ → Text → Rule
-short_rule x id = record (new_rule id) { short = Some x; value_names = 1 }
-
--- a number below 2^64
-abbrev pub is_number : Rule → Rule
-is_number a = record a { parser = Some (vp.Unsigned 0 18446744073709551615) }
-
--- `-a ALG`
-abbrev pub algorithm_rule : NameList → Rule
-algorithm_rule names = record (short_rule 97 (codes "algorithm")) { parser = Some (vp.Names names) }
-
--- `-l N`
-abbrev pub length_rule : Rule
-length_rule = is_number (short_rule 108 (codes "length"))
-
--- an option `--name` that takes a text
-abbrev pub text_rule : Text → Rule
-text_rule name = record (new_rule name) { long = Some name; value_names = 1 }
-
--- an option `--name` that takes a number
-abbrev pub number_rule : Text → Rule
-number_rule name = is_number (text_rule name)
-
--- what has to be there
-abbrev pub required_rule : Rule → Rule
-required_rule a = record a { required = true }
+-- an option `--name` that takes a value
+abbrev pub option : Text → Rule
+option name = record (new_rule name) { long = Some name; value_names = 1 }
 
 -- a flag `--name`, which takes no value
-abbrev pub flag_rule : Text → Rule
-flag_rule name = record (new_rule name) { long = Some name; action = Some SetTrue }
+abbrev pub flag : Text → Rule
+flag name = record (new_rule name) { long = Some name; action = Some SetTrue }
+
+-- its value is a number below 2^64
+abbrev pub number : Rule → Rule
+number rule = record rule { parser = Some (vp.Unsigned 0 18446744073709551615) }
+
+-- `-a`, whose value is one of these names
+abbrev pub algorithm : NameList → Rule
+algorithm names = record (letter (codes "a")) { parser = Some (vp.Names names) }
+
+-- what has to be there
+abbrev pub required : Rule → Rule
+required rule = record rule { required = true }
 
 -- one FILE or LIST
-abbrev pub file_rule : Rule
-file_rule = record (new_rule (codes "file")) { value_names = 1 }
+abbrev pub file : Rule
+file = record (new_rule (codes "file")) { value_names = 1 }
 
--- `[FILE]..`
-abbrev pub files_rule : Rule
-files_rule = record file_rule { action = Some Append }
+-- any number of them
+abbrev pub files : Rule
+files = record file { action = Some Append }
 
 -- a command with these options and arguments
-abbrev pub with_rules : App → List Rule → App
-with_rules = fold with_rule
+abbrev pub command : Text → List Rule → App
+command name = fold with_rule (new_app name)
 
--- `hash -a ALG [-l N] [--seek N] [--parts N] [--salt HEX] [--personal HEX] [--verify HEX] [--tag] [--raw]
---     [--progress] [--files0-from F] [--name NAME] [FILE]..`
-abbrev pub hash_app : NameList → App
-hash_app names = with_rules (new_app (codes "hash"))
-    (required_rule (algorithm_rule names) ∷ length_rule ∷ number_rule (codes "seek") ∷ number_rule (codes "parts")
-    ∷ text_rule (codes "salt") ∷ text_rule (codes "personal") ∷ text_rule (codes "verify") ∷ flag_rule (codes "tag")
-    ∷ flag_rule (codes "raw") ∷ flag_rule (codes "progress") ∷ text_rule (codes "files0-from")
-    ∷ text_rule (codes "name") ∷ files_rule ∷ [])
-
--- `mac -a MAC [--key HEX] [--key-file F] [-l N] [--verify HEX] [--raw] [--progress] [FILE]`
-abbrev pub mac_app : NameList → App
-mac_app names = with_rules (new_app (codes "mac")) (required_rule (algorithm_rule names) ∷ text_rule (codes "key")
-    ∷ text_rule (codes "key-file") ∷ length_rule ∷ text_rule (codes "verify") ∷ flag_rule (codes "raw")
-    ∷ flag_rule (codes "progress")
-    ∷ file_rule ∷ [])
-
--- `kdf -a ALG --ikm-file F [--salt HEX] [--info HEX] [--context TEXT] -l N [--raw]`
-abbrev pub kdf_app : NameList → App
-kdf_app names = with_rules (new_app (codes "kdf")) (required_rule (algorithm_rule names)
-    ∷ required_rule (text_rule (codes "ikm-file")) ∷ text_rule (codes "salt") ∷ text_rule (codes "info")
-    ∷ text_rule (codes "context") ∷ required_rule length_rule ∷ flag_rule (codes "raw") ∷ [])
-
--- `check [-a ALG] [--summary] [--progress] [LIST]..`
-abbrev pub check_app : NameList → App
-check_app names = with_rules (new_app (codes "check")) (algorithm_rule names ∷ flag_rule (codes "summary")
-    ∷ flag_rule (codes "progress") ∷ files_rule ∷ [])
-
--- `part -a ALG [--first C] [--chunks N] [--list] [--progress] [FILE]`
-abbrev pub part_app : NameList → App
-part_app names = with_rules (new_app (codes "part")) (required_rule (algorithm_rule names) ∷ number_rule (codes "first")
-    ∷ number_rule (codes "chunks") ∷ flag_rule (codes "list") ∷ flag_rule (codes "progress") ∷ file_rule ∷ [])
-
--- `join -a ALG [--name NAME] [--bytes N] [-l N] [--seek N] [--progress] [PARTS]..`
-abbrev pub join_app : NameList → App
-join_app names = with_rules (new_app (codes "join")) (required_rule (algorithm_rule names) ∷ text_rule (codes "name")
-    ∷ number_rule (codes "bytes") ∷ length_rule ∷ number_rule (codes "seek") ∷ flag_rule (codes "progress")
-    ∷ files_rule ∷ [])
+-- the six commands: `names` are those of ALG and `macs` those of MAC
+abbrev pub commands : NameList → NameList → List App
+commands names macs = command (codes "hash") (required (algorithm names) ∷ number (letter (codes "l"))
+    ∷ number (option (codes "seek")) ∷ number (option (codes "parts")) ∷ option (codes "salt")
+    ∷ option (codes "personal") ∷ option (codes "verify") ∷ flag (codes "tag") ∷ flag (codes "raw")
+    ∷ flag (codes "progress") ∷ option (codes "files0-from") ∷ option (codes "name") ∷ files ∷ [])
+    ∷ command (codes "mac") (required (algorithm macs) ∷ option (codes "key") ∷ option (codes "key-file")
+    ∷ number (letter (codes "l")) ∷ option (codes "verify") ∷ flag (codes "raw") ∷ flag (codes "progress") ∷ file ∷ [])
+    ∷ command (codes "kdf") (required (algorithm names) ∷ required (option (codes "ikm-file"))
+    ∷ option (codes "salt") ∷ option (codes "info") ∷ option (codes "context")
+    ∷ required (number (letter (codes "l"))) ∷ flag (codes "raw") ∷ [])
+    ∷ command (codes "check") (algorithm names ∷ flag (codes "summary") ∷ flag (codes "progress") ∷ files ∷ [])
+    ∷ command (codes "part") (required (algorithm names) ∷ number (option (codes "first"))
+    ∷ number (option (codes "chunks")) ∷ flag (codes "list") ∷ flag (codes "progress") ∷ file ∷ [])
+    ∷ command (codes "join") (required (algorithm names) ∷ option (codes "name") ∷ number (option (codes "bytes"))
+    ∷ number (letter (codes "l")) ∷ number (option (codes "seek")) ∷ flag (codes "progress") ∷ files ∷ [])
+    ∷ []
 
 -- the program's command alone
 abbrev pub program_app : App
@@ -118,10 +79,9 @@ program_app = record (new_app (codes "sums")) {
   top = record (new_app (codes "sums")).top { subcommand_required = true; has_version = true };
 }
 
--- the same with the six below it; `names` are those of ALG and `macs` those of MAC
+-- the same with the six below it
 unfoldable pub sums_app : NameList → NameList → App
-sums_app names macs = fold (λ whole below. with_subcommand whole below.top) program_app
-    (hash_app names ∷ mac_app macs ∷ kdf_app names ∷ check_app names ∷ part_app names ∷ join_app names ∷ [])
+sums_app names macs = fold (λ whole below. with_subcommand whole below.top) program_app (commands names macs)
 
 -- what the words give: the name of a command, and the values of its options and arguments, each under its id
 abbrev pub Given : Type 0
@@ -139,14 +99,17 @@ text_of id given = first_of id given.1
 abbrev pub has_flag : Text → Given → Bool
 has_flag id given = option_map_or (λ text. bytes_eq text (codes "true")) (text_of id given) false
 
--- the words give this
-abbrev pub Reads : App → List Text → Given → Type 0
-Reads app words given = subcommand_of app words ≡ Some given
+-- the names of MAC
+abbrev pub mac_names : List Text
+mac_names = codes "hmac-sha256" ∷ codes "hmac-sha512" ∷ codes "hmac-blake2b" ∷ codes "hmac-blake2s"
+    ∷ codes "blake2b" ∷ codes "blake2s" ∷ codes "blake3" ∷ []
 
--- a fact of the program's command, whose lists of names hold the names above
-abbrev pub OfProgram : (App → Type 0) → Type 0
-OfProgram P = (names : NameList) × (macs : NameList) × (names_of names ≡ algorithm_names)
-    × (names_of macs ≡ mac_names) × P (sums_app names macs)
+-- how the words are read: as what they give, or with a fault of theirs; `-a` takes the names of the hashes, and that of
+-- `mac` those of MAC
+abbrev pub AreRead : List Text → Result Given ErrorKind → Type 0
+AreRead words read = (names : NameList) × (macs : NameList) × (map (λ n. n.now) names.now ≡ map (λ k. k.0) kinds)
+    × (map (λ n. n.now) macs.now ≡ mac_names) × let app = sums_app names macs in MatchResult read (λ given.
+    (fault_of app words ≡ []) × (subcommand_of app words ≡ Some given)) (λ kind. IsAmong kind (fault_of app words))
 
 -- words that are wrong, and no call for help or the version
 abbrev pub IsWrong : ErrorKind → Type 0

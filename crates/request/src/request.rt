@@ -3,7 +3,7 @@
 ghost use Rattle.std.specs.Prelude.{◌≡◌, ◌≢◌, [], Err, IfOk, OnOk, Some, map, option_map, true};
 ghost use Rattle.clap.specs.Words.{IsAmong, fault_of, has_subcommand, kind_of};
 ghost use Rattle.clap.specs.Words.{subcommand_of, subcommand_rows_of};
-ghost use Rattle.request.specs.CommandLine.{OfProgram, Reads, all_of, given_of, has_flag, sums_app, text_of};
+ghost use Rattle.request.specs.CommandLine.{AreRead, all_of, given_of, has_flag, sums_app, text_of};
 ghost use Rattle.request.specs.declared.request.WordsFault.TheVariants.{OutOfMemory, Words};
 
 use crate::commands::sums_command;
@@ -83,12 +83,9 @@ static MACS: [&str; 7] = [
 /// program's command. What that takes of the stack is given back before anything is hashed.
 #[inline(never)]
 pub fn line<'a>(alloc: Global, words: &'a [&'a str]) -> Result<Request<'a>, WordsFault>
-    ensures request { IfOk result (λ r. OfProgram (λ app.
-        Reads app (map (λ w. w.now) words.entry.now) (given_of r))) }
-    ensures passes { OnOk result (OfProgram (λ app.
-        fault_of app (map (λ w. w.now) words.entry.now) ≡ [])) }
-    ensures fault { (e : _) → result ≡ Err (Words e) → OfProgram (λ app.
-        IsAmong (kind_of e) (fault_of app (map (λ w. w.now) words.entry.now))) }
+    ensures request { IfOk result (λ r. AreRead (map (λ w. w.now) words.entry.now) (Ok (given_of r))) }
+    ensures fault { (e : _) → result ≡ Err (Words e)
+        → AreRead (map (λ w. w.now) words.entry.now) (Err (kind_of e)) }
 {
     let matches = parsed(alloc, words, Kind::names(), MACS.as_slice())?;
     Ok(request_from(matches))

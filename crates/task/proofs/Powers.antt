@@ -7,7 +7,7 @@ use Rattle.std.specs.Int.Count.{count_leading_zeros}
 use Rattle.std.specs.Int.{IsPowerOfTwo}
 use Rattle.b3.proofs.Powers.{least_from, least_power_unique}
 use Rattle.b3.specs.Parts.{IsLeastPowerFrom}
-use Rattle.task.specs.Parting.{least_power}
+use Rattle.task.specs.Tasks.{least_power}
 use Rattle.task.specs.inside.Possible.{HasRoom}
 
 pub least_is : (n : ℕ) → 1 ≤ n → n ≤ 2 ^ 54 → IsLeastPowerFrom (least_power n) n

@@ -1,9 +1,4 @@
-pub mod Requested
-pub mod Parameters
+pub mod Settings
 pub mod Hashing
-pub mod Tagging
-pub mod Deriving
-pub mod Parting
 pub mod Tasks
-pub mod Texts
 pub mod inside

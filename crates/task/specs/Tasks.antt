@@ -1,111 +1,172 @@
--- What a request asks for, or the first fault of its settings.
-use Rattle.std.specs.Prelude.{ℕ, ◌==◌, ◌||◌, Bool, List, [], ◌∷◌, Option, Some, None, Result, Ok, Err, codes, is_some}
-use Rattle.std.specs.Prelude.{length, not, unwrap_or, if◌then◌else◌}
+-- What a request asks for, or the first fault of its settings: the commands in the order of the manual page.
+use Rattle.std.specs.Prelude.{ℕ, ◌-◌, ◌*◌, ◌/◌, ◌%◌, ◌^◌, ◌&&◌, ◌||◌, Bool, false, List, [], ◌∷◌, Option}
+use Rattle.std.specs.Prelude.{Result, Ok, Err, codes, is_some, length, nat_lt, not, ok_or, unwrap_or}
+use Rattle.std.specs.Prelude.{if◌then◌else◌}
+use Rattle.std.specs.Map.{lookup}
+use Rattle.std.specs.Bool.{beq}
+use Rattle.std.specs.Int.{leading_zeros, w64}
+use Rattle.std.specs.Option.{option_map_or}
 use Rattle.std.specs.Str.{bytes_eq}
 use Rattle.request.specs.CommandLine.{Given, Text, has_flag, text_of}
+use Rattle.source.specs.Digest.{digest_len}
+use Rattle.source.specs.declared.alg.Alg.{Alg}
+use Rattle.source.specs.declared.alg.Alg.TheVariants as alg
+use Rattle.sumlist.specs.Kinds.{kinds, longest}
 use Rattle.sumlist.specs.declared.kind.Kind.{Kind}
-use Rattle.task.specs.Deriving.{Derived, derivation}
-use Rattle.task.specs.Hashing.{names_several, parts_of, requested}
-use Rattle.task.specs.Hashing as hashing
-use Rattle.task.specs.Parameters.{◌>>=◌, ◌>>◌, files, named, needed, unset, where_given, given_kind}
-use Rattle.task.specs.Parting.{joined_of, part_length_of, place_of}
-use Rattle.task.specs.Tagging.{KeyText, key}
-use Rattle.task.specs.Tagging as tagging
-use Rattle.task.specs.declared.fault.Setting.TheVariants.{Command, IkmFile, Name, Starts}
-use Rattle.task.specs.declared.fault.UsageFault.{UsageFault}
-use Rattle.task.specs.declared.fault.UsageFault.TheVariants.{InputOnly, OneSource, FileOnly}
+use Rattle.sumlist.specs.declared.kind.Kind.TheVariants as kind
+use Rattle.task.specs.Hashing.{names_several, requested, stretch_of, wanted}
+use Rattle.task.specs.Settings.{◌>>=◌, ◌>>◌, absent, file_or_input, files, given, hexadecimal, named, names_or_input}
+use Rattle.task.specs.Settings.{needed, number, number_in, out_of_range, power_in, text, unless}
 use Rattle.task.specs.declared.hashing.Requested.{Requested}
 use Rattle.task.specs.declared.hashing.Stretch.{Stretch}
+use Rattle.task.specs.declared.parameters.HmacHash.{HmacHash}
+use Rattle.task.specs.declared.parameters.HmacHash.TheVariants as over
 use Rattle.task.specs.declared.tagging.Mac.{Mac}
+use Rattle.task.specs.declared.tagging.Mac.TheVariants.{Hmac, Blake2b, Blake2s, Blake3}
 
--- the names of what is hashed: these, or those that the file of this name has
-pub data NameTexts : Type 0 where
-  these : List Text → NameTexts
-  in_file : Text → NameTexts
+-- how a key is derived: by HKDF over a hash, with its length, the salt and the info, or under BLAKE3's context
+pub data Derived : Type 0 where
+  by_hkdf : Alg → ℕ → Option (List ℕ) → List ℕ → Derived
+  by_blake3 : Text → ℕ → Derived
+
+-- what is given as it is, or as the content of the file of this name
+pub data Source (A : Type 0) : Type 0 where
+  these : A → Source A
+  in_file : Text → Source A
 
 -- what a run is to do
 pub data Asked : Type 0 where
-  hashes : Requested → Option ℕ → NameTexts → Asked
-  prints_line : Requested → Option ℕ → Option (List ℕ) → Text → Text → Asked
+  hashes : Requested → Source (List Text) → Asked
+  prints_line : Requested → Option (List ℕ) → Text → Text → Asked
+  tags : Mac → Bool → Source (List ℕ) → Option (List ℕ) → Text → Asked
+  derives : Derived → Bool → Text → Asked
+  checks : Option Kind → Bool → List Text → Asked
   prints_part : ℕ → Option ℕ → Text → Asked
   prints_starts : ℕ → Text → Asked
   joins : Stretch → Option ℕ → Text → List Text → Asked
-  tags : Mac → Bool → KeyText → Option (List ℕ) → Text → Asked
-  derives : Derived → Bool → Text → Asked
-  checks : Option Kind → Bool → List Text → Asked
 
--- without a file standard input is read
-abbrev pub names_or_input : List Text → List Text
-names_or_input [] = codes "-" ∷ []
-names_or_input (name ∷ names) = name ∷ names
-
--- files are named by words, or in a file
-abbrev pub one_source : Option Text → List Text → Result NameTexts UsageFault
-one_source None names = Ok (these (names_or_input names))
-one_source (Some file) names = if length names == 0 then Ok (in_file file) else Err OneSource
-
--- the one file that was named, or standard input
-abbrev pub file_or_input : Given → Text
-file_or_input g = unwrap_or (text_of (codes "file") g) (codes "-")
-
--- the name of standard input, where it alone is read
-abbrev pub input_name : Given → Result (Option Text) UsageFault
-input_name g = where_given (λ t. unset (InputOnly Name)
-    (names_several g || not (bytes_eq (file_or_input g) (codes "-"))) >> Ok t) (text_of (codes "name") g)
-
--- a file whose digest is compared, or that has a name, is the only one
-abbrev pub hash : Given → Result Asked UsageFault
+-- files are named by words, or in a file; one whose digest is compared, or that has a name, is the only one
+abbrev pub hash : Given → Result Asked Text
 hash g = do
-  wanted ← requested g
-  parts ← parts_of g
-  names ← one_source (text_of (codes "files0-from") g) (files g)
-  name ← input_name g
-  digest ← hashing.wanted wanted.stretch.length g
-  Ok (if is_some name || is_some digest
-      then prints_line wanted parts digest (unwrap_or name (file_or_input g)) (file_or_input g)
-      else hashes wanted parts names)
+  r ← requested g
+  unless (is_some (text_of (codes "files0-from") g) && nat_lt 0 (length (files g)))
+      (codes "give only one of FILE and --files0-from\n")
+  unless (is_some (text_of (codes "name") g) && (names_several g || not (bytes_eq (file_or_input g) (codes "-"))))
+      (codes "--name: standard input only\n")
+  digest ← wanted r.stretch.length g
+  Ok (if is_some (text_of (codes "name") g) || is_some digest
+      then prints_line r digest (unwrap_or (text_of (codes "name") g) (file_or_input g)) (file_or_input g)
+      else hashes r (option_map_or (λ list. in_file list) (text_of (codes "files0-from") g) (these (names_or_input g))))
 
--- that of `mac`
-abbrev pub mac : Given → Result Asked UsageFault
+-- the algorithm of a hash under HMAC, with its longest digests
+abbrev pub hmac_alg : HmacHash → Alg
+hmac_alg over.Sha256 = alg.Sha256
+hmac_alg over.Sha512 = alg.Sha512
+hmac_alg over.Blake2b = alg.Blake2b 64
+hmac_alg over.Blake2s = alg.Blake2s 32
+
+-- a keyed function with the length of its tags
+abbrev pub tagged_by : (ℕ → Mac) → ℕ → ℕ → ℕ → Given → Result (Mac × ℕ) Text
+tagged_by f default least most g = number default least most (codes "l") g >>= (λ n. Ok (f n, n))
+
+-- HMAC's tags are cut to the half of the digest at most
+abbrev pub hmac : HmacHash → Given → Result (Mac × ℕ) Text
+hmac h = let n = digest_len (hmac_alg h) in tagged_by (Hmac h) n (n / 2) n
+
+-- the keyed functions by name
+abbrev pub macs : List (Text × (Given → Result (Mac × ℕ) Text))
+macs = (codes "hmac-sha256", hmac over.Sha256) ∷ (codes "hmac-sha512", hmac over.Sha512)
+    ∷ (codes "hmac-blake2b", hmac over.Blake2b) ∷ (codes "hmac-blake2s", hmac over.Blake2s)
+    ∷ (codes "blake2b", tagged_by Blake2b 64 1 64) ∷ (codes "blake2s", tagged_by Blake2s 32 1 32)
+    ∷ (codes "blake3", tagged_by Blake3 32 1 (2 ^ 64 - 1)) ∷ []
+
+-- a key is given in one of two ways; the digits of `--key` are judged first
+abbrev pub mac : Given → Result Asked Text
 mac g = do
-  function ← tagging.mac g
-  key ← key g
-  wanted ← tagging.wanted function g
-  Ok (tags function (has_flag (codes "raw") g) key wanted (file_or_input g))
+  m ← needed (named macs) (codes "a") g >>= (λ f. f g)
+  key ← given hexadecimal (codes "key") g
+  unless (beq (is_some key) (is_some (text_of (codes "key-file") g))) (codes "give one of --key and --key-file\n")
+  tag ← wanted m.1 g
+  Ok (tags m.0 (has_flag (codes "raw") g)
+      (option_map_or (λ f. in_file f) (text_of (codes "key-file") g) (these (unwrap_or key []))) tag (file_or_input g))
 
--- that of `kdf`
-abbrev pub kdf : Given → Result Asked UsageFault
+-- HKDF derives 255 times the digest at most
+abbrev pub hkdf : Alg → Given → Result Derived Text
+hkdf a g = do
+  absent (codes "context" ∷ []) g
+  n ← needed (number_in 1 (255 * digest_len a)) (codes "l") g
+  salt ← given hexadecimal (codes "salt") g
+  info ← given hexadecimal (codes "info") g
+  Ok (by_hkdf a n salt (unwrap_or info []))
+
+-- BLAKE3's derivation takes a context, and no salt and no info
+abbrev pub blake3 : Given → Result Derived Text
+blake3 g = do
+  absent (codes "salt" ∷ codes "info" ∷ []) g
+  context ← needed text (codes "context") g
+  n ← needed (number_in 1 (2 ^ 64 - 1)) (codes "l") g
+  Ok (by_blake3 context n)
+
+-- which of the two, by `-a`
+abbrev pub derived : Given → Kind → Result Derived Text
+derived g kind.Blake3 = blake3 g
+derived g k = hkdf (longest k) g
+
+-- that of `kdf`, and the file of its material
+abbrev pub kdf : Given → Result Asked Text
 kdf g = do
-  derived ← derivation g
-  material ← needed IkmFile g
-  Ok (derives derived (has_flag (codes "raw") g) material)
+  by ← needed (named kinds) (codes "a") g >>= derived g
+  material ← needed text (codes "ikm-file") g
+  Ok (derives by (has_flag (codes "raw") g) material)
 
 -- that of `check`
-abbrev pub check : Given → Result Asked UsageFault
-check g = given_kind g >>= (λ kind. Ok (checks kind (has_flag (codes "summary") g) (names_or_input (files g))))
+abbrev pub check : Given → Result Asked Text
+check g = given (named kinds) (codes "a") g >>= (λ k. Ok (checks k (has_flag (codes "summary") g) (names_or_input g)))
 
--- where the parts of a file begin; standard input has no positions
-abbrev pub starts : Given → Result Asked UsageFault
+-- only BLAKE3 has parts
+abbrev pub has_parts : Kind → Result (Unit {0}) Text
+has_parts kind.Blake3 = Ok tt
+has_parts k = Err (codes "-a: not for this command\n")
+
+-- the least power of two that is at least n: 2 to the number of binary digits of n - 1
+unfoldable pub least_power : ℕ → ℕ
+least_power n = 2 ^ (64 - leading_zeros w64 (n - 1))
+
+-- where the parts of a file begin, each a power of two of chunks behind the one before it; standard input has no
+-- positions
+abbrev pub starts : Given → Result Asked Text
 starts g = do
-  chunks ← part_length_of g
-  unset (FileOnly Starts) (bytes_eq (file_or_input g) (codes "-"))
-  Ok (prints_starts chunks (file_or_input g))
+  n ← needed (power_in (2 ^ 54)) (codes "chunks") g
+  unless (is_some (text_of (codes "first") g)) (codes "--first: not with --list\n")
+  unless (bytes_eq (file_or_input g) (codes "-")) (codes "--list: not of standard input\n")
+  Ok (prints_starts n (file_or_input g))
+
+-- the first chunk of a part, and how many chunks it has at most: where that is given, such a power divides the first
+abbrev pub one_part : Given → Result Asked Text
+one_part g = do
+  first ← number 0 0 (2 ^ 54 - 1) (codes "first") g
+  chunks ← given (number_in 1 (2 ^ 54)) (codes "chunks") g
+  unless (option_map_or (λ n. nat_lt 0 (first % least_power n)) chunks false) (out_of_range (codes "first"))
+  Ok (prints_part first chunks (file_or_input g))
 
 -- that of `part`
-abbrev pub part : Given → Result Asked UsageFault
-part g = if has_flag (codes "list") g then starts g
-    else place_of g >>= (λ place. Ok (prints_part place.0 place.1 (file_or_input g)))
+abbrev pub part : Given → Result Asked Text
+part g = needed (named kinds) (codes "a") g >>= has_parts
+    >> (if has_flag (codes "list") g then starts g else one_part g)
 
--- that of `join`
-abbrev pub join : Given → Result Asked UsageFault
-join g = joined_of g >>= (λ wanted.
-    Ok (joins wanted.0 wanted.1 (unwrap_or (text_of (codes "name") g) (codes "-")) (names_or_input (files g))))
+-- which bytes of the joined output are printed, and how many bytes the parts have to have
+abbrev pub join : Given → Result Asked Text
+join g = do
+  needed (named kinds) (codes "a") g >>= has_parts
+  stretch ← stretch_of 32 1 (2 ^ 64 - 1) g
+  bytes ← given (number_in 0 (2 ^ 64 - 1)) (codes "bytes") g
+  Ok (joins stretch bytes (unwrap_or (text_of (codes "name") g) (codes "-")) (names_or_input g))
 
--- the commands by name
-abbrev pub commands : List (Text × (Given → Result Asked UsageFault))
+-- the commands by name; nothing depends on `--progress`, which is for the feeds that a run is given
+abbrev pub commands : List (Text × (Given → Result Asked Text))
 commands = (codes "hash", hash) ∷ (codes "mac", mac) ∷ (codes "kdf", kdf) ∷ (codes "check", check)
     ∷ (codes "part", part) ∷ (codes "join", join) ∷ []
 
--- nothing depends on `progress`, which is for the feeds that a run is given
-abbrev pub asked : Given → Result Asked UsageFault
-asked g = named Command commands g.0 >>= (λ command. command g)
+-- that of any command
+abbrev pub asked : Given → Result Asked Text
+asked g = ok_or (lookup (bytes_eq g.0) commands) (codes "COMMAND: out of range\n") >>= (λ command. command g)

@@ -2,9 +2,11 @@
 
 ghost use Rattle.std.specs.Prelude.{◌≡◌, ◌*◌, ◌≤◌};
 ghost use Rattle.request.specs.CommandLine.{given_of};
-ghost use Rattle.task.specs.Deriving as spec;
-ghost use Rattle.task.specs.Parameters.{IsAsDefined, hmac_len};
-ghost use Rattle.task.specs.inside.Seen.{seen};
+ghost use Rattle.source.specs.Digest.{digest_len};
+ghost use Rattle.task.specs.Tasks as spec;
+ghost use Rattle.task.specs.Tasks.{hmac_alg};
+ghost use Rattle.task.specs.inside.Seen.{IsAsDefined, seen};
+ghost use Rattle.task.specs.inside.Steps.{derivation_of};
 
 use crate::fault::{Setting, TaskFault, UsageFault};
 use crate::parameters::{HmacHash, absent, given_bytes, needed, needed_kind, number_in};
@@ -28,7 +30,7 @@ pub struct Hkdf {
     pub length: usize,
     pub salt: Option<Vec<u8>>,
     pub info: Vec<u8>,
-    ghost most: { length ≤ 255 * hmac_len hash },
+    ghost most: { length ≤ 255 * digest_len (hmac_alg hash) },
 }
 
 impl<'a> Derivation<'a> {
@@ -36,7 +38,7 @@ impl<'a> Derivation<'a> {
 
     /// The derivation that a request of `kdf` names, or the first fault of its settings.
     pub(crate) fn of(alloc: Global, request: &Request<'a>) -> Result<Derivation<'a>, TaskFault>
-        ensures { IsAsDefined derivation_shown (spec.derivation (given_of request.now)) result }
+        ensures { IsAsDefined derivation_shown (derivation_of (given_of request.now)) result }
     {
         match needed_kind(request)? {
             Kind::Sha256 => Derivation::hkdf(alloc, request, HmacHash::Sha256),
@@ -52,7 +54,7 @@ impl<'a> Derivation<'a> {
         request: &Request<'a>,
         hash: HmacHash,
     ) -> Result<Derivation<'a>, TaskFault>
-        ensures { IsAsDefined derivation_shown (spec.hkdf hash (given_of request.now)) result }
+        ensures { IsAsDefined derivation_shown (spec.hkdf (hmac_alg hash) (given_of request.now)) result }
     {
         absent(request, &[Setting::Context])?;
         let length = needed(request, Setting::Length)?;

@@ -1,7 +1,8 @@
 // Why a request makes no task.
 
 ghost use Rattle.std.specs.Prelude.{◌≡◌};
-ghost use Rattle.task.specs.Texts.{setting_id, setting_text, usage_texts};
+ghost use Rattle.task.specs.Settings.{word};
+ghost use Rattle.task.specs.inside.Texts.{setting_name, usage_texts};
 ghost use Rattle.task.specs.declared.fault.TaskFault.TheVariants.{OutOfMemory, Usage};
 
 use std::alloc::AllocError;
@@ -9,8 +10,6 @@ use std::alloc::AllocError;
 /// What the words of a request set.
 #[derive(Clone, Copy, Debug, PartialEq, Eq)]
 pub enum Setting {
-    /// The command's name.
-    Command,
     /// `-a`.
     Algorithm,
     /// `-l`.
@@ -78,6 +77,8 @@ pub enum UsageFault {
     OneKey,
     /// Both files and `--files0-from` were given.
     OneSource,
+    /// There is no command of this name.
+    NoCommand,
 }
 
 /// Why a request makes no task.
@@ -108,10 +109,9 @@ impl From<AllocError> for TaskFault {
 impl Setting {
     /// The setting as the command line has it.
     pub fn text(self) -> &'static str
-        ensures { result.now ≡ setting_text self }
+        ensures { result.now ≡ word (setting_name self) }
     {
         match self {
-            Setting::Command => "COMMAND",
             Setting::Algorithm => "-a",
             Setting::Length => "-l",
             Setting::Seek => "--seek",
@@ -132,14 +132,13 @@ impl Setting {
         }
     }
 
-    /// Its id among the options and arguments of a request.
-    pub(crate) fn id(self) -> &'static str
-        ensures { result.now ≡ setting_id self }
+    /// Its name, which is its id among the options and arguments of a request.
+    pub(crate) fn name(self) -> &'static str
+        ensures { result.now ≡ setting_name self }
     {
         match self {
-            Setting::Command => "command",
-            Setting::Algorithm => "algorithm",
-            Setting::Length => "length",
+            Setting::Algorithm => "a",
+            Setting::Length => "l",
             Setting::Seek => "seek",
             Setting::Parts => "parts",
             Setting::Raw => "raw",
@@ -183,6 +182,7 @@ impl UsageFault {
             UsageFault::WrongLength(setting) => (setting.text(), ": wrong length\n"),
             UsageFault::OneKey => ("", "give one of --key and --key-file\n"),
             UsageFault::OneSource => ("", "give only one of FILE and --files0-from\n"),
+            UsageFault::NoCommand => ("", "COMMAND: out of range\n"),
         }
     }
 }

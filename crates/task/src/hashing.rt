@@ -1,19 +1,20 @@
 // What `hash` is to print of a file.
 
-ghost use Rattle.std.specs.Prelude.{◌≡◌, ◌+◌, ◌≤◌, IfOk, IfSome, count_ones, option_map};
+ghost use Rattle.std.specs.Prelude.{◌≡◌, ◌+◌, ◌≤◌, IfOk, IfSome, codes, map, option_map};
 ghost use Rattle.std.proofs.Props.{props};
 ghost use Rattle.request.specs.CommandLine.{given_of};
 ghost use Rattle.source.specs.Digest.{IsInRange};
 ghost use Rattle.task.specs.Hashing as spec;
-ghost use Rattle.task.specs.Parameters.{IsAsDefined, absent};
-ghost use Rattle.task.specs.Requested.{alg_of};
+ghost use Rattle.task.specs.Hashing.{alg_of};
+ghost use Rattle.task.specs.Settings.{absent, given, power_in};
 ghost use Rattle.task.specs.declared.hashing.Form.{Form};
 ghost use Rattle.task.specs.inside.Possible.{HasDigest, IsPartSize, lengths_of};
+ghost use Rattle.task.specs.inside.Seen.{IsAsDefined, judged};
 
 use crate::fault::{Setting, TaskFault, UsageFault};
 use crate::parameters::{
-    absent, file_count, given_bytes, needed_kind, number, number_in, sized, text_of, unset,
-    wanted_bytes,
+    absent, file_count, given_bytes, hexadecimal, needed_kind, number, of_length, power_in, sized,
+    text_of, unless,
 };
 use request::Request;
 use source::{Alg, BLAKE2B_LEN, BLAKE2S_LEN, BLAKE3_LEN};
@@ -78,11 +79,12 @@ impl Requested {
             Hash::Blake3 => Alg::Blake3,
         }
     }
+}
 
+impl Hashing {
     /// What a request of `hash` has printed, or the first fault of its settings.
-    pub(crate) fn of(alloc: Global, request: &Request<'_>) -> Result<Requested, TaskFault>
-        ensures value { IsAsDefined (λ r. r) (spec.requested (given_of request.now)) result }
-        ensures has { IfOk result HasDigest }
+    pub(crate) fn of(alloc: Global, request: &Request<'_>) -> Result<Hashing, TaskFault>
+        ensures { IsAsDefined (λ h. h.requested) (spec.requested (given_of request.now)) result }
     {
         let kind = needed_kind(request)?;
         refused_others(request, kind)?;
@@ -91,44 +93,37 @@ impl Requested {
         let default = default_len(request, kind, least, most);
         let stretch = stretch_of(request, default, least, most)?;
         let hash = Hash::of(alloc, request, kind)?;
-        Ok(Requested {
+        let parts = parts_of(request)?;
+        let requested = Requested {
             hash,
             stretch,
             form,
-        })
-    }
-
-    /// The digest that a request of `hash` compares with, where it is given.
-    pub(crate) fn wanted(
-        self,
-        alloc: Global,
-        request: &Request<'_>,
-    ) -> Result<Option<Vec<u8>>, TaskFault>
-        ensures { IsAsDefined (option_map (λ v. v.items))
-            (spec.wanted self.stretch.length (given_of request.now)) result }
-    {
-        match text_of(request, Setting::Verify) {
-            Some(digits) => {
-                of_digits(request)?;
-                Ok(Some(wanted_bytes(alloc, self.stretch.length, digits)?))
-            }
-            None => Ok(None),
-        }
+        };
+        Ok(Hashing { requested, parts })
     }
 }
 
-// Refuses what does not print the digits of one file.
-fn of_digits(request: &Request<'_>) -> Result<(), UsageFault>
-    ensures { result ≡ spec.of_digits (given_of request.now) }
+/// The digest or tag that a request compares with, of so many bytes, where it is given.
+pub(crate) fn wanted(
+    alloc: Global,
+    request: &Request<'_>,
+    length: u64,
+) -> Result<Option<Vec<u8>>, TaskFault>
+    ensures { IsAsDefined (option_map (λ v. v.items)) (spec.wanted length (given_of request.now)) result }
 {
-    unset(UsageFault::NotWithTag(Setting::Verify), request.has("tag"))?;
-    unset(UsageFault::NotWithRaw(Setting::Verify), request.has("raw"))?;
-    unset(UsageFault::OneFile(Setting::Verify), names_several(request))
+    let Some(digits) = text_of(request, Setting::Verify) else {
+        return Ok(None);
+    };
+    unless(request.has("tag"), UsageFault::NotWithTag(Setting::Verify))?;
+    unless(request.has("raw"), UsageFault::NotWithRaw(Setting::Verify))?;
+    unless(names_several(request), UsageFault::OneFile(Setting::Verify))?;
+    let bytes = hexadecimal(alloc, Setting::Verify, digits)?;
+    Ok(Some(of_length(Setting::Verify, length, bytes)?))
 }
 
 // Refuses the settings that the hash does not have.
 fn refused_others(request: &Request<'_>, kind: Kind) -> Result<(), UsageFault>
-    ensures { result ≡ absent (spec.others kind) (given_of request.now) }
+    ensures { judged result ≡ absent (spec.others kind) (given_of request.now) }
 {
     match kind {
         Kind::Blake2b | Kind::Blake2s => absent(request, &[Setting::Seek, Setting::Parts]),
@@ -149,13 +144,13 @@ fn refused_others(request: &Request<'_>, kind: Kind) -> Result<(), UsageFault>
 impl Form {
     // Refuses `--raw` beside `--tag` and of several files.
     fn of(request: &Request<'_>) -> Result<Form, UsageFault>
-        ensures { result ≡ spec.form_of (given_of request.now) }
+        ensures { judged result ≡ spec.form_of (given_of request.now) }
     {
         let is_raw = request.has("raw");
         let is_tagged = request.has("tag");
-        unset(UsageFault::NotWithTag(Setting::Raw), is_raw && is_tagged)?;
+        unless(is_raw && is_tagged, UsageFault::NotWithTag(Setting::Raw))?;
         let several = is_raw && names_several(request);
-        unset(UsageFault::OneFile(Setting::Raw), several)?;
+        unless(several, UsageFault::OneFile(Setting::Raw))?;
         if is_raw {
             Ok(Form::Raw)
         } else if is_tagged {
@@ -249,7 +244,7 @@ pub(crate) fn stretch_of(
     least: u64,
     most: u64,
 ) -> Result<Stretch, UsageFault>
-    ensures value { result ≡ spec.stretch_of default least most (given_of request.now) }
+    ensures value { judged result ≡ spec.stretch_of default least most (given_of request.now) }
     ensures within { least ≤ default → default ≤ most
         → IfOk result (λ s. (least ≤ s.length) × (s.position + s.length ≤ most)) }
 {
@@ -258,24 +253,13 @@ pub(crate) fn stretch_of(
     Ok(Stretch { position, length })
 }
 
-/// Of how many chunks the parts are that files are hashed in, where that was asked for.
-pub(crate) fn parts_of(request: &Request<'_>) -> Result<Option<u64>, UsageFault>
-    ensures value { result ≡ spec.parts_of (given_of request.now) }
+// Of how many chunks the parts are that files are hashed in, where that was asked for.
+fn parts_of(request: &Request<'_>) -> Result<Option<u64>, UsageFault>
+    ensures value { judged result ≡ given (power_in 1024) (codes "parts") (given_of request.now) }
     ensures size { IfOk result (λ m. IfSome m IsPartSize) }
 {
     match text_of(request, Setting::Parts) {
-        Some(text) => Ok(Some(part_size(number_in(Setting::Parts, 1, 1024, text)?)?)),
+        Some(text) => Ok(Some(power_in(Setting::Parts, 1024, text)?)),
         None => Ok(None),
-    }
-}
-
-fn part_size(chunks: u64) -> Result<u64, UsageFault>
-    ensures value { result ≡ spec.part_size chunks }
-    ensures power { IfOk result (λ n. (n ≡ chunks) × (count_ones n ≡ 1)) }
-{
-    if chunks.is_power_of_two() {
-        Ok(chunks)
-    } else {
-        Err(UsageFault::OutOfRange(Setting::Parts))
     }
 }

@@ -1,13 +1,16 @@
 // The texts of settings as names, numbers and bytes, and which fault each can be.
 
-ghost use Rattle.std.specs.Prelude.{◌≡◌, ◌≢◌, ◌≤◌, ◌&&◌, Err, IfOk, IfSome, IsSomeAnd, MatchResult, Ok};
-ghost use Rattle.std.specs.Prelude.{if◌then◌else◌, length, nat_le, Some, option_map, replicate, unwrap_or};
-ghost use Rattle.request.specs.CommandLine.{given_of};
+ghost use Rattle.std.specs.Prelude.{◌≡◌, ◌≢◌, ◌≤◌, ◌++◌, ◌&&◌, Bool, Err, IfOk, IfSome, IsSomeAnd, MatchResult, Ok};
+ghost use Rattle.std.specs.Prelude.{codes, count_ones, if◌then◌else◌, length, map, nat_le, ok_or};
+ghost use Rattle.std.specs.Prelude.{Some, option_map, replicate, unwrap_or};
+ghost use Rattle.request.specs.CommandLine.{given_of, text_of};
+ghost use Rattle.source.specs.Digest.{digest_len};
 ghost use Rattle.sumlist.specs.Kinds.{kinds};
-ghost use Rattle.task.specs.Parameters as spec;
-ghost use Rattle.task.specs.Parameters.{IsAsDefined};
-ghost use Rattle.task.specs.inside.Seen.{seen};
-ghost use Rattle.task.specs.declared.fault.Setting.TheVariants.{Algorithm, Verify};
+ghost use Rattle.task.specs.Settings as spec;
+ghost use Rattle.task.specs.Settings.{given, named, needed, number_in, out_of_range, power_in, word};
+ghost use Rattle.task.specs.Tasks.{hmac_alg};
+ghost use Rattle.task.specs.inside.Seen.{IsAsDefined, judged, seen};
+ghost use Rattle.task.specs.inside.Texts.{fault_text, setting_name};
 ghost use Rattle.task.specs.declared.fault.UsageFault.TheVariants.{OutOfRange, WrongLength};
 
 use crate::fault::{Setting, TaskFault, UsageFault};
@@ -29,7 +32,7 @@ pub enum HmacHash {
 impl HmacHash {
     /// The algorithm, with its longest digests.
     pub fn alg(self) -> Alg
-        ensures { result ≡ spec.hmac_alg self }
+        ensures { result ≡ hmac_alg self }
     {
         match self {
             HmacHash::Sha256 => Alg::Sha256,
@@ -41,7 +44,7 @@ impl HmacHash {
 
     /// The length of its digest in bytes.
     pub fn digest_len(self) -> u64
-        ensures { result ≡ spec.hmac_len self }
+        ensures { result ≡ digest_len (hmac_alg self) }
     {
         self.alg().digest_len() as u64
     }
@@ -49,9 +52,9 @@ impl HmacHash {
 
 /// The text of a setting, where it was given.
 pub(crate) fn text_of<'a>(request: &Request<'a>, setting: Setting) -> Option<&'a str>
-    ensures { option_map (λ t. t.now) result ≡ spec.text setting (given_of request.now) }
+    ensures { option_map (λ t. t.now) result ≡ text_of (setting_name setting) (given_of request.now) }
 {
-    request.text(setting.id())
+    request.text(setting.name())
 }
 
 /// How many files or lists were named.
@@ -66,14 +69,14 @@ pub(crate) fn file_count(request: &Request<'_>) -> usize
 
 /// The hash that a request names.
 pub(crate) fn needed_kind(request: &Request<'_>) -> Result<Kind, UsageFault>
-    ensures { result ≡ spec.needed_kind (given_of request.now) }
+    ensures { judged result ≡ needed (named kinds) (codes "a") (given_of request.now) }
 {
     kind_named(needed(request, Setting::Algorithm)?)
 }
 
 /// The hash that a request names, where it names one.
 pub(crate) fn given_kind(request: &Request<'_>) -> Result<Option<Kind>, UsageFault>
-    ensures { result ≡ spec.given_kind (given_of request.now) }
+    ensures { judged result ≡ given (named kinds) (codes "a") (given_of request.now) }
 {
     match text_of(request, Setting::Algorithm) {
         Some(name) => Ok(Some(kind_named(name)?)),
@@ -82,14 +85,14 @@ pub(crate) fn given_kind(request: &Request<'_>) -> Result<Option<Kind>, UsageFau
 }
 
 fn kind_named(name: &str) -> Result<Kind, UsageFault>
-    ensures { result ≡ spec.named Algorithm kinds name.now }
+    ensures { judged result ≡ named kinds (codes "a") name.now }
 {
     Kind::named(name).ok_or(UsageFault::OutOfRange(Setting::Algorithm))
 }
 
 /// Refuses the settings that the algorithm does not have.
 pub(crate) fn absent(request: &Request<'_>, settings: &[Setting]) -> Result<(), UsageFault>
-    ensures { result ≡ spec.absent settings.now (given_of request.now) }
+    ensures { judged result ≡ spec.absent (map setting_name settings.now) (given_of request.now) }
 {
     for &setting in settings {
         if text_of(request, setting).is_some() {
@@ -99,16 +102,17 @@ pub(crate) fn absent(request: &Request<'_>, settings: &[Setting]) -> Result<(), 
     Ok(())
 }
 
-/// Refuses a flag by this fault.
-pub(crate) fn unset(fault: UsageFault, is_given: bool) -> Result<(), UsageFault>
-    ensures { result ≡ spec.unset fault is_given }
+/// Refuses what is wrong, by this fault.
+pub(crate) fn unless(is_wrong: bool, fault: UsageFault) -> Result<(), UsageFault>
+    ensures { judged result ≡ spec.unless is_wrong (fault_text fault) }
 {
-    if is_given { Err(fault) } else { Ok(()) }
+    if is_wrong { Err(fault) } else { Ok(()) }
 }
 
 /// The text of a setting that has to be there.
 pub(crate) fn needed<'a>(request: &Request<'a>, setting: Setting) -> Result<&'a str, UsageFault>
-    ensures { seen (λ t. t.now) result ≡ spec.needed setting (given_of request.now) }
+    ensures { seen (λ t. t.now) result ≡ ok_or (text_of (setting_name setting) (given_of request.now))
+        (word (setting_name setting) ++ codes ": needed\n") }
 {
     match text_of(request, setting) {
         Some(text) => Ok(text),
@@ -124,7 +128,7 @@ pub(crate) fn number(
     least: u64,
     most: u64,
 ) -> Result<u64, UsageFault>
-    ensures value { result ≡ spec.number setting default least most (given_of request.now) }
+    ensures value { judged result ≡ spec.number default least most (setting_name setting) (given_of request.now) }
     ensures range { least ≤ default → default ≤ most → IfOk result (λ n. (least ≤ n) × (n ≤ most)) }
 {
     Ok(given_number(request, setting, least, most)?.unwrap_or(default))
@@ -137,7 +141,7 @@ pub(crate) fn given_number(
     least: u64,
     most: u64,
 ) -> Result<Option<u64>, UsageFault>
-    ensures value { result ≡ spec.given_number setting least most (given_of request.now) }
+    ensures value { judged result ≡ given (number_in least most) (setting_name setting) (given_of request.now) }
     ensures range { IfOk result (λ m. IfSome m (λ n. (least ≤ n) × (n ≤ most))) }
 {
     match text_of(request, setting) {
@@ -153,7 +157,7 @@ pub(crate) fn number_in(
     most: u64,
     text: &str,
 ) -> Result<u64, UsageFault>
-    ensures value { result ≡ spec.number_in setting least most text.now }
+    ensures value { judged result ≡ number_in least most (setting_name setting) text.now }
     ensures range { IfOk result (λ n. (least ≤ n) × (n ≤ most)) }
 {
     match text.parse::<u64>() {
@@ -163,8 +167,8 @@ pub(crate) fn number_in(
 }
 
 fn within(setting: Setting, least: u64, most: u64, value: u64) -> Result<u64, UsageFault>
-    ensures value { result
-        ≡ (if nat_le least value && nat_le value most then Ok value else Err (OutOfRange setting)) }
+    ensures value { judged result ≡ (if nat_le least value && nat_le value most then Ok value
+        else Err (out_of_range (setting_name setting))) }
     ensures range { IfOk result (λ n. (least ≤ n) × (n ≤ most)) }
 {
     if least <= value && value <= most {
@@ -174,9 +178,23 @@ fn within(setting: Setting, least: u64, most: u64, value: u64) -> Result<u64, Us
     }
 }
 
+/// The power of two that the text of a setting spells, at most `most`.
+pub(crate) fn power_in(setting: Setting, most: u64, text: &str) -> Result<u64, UsageFault>
+    ensures value { judged result ≡ power_in most (setting_name setting) text.now }
+    ensures range { IfOk result (λ n. (1 ≤ n) × (n ≤ most)) }
+    ensures power { IfOk result (λ n. count_ones n ≡ 1) }
+{
+    let number = number_in(setting, 1, most, text)?;
+    if number.is_power_of_two() {
+        Ok(number)
+    } else {
+        Err(UsageFault::OutOfRange(setting))
+    }
+}
+
 /// The bytes that a setting's hexadecimal digits spell.
 pub(crate) fn hexadecimal(alloc: Global, setting: Setting, text: &str) -> Result<Vec<u8>, TaskFault>
-    ensures { IsAsDefined (λ v. v.items) (spec.hexadecimal setting text.now) result }
+    ensures { IsAsDefined (λ v. v.items) (spec.hexadecimal (setting_name setting) text.now) result }
 {
     match hex::decode(alloc, text) {
         Ok(bytes) => Ok(bytes),
@@ -191,7 +209,8 @@ pub(crate) fn given_bytes(
     request: &Request<'_>,
     setting: Setting,
 ) -> Result<Option<Vec<u8>>, TaskFault>
-    ensures { IsAsDefined (option_map (λ v. v.items)) (spec.given_bytes setting (given_of request.now)) result }
+    ensures { IsAsDefined (option_map (λ v. v.items))
+        (given spec.hexadecimal (setting_name setting) (given_of request.now)) result }
 {
     match text_of(request, setting) {
         Some(text) => Ok(Some(hexadecimal(alloc, setting, text)?)),
@@ -199,20 +218,14 @@ pub(crate) fn given_bytes(
     }
 }
 
-/// The bytes to compare with that the digits of `--verify` spell, so many.
-pub(crate) fn wanted_bytes(alloc: Global, count: u64, text: &str) -> Result<Vec<u8>, TaskFault>
-    ensures { IsAsDefined (λ v. v.items) (spec.wanted_bytes count text.now) result }
-{
-    Ok(of_length(count, hexadecimal(alloc, Setting::Verify, text)?)?)
-}
-
-fn of_length(count: u64, bytes: Vec<u8>) -> Result<Vec<u8>, UsageFault>
-    ensures { seen (λ v. v.items) result ≡ spec.sized Verify count (Some bytes.items) }
+/// The bytes of a setting, so many.
+pub(crate) fn of_length(setting: Setting, count: u64, bytes: Vec<u8>) -> Result<Vec<u8>, UsageFault>
+    ensures { seen (λ v. v.items) result ≡ spec.sized count (setting_name setting) (Some bytes.items) }
 {
     if bytes.len() as u64 == count {
         Ok(bytes)
     } else {
-        Err(UsageFault::WrongLength(Setting::Verify))
+        Err(UsageFault::WrongLength(setting))
     }
 }
 

@@ -1,13 +1,17 @@
 // What `mac` is to print.
 
-ghost use Rattle.std.specs.Prelude.{◌≡◌, ◌≤◌, IfOk, option_map};
+ghost use Rattle.std.specs.Prelude.{◌≡◌, ◌≤◌, IfOk, codes, option_map, unwrap_or, []};
+ghost use Rattle.std.specs.Option.{option_map_or};
 ghost use Rattle.request.specs.CommandLine.{given_of};
-ghost use Rattle.task.specs.Parameters.{IsAsDefined, number};
-ghost use Rattle.task.specs.Tagging as spec;
-ghost use Rattle.task.specs.inside.Possible.{HasTag};
+ghost use Rattle.task.specs.Settings.{number};
+ghost use Rattle.task.specs.Tasks as spec;
+ghost use Rattle.task.specs.Tasks.{in_file, these};
+ghost use Rattle.task.specs.inside.Possible.{HasTag, mac_len};
+ghost use Rattle.task.specs.inside.Seen.{judged, seen};
+ghost use Rattle.task.specs.inside.Steps.{mac_of};
 
-use crate::fault::{Setting, TaskFault, UsageFault};
-use crate::parameters::{HmacHash, given_bytes, needed, number, text_of, unset, wanted_bytes};
+use crate::fault::{Setting, UsageFault};
+use crate::parameters::{HmacHash, needed, number};
 use request::Request;
 use source::{BLAKE2B_LEN, BLAKE2S_LEN, BLAKE3_LEN};
 use std::alloc::Global;
@@ -47,7 +51,7 @@ pub enum Key<'a> {
 impl Mac {
     /// The keyed function that a request of `mac` names, or the first fault of its settings.
     pub(crate) fn of(request: &Request<'_>) -> Result<Mac, UsageFault>
-        ensures value { result ≡ spec.mac (given_of request.now) }
+        ensures value { seen (λ m. (m, mac_len m)) result ≡ mac_of (given_of request.now) }
         ensures has { IfOk result HasTag }
     {
         match needed(request, Setting::Algorithm)? {
@@ -68,26 +72,9 @@ impl Mac {
         }
     }
 
-    /// The tag that a request of `mac` compares with, of as many bytes as the tags have.
-    pub(crate) fn wanted(
-        self,
-        alloc: Global,
-        request: &Request<'_>,
-    ) -> Result<Option<Vec<u8>>, TaskFault>
-        ensures { IsAsDefined (option_map (λ v. v.items)) (spec.wanted self (given_of request.now)) result }
-    {
-        match text_of(request, Setting::Verify) {
-            Some(text) => {
-                unset(UsageFault::NotWithRaw(Setting::Verify), request.has("raw"))?;
-                Ok(Some(wanted_bytes(alloc, self.tag_len(), text)?))
-            }
-            None => Ok(None),
-        }
-    }
-
-    // The length of the tags in bytes.
-    fn tag_len(self) -> u64
-        ensures { result ≡ spec.mac_len self }
+    /// The length of the tags in bytes.
+    pub(crate) fn tag_len(self) -> u64
+        ensures { result ≡ mac_len self }
     {
         match self {
             Mac::Hmac(_, length) | Mac::Blake2b(length) | Mac::Blake2s(length) => length as u64,
@@ -97,7 +84,7 @@ impl Mac {
 }
 
 fn hmac(request: &Request<'_>, hash: HmacHash) -> Result<Mac, UsageFault>
-    ensures value { result ≡ spec.hmac hash (given_of request.now) }
+    ensures value { seen (λ m. (m, mac_len m)) result ≡ spec.hmac hash (given_of request.now) }
     ensures has { IfOk result HasTag }
 {
     let whole = hash.digest_len();
@@ -106,7 +93,7 @@ fn hmac(request: &Request<'_>, hash: HmacHash) -> Result<Mac, UsageFault>
 }
 
 fn blake2_len(request: &Request<'_>, most: u64) -> Result<u64, UsageFault>
-    ensures value { result ≡ number Setting.Length most 1 most (given_of request.now) }
+    ensures value { judged result ≡ number most 1 most (codes "l") (given_of request.now) }
     ensures range { 1 ≤ most → IfOk result (λ n. (1 ≤ n) × (n ≤ most)) }
 {
     number(request, Setting::Length, most, 1, most)
@@ -115,16 +102,14 @@ fn blake2_len(request: &Request<'_>, most: u64) -> Result<u64, UsageFault>
 impl<'a> Key<'a> {
     ghost use Rattle.task.specs.inside.Views.{key_shown};
 
-    /// The key of a request of `mac`, which gives it in one of the two ways. The digits of `--key`
-    /// are judged first.
-    pub(crate) fn of(alloc: Global, request: &Request<'a>) -> Result<Key<'a>, TaskFault>
-        ensures { IsAsDefined key_shown (spec.key (given_of request.now)) result }
+    /// The key of a file, where it is named, or these bytes.
+    pub(crate) fn of(alloc: Global, file: Option<&'a str>, given: Option<Vec<u8>>) -> Key<'a>
+        ensures { key_shown result
+            ≡ option_map_or (λ f. in_file f.now) file.entry (these (unwrap_or (option_map (λ v. v.items) given) [])) }
     {
-        let given = given_bytes(alloc, request, Setting::Key)?;
-        match (given, request.text("key-file")) {
-            (Some(key), None) => Ok(Key::Given(key)),
-            (None, Some(name)) => Ok(Key::File(name)),
-            _ => Err(TaskFault::Usage(UsageFault::OneKey)),
+        match file {
+            Some(name) => Key::File(name),
+            None => Key::Given(given.unwrap_or(Vec::new(alloc))),
         }
     }
 }

@@ -1,20 +1,28 @@
 // What a run is to do.
 
-ghost use Rattle.std.specs.Prelude.{◌≡◌, IfOk, codes, option_map};
+ghost use Rattle.std.specs.Prelude.{◌≡◌, ◌&&◌, ◌||◌, IfOk, codes, is_some, length, nat_lt, not};
+ghost use Rattle.std.specs.Option.{option_map_or};
+ghost use Rattle.std.specs.Str.{bytes_eq};
 ghost use Rattle.request.specs.CommandLine.{given_of, text_of};
-ghost use Rattle.task.specs.Parameters.{IsAsDefined, files};
+ghost use Rattle.task.specs.Hashing as hashing;
+ghost use Rattle.task.specs.Settings as settings;
+ghost use Rattle.task.specs.Settings.{files};
 ghost use Rattle.task.specs.Tasks as spec;
-ghost use Rattle.task.specs.Tasks.{asked};
-ghost use Rattle.task.specs.inside.Seen.{seen};
+ghost use Rattle.task.specs.Tasks.{asked, in_file, these};
+ghost use Rattle.task.specs.inside.Seen.{IsAsDefined, judged, seen};
 ghost use Rattle.task.specs.inside.Views.{names_shown, task_shown, texts_of};
 
 use crate::derivation::Derivation;
 use crate::fault::{Setting, TaskFault, UsageFault};
-use crate::hashing::{Hashing, Requested, names_several, parts_of};
-use crate::parameters::{file_count, given_kind, needed, unset};
-use crate::parting::{Joining, PartLength, Place, joined_of, part_length_of, place_of};
+use crate::hashing::{Hashing, names_several, stretch_of, wanted};
+use crate::parameters::{
+    file_count, given_bytes, given_kind, given_number, needed, number, power_in, unless,
+};
+use crate::parting::{Joining, PartLength, Place, names_blake3};
 use crate::tagging::{Key, Mac, Tagging};
+use b3::MOST_CHUNKS;
 use request::Request;
+use source::BLAKE3_LEN;
 use std::alloc::{AllocError, Global};
 use sumlist::Kind;
 
@@ -103,19 +111,21 @@ fn task_of<'a>(alloc: Global, request: &Request<'a>) -> Result<Task<'a>, TaskFau
         "check" => check(alloc, request),
         "part" => Ok(part(request)?),
         "join" => join(alloc, request),
-        _ => Err(TaskFault::Usage(UsageFault::OutOfRange(Setting::Command))),
+        _ => Err(TaskFault::Usage(UsageFault::NoCommand)),
     }
 }
 
 fn hash<'a>(alloc: Global, request: &Request<'a>) -> Result<Task<'a>, TaskFault>
     ensures { IsAsDefined task_shown (spec.hash (given_of request.now)) result }
 {
-    let requested = Requested::of(alloc, request)?;
-    let parts = parts_of(request)?;
-    let names = one_source(alloc, request)?;
-    let name = input_name(request)?;
-    let wanted = requested.wanted(alloc, request)?;
-    let hashing = Hashing { requested, parts };
+    let hashing = Hashing::of(alloc, request)?;
+    unless(has_two_sources(request), UsageFault::OneSource)?;
+    unless(
+        has_useless_name(request),
+        UsageFault::InputOnly(Setting::Name),
+    )?;
+    let wanted = wanted(alloc, request, hashing.requested.stretch.length)?;
+    let name = request.text("name");
     if name.is_some() || wanted.is_some() {
         let file = file_or_input(request);
         return Ok(Task::Line {
@@ -125,36 +135,43 @@ fn hash<'a>(alloc: Global, request: &Request<'a>) -> Result<Task<'a>, TaskFault>
             file,
         });
     }
+    let names = Names::of(alloc, request)?;
     Ok(Task::Hash { hashing, names })
 }
 
-// The name of standard input, where it alone is read.
-fn input_name<'a>(request: &Request<'a>) -> Result<Option<&'a str>, UsageFault>
-    ensures { seen (option_map (λ t. t.now)) result ≡ spec.input_name (given_of request.now) }
+// Whether files are named both by words and in a file.
+fn has_two_sources(request: &Request<'_>) -> bool
+    ensures { result ≡ (is_some (text_of (codes "files0-from") (given_of request.now))
+        && nat_lt 0 (length (files (given_of request.now)))) }
 {
-    let Some(name) = request.text("name") else {
-        return Ok(None);
-    };
-    let others = names_several(request) || file_or_input(request) != "-";
-    unset(UsageFault::InputOnly(Setting::Name), others)?;
-    Ok(Some(name))
+    request.text("files0-from").is_some() && file_count(request) > 0
 }
 
-// Files are named by words, or in a file.
-fn one_source<'a>(alloc: Global, request: &Request<'a>) -> Result<Names<'a>, TaskFault>
-    ensures { IsAsDefined names_shown
-        (spec.one_source (text_of (codes "files0-from") (given_of request.now)) (files (given_of request.now))) result }
+// Whether standard input is given a name, and does not stand alone.
+fn has_useless_name(request: &Request<'_>) -> bool
+    ensures { result ≡ (is_some (text_of (codes "name") (given_of request.now))
+        && (hashing.names_several (given_of request.now)
+        || not (bytes_eq (settings.file_or_input (given_of request.now)) (codes "-")))) }
 {
-    match request.text("files0-from") {
-        None => Ok(Names::Given(names_or_input(alloc, request)?)),
-        Some(file) if file_count(request) == 0 => Ok(Names::From(file)),
-        Some(_) => Err(TaskFault::Usage(UsageFault::OneSource)),
+    request.text("name").is_some() && (names_several(request) || file_or_input(request) != "-")
+}
+
+impl<'a> Names<'a> {
+    fn of(alloc: Global, request: &Request<'a>) -> Result<Names<'a>, AllocError>
+        ensures { IfOk result (λ names. names_shown names
+            ≡ option_map_or (λ list. in_file list) (text_of (codes "files0-from") (given_of request.now))
+            (these (settings.names_or_input (given_of request.now)))) }
+    {
+        match request.text("files0-from") {
+            Some(list) => Ok(Names::From(list)),
+            None => Ok(Names::Given(names_or_input(alloc, request)?)),
+        }
     }
 }
 
 // The files or lists that were named: without one standard input is read.
 fn names_or_input<'a>(alloc: Global, request: &Request<'a>) -> Result<Vec<&'a str>, AllocError>
-    ensures { IfOk result (λ names. texts_of names ≡ spec.names_or_input (files (given_of request.now))) }
+    ensures { IfOk result (λ names. texts_of names ≡ settings.names_or_input (given_of request.now)) }
 {
     let mut files = Vec::new(alloc);
     if let Some(named) = request.texts("file") {
@@ -170,12 +187,14 @@ fn mac<'a>(alloc: Global, request: &Request<'a>) -> Result<Task<'a>, TaskFault>
     ensures { IsAsDefined task_shown (spec.mac (given_of request.now)) result }
 {
     let mac = Mac::of(request)?;
-    let key = Key::of(alloc, request)?;
-    let wanted = mac.wanted(alloc, request)?;
+    let given = given_bytes(alloc, request, Setting::Key)?;
+    let key_file = request.text("key-file");
+    unless(given.is_some() == key_file.is_some(), UsageFault::OneKey)?;
+    let wanted = wanted(alloc, request, mac.tag_len())?;
     let is_raw = request.has("raw");
     Ok(Task::Mac {
         tagging: Tagging { mac, is_raw },
-        key,
+        key: Key::of(alloc, key_file, given),
         wanted,
         file: file_or_input(request),
     })
@@ -208,31 +227,50 @@ fn check<'a>(alloc: Global, request: &Request<'a>) -> Result<Task<'a>, TaskFault
 fn part<'a>(request: &Request<'a>) -> Result<Task<'a>, UsageFault>
     ensures { seen task_shown result ≡ spec.part (given_of request.now) }
 {
+    names_blake3(request)?;
     if request.has("list") {
-        return starts(request);
+        starts(request)
+    } else {
+        one_part(request)
     }
-    let place = place_of(request)?;
-    let file = file_or_input(request);
-    Ok(Task::Part { place, file })
 }
 
 fn starts<'a>(request: &Request<'a>) -> Result<Task<'a>, UsageFault>
     ensures { seen task_shown result ≡ spec.starts (given_of request.now) }
 {
-    let parts = part_length_of(request)?;
+    let chunks = power_in(
+        Setting::Chunks,
+        MOST_CHUNKS,
+        needed(request, Setting::Chunks)?,
+    )?;
+    let has_first = request.text("first").is_some();
+    unless(has_first, UsageFault::NotWithList(Setting::First))?;
     let file = file_or_input(request);
-    unset(UsageFault::FileOnly(Setting::Starts), file == "-")?;
+    unless(file == "-", UsageFault::FileOnly(Setting::Starts))?;
+    let parts = PartLength { chunks };
     Ok(Task::Starts { parts, file })
+}
+
+fn one_part<'a>(request: &Request<'a>) -> Result<Task<'a>, UsageFault>
+    ensures { seen task_shown result ≡ spec.one_part (given_of request.now) }
+{
+    let first = number(request, Setting::First, 0, 0, MOST_CHUNKS - 1)?;
+    let chunks = given_number(request, Setting::Chunks, 1, MOST_CHUNKS)?;
+    let place = Place::of(first, chunks)?;
+    let file = file_or_input(request);
+    Ok(Task::Part { place, file })
 }
 
 fn join<'a>(alloc: Global, request: &Request<'a>) -> Result<Task<'a>, TaskFault>
     ensures { IsAsDefined task_shown (spec.join (given_of request.now)) result }
 {
-    let joining = joined_of(request)?;
+    names_blake3(request)?;
+    let stretch = stretch_of(request, BLAKE3_LEN as u64, 1, u64::MAX)?;
+    let bytes = given_number(request, Setting::Bytes, 0, u64::MAX)?;
     let name = request.text("name").unwrap_or("-");
     let lists = names_or_input(alloc, request)?;
     Ok(Task::Join {
-        joining,
+        joining: Joining { stretch, bytes },
         name,
         lists,
     })
@@ -240,7 +278,7 @@ fn join<'a>(alloc: Global, request: &Request<'a>) -> Result<Task<'a>, TaskFault>
 
 // The one file that was named, or standard input.
 fn file_or_input<'a>(request: &Request<'a>) -> &'a str
-    ensures { result.now ≡ spec.file_or_input (given_of request.now) }
+    ensures { result.now ≡ settings.file_or_input (given_of request.now) }
 {
     request.text("file").unwrap_or("-")
 }

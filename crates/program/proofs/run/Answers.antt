@@ -5,4 +5,4 @@ use Rattle.program.proofs.run.Goals as goal
 pub returns : goal.returns
 returns g c =
     c.run_read.ensures (map (λ w. w.now) c.args.words.now)
-    (read_as _ c.line.result c.line.ensures.request c.line.ensures.passes c.line.ensures.fault)
+    (read_as _ c.line.result c.line.ensures.request c.line.ensures.fault)

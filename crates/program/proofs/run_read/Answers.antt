@@ -23,7 +23,7 @@ returns-in-Ok-run_request g c words read =
     let given = rw c.in-Ok.is at read in
     handed_back words g.W.Sink.shown g.L.Feed.failure_count g.T.Tree.failure_count g.T.Tree.opens _ _ _ _ _ _ _ _ _
     left.out.now _ left.input.now _ left.tree.now _ (search rules) (search rules) (search rules)
-    (run_done words _ _ (given_of c.in-Ok.request) _ _ _ _ _ _ _ _ _ _ _ given.1 given.0
+    (run_done words _ _ (given_of c.in-Ok.request) _ _ _ _ _ _ _ _ _ _ _ given
     c.in-Ok-run_request.ensures.run)
 
 pub returns-in-Err : goal.returns-in-Err
@@ -32,5 +32,5 @@ returns-in-Err g c words read =
     let given = rw c.in-Ok.is at read in
     handed_back words g.W.Sink.shown g.L.Feed.failure_count g.T.Tree.failure_count g.T.Tree.opens _ _ _ _ _ _ _ _ _
     left.out.now _ left.input.now _ left.tree.now _ (search rules) (search rules) (search rules)
-    (run_stopped words _ _ (given_of c.in-Ok.request) c.in-Err.fault _ _ _ _ _ _ _ _ _ _ _ _ given.1 given.0
+    (run_stopped words _ _ (given_of c.in-Ok.request) c.in-Err.fault _ _ _ _ _ _ _ _ _ _ _ _ given
     c.in-Err.ensures.run c.tell-in-Err.ensures.status c.tell-in-Err.ensures.told)

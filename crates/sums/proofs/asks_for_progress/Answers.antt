@@ -16,7 +16,7 @@ refused words (Words e) read is h other = inr (kind_of e, rw is at h, refl)
 pub returns-in-Ok : goal.returns-in-Ok
 returns-in-Ok c words h other =
     let given = rw c.in-Ok.is at h in
-    inl (given_of c.in-Ok.request, given.1, given.0, c.has.ensures)
+    inl (given_of c.in-Ok.request, given, c.has.ensures)
 
 pub returns-in-Err : goal.returns-in-Err
 returns-in-Err c words h other = refused words _ _ c.in-Err.is h other

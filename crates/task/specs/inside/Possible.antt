@@ -7,8 +7,7 @@ use Rattle.source.specs.Digest.{digest_len}
 use Rattle.sumlist.specs.Kinds.{longest}
 use Rattle.sumlist.specs.declared.kind.Kind.TheVariants as kind
 use Rattle.task.specs.Hashing.{lengths}
-use Rattle.task.specs.Parameters.{hmac_len}
-use Rattle.task.specs.Tagging.{mac_len}
+use Rattle.task.specs.Tasks.{hmac_alg}
 use Rattle.task.specs.declared.hashing.Form.{Form}
 use Rattle.task.specs.declared.hashing.Hash.{Hash}
 use Rattle.task.specs.declared.hashing.Hash.TheVariants as hash
@@ -32,13 +31,20 @@ HasDigest r = let range = lengths_of r.hash r.form in
 abbrev pub IsPartSize : ℕ → Type 0
 IsPartSize n = (count_ones n ≡ 1) × (n ≤ 1024)
 
--- the least and the greatest length of a function's tags
+-- the length of a function's tags
+abbrev pub mac_len : Mac → ℕ
+mac_len (Hmac h n) = n
+mac_len (Blake2b n) = n
+mac_len (Blake2s n) = n
+mac_len (Blake3 n) = n
+
+-- the least and the greatest
 abbrev pub least_len : Mac → ℕ
-least_len (Hmac h n) = hmac_len h / 2
+least_len (Hmac h n) = digest_len (hmac_alg h) / 2
 least_len mac = 1
 
 abbrev pub most_len : Mac → ℕ
-most_len (Hmac h n) = hmac_len h
+most_len (Hmac h n) = digest_len (hmac_alg h)
 most_len (Blake2b n) = BLAKE2B_LEN
 most_len (Blake2s n) = BLAKE2S_LEN
 most_len (Blake3 n) = 2 ^ 64 - 1

@@ -1,11 +1,9 @@
 -- The tasks of the code as the definitions have them.
-use Rattle.std.specs.Prelude.{List, Vec, map, option_map}
+use Rattle.std.specs.Prelude.{ℕ, List, Vec, map, option_map}
 use Rattle.std.specs.Borrow.{Bor}
 use Rattle.request.specs.CommandLine.{Text}
-use Rattle.task.specs.Deriving.{Derived, by_blake3, by_hkdf}
-use Rattle.task.specs.Tagging.{KeyText, bytes, file}
-use Rattle.task.specs.Tasks.{Asked, NameTexts, checks, derives, hashes, in_file, joins, prints_line, prints_part}
-use Rattle.task.specs.Tasks.{prints_starts, tags, these}
+use Rattle.task.specs.Tasks.{Asked, Derived, Source, by_blake3, by_hkdf, checks, derives, hashes, hmac_alg, in_file}
+use Rattle.task.specs.Tasks.{joins, prints_line, prints_part, prints_starts, tags, these}
 use Rattle.task.specs.declared.derivation.Derivation.{Derivation}
 use Rattle.task.specs.declared.derivation.Derivation.TheVariants as derivation
 use Rattle.task.specs.declared.tagging.Key.{Key}
@@ -19,23 +17,25 @@ use Rattle.task.specs.declared.tasks.Task.TheVariants as code
 abbrev pub texts_of : {X : Type 0} → Vec (Bor Text) X → List Text
 texts_of names = map (λ n. n.now) names.items
 
-abbrev pub names_shown : Names → NameTexts
+-- the file that has the names of what is hashed, or these
+abbrev pub names_shown : Names → Source (List Text)
 names_shown (GivenNames names) = these (texts_of names)
 names_shown (From list) = in_file list.now
 
-abbrev pub key_shown : Key → KeyText
-key_shown (GivenKey key) = bytes key.items
-key_shown (File name) = file name.now
+-- the file that has a key, or its bytes
+abbrev pub key_shown : Key → Source (List ℕ)
+key_shown (GivenKey key) = these key.items
+key_shown (File name) = in_file name.now
 
 abbrev pub derivation_shown : Derivation → Derived
 derivation_shown (derivation.Hkdf by) =
-    by_hkdf by.hash by.length (option_map (λ v. v.items) by.salt) by.info.items
+    by_hkdf (hmac_alg by.hash) by.length (option_map (λ v. v.items) by.salt) by.info.items
 derivation_shown (derivation.Blake3 context n) = by_blake3 context.now n
 
 abbrev pub task_shown : Task → Asked
-task_shown (code.Hash hashing names) = hashes hashing.requested hashing.parts (names_shown names)
+task_shown (code.Hash hashing names) = hashes hashing.requested (names_shown names)
 task_shown (code.Line hashing wanted name content) =
-    prints_line hashing.requested hashing.parts (option_map (λ v. v.items) wanted) name.now content.now
+    prints_line hashing.requested (option_map (λ v. v.items) wanted) name.now content.now
 task_shown (code.Part place name) = prints_part place.first place.chunks name.now
 task_shown (code.Starts parts name) = prints_starts parts.chunks name.now
 task_shown (code.Join joining name lists) = joins joining.stretch joining.bytes name.now (texts_of lists)

@@ -1,5 +1,5 @@
 use Rattle.source.proofs.Writing.{Writes-after}
-use Rattle.task.specs.Texts.{usage_texts}
+use Rattle.task.specs.inside.Texts.{usage_texts}
 use Rattle.command.proofs.fault.write_usage.Goals as goal
 
 pub returns : goal.returns

@@ -1,5 +1,6 @@
 use Rattle.std.proofs.Common.{rules}
 use Rattle.request.proofs.request.line.Goals as goal
 
-pub returns-clause-passes : goal.returns-clause-passes
-returns-clause-passes c = (_, _, c.names.ensures, search rules, c.in_ok-matches.ensures.passes)
+pub returns-clause-request : goal.returns-clause-request
+returns-clause-request c =
+    (_, _, c.names.ensures, search rules, (c.in_ok-matches.ensures.passes, search rules))

@@ -8,5 +8,5 @@ returns-in-Ok-clause-value c =
 
 pub returns-in-Err-clause-value : goal.returns-in-Err-clause-value
 returns-in-Err-clause-value c =
-    number-refused _ c.args.least _ c.args.text.now c.parse.result _ c.parse.ensures.value.0
+    number-refused c.args.least _ _ c.args.text.now c.parse.result _ c.parse.ensures.value.0
     (omega (arith, c.ranges.most)) c.in-Err.is
