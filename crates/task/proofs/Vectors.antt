@@ -1,0 +1,71 @@
+-- What words ask for, computed: a wrong text, name, bound or order of the settings does not check.
+use Rattle.std.proofs.Common.{◌≡◌, List, [], ◌∷◌, Some, None, Result, Ok, Err, codes, false, option_map, refl}
+use Rattle.std.specs.Int.Count.{count_leading_zeros}
+use Rattle.request.proofs.ExampleWords.{clap_on_literals, subcommand_of}
+use Rattle.request.specs.CommandLine.{NameList, Text, sums_app}
+use Rattle.sumlist.specs.declared.kind.Kind.TheVariants as kind
+use Rattle.task.specs.Tasks.{Asked, asked, checks, hashes, in_file, joins, least_power, tags, these}
+use Rattle.task.specs.declared.hashing.Form.TheVariants.{Plain}
+use Rattle.task.specs.declared.hashing.Hash.TheVariants.{Whole}
+use Rattle.task.specs.declared.tagging.Mac.TheVariants.{Blake2b}
+
+-- these words behind the program's name are judged so, whatever the names of `-a` are
+abbrev Asks : List Text → Result Asked Text → Type 0
+Asks words answer = (names macs : NameList)
+    → option_map asked (subcommand_of (sums_app names macs) (codes "sums" ∷ words)) ≡ Some answer
+
+hash_file : Asks (codes "hash" ∷ codes "-asha256" ∷ codes "f" ∷ []) (Ok (hashes (record {
+  hash = Whole kind.Sha256;
+  stretch = record { position = 0; length = 32 };
+  form = Plain;
+}) (these (codes "f" ∷ []))))
+unfolding clap_on_literals sums_app
+hash_file names macs = refl
+
+hash_label : Asks (codes "hash" ∷ codes "-ablake3" ∷ codes "--tag" ∷ codes "-l" ∷ codes "33" ∷ [])
+    (Err (codes "-l: out of range\n"))
+unfolding clap_on_literals sums_app
+hash_label names macs = refl
+
+hash_salt : Asks (codes "hash" ∷ codes "-ablake3" ∷ codes "--salt" ∷ codes "00" ∷ [])
+    (Err (codes "--salt: not for this algorithm\n"))
+unfolding clap_on_literals sums_app
+hash_salt names macs = refl
+
+hash_verify : Asks (codes "hash" ∷ codes "-ablake2s" ∷ codes "--verify=00" ∷ codes "f" ∷ codes "g" ∷ [])
+    (Err (codes "--verify: one file only\n"))
+unfolding clap_on_literals sums_app
+hash_verify names macs = refl
+
+mac_key : Asks (codes "mac" ∷ codes "-ablake2b" ∷ codes "--key-file" ∷ codes "k" ∷ codes "f" ∷ [])
+    (Ok (tags (Blake2b 64) false (in_file (codes "k")) None (codes "f")))
+unfolding clap_on_literals sums_app
+mac_key names macs = refl
+
+mac_keys : Asks (codes "mac" ∷ codes "-ahmac-sha256" ∷ codes "-l15" ∷ codes "--key=" ∷ codes "--key-file=k" ∷ [])
+    (Err (codes "-l: out of range\n"))
+unfolding clap_on_literals sums_app
+mac_keys names macs = refl
+
+kdf_context : Asks (codes "kdf" ∷ codes "-ablake3" ∷ codes "--ikm-file" ∷ codes "m" ∷ codes "-l9" ∷ [])
+    (Err (codes "--context: needed\n"))
+unfolding clap_on_literals sums_app
+kdf_context names macs = refl
+
+check_input : Asks (codes "check" ∷ []) (Ok (checks None false (codes "-" ∷ [])))
+unfolding clap_on_literals sums_app
+check_input names macs = refl
+
+part_room : Asks (codes "part" ∷ codes "-ablake3" ∷ codes "--first=2" ∷ codes "--chunks=3" ∷ [])
+    (Err (codes "--first: out of range\n"))
+unfolding clap_on_literals sums_app least_power count_leading_zeros
+part_room names macs = refl
+
+part_sha256 : Asks (codes "part" ∷ codes "-asha256" ∷ codes "--list" ∷ []) (Err (codes "-a: not for this command\n"))
+unfolding clap_on_literals sums_app
+part_sha256 names macs = refl
+
+join_input : Asks (codes "join" ∷ codes "-ablake3" ∷ []) (Ok (joins (record { position = 0; length = 32 }) None
+    (codes "-") (codes "-" ∷ [])))
+unfolding clap_on_literals sums_app
+join_input names macs = refl
