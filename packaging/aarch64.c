@@ -1,6 +1,6 @@
 // The functions that a program of the kit calls and the C library has not: the kit brings them for x86-64, and this file
 // for arm64. What each does is said by the contracts of the kit's crates os (src/c.rt) and libc (src/heap.rt). Nothing
-// proves that it does so, here as in the kit; .ci/aarch64 compares them with the kit's.
+// proves that it does so, here as in the kit; tests/library/aarch64 compares them with the kit's.
 #include <errno.h>
 #include <stdint.h>
 #include <stdlib.h>

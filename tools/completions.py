@@ -14,7 +14,7 @@ WORDS = {"--parts": " ".join(str(1 << exponent) for exponent in range(11))}
 # what the help calls a file that is the value of an option
 FILE = "<F>"
 # the program over sums, and which commands it has
-PARALLEL = os.path.join(os.path.dirname(os.path.realpath(__file__)), "../parallel/sums-parallel")
+PARALLEL = os.path.join(os.path.dirname(os.path.realpath(__file__)), "../scripts/sums-parallel")
 PARALLEL_COMMANDS = "hash check"
 
 

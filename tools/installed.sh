@@ -148,7 +148,7 @@ library() {
 
 # compile_with_openssl PROCESSOR WORD..: the C compiler for this processor, with the headers of OpenSSL. Debian keeps
 # two of them apart for each processor. Where another's are not installed, this machine's are taken: they say the same
-# to the provider, which packaging/check_arm64 tries.
+# to the provider, which tests/packages/check_arm64 tries.
 compile_with_openssl() {
     openssl_compiler=$(compiler_for "$1")
     [ "$1" = "$(uname -m)" ] || openssl_compiler="$openssl_compiler -idirafter /usr/include/$(uname -m)-linux-gnu"
@@ -197,7 +197,7 @@ program_texts() {
 
 # parallel_files DO [ZSH]: sums-parallel, which stands beside the program, with its manual page and completions
 parallel_files() {
-    "$1" 755 parallel/sums-parallel bin/sums-parallel
+    "$1" 755 scripts/sums-parallel bin/sums-parallel
     "$1" 644 man/sums-parallel.1 share/man/man1/sums-parallel.1
     "$1" 644 "$completions/sums-parallel.bash" share/bash-completion/completions/sums-parallel
     "$1" 644 "$completions/_sums-parallel" "${2:-share/zsh/site-functions}/_sums-parallel"

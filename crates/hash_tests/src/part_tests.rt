@@ -1,4 +1,5 @@
-// Parts and rows of parts, which the C library does not have; `.ci/parts.py` joins lines of parts by the program.
+// Parts and rows of parts, which the C library does not have; `tests/program/parts.py` joins lines of parts by the
+// program.
 
 use crate::b3_tests::{CONTEXT, KEY, counting};
 use crate::spelling::is_spelled;

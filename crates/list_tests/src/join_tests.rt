@@ -1,6 +1,6 @@
-// Lines of parts that feeds give, and feeds that fail; rows of lines stand in `.ci/parts.py`. The values of parts are those
-// of a second implementation in Python, of the bytes 0, 1, .. 250, 0, ..; the digest of 5,120 of them is an official
-// vector of BLAKE3.
+// Lines of parts that feeds give, and feeds that fail; rows of lines stand in `tests/program/parts.py`. The values of
+// parts are those of a second implementation in Python, of the bytes 0, 1, .. 250, 0, ..; the digest of 5,120 of them
+// is an official vector of BLAKE3.
 
 ghost use Rattle.std.specs.Prelude.{◌≡◌, ℕ, List, IfSome};
 ghost use Rattle.b3.specs.inside.Output.{output_root};

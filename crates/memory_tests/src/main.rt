@@ -1,6 +1,6 @@
 //! Calls of the libraries, one a run: standard input names it. What a call prints is on standard output,
 //! and how it ended is the status. No memory is taken but by the call and for the files that it finds,
-//! so that `.ci/growths.py` can refuse each allocation of a call in turn.
+//! so that `tests/program/growths.py` can refuse each allocation of a call in turn.
 #![tactic(auto)]
 
 mod calls;

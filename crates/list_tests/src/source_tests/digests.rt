@@ -1,4 +1,4 @@
-// Digests of feeds, the refusals, and the rooms. Digests from outside are compared in `.ci/definitions.py`.
+// Digests of feeds, the refusals, and the rooms. Digests from outside are compared in `tests/library/definitions.py`.
 
 use super::feeds_and_sinks::Breaking;
 use blake2::ParameterFault;

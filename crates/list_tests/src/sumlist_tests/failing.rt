@@ -1,5 +1,5 @@
 // Outputs, lists, files, opens and memory that fail, each at each place in turn, with reads of one byte and of 4,096.
-// What a list means is in the rows of `.ci/lists.py`.
+// What a list means is in the rows of `tests/program/lists.py`.
 
 ghost use Rattle.std.specs.Prelude.{◌≤◌, None};
 

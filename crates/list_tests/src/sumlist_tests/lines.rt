@@ -1,4 +1,5 @@
-// What no list and no file can show of lines and entries. Rows of lines, read and written, stand in `.ci/lists.py`.
+// What no list and no file can show of lines and entries. Rows of lines, read and written, stand in
+// `tests/program/lists.py`.
 
 ghost use Rattle.std.specs.Prelude.{None};
 

@@ -1,0 +1,180 @@
+#!/usr/bin/env python3
+"""Checks the documents: each link leads somewhere, here and where they are installed, sentences are short, nothing is
+dated, quoted code is there, README is short, begins with what somebody without the kit asks first, has two commands for
+those with it, and has the options and statuses of the program's help and manual pages.
+usage: tests/documents/documents.py PROGRAM
+"""
+
+import glob
+import os
+import re
+import subprocess
+import sys
+
+sys.path.append(os.path.join(os.path.dirname(os.path.realpath(__file__)), ".."))
+
+import harness
+import links
+
+ROOT = os.path.dirname(harness.HERE)
+README_LINES = 160
+FIRST_LINES = 30
+FIRST_TEXTS = ["sums check -a ", "sums hash -a ", " --verify ", ": OK\n", "apt install", "tar -xf", "pip install",
+               "**Why"]
+SENTENCE_WORDS = 40
+DIARY = re.compile(r"20[0-9]{2}-|November|was seen|beside other")
+# the one line that tells when and on what was measured
+DATED = re.compile(r"Machine: ")
+COMMANDS = ["hash", "mac", "kdf", "check", "part", "join"]
+PROGRAM = harness.program()
+
+
+def read(path):
+    return links.read(os.path.join(ROOT, path))
+
+
+def found(*patterns):
+    """The files of these patterns."""
+    return sorted(path for pattern in patterns for path in glob.glob(pattern, root_dir=ROOT))
+
+
+PAGES = found("README.md", "docs/*.md")
+LEADING = PAGES + found("CHANGELOG.md", "bindings/*/README.md", "web/README.md", "crates/*/CALLING.md")
+
+
+# ---- the text of a page
+
+
+def sentences(text):
+    """The sentences of a page, but for headings and tables. A piece of code counts as a word."""
+    text = re.sub(r"^[|#].*$", "", links.without_code(text), flags=re.M)
+    text = re.sub(r"`+[^`]+`+", "code", text)
+    text = re.sub(r"\[([^\]]*)\]\([^)]*\)", r"\1", text)
+    for block in re.split(r"\n\s*\n|^\s*(?:-|[0-9]+\.) ", text, flags=re.M):
+        yield from re.split(r"(?<=[.?!])[)*\"]*\s+", block.strip())
+
+
+def installed():
+    """The files that an installation has in share/doc/sums."""
+    script = '. tools/installed.sh; place() { echo "$3"; }; documents place'
+    told = subprocess.run(["sh", "-c", script], cwd=ROOT, check=True, capture_output=True, text=True).stdout
+    return [path.removeprefix("share/doc/sums/") for path in told.splitlines()]
+
+
+def none(name, wrong):
+    """Counts a case, in which nothing is wrong."""
+    harness.judge(name, not wrong, *wrong)
+
+
+def check_page(page):
+    text = read(page)
+    none(f"{page}: long sentences", [part for part in sentences(text) if len(part.split()) > SENTENCE_WORDS])
+    none(f"{page}: links to nothing", links.lost(ROOT, page))
+
+
+def folders_of(path):
+    """The folders above a path."""
+    while path := os.path.dirname(path):
+        yield path
+
+
+def check_installed():
+    """An installation has each page whose links are tried, and what they lead to."""
+    files = installed()
+    none("pages that are not installed", sorted(set(LEADING) - set(files)))
+    folders = {folder for path in files for folder in folders_of(path)}
+    for page in LEADING:
+        targets = {links.target(page, link) for link in links.links(read(page))}
+        none(f"{page}: links to what is not installed", sorted(targets - set(files) - folders))
+
+
+def check_diary(page):
+    lines = [line for line in read(page).splitlines() if DIARY.search(line)]
+    may_date = page == "docs/BENCHMARKS.md"
+    none(f"{page}: lines that tell when", [line for line in lines if not (may_date and DATED.match(line))])
+
+
+# ---- what README says beside help, manual pages and code
+
+
+def help_of(*words):
+    """What the program prints of itself, or of a command."""
+    return harness.run(PROGRAM, [*words, "--help"]).out.decode()
+
+
+def options(command):
+    """The options of a command's help."""
+    return re.findall(r"(?:^ +|, )(--?[a-z0-9-]+)", help_of(command).split("\nOptions:\n")[1], re.M)
+
+
+def statuses(told):
+    """The statuses of a help, each with its words."""
+    told = told.split("\nStatus:\n")[1]
+    return {number: " ".join(text.split()) for number, text in re.findall(r"^  (\d+)  (.*(?:\n     .*)*)", told, re.M)}
+
+
+def page_statuses(page):
+    """The same of a manual page."""
+    section = read(page).split(".SH EXIT STATUS\n")[1].split("\n.SH")[0]
+    section = section.split("\n.PP")[0].replace("\\-", "-")
+    told = re.findall(r"^\.TP\n\.B (\d+)\n((?:(?!\.TP).*\n?)*)", section, re.M)
+    return {number: " ".join(re.sub(r"^\.[BI]\S* |\"| (?=,$)", "", text, flags=re.M).split()) for number, text in told}
+
+
+def check_commands():
+    readme = read("README.md")
+    for command in COMMANDS:
+        uses = re.findall(rf"\b{command} (-[^|;`\n]*)", readme)
+        harness.judge(f"README.md has sums {command}", uses)
+        named = {option for use in uses for option in re.findall(r"(?:^|\s)(--?[a-z][a-z0-9-]*)", use)}
+        none(f"README.md: options that sums {command} has not", sorted(named - set(options(command))))
+        of_page = page_statuses(f"man/sums-{command}.1")
+        harness.same(f"statuses of sums-{command}(1)", of_page, statuses(help_of(command)))
+
+
+def check_statuses():
+    told = dict(re.findall(r"^\| (\d+) \| (.*) \|$", read("README.md"), re.M))
+    of_page = page_statuses("man/sums.1")
+    harness.same("statuses of README.md and sums(1)", sorted(told), sorted(of_page))
+    for number, text in statuses(help_of()).items():
+        harness.same(f"status {number} in README.md", told.get(number), text)
+        harness.same(f"status {number} in sums(1)", of_page.get(number), text)
+
+
+def check_first_screen():
+    """The first lines show what is printed, how to get it and why; the commands for those with the kit come last."""
+    readme = read("README.md")
+    first = "".join(readme.splitlines(keepends=True)[:FIRST_LINES])
+    for text in FIRST_TEXTS:
+        harness.judge(f"README.md has '{text.strip()}' in its first lines", text in first)
+    before, kit = readme.split("\n## With the kit\n")
+    early = re.findall(r"\brt (?:try|check|ci)\b.*|tools/test.*", before)
+    none("README.md: the kit's commands before its section", early)
+    commands = [line for block in re.findall(r"^```\w+ \w+\n(.*?)^```$", kit, re.M | re.S)
+                for line in block.splitlines() if line.startswith(("$ ", "tools/"))]
+    harness.judge("README.md has two commands for those with the kit", len(commands) == 2, *commands)
+
+
+def check_quotes():
+    sources = " ".join(" ".join(read(path).split()) for path in found("crates/*/src/*.rt"))
+    for page in PAGES:
+        for quote in re.findall(r"^```rust\n(.*?)^```$", read(page), re.M | re.S):
+            harness.judge(f"{page} quotes code that is there", " ".join(quote.split()) in sources, quote)
+
+
+def main():
+    for page in LEADING:
+        check_page(page)
+    check_installed()
+    for page in PAGES:
+        check_diary(page)
+    count = len(read("README.md").splitlines())
+    harness.judge(f"README.md has {count} lines", count <= README_LINES)
+    check_first_screen()
+    check_commands()
+    check_statuses()
+    check_quotes()
+    harness.finish()
+
+
+main()

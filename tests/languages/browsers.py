@@ -1,0 +1,591 @@
+#!/usr/bin/env python3
+"""Drives the page that checks downloads in browsers without a screen, from a file and from a server: files, folders,
+what is dropped and what is pasted, lists in each form, wrong and missing files, odd names, a file of 3 GB, Stop. What
+it shows is compared with `sums check`, and no request may leave. What is not installed is told at the end, and not
+tried.
+usage: tests/languages/browsers.py PROGRAM PAGE [chromium|firefox]..     SHOTS names a folder for pictures of the page
+"""
+
+import base64
+import contextlib
+import http.server
+import json
+import os
+import pathlib
+import re
+import shutil
+import subprocess
+import sys
+import tempfile
+import threading
+import time
+import zlib
+
+sys.path.append(os.path.join(os.path.dirname(os.path.realpath(__file__)), ".."))
+
+import harness
+
+sys.path.insert(0, os.path.join(harness.HERE, "languages/web"))
+sys.dont_write_bytecode = True
+from drivers import BROWSERS  # noqa: E402
+
+PROGRAM = harness.program()
+PAGE = os.path.abspath(harness.arguments(2)[1])
+WANTED = sys.argv[3:] or list(BROWSERS)
+HASHES = ("sha256", "sha512", "blake2b", "blake2s", "blake3")
+SECONDS = 120
+HUGE = 3 * 10**9
+HUGE_MEMORY = 600 << 10  # KiB that a process of the browser may have of its own
+TAB, SPACE = "\ue004", " "
+EVIL = "<img src=x onerror=alert(1)>\u202etxt.exe"
+LINES = 200000
+SIZES = {"a.iso": 9000001, "empty": 0, "b c.txt": 5, "step": 4 << 20, "ü.dat": 70000, "back\\slash": 3}
+TITLES = {"sha256": "SHA-256", "sha512": "SHA-512", "blake2b": "BLAKE2b", "blake2s": "BLAKE2s", "blake3": "BLAKE3"}
+
+
+def sums(work, *words):
+    return subprocess.run([PROGRAM, *words], cwd=work, capture_output=True, check=False)
+
+
+# ---- the page, as a person uses it
+
+READ = """
+    const texts = (selector) => [...document.querySelectorAll(selector)].map((it) => it.textContent);
+    const id = (name) => document.getElementById(name);
+    const results = texts('#rows td:nth-child(2)');
+    return {
+        verdict: id('verdict').textContent, state: id('results').className,
+        notes: texts('#notes li'), added: id('added').textContent,
+        rows: texts('#rows th').map((name, at) => `${name}: ${results[at]}`), details: texts('#rows td:nth-child(3)'),
+        isWorking: !id('progress').hidden, speed: id('speed').textContent, more: id('more').textContent,
+    };
+"""
+
+
+class Page:
+    """The page in a browser, and what it shows."""
+
+    def __init__(self, browser, address):
+        self.browser = browser
+        browser.open(address)
+
+    def anew(self, chosen=""):
+        self.browser.script("document.getElementById('anew').click()")
+        self.choose(chosen)
+
+    def choose(self, chosen):
+        """Chooses a hash by its name."""
+        self.browser.script("""
+            const select = document.getElementById('hash');
+            select.value = arguments[0];
+            select.dispatchEvent(new Event('change'));
+        """, chosen)
+
+    def files(self, *paths, by="files"):
+        self.browser.keys(by, "\n".join(map(str, paths)))
+
+    def paste(self, text):
+        self.browser.script("""
+            const area = document.getElementById('text');
+            area.value = arguments[0];
+            area.dispatchEvent(new Event('input'));
+        """, text)
+        time.sleep(0.5)
+
+    def read(self):
+        return self.browser.script(READ)
+
+    def wait(self, is_done, what, seconds=SECONDS):
+        end = time.monotonic() + seconds
+        while True:
+            shown = self.read()
+            if is_done(shown):
+                return shown
+            if time.monotonic() > end:
+                raise RuntimeError(f"no {what}: {json.dumps(shown)[:2000]}")
+            time.sleep(0.1)
+
+    def judged(self, files, seconds=SECONDS):
+        """What is shown as soon as so many files and lists are added, and all of it is read."""
+        def is_done(shown):
+            numbers = re.findall(r"\d+", shown["added"]) or [0]
+            return sum(map(int, numbers)) == files and shown["verdict"] and not shown["isWorking"]
+        return self.wait(is_done, "verdict", seconds)
+
+
+# ---- what is checked
+
+
+def make_files(work):
+    """Files of several sizes and names, and lists of them by each hash, with lines of every kind."""
+    for name, size in SIZES.items():
+        block = bytes((at * 7 + size) & 255 for at in range(65536))
+        (work / name).write_bytes(block * (size // 65536) + bytes(size % 65536))
+    (work / EVIL.replace("/", "")).write_bytes(b"evil")
+    names = sorted(it.name for it in work.iterdir())
+    for name in HASHES:
+        listed = sums(work, "hash", "-a", name, "--", *names).stdout
+        digits = len(listed.split()[0].lstrip(b"\\"))
+        wrong = b"%s  b c.txt\n" % (b"0" * digits)
+        odd = b"no entry\n%s *gone\n%s  gone too\r\n" % (b"0" * digits, b"1" * digits)
+        (work / f"{name}sums").write_bytes(b"# a comment\n" + listed.replace(b"  b c", b" *./b c") + odd + wrong)
+    tagged = [sums(work, "hash", "-a", name, "--tag", "--", *names).stdout for name in HASHES]
+    tagged.append(sums(work, "hash", "-a", "blake2b", "-l", "20", "--tag", "--", *names).stdout)
+    tagged.append(b"BLAKE2b-12 (a.iso) = 00\n\\SHA256 (a\\nb) = %s" % (b"0" * 64))
+    (work / "tagged.sums").write_bytes(b"".join(tagged))
+    return [work / name for name in names]
+
+
+def visible(name):
+    """A name of a report as the page shows it."""
+    plain = re.sub(r"\\(.)", lambda it: {"\\": "\\", "n": "\n", "r": "\r"}[it[1]], name)
+    shown = "".join({"\\": "\\\\", "\n": "\\n", "\r": "\\r"}.get(it, it) for it in plain)
+    return re.sub("[\u202a-\u202e]", lambda it: f"\\u{{{ord(it[0]):x}}}", shown)
+
+
+def report_of(work, *words):
+    """The lines of a report, as the page shows them."""
+    lines = sums(work, "check", *words).stdout.decode().split("\n")[:-1]
+    return [re.sub(r"^(.*)(?=: [A-Z]+$)", lambda it: visible(it[1]), line) for line in lines]
+
+
+def try_lists(page, work, files):
+    for name in HASHES:
+        page.anew()
+        page.files(work / f"{name}sums", *files)
+        shown = page.judged(1 + len(files))
+        harness.same(f"a list by {name}", shown["rows"], report_of(work, "-a", name, f"{name}sums"))
+        harness.same(f"the verdict on it by {name}", (shown["state"], shown["verdict"]),
+            ("wrong", f"Something is wrong: {len(files)} OK, 1 FAILED, 2 MISSING, 1 MALFORMED"))
+    page.anew()
+    page.files(work / "tagged.sums", *files)
+    harness.same("a tagged list", page.judged(1 + len(files))["rows"], report_of(work, "tagged.sums"))
+    page.anew()
+    page.files(work / "sha256sums", work / "blake3sums", *files)
+    got = page.judged(2 + len(files))["rows"]
+    wanted = of_several(work, "sha256") + of_several(work, "blake3")
+    harness.same("two lists", sorted(got), sorted(wanted))
+
+
+def of_several(work, name):
+    """The report of a list as one of several: its malformed lines have its name before them."""
+    report = report_of(work, "-a", name, f"{name}sums")
+    return [f"{name}sums: {it}" if re.match(r"line \d+: MALFORMED$", it) else it for it in report]
+
+
+def try_chosen(page, work):
+    """The hash of untagged lines: by the name of a list, or chosen."""
+    (work / "any name").write_bytes(sums(work, "hash", "-a", "blake2b", "-l", "32", "a.iso").stdout)
+    page.anew()
+    page.files(work / "any name", by="lists")
+    page.files(work / "a.iso")
+    shown = page.judged(2)
+    harness.same("a list whose name says no hash", shown["rows"], ["line 1: MALFORMED", "a.iso: NOT LISTED"])
+    harness.same("what it lacks", shown["notes"][0],
+        "any name: its lines do not say which hash they are of. Choose it above.")
+    page.choose("blake2b")
+    harness.same("the same when it is chosen", page.judged(2)["rows"], ["a.iso: OK"])
+    (work / "none.sums").write_bytes(b"# nothing\n")
+    page.anew()
+    page.files(work / "none.sums", work / "a.iso")
+    shown = page.judged(2)
+    harness.same("a list of no entries", (shown["rows"], shown["notes"][0], shown["state"]),
+        (["a.iso: NOT LISTED"], "none.sums: no entries.", ""))
+
+
+def digest_of(work, name, *words):
+    """The digest of the image."""
+    return sums(work, "hash", "-a", name, *words, "a.iso").stdout.decode().split()[0]
+
+
+def try_pasted(page, work):
+    digest = {name: digest_of(work, name) for name in HASHES}
+    unusual = digest_of(work, "blake2b", "-l", "48")
+    wrong = digest["sha256"][:-1] + ("1" if digest["sha256"][-1] == "0" else "0")
+    for what, text, state, detail in (
+        *((f"a digest by {name}", digest[name], "ok", TITLES[name]) for name in HASHES),
+        ("one with its hash before it, in upper case", "sha256:" + digest["sha256"].upper(), "ok", "SHA-256"),
+        ("a tagged line", f"SHA256 (a.iso) = {digest['sha256']}", "ok", "SHA-256"),
+        ("a wrong digest", wrong, "wrong", None),
+        ("the first digits of a digest", digest["sha256"][:16], "wrong", None),
+        ("an untagged line without a hash", digest["sha256"] + "  a.iso", "wrong", None),
+        ("a digest under another hash", "blake3:" + digest["sha256"], "wrong", None),
+        ("one of an unusual length", unusual, "wrong", None),
+        ("the same under its hash", "blake2b:" + unusual, "ok", "BLAKE2b-384"),
+    ):
+        page.anew()
+        page.paste(text)
+        page.files(work / "a.iso")
+        shown = page.judged(1)
+        harness.same(f"pasted: {what}", (shown["state"], detail and shown["details"][0]), (state, detail))
+    page.anew("sha256")
+    page.paste(digest["sha256"] + "  a.iso\n")
+    page.files(work / "a.iso")
+    harness.same("pasted: an untagged line, and its hash is chosen", page.judged(1)["rows"], ["a.iso: OK"])
+    page.anew()
+    page.files(work / "a.iso")
+    shown = page.judged(1)
+    harness.same("no list: a digest", (shown["rows"], shown["details"]),
+        (["a.iso: DIGEST"], ["SHA-256 " + digest["sha256"]]))
+
+
+def try_names(page, work):
+    digest = digest_of(work, "sha256")
+    page.anew()
+    page.paste(f"SHA256 ({EVIL}) = {digest}\nSHA256 (\u2066x\u2069) = {digest}\n\\SHA256 (a\\nb) = {digest}")
+    page.files(work / "a.iso")
+    shown = page.judged(1)
+    wanted = ["<img src=x onerror=alert(1)>\\u{202e}txt.exe", "\\u{2066}x\\u{2069}", "a\\nb"]
+    harness.same("names of markup, and that turn the text", shown["rows"],
+        [*(f"{name}: MISSING" for name in wanted), "a.iso: NOT LISTED"])
+    made = page.browser.script("return document.querySelectorAll('img, #rows script').length")
+    harness.same("no element is made of a name", made, 0)
+    page.anew()
+    page.paste(f"SHA256 (pool/main/a.iso) = {digest}")
+    page.files(work / "a.iso")
+    shown = page.judged(1)
+    harness.same("a name with a folder that is not here", (shown["rows"], shown["details"]),
+        (["pool/main/a.iso: OK"], ["SHA-256, of the file a.iso"]))
+    page.anew()
+    page.paste(f"SHA256 (one/a.iso) = {digest}\nSHA256 (two/a.iso) = {digest}")
+    page.files(work / "a.iso")
+    harness.same("two such names", page.judged(1)["rows"],
+        ["one/a.iso: MISSING", "two/a.iso: MISSING", "a.iso: NOT LISTED"])
+
+
+def folder_of(work):
+    """A folder with a list at its top and one below, and the reports of both."""
+    top = work / "a folder"
+    (top / "sub" / "deep").mkdir(parents=True, exist_ok=True)
+    (top / "a.iso").write_bytes(b"one")
+    (top / "sub" / "a.iso").write_bytes(b"two")
+    (top / "sub" / "deep" / "b").write_bytes(b"three")
+    names = ["a.iso", "sub/a.iso", "./sub/deep/b", "sub/../a.iso"]
+    listed = sums(top, "hash", "-a", "blake3", *names).stdout + b"%s  deep/b\n%s  ../none\n" % (b"0" * 64, b"0" * 64)
+    (top / "B3SUMS").write_bytes(listed)
+    (top / "sub" / "x.sha256").write_bytes(sums(top / "sub", "hash", "-a", "sha256", "a.iso", "../a.iso").stdout)
+    wanted = [f"B3SUMS: {it}" if it.startswith("line") else it for it in report_of(top, "-a", "blake3", "B3SUMS")]
+    return top, wanted + report_of(top / "sub", "-a", "sha256", "x.sha256")
+
+
+def try_folders(page, work):
+    top, wanted = folder_of(work)
+    page.anew()
+    page.browser.folder("folder", str(top))
+    harness.same("a folder with lists", sorted(page.judged(5)["rows"]), sorted(wanted))
+    page.anew()
+    page.browser.drop([str(work / "a.iso"), str(work / "sha256sums")])
+    got = page.judged(2)["rows"]
+    harness.judge("dropped: a file and its list", "a.iso: OK" in got and "empty: MISSING" in got, got)
+    if page.browser.name == "chromium":
+        try_dropped_folder(page, top, wanted)
+
+
+def try_dropped_folder(page, top, wanted):
+    """A page that is a file itself is not given the files of a folder, and says so."""
+    page.anew()
+    page.browser.drop([str(top)])
+    if page.browser.script("return location.protocol") == "file:":
+        shown = page.wait(lambda it: it["added"], "answer")
+        is_told = "choose it as" in shown["added"] and not shown["rows"]
+        harness.judge("dropped on a file: a folder", is_told, shown["added"])
+    else:
+        harness.same("dropped: a folder", sorted(page.judged(5)["rows"]), sorted(wanted))
+
+
+def try_again(page, work):
+    """A file that is added again after it has changed, and one that has changed since it was added."""
+    (work / "changing").write_bytes(b"before")
+    digest = sums(work, "hash", "-a", "sha256", "changing").stdout.decode().split()[0]
+    page.anew()
+    page.paste(digest)
+    page.files(work / "changing")
+    harness.same("a file", page.judged(1)["rows"], ["changing: OK"])
+    (work / "changing").write_bytes(b"behind")
+    page.files(work / "changing")
+    shown = page.wait(lambda it: "FAILED" in it["rows"][0], "FAILED")
+    harness.same("the same after a change", shown["rows"], ["changing: FAILED"])
+
+
+def try_many_lines(page, work):
+    """A long list: the page stays small, and a wrong file is shown wherever its line stands."""
+    lines = [b"%064x  file %d\n" % (at, at) for at in range(LINES)]
+    lines[LINES - 10] = b"%s  a.iso\n" % (b"0" * 64)
+    (work / "many.sha256").write_bytes(b"".join(lines))
+    page.anew()
+    page.files(work / "many.sha256", work / "a.iso")
+    shown = page.judged(2)
+    harness.same("a list of many lines", shown["verdict"], f"Something is wrong: 1 FAILED, {LINES - 1} MISSING")
+    harness.judge("its wrong line", "a.iso: FAILED" in shown["rows"])
+    harness.same("how many lines are shown", (len(shown["rows"]), shown["more"]),
+        (1001, f"{LINES - 1001} more rows of the kinds above, which are counted, and not shown."))
+
+
+# ---- a long file
+
+
+def private_memory(pid):
+    """What a process has of its own, in KiB."""
+    with contextlib.suppress(OSError):
+        for line in pathlib.Path(f"/proc/{pid}/smaps_rollup").read_text(encoding="ascii").splitlines():
+            if line.startswith("Private_Dirty:"):
+                return int(line.split()[1])
+    return 0
+
+
+def processes_below(top):
+    """The processes that a process has begun, and those that these have."""
+    above = {}
+    for path in pathlib.Path("/proc").glob("[0-9]*/stat"):
+        with contextlib.suppress(OSError, IndexError):
+            above[int(path.parent.name)] = int(path.read_text(errors="replace").rpartition(")")[2].split()[1])
+    found, wave = set(), {top}
+    while wave:
+        found |= wave
+        wave = {pid for pid, its in above.items() if its in wave} - found
+    return found
+
+
+class Watch:
+    """The most memory that a process of the browser has of its own, meanwhile."""
+
+    def __init__(self, pid):
+        self.pid, self.most, self.stop = pid, 0, threading.Event()
+        self.thread = threading.Thread(target=self.look)
+
+    def look(self):
+        while not self.stop.wait(0.5):
+            self.most = max([self.most, *map(private_memory, processes_below(self.pid))])
+
+    def __enter__(self):
+        self.thread.start()
+        return self
+
+    def __exit__(self, *_):
+        self.stop.set()
+        self.thread.join()
+
+
+def try_huge(page, work):
+    path = work / "huge.iso"
+    with open(path, "wb") as file:
+        file.truncate(HUGE)
+    line = sums(work, "hash", "-a", "blake3", "--tag", "huge.iso").stdout.decode()
+    page.anew()
+    page.paste(line)
+    with Watch(page.browser.process.pid) as watch:
+        page.files(path)
+        shown = page.judged(1, 600)
+    harness.same("a file of 3 GB", shown["rows"], ["huge.iso: OK"])
+    harness.judge("its memory", watch.most < HUGE_MEMORY, f"{watch.most >> 10} MiB")
+    print(f"{page.browser.name}: {shown['speed']}; at most {watch.most >> 10} MiB in a process")
+    page.anew()
+    page.paste(line.replace("BLAKE3", "SHA256"))
+    page.files(path, work / "a.iso")
+    page.wait(lambda it: re.search(r"^huge.iso: [1-9]", it["rows"][0]), "progress")
+    # by keyboard, as it can be by a mouse
+    page.browser.script("document.getElementById('stop').focus()")
+    page.browser.press(SPACE)
+    shown = page.wait(lambda it: it["verdict"], "end")
+    harness.same("Stop", (shown["verdict"], shown["rows"][0]),
+        ("Stopped: 1 NOT LISTED, 1 file not read", "huge.iso: stopped"))
+    time.sleep(1)
+    harness.same("nothing goes on", page.read()["speed"], shown["speed"])
+    page.browser.press(SPACE)
+    page.wait(lambda it: re.search(r"^huge.iso: [1-9]", it["rows"][0]), "progress behind Go on")
+    page.anew()
+    harness.same("Begin anew ends it", (page.read()["rows"], page.read()["isWorking"]), ([], False))
+    path.unlink()
+
+
+def try_broken(browser, work):
+    """A browser that does not take the module says so, and nothing is OK."""
+    text = pathlib.Path(PAGE).read_text(encoding="utf-8")
+    other = base64.b64encode(zlib.compress(b"no module")).decode()
+    broken = re.sub(r'(id="module">)[^<]*', lambda it: it[1] + other, text)
+    (work / "broken.html").write_text(broken, encoding="utf-8")
+    page = Page(browser, (work / "broken.html").as_uri())
+    page.files(work / "a.iso")
+    shown = page.wait(lambda it: it["verdict"], "verdict")
+    told = shown["verdict"].startswith("This browser cannot run the hashes: ")
+    harness.judge("a module that the browser refuses", told and shown["state"] == "wrong", shown["verdict"])
+    harness.same("what it says of the file", (shown["rows"], shown["isWorking"]), (["a.iso: not read"], False))
+
+
+# ---- what the browser shows and lets through
+
+
+def try_keyboard(page):
+    page.anew()
+    reached = [page.browser.script("return document.activeElement.id")]
+    for _ in range(5):
+        page.browser.press(TAB)
+        reached.append(page.browser.script("return document.activeElement.id"))
+    harness.same("the Tab key", reached, ["files", "folder", "lists", "text", "hash", "anew"])
+    nameless = page.browser.script("""
+        return [...document.querySelectorAll('input, textarea, select, button, progress')]
+            .filter((it) => !it.labels?.[0]?.textContent.trim() && !it.textContent.trim()).map((it) => it.id);
+    """)
+    harness.same("controls without a name", nameless, [])
+    live = page.browser.script("return document.querySelectorAll('[role=status] #verdict, #added[role=status]').length")
+    harness.same("what is told aloud", live, 2)
+
+
+class Server(http.server.ThreadingHTTPServer):
+    """A server of the page, which keeps what it is asked for."""
+
+    def __init__(self, folder):
+        self.asked = []
+        asked = self.asked
+
+        class Handler(http.server.SimpleHTTPRequestHandler):
+            def __init__(self, *words, **named):
+                super().__init__(*words, directory=folder, **named)
+
+            def parse_request(self):
+                is_fine = super().parse_request()
+                asked.append(getattr(self, "path", "?"))
+                return is_fine
+
+            def log_message(self, format, *words):  # pylint: disable=redefined-builtin
+                pass
+
+        super().__init__(("127.0.0.1", 0), Handler)
+        threading.Thread(target=self.serve_forever, daemon=True).start()
+        self.address = f"http://127.0.0.1:{self.server_address[1]}"
+
+
+# Each way to ask a server, by a script in the page.
+ATTEMPTS = """
+    const address = arguments[0] + '/asked-by-';
+    const made = (name, properties, parent = document.head) => {
+        const element = Object.assign(document.createElement(name), properties);
+        parent.append(element);
+        return element;
+    };
+    const attempts = [
+        () => fetch(address + 'fetch').catch(() => {}),
+        () => fetch(address + 'nocors', { mode: 'no-cors' }).catch(() => {}),
+        () => navigator.sendBeacon(address + 'beacon', 'x'),
+        () => {
+            const request = new XMLHttpRequest();
+            request.open('GET', address + 'xhr');
+            request.send();
+        },
+        () => made('img', { src: address + 'image' }, document.body),
+        () => made('link', { rel: 'stylesheet', href: address + 'style' }),
+        () => made('link', { rel: 'prefetch', href: address + 'prefetch' }),
+        () => made('script', { src: address + 'script' }),
+        () => made('iframe', { src: address + 'frame' }, document.body),
+        () => made('video', { src: address + 'media' }, document.body),
+        () => made('form', { action: address + 'form' }, document.body).submit(),
+        () => new WebSocket(address.replace('http', 'ws') + 'socket'),
+        () => new EventSource(address + 'events'),
+        () => new Worker(address + 'worker'),
+        () => import(address + 'import').catch(() => {}),
+        () => new FontFace('x', `url(${address}font)`).load().catch(() => {}),
+    ];
+    for (const attempt of attempts) try { attempt(); } catch {}
+"""
+
+
+def try_requests(browser, work, files):
+    """From a server: it is asked for the page alone, whatever is done there."""
+    server = Server(os.path.dirname(PAGE))
+    browser.requests()
+    page = Page(browser, f"{server.address}/{os.path.basename(PAGE)}")
+    page.files(work / "sha256sums", *files)
+    harness.same("from a server", page.judged(1 + len(files))["rows"], report_of(work, "-a", "sha256", "sha256sums"))
+    if browser.name == "chromium":
+        try_dropped_folder(page, *folder_of(work))
+    told = [it for it in browser.requests() if not it.endswith(os.path.basename(PAGE))]
+    harness.same("what the browser tells of requests", told, [])
+    harness.same("what the server was asked for", server.asked, [f"/{os.path.basename(PAGE)}"])
+    harness.same("faults in the console", browser.faults(), [])
+    browser.script(ATTEMPTS, server.address)
+    time.sleep(2)
+    harness.same("what a script of the page could ask for", server.asked[1:], [])
+    server.shutdown()
+
+
+# ---- pictures, to be looked at
+
+
+def take_pictures(kind, work, files):
+    folder = os.environ.get("SHOTS")
+    if not folder:
+        return
+    os.makedirs(folder, exist_ok=True)
+    address = pathlib.Path(PAGE).as_uri()
+    for dark in (False, True):
+        browser = kind(dark=dark)
+        try:
+            page = Page(browser, address)
+            mode = "dark" if dark else "light"
+            def save(name):
+                pathlib.Path(folder, f"{kind.name}-{mode}-{name}.png").write_bytes(browser.screenshot())
+            browser.resize(1000, 1000)
+            save("empty")
+            page.files(work / "sha256sums", *files)
+            page.judged(1 + len(files))
+            save("wrong")
+            browser.resize(375, 1400)
+            save("narrow")
+            browser.script("scrollTo(0, 99999)")
+            save("narrow-end")
+            browser.resize(1000, 1000)
+            page.anew()
+            page.paste(sums(work, "hash", "-a", "sha256", "--tag", "a.iso").stdout.decode())
+            page.files(work / "a.iso")
+            page.judged(1)
+            save("ok")
+        finally:
+            browser.quit()
+
+
+def try_browser(kind, work, files):
+    browser = kind()
+    try:
+        print(f"{kind.name} {browser.version}")
+        page = Page(browser, pathlib.Path(PAGE).as_uri())
+        try_lists(page, work, files)
+        try_chosen(page, work)
+        try_pasted(page, work)
+        try_names(page, work)
+        try_folders(page, work)
+        try_again(page, work)
+        try_many_lines(page, work)
+        try_keyboard(page)
+        try_huge(page, work)
+        harness.same("faults in the console, from a file", browser.faults(), [])
+        try_broken(browser, work)
+        browser.faults()
+        try_requests(browser, work, files)
+    finally:
+        browser.quit()
+    take_pictures(kind, work, files)
+
+
+def main():
+    harness.judge("a page of less than 200 KB", os.path.getsize(PAGE) < 200000, os.path.getsize(PAGE))
+    missing = []
+    for name in WANTED:
+        kind = BROWSERS[name]
+        lacking = [it for it in kind.commands if not shutil.which(it)]
+        if lacking:
+            missing.append(f"{lacking[0]} is not installed: the page was not tried in {name}")
+            continue
+        with tempfile.TemporaryDirectory() as folder:
+            work = pathlib.Path(folder)
+            files = make_files(work)
+            try:
+                try_browser(kind, work, files)
+            except RuntimeError as fault:
+                harness.judge(name, False, fault)
+    for text in missing:
+        print(text)
+    harness.finish()
+
+
+if __name__ == "__main__":
+    main()

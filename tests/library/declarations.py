@@ -1,0 +1,187 @@
+#!/usr/bin/env python3
+"""Compares with the header of C: the calls and states that the crate of Rust declares, the calls of the library itself
+with the order of their arguments, the refusals of the packages of Rust and Python, and the sizes that the states have
+for the C compiler and in the sources of the crates. The packages of Python and Go compile the header itself.
+usage: tests/library/declarations.py HEADER SOURCES CRATES    with sums_hash on the path; SOURCES is src/ of the crate of Rust
+"""
+
+import glob
+import os
+import re
+import subprocess
+import sys
+import tempfile
+
+import sums_hash
+
+sys.path.append(os.path.join(os.path.dirname(os.path.realpath(__file__)), ".."))
+
+import harness
+from harness import same
+
+KINDS_OF_RUST = {"uint8_t": "u8", "size_t": "usize", "uint64_t": "u64"}
+
+
+def words(text):
+    return " ".join(text.split())
+
+
+def of_header(path):
+    """For each call whether it answers a status, and of each argument whether it is constant, its type, whether it is
+    memory, its name, and how many bytes it has where that is fixed."""
+    with open(path) as file:
+        text = re.sub(r"/\*.*?\*/", "", file.read(), flags=re.S)
+    argument = re.compile(r"(const )?(\w+) (\*?)(\w+)(?:\[(\d+)\])?")
+    return {
+        name: (answer == "uint32_t", [argument.fullmatch(words(each)).groups() for each in arguments.split(",")])
+        for answer, name, arguments in re.findall(r"^(\w+) (sums_\w+)\(([^;]*)\);", text, flags=re.M)
+    }
+
+
+def kind_in_rust(kind):
+    """A type of the header as Rust names it."""
+    if kind.endswith("_state"):
+        return "".join(part.capitalize() for part in kind.split("_")[1:])
+    return KINDS_OF_RUST[kind]
+
+
+def in_rust(argument):
+    """An argument as native.rs has it."""
+    constant, kind, pointer, name, bytes_of = argument
+    kind = kind_in_rust(kind)
+    kind = f"[{kind}; {bytes_of}]" if bytes_of else kind
+    is_memory = pointer or bytes_of
+    return f"{name}: " + (f"*{'const' if constant else 'mut'} " if is_memory else "") + kind
+
+
+def in_library(arguments):
+    """Arguments as the library has them: memory and the length behind it are one slice."""
+    left = list(arguments)
+    while left:
+        constant, kind, pointer, name, bytes_of = left.pop(0)
+        kind = kind_in_rust(kind)
+        if bytes_of:
+            kind = f"[{kind}; {bytes_of}]"
+        elif kind == "u8":
+            kind = "[u8]"
+            if left and left[0][1:4] == ("size_t", "", f"{name}_len"):
+                left.pop(0)
+        lent = f"&{'' if constant else 'mut '}" if pointer or bytes_of else ""
+        yield f"{name}: {lent}{kind}"
+
+
+def compare_calls(where, text, header, spelled):
+    """The calls that a text in Rust or Rattle declares, with their arguments in their order, as `spelled` writes them."""
+    found = re.findall(r"fn (sums_\w+)\(([^)]*)\)( -> u32)?", text)
+    same(f"calls in {where}", sorted(name for name, _, _ in found), sorted(header))
+    for name, arguments, status in found:
+        got = [each.strip() for each in arguments.split(",") if each.strip()]
+        answers, wanted = header.get(name, (None, []))
+        same(f"{name} in {where}", (bool(status), got), (answers, list(spelled(wanted))))
+
+
+def compare_library(header, crates):
+    texts = []
+    for path in glob.glob(f"{crates}/hash_c/src/*.rt"):
+        with open(path) as file:
+            texts.append(file.read())
+    compare_calls("the library", "\n".join(texts), header, in_library)
+
+
+def compare_rust(header, sizes, path):
+    with open(path) as file:
+        text = file.read()
+    compare_calls("Rust", text, header, lambda arguments: map(in_rust, arguments))
+    wanted = {"".join(part.capitalize() for part in f"{name}_state".split("_")): size for name, size in sizes.items()}
+    same("states in Rust", {name: int(size) for name, size in re.findall(r"(\w+State): (\d+),", text)}, wanted)
+
+
+def refusals(path):
+    """The number of each refusal, with its name as an enum has it and what the header says of it."""
+    with open(path) as file:
+        found = re.findall(r"^ *SUMS_(\w+) = (\d+),? +/\* (.*) \*/$", file.read(), flags=re.M)
+    return {int(number): (name.title().replace("_", ""), text) for name, number, text in found if number != "0"}
+
+
+def compare_refusals(header, path):
+    same("refusals in the header", sorted(header), [1, 2, 3, 4, 5, 6, 7])
+    with open(path) as file:
+        found = re.findall(r"^ *(\d+) => Err\(Refusal::(\w+)\)", file.read(), flags=re.M)
+    # the states of the crate are always begun
+    wanted = {number: name for number, (name, _) in header.items() if name != "NotBegun"}
+    same("refusals in Rust", {int(number): name for number, name in found}, wanted)
+    texts = {number: str(sums_hash.Refused(number)) for number in header}
+    # the header's text of a state says more
+    wanted = {number: text[: len(texts.get(number, text))] for number, (_, text) in header.items()}
+    same("refusals in Python", texts, wanted)
+
+
+def sizes_in_header(path):
+    """The size of each state as the header tells it."""
+    with open(path) as file:
+        found = re.findall(r"sums_(\w+)_state; /\* ([0-9,]+) bytes \*/", file.read())
+    return {name: int(size.replace(",", "")) for name, size in found}
+
+
+def sizes_in_c(header, names):
+    """The size of each state by the C compiler."""
+    lines = "".join(f'printf("{name} %zu\\n", sizeof(sums_{name}_state));' for name in names)
+    with tempfile.TemporaryDirectory() as work:
+        source, program = os.path.join(work, "sizes.c"), os.path.join(work, "sizes")
+        with open(source, "w") as file:
+            file.write(f'#include <stdio.h>\n#include "{os.path.abspath(header)}"\nint main(void) {{ {lines} }}\n')
+        subprocess.run(["cc", "-o", program, source], check=True)
+        out = subprocess.run([program], check=True, capture_output=True, text=True).stdout
+    return {name: int(size) for name, size in (line.split() for line in out.splitlines())}
+
+
+def sizes_in_crates(folder, names):
+    """The size of each #[repr(C)] struct of the crates' sources, by the layout of C. Blake2bState is blake2b's."""
+    structs, plain = {}, {"u8": (1, 1), "u32": (4, 4), "u64": (8, 8), "usize": (8, 8)}
+
+    def layout(kind):
+        found = re.fullmatch(r"\[(.*); *(\d+)\]", kind)
+        if found:
+            size, align = layout(found[1])
+            return size * int(found[2]), align
+        return plain.get(kind) or of_fields(structs[kind])
+
+    def of_fields(fields):
+        end, most = 0, 1
+        for kind in fields:
+            size, align = layout(kind)
+            end, most = (end + align - 1) // align * align + size, max(most, align)
+        return (end + most - 1) // most * most, most
+
+    for place, _, files in os.walk(folder):
+        for name in files:
+            if not name.endswith(".rt"):
+                continue
+            with open(os.path.join(place, name)) as file:
+                text = re.sub(r"//[^\n]*", "", file.read())
+            for found in re.finditer(r"#\[repr\(C\)\]\s*(?:#\[[^\]]*\]\s*)*pub struct (\w+) *\{([^}]*)\}", text):
+                fields = [field.split(":")[1].strip() for field in found[2].split(",") if ":" in field]
+                structs[found[1]] = fields
+    sizes = {name.removesuffix("State").lower(): of_fields(fields)[0] for name, fields in structs.items()}
+    return {name: sizes.get(name.replace("_", "")) for name in names}
+
+
+def compare_sizes(header, crates):
+    told = sizes_in_header(header)
+    same("states in the header", len(told), 9)
+    same("sizes of the states in C", sizes_in_c(header, told), told)
+    same("sizes of the states in the crates", sizes_in_crates(crates, told), told)
+
+
+def main():
+    header_path, sources, crates = harness.arguments(3)
+    header = of_header(header_path)
+    same("calls in the header", len(header) > 50, True)
+    compare_library(header, crates)
+    compare_rust(header, sizes_in_header(header_path), f"{sources}/native.rs")
+    compare_refusals(refusals(header_path), f"{sources}/refusal.rs")
+    compare_sizes(header_path, crates)
+    harness.finish()
+
+
+main()

@@ -1,0 +1,186 @@
+//! Calls each function of the crate of Rust, and prints what it gives, for tests/library/library_python to compare.
+
+use std::io::Write;
+
+use sums_hash::*;
+
+/// A position that no 32 bits hold.
+const FAR: u64 = (1 << 40) + 7;
+/// A context that is longer than a block.
+const CONTEXT: [u8; 100] = [b'c'; 100];
+
+fn told(name: &str, bytes: &[u8]) {
+    let digits: String = bytes.iter().map(|byte| format!("{byte:02x}")).collect();
+    println!("{name} {digits}");
+}
+
+/// Compares the digests of up to 20 pieces of each length, and of a short one behind them, with those of each alone.
+fn pieces_of_each_length() -> Result<(), Refusal> {
+    let data: Vec<u8> = (0..21 * 65537u32).map(|i| (i.wrapping_mul(2654435761) >> 24) as u8).collect();
+    let about = [1024, 4096, 65536].into_iter().flat_map(|middle| middle - 1..=middle + 1);
+    for length in (1..=300).chain(about) {
+        for end in (0..=20).flat_map(|count| [0, 1, length / 2, length - 1].map(|rest| count * length + rest)) {
+            let of_each = |alone: fn(&mut [u8], &[u8]) -> Result<(), Refusal>, size: usize, out: &[u8]| {
+                let mut want = vec![0; out.len()];
+                let pieces = data[..end].chunks(length);
+                want.chunks_mut(size).zip(pieces).try_for_each(|(digest, piece)| alone(digest, piece))?;
+                assert_eq!(out, want, "{end} bytes in pieces of {length}");
+                Ok(())
+            };
+            let count = data[..end].chunks(length).len();
+            let mut out = vec![0; 64 * count];
+            sha512_pieces(&mut out, &data[..end], length)?;
+            of_each(|digest, piece| Ok(digest.copy_from_slice(&sha512(piece))), 64, &out)?;
+            out.truncate(32 * count);
+            sha256_pieces(&mut out, &data[..end], length)?;
+            of_each(|digest, piece| Ok(digest.copy_from_slice(&sha256(piece))), 32, &out)?;
+            blake2b_pieces(&mut out, 32, &data[..end], length)?;
+            of_each(|digest, piece| blake2b(digest, piece, b""), 32, &out)?;
+            blake2s_pieces(&mut out, 32, &data[..end], length)?;
+            of_each(|digest, piece| blake2s(digest, piece, b""), 32, &out)?;
+            blake3_pieces(&mut out, &data[..end], length)?;
+            of_each(|digest, piece| blake3(digest, 0, piece), 32, &out)?;
+        }
+    }
+    Ok(())
+}
+
+/// A message of all bytes comes to a writer in pieces of any length, and to `update` as one.
+fn written() -> Result<(), Refusal> {
+    let data: Vec<u8> = (0..200_000u32).map(|i| (i.wrapping_mul(2654435761) >> 24) as u8).collect();
+    let (mut whole, mut pieces) = (Sha512::new(), Sha512::new());
+    whole.update(&data)?;
+    assert_eq!(pieces.write(&data[..70_000]).unwrap(), 70_000);
+    pieces.write_all(&data[70_000..]).unwrap();
+    pieces.flush().unwrap();
+    assert_eq!(whole.finish(), sha512(&data));
+    assert_eq!(pieces.finish(), sha512(&data));
+    assert_eq!(std::io::Error::from(Refusal::InputTooLong).kind(), std::io::ErrorKind::InvalidInput);
+    Ok(())
+}
+
+fn main() -> Result<(), Refusal> {
+    let input: Vec<u8> = (0..1000).map(|i| (i % 251) as u8).collect();
+    let (key, salt, personal) = (&input[..32], &input[40..56], &input[60..76]);
+    let (short_salt, short_personal) = (&input[40..48], &input[60..68]);
+    let key32: &[u8; 32] = key.try_into().unwrap();
+    let (b_salt, b_personal) = (salt.try_into().unwrap(), personal.try_into().unwrap());
+    let (s_salt, s_personal) = (short_salt.try_into().unwrap(), short_personal.try_into().unwrap());
+    let pieces = || input.chunks(77);
+
+    let mut out = [0; 20];
+    blake2b(&mut out, &input, key)?;
+    told("blake2b", &out);
+    blake2b_salted(&mut out, &input, key, b_salt, b_personal)?;
+    told("blake2b_salted", &out);
+    blake2s(&mut out, &input, key)?;
+    told("blake2s", &out);
+    blake2s_salted(&mut out, &input, key, s_salt, s_personal)?;
+    told("blake2s_salted", &out);
+    for (name, mut hasher) in
+        [("blake2b", Blake2b::new(20, key)?), ("blake2b_salted", Blake2b::salted(20, key, b_salt, b_personal)?)]
+    {
+        pieces().try_for_each(|piece| hasher.update(piece))?;
+        hasher.clone().finish(&mut out)?;
+        told(name, &out);
+    }
+    for (name, mut hasher) in
+        [("blake2s", Blake2s::new(20, key)?), ("blake2s_salted", Blake2s::salted(20, key, s_salt, s_personal)?)]
+    {
+        pieces().try_for_each(|piece| hasher.update(piece))?;
+        hasher.finish(&mut out)?;
+        told(name, &out);
+    }
+
+    let mut out = [0; 100];
+    blake3(&mut out, FAR, &input)?;
+    told("blake3", &out);
+    blake3_keyed(&mut out, FAR, &input, key32)?;
+    told("blake3_keyed", &out);
+    blake3_derive(&mut out, FAR, &input, &CONTEXT)?;
+    told("blake3_derive", &out);
+    for (name, mut hasher) in [
+        ("blake3", Blake3::new()),
+        ("blake3_keyed", Blake3::keyed(key32)),
+        ("blake3_derive", Blake3::derive(&CONTEXT)),
+    ] {
+        for _ in 0..2 {
+            pieces().try_for_each(|piece| hasher.update(piece))?;
+            hasher.output(FAR, &mut out)?;
+            told(name, &out);
+            hasher.reset();
+        }
+    }
+
+    told("sha256", &sha256(&input));
+    told("sha512", &sha512(&input));
+    let (mut short, mut long) = (Sha256::new(), Sha512::new());
+    pieces().try_for_each(|piece| short.update(piece).and(long.update(piece)))?;
+    told("sha256", &short.finish());
+    told("sha512", &long.finish());
+
+    macro_rules! keyed {
+        ($name:literal, $hmac:ident, $hkdf:ident, $extract:ident, $expand:ident, $count:literal) => {
+            let mut tag = [0; $count];
+            $hmac(&mut tag, &input, key)?;
+            told(concat!("hmac ", $name), &tag);
+            $hkdf(&mut out, &input, salt, personal)?;
+            told(concat!("hkdf ", $name), &out);
+            let prk = $extract(&input, salt)?;
+            told(concat!("extract ", $name), &prk);
+            $expand(&mut out, &prk, personal)?;
+            told(concat!("hkdf ", $name), &out);
+        };
+    }
+    keyed!("sha256", hmac_sha256, hkdf_sha256, hkdf_extract_sha256, hkdf_expand_sha256, 32);
+    keyed!("sha512", hmac_sha512, hkdf_sha512, hkdf_extract_sha512, hkdf_expand_sha512, 64);
+    keyed!("blake2b", hmac_blake2b, hkdf_blake2b, hkdf_extract_blake2b, hkdf_expand_blake2b, 64);
+    keyed!("blake2s", hmac_blake2s, hkdf_blake2s, hkdf_extract_blake2s, hkdf_expand_blake2s, 32);
+    macro_rules! keyed_pieces {
+        ($name:literal, $Hmac:ident, $count:literal) => {
+            let (mut hasher, mut tag) = ($Hmac::new(key)?, [0; $count]);
+            pieces().try_for_each(|piece| hasher.update(piece))?;
+            hasher.clone().finish(&mut tag)?;
+            told(concat!("hmac ", $name), &tag);
+        };
+    }
+    keyed_pieces!("sha256", HmacSha256, 32);
+    keyed_pieces!("sha512", HmacSha512, 64);
+    keyed_pieces!("blake2b", HmacBlake2b, 64);
+    keyed_pieces!("blake2s", HmacBlake2s, 32);
+
+    let mut digests = [0; 32 * 13];
+    sha256_pieces(&mut digests, &input, 77)?;
+    told("sha256_pieces", &digests);
+    let mut long_digests = [0; 64 * 13];
+    sha512_pieces(&mut long_digests, &input, 77)?;
+    told("sha512_pieces", &long_digests);
+    blake3_pieces(&mut digests, &input, 77)?;
+    told("blake3_pieces", &digests);
+    blake2b_pieces(&mut digests[..20 * 13], 20, &input, 77)?;
+    told("blake2b_pieces", &digests[..20 * 13]);
+    blake2s_pieces(&mut digests[..20 * 13], 20, &input, 77)?;
+    told("blake2s_pieces", &digests[..20 * 13]);
+    pieces_of_each_length()?;
+    written()?;
+
+    for refusal in [
+        Blake2b::new(65, b"").err(),
+        Blake2s::new(32, &input[..33]).err(),
+        Blake3::new().output(u64::MAX, &mut out).err(),
+        hkdf_expand_sha256(&mut out, &key[1..], b"").err(),
+        sha256_pieces(&mut digests, &input, 0).err(),
+        blake3_pieces(&mut digests, &input, 76).err(),
+        blake2b_pieces(&mut digests, 65, &input, 0).err(),
+        blake2s_pieces(&mut digests, 20, &input, 77).err(),
+        blake2s_pieces(&mut digests, 33, &input, 77).err(),
+        Blake2b::new(20, key)?.finish(&mut out[..19]).err(),
+        Blake2s::new(20, key)?.finish(&mut out[..21]).err(),
+        HmacSha256::new(key)?.finish(&mut out[..15]).err(),
+        HmacSha256::new(key)?.finish(&mut out[..33]).err(),
+    ] {
+        println!("refused {}", refusal.map_or("nothing".into(), |refusal| format!("{refusal:?}: {refusal}")));
+    }
+    println!("refused InputTooLong: {}", Refusal::InputTooLong);
+    Ok(())
+}

@@ -1,0 +1,607 @@
+#!/usr/bin/env python3
+"""Compares sums-parallel with sums, byte for byte: both streams and the status, for names, lists and faults of every
+kind, by one run at a time and many, in small and large blocks, by a command that begins the runs and, where it is
+installed, through GNU parallel. Then files that runs must not share, what the process was begun with, runs that are
+killed, hosts that are dead, streams that take nothing, signals, and what a terminal shows.
+usage: tests/program/parallel.py PROGRAM
+"""
+
+import contextlib
+import os
+import pty
+import re
+import resource
+import select
+import shlex
+import shutil
+import signal
+import subprocess
+import sys
+import time
+
+sys.path.append(os.path.join(os.path.dirname(os.path.realpath(__file__)), ".."))
+
+import harness
+import tables
+from harness import judge, same
+
+FRONT = os.path.join(os.path.dirname(harness.HERE), "scripts/sums-parallel")
+MIB = 1 << 20
+NAMES = ["plain", "a b", " a  b ", 'it\'s "so"', "$(touch PWNED)", "`touch PWNED`", "x;touch PWNED;",
+         "x&touch PWNED|c>d",
+         "a{}b", "{}", "{3}{#}{.}", '{= system("touch PWNED") =}', "-dash", "--help", "--name=x", "a\nb", "a\rb",
+         "a\\b",
+         "\\n", "*", "~", "#x", "%s", "!x", "größe", "\x1b[31m", "\u202eright",
+         "\u2028\u2029\u200e\u200f\u061c", "-a", "x\nline 3: MALFORMED", "line 3", "sums: 1 OK, ",
+         "x (y) = z", "name 3: bad name"]
+FEW = [f"f{number}" for number in range(120)]
+MANY = [f"many/{number}" for number in range(20000)]
+LISTS = ("good", "tagged", "mixed", "none", "comments", "no-end", "one", "endless", "list\n\x1b[1m\\", "missing",
+         "folder",
+         "", "/dev/null")
+WAYS = ([], ["-j1", "--block=3000"], ["-j", "13", "--block", "1"], ["--by", "env A=b", "--block", "50000"])
+# Lines of a shell with files that runs must not share: pipes, and files that are open already.
+SHARED = (
+    "sums hash -a blake3 /dev/stdin < more",
+    "sums hash -a blake3 f1 stdin f2 /proc/self/fd/0 /dev/fd/./0 < more",
+    "cat more | sums hash -a blake3 f1 stdin f2 stdin more",
+    "sums hash -a blake3 f1 /dev/fd/7 more 7< f2",
+    "cat more > pipe & sums hash -a blake3 f1 pipe more f2",
+    "{ echo one > pipe; sleep 0.3; echo two > pipe; } & sums hash -a sha256 pipe more pipe",
+    "cat more | sums hash -a sha256 --files0-from names-stdin",
+    "sums hash -a sha256 --files0-from names-stdin < more",
+    "sums hash -a sha256 --files0-from /dev/stdin < names-stdin",
+    "cat f1 | sums check -a sha256 --summary list-stdin",
+    "sums check -a sha256 --summary list-stdin good list-stdin < f1",
+    "sums check --summary list-stdin < f1",
+    "cat f1 > pipe & sums check -a sha256 --summary list-pipe",
+    "sums check -a sha256 /dev/stdin < good",
+    "sums hash -a sha256 f1 more f2 > told; sums hash -a sha256 f1 told more /dev/stdout f2 >> told; cat told")
+
+
+# ---- the files
+
+
+def files():
+    for number, name in enumerate(NAMES):
+        fill(name, number * 100)
+    os.mkdir("many")
+    for name in FEW + MANY:
+        with open(name, "w") as file:
+            file.write(name)
+    for name, size in (("just", 32 * MIB), ("less", 32 * MIB - 1), ("more", 32 * MIB + 1), ("large", 70 * MIB + 12345),
+                       ("large\n\\{}", 33 * MIB), ("-large", 48 * MIB)):
+        fill(name, size)
+    os.mkdir("folder")
+    os.symlink("large", "link")
+    os.symlink("nothing", "dangling")
+
+
+def fill(name, size):
+    with open(name, "wb") as file:
+        file.truncate(size)
+        for place in range(0, size, 7 * MIB):
+            file.seek(place)
+            file.write(os.urandom(min(1 << 16, size - place)))
+
+
+def lists(program):
+    names = [*NAMES, *FEW]
+    good = harness.run(program, ["hash", "-a", "sha256", "--", *names, "just"]).out
+    tagged = harness.run(program, ["hash", "-a", "blake3", "--tag", "--", *names]).out
+    lines = good.splitlines(keepends=True)
+    for at in range(0, len(lines), 7):
+        lines[at:at] = [[b"\n", b"# a comment\n", b"no line\n", b"0" * 64 + b"  f1\n", b"1" * 64 + b"  missing\n",
+                         b"2" * 64 + b"  folder\n", lines[at][:-1] + b"\r\n", b"x" * 70000 + b"\n",
+                         b"#" * 70000 + b"\n",
+                         b"a\0b\n", b"3" * 64 + b"  a\xff\n", b"\\" + b"4" * 64 + b"  a\\x\n"][at // 7 % 12]]
+    names = [*map(os.fsencode, names), b"", b"-", b"a\xff", b"x" * 65537, b"missing", b"folder", b"large"]
+    names += [*map(os.fsencode, FEW), b"", b"-", b"b\xff", b"y" * 200000, b"more", b"missing"]
+    for name, data in (("good", good), ("tagged", tagged), ("mixed", b"".join(lines)), ("none", b""),
+                       ("comments", b"#\n\n"),
+                       ("no-end", good[:-1]), ("one", good[:good.index(b"\n") + 1]), ("endless", b"y" * 300000),
+                       ("list\n\x1b[1m\\", b"".join(lines[:40])), ("all", good + tagged + b"".join(lines)),
+                       ("large-list", harness.run(program, ["hash", "-a", "blake3", "just", "more"]).out),
+                       ("names", b"\0".join(names) + b"\0"), ("names-no-end", b"\0".join(names)),
+                       ("names-many", b"".join(os.fsencode(name) + b"\0" for name in MANY))):
+        with open(name, "wb") as file:
+            file.write(data)
+
+
+# ---- the cases: a name, the words, and standard input
+
+
+def content(path):
+    with open(path, "rb") as file:
+        return file.read()
+
+
+def of_files():
+    for alg in tables.HASHES:
+        yield f"every name by {alg}", ["hash", "-a", alg, "--", *NAMES], b""
+    yield "the names before the options", ["hash", *[n for n in NAMES if n[0] != "-"], "-ablake2b", "-l20"], b""
+    yield "many, large ones among them", ["hash", "-a", "blake3", "f1", "large", *FEW, "more", "just", "less", "f2",
+                                          "link",
+                                          "--", "-large", "large\n\\{}"], b""
+    yield "the same file often", ["hash", "-a", "blake3", *["more"] * 3, *["f1"] * 40], b""
+    yield "large ones by another hash", ["hash", "-a", "blake2b", "just", "f1", "more"], b""
+    yield "tagged", ["hash", "-a", "blake3", "--tag", "large", "f1", "--", "large\n\\{}", "a\nb"], b""
+    yield "-l and --seek", ["hash", "-a", "blake3", "-l", "99", "--seek=1000", "more", "f1", "just"], b""
+    yield "-l 1000", ["hash", "-a", "blake3", "-l", "1000", "more", "f1"], b""
+    yield "--parts", ["hash", "-a", "blake3", "--parts", "64", "more", "f1"], b""
+    yield "a salt", ["hash", "-a", "blake2b", "-l", "20", "--salt", "00" * 16, *FEW], b""
+    yield "what is no file", ["hash", "-a", "blake3", "f1", "missing", "folder", "dangling", "/dev/null", "f2", "f1/x",
+                              *FEW, "gone"], b""
+    yield "bad names", ["hash", "-a", "blake3", "f1", "", "x" * 65537, "f2", "y" * 4000, "large"], b""
+    yield "a name that is not UTF-8", ["hash", "-a", "blake3", "f1", os.fsdecode(b"a\xff"), "f2"], b""
+    yield "standard input among them", ["hash", "-a", "blake3", "f1", "-", "f2", "-"], b"given"
+    yield "standard input alone", ["hash", "-a", "blake3"], b"given"
+    yield "a file alone", ["hash", "-a", "sha256", "f1"], b""
+    yield "a large file alone", ["hash", "-a", "blake3", "more"], b""
+
+
+def of_names():
+    for name in ("names", "names-no-end", "none", "missing", "folder", "", "endless", "f1"):
+        yield f"--files0-from {name}", ["hash", "-a", "blake3", "--files0-from", name], b""
+    for name in ("names", "names-no-end", "none"):
+        yield f"--files0-from - < {name}", ["hash", "-a", "sha256", "--files0-from=-"], content(name)
+    yield "--files0-from and names", ["hash", "-a", "sha256", "--files0-from", "names", "f1"], b""
+    yield "--files0-from twice", ["hash", "-a", "sha256", "--files0-from", "names", "--files0-from", "none"], b""
+    yield "--files0-from, tagged", ["hash", "-a", "blake3", "--tag", "--files0-from", "names"], b""
+
+
+def of_words():
+    for words in (["-a", "md5"], [], ["-a", "blake3", "-l", "0"], ["-a", "sha256", "-l", "5"],
+                  ["-a", "blake3", "--none"],
+                  ["-a"], ["-a", "blake3", "--salt", "0"], ["-a", "blake2b", "--personal", "xx"], ["-a=blake3"],
+                  ["-a", "sha256", "--verify", "00"], ["-a", "sha256", "--raw"], ["-a", "sha256", "--name", "x"],
+                  ["--help"],
+                  ["-a", "blake3", "-a", "sha256"], ["-a", "blake3", "--tag", "--tag"],
+                  ["-a", "blake3", "--parts", "3"],
+                  ["-a", "blake3", "--progress"], ["-a", "blake3", "--tag=x"], ["-a", "blake3", "--seek", str(2**64)],
+                  ["-a", "blake3", "--prog"], ["-a", "blake3", "--tag", "-l", "5"]):
+        yield f"the words {words}", ["hash", *words, "f1", "more"], b""
+    yield "an option without its value", ["hash", "-a", "blake3", "f1", "more", "-l"], b""
+    yield "check by no hash", ["check", "-a", "md5", "good"], b""
+    yield "check with a wrong option", ["check", "-l", "5", "good"], b""
+    yield "a list that is not UTF-8", ["check", os.fsdecode(b"a\xff"), "good"], b""
+
+
+def of_lists():
+    for path in LISTS:
+        for words in ([], ["-a", "sha256"], ["-a", "sha256", "--summary"]):
+            yield f"check {path} {words}", ["check", *words, "--", path], b""
+    yield "check several", ["check", "-a", "sha256", "--summary", "good", "missing", "list\n\x1b[1m\\", "none",
+                            "folder",
+                            "mixed", "tagged", "all"], b""
+    for name in ("mixed", "none", "good"):
+        yield f"check standard input, {name}", ["check", "-a", "sha256", "--summary"], content(name)
+    yield "check -", ["check", "-a", "sha256", "-"], content("mixed")
+    yield "check - and more", ["check", "-a", "sha256", "one", "-", "good"], content("mixed")
+
+
+def of_few_lists():
+    """Lists that one run takes together, and one among them that it does not."""
+    yield "check many lists", ["check", "-a", "sha256", "--summary", *["one", "missing", "none", "mixed"] * 20], b""
+    yield "check a large list among others", ["check", "-a", "blake3", *["tagged", "large-list"] * 2, "one", "one"], b""
+
+
+def of_many():
+    """20,000 files, which no way cuts into one run each."""
+    for alg in ("sha256", "blake3"):
+        yield f"20,000 files by {alg}", ["hash", "-a", alg, *MANY], b""
+    yield "20,000 files by --files0-from", ["hash", "-a", "sha256", "--files0-from", "names-many"], b""
+    yield "20,000 files by --files0-from -", ["hash", "-a", "sha256", "--files0-from", "-"], content("names-many")
+    yield "20,000 files that are checked", ["check", "-a", "sha256", "--summary", "good-many"], b""
+
+
+def front(program, words, given=b"", **variables):
+    return harness.run(sys.executable, ["-ISXutf8", FRONT, *words], given, timeout=600,
+                       env={**os.environ, "SUMS": program, **variables})
+
+
+def by_shell(program, own, text):
+    """What a line of a shell answers in which sums is sums-parallel with these words, or where there are none sums."""
+    command = shlex.join([program] if own is None else [sys.executable, "-ISXutf8", FRONT, *own])
+    return harness.run("sh", ["-c", f'rm -f told; sums() {{ {command} "$@"; }}; {text}'], timeout=600,
+                       env={**os.environ, "SUMS": program})
+
+
+def compare(program, ways, cases):
+    for name, words, given in cases:
+        wanted = harness.run(program, words, given)
+        for own in ways:
+            same(f"{' '.join(own)} {name}", front(program, [*own, *words], given), wanted)
+
+
+# ---- files that runs must not share
+
+
+def shared(program):
+    """Pipes and open files are read as by one run: each in its turn, with the streams of the whole."""
+    os.symlink("/dev/stdin", "stdin")
+    os.mkfifo("pipe")
+    line = content("one").split(b"  ")[0]
+    for name, data in (("names-stdin", b"f1\0stdin\0f2\0more\0f3\0"),
+                       ("list-stdin", content("good")[:500].rpartition(b"\n")[0] + b"\n" + line + b"  stdin\n\nx\n"
+                        + b"\\" + line + b"  st\\x\nSHA256 (stdin) = " + line + b"\n" + content("one")),
+                       ("list-pipe", content("one") + line + b"  pipe\r\n" + content("one"))):
+        with open(name, "wb") as file:
+            file.write(data)
+    for text in SHARED:
+        wanted = by_shell(program, None, text)
+        for own in WAYS:
+            same(f"{' '.join(own)}: {text}", by_shell(program, own, text), wanted)
+
+
+def own_source(program):
+    """A file that is the pipe from which the names or lines come: it cannot be read, and none of them is lost."""
+    names = ["f1", "stdin", "f2", "f3"]
+    whole = harness.run(program, ["hash", "-a", "sha256", "f1", "f2", "f3"]).out
+    for own in ([], ["-j2", "--block=1"]):
+        run = front(program, [*own, "hash", "-a", "sha256", "--files0-from", "-"], "\0".join(names).encode())
+        same(f"{own} names from themselves", run, (1, whole, b"sums: stdin: cannot read\n"))
+        lines = whole.splitlines(keepends=True)
+        run = front(program, [*own, "check", "-a", "sha256", "--summary"], b"".join(
+            [lines[0], lines[0].replace(b"f1", b"stdin"), *lines[1:]]))
+        same(f"{own} a list from itself", run, (
+            1, b"f1: OK\nstdin: UNREADABLE\nf2: OK\nf3: OK\n",
+            b"sums: 3 OK, 0 failed, 0 missing, 1 unreadable, 0 too long, 0 malformed, 0 skipped\n"))
+
+
+def answered_at_once(program):
+    """A name or line is answered before the next one is there, as where one process waits for the other."""
+    for words, given, wanted in ((["hash", "-a", "sha256", "--files0-from", "-"], b"f1\0", b"  f1\n"),
+                                 (["check", "-a", "sha256", "-"], content("one"), b": OK\n")):
+        run = subprocess.Popen([sys.executable, FRONT, *words], stdin=subprocess.PIPE, stdout=subprocess.PIPE,
+                               env={**os.environ, "SUMS": program})
+        run.stdin.write(given)
+        run.stdin.flush()
+        ready = select.select([run.stdout], [], [], 20)[0]
+        judge(f"{words[0]}: answered at once", ready and run.stdout.readline().endswith(wanted))
+        run.communicate()
+
+
+def side_by_side(program):
+    """Lines of two processes that write into one pipe stay whole."""
+    reading, writing = os.pipe()
+    runs = [subprocess.Popen([sys.executable, FRONT, "-j2", "--block=9999999", "hash", "-a", "sha256", *MANY],
+                             stdout=writing, env={**os.environ, "SUMS": program}) for _ in range(2)]
+    os.close(writing)
+    with open(reading, "rb") as pipe:
+        lines = pipe.read().splitlines()
+    for run in runs:
+        run.wait()
+    same("two side by side", sorted(lines), sorted(content("good-many").splitlines() * 2))
+
+
+# ---- what the process was begun with
+
+
+def limited(limit, least):
+    return lambda: resource.setrlimit(limit, (least, least))
+
+
+def begun_with(program):
+    """Streams that are closed, signals that are ignored, and few descriptors or little memory."""
+    for text in ("sums hash -a sha256 f1 missing f2", "sums hash -a blake3 more",
+                 "sums check -a sha256 --summary mixed", "sums hash -a sha256 --files0-from -", "sums --help",
+                 "sums -x"):
+        for closed in range(1, 8):
+            closing = " ".join(close for bit, close in enumerate(("<&-", ">&-", "2>&-")) if closed >> bit & 1)
+            wanted = by_shell(program, None, f"{text} {closing}")
+            for own in ([], ["-j2", "--block=1"]) if "-a" in text else ([],):
+                run = by_shell(program, own, f"{text} {closing}")
+                if "-a" in text:
+                    same(f"{own} {text} {closing}", run, wanted)
+                else:
+                    judge(f"{text} {closing}", run.status == wanted.status and b"Traceback" not in run.err, run)
+    ways = (("SIGCHLD ignored", lambda: signal.signal(signal.SIGCHLD, signal.SIG_IGN), "4"),
+            ("few descriptors", limited(resource.RLIMIT_NOFILE, 99), "400"),
+            ("hardly any descriptors", limited(resource.RLIMIT_NOFILE, 20), "400"),
+            ("little memory", limited(resource.RLIMIT_AS, 150 * MIB), "64"))
+    for words in (["check", "-a", "sha256", "--summary", "mixed"], ["hash", "-a", "sha256", "missing", *FEW]):
+        wanted = harness.run(program, words)
+        for name, before, count in ways:
+            run = harness.run(sys.executable, ["-ISXutf8", FRONT, "-j", count, "--block=1", *words], preexec_fn=before,
+                              env={**os.environ, "SUMS": program})
+            same(f"{name}: {words[0]}", run, wanted)
+
+
+def ignored(program):
+    """A signal that is ignored, as SIGHUP is by nohup, does not end the runs."""
+    for number in (signal.SIGHUP, signal.SIGINT):
+        begun = os.path.abspath("begun")
+        with open(begun, "wb"):
+            path = faulty(program, f'case " $* " in *" f9 "*) echo > "{begun}"; sleep 1 ;; esac')
+        run = subprocess.Popen([sys.executable, FRONT, "-j2", "--block=1", "hash", "-a", "sha256", *FEW[:20]],
+                               stdout=subprocess.PIPE, preexec_fn=lambda: signal.signal(number, signal.SIG_IGN),
+                               env={**os.environ, "SUMS": path})
+        wait_for(lambda: content(begun))
+        run.send_signal(number)
+        out = run.communicate(timeout=60)[0]
+        same(f"signal {number} is ignored", (run.returncode, out),
+             (0, harness.run(program, ["hash", "-a", "sha256", *FEW[:20]]).out))
+
+
+def early_signal():
+    """A signal that comes before the runs are begun ends the process as it ends sums."""
+    script = ("import os, runpy, signal, sys\nos.sched_getaffinity = lambda _: signal.raise_signal(signal.SIGINT)\n"
+              "sys.argv[:] = sys.argv[1:]\nrunpy.run_path(sys.argv[0], run_name='__main__')")
+    run = harness.run(sys.executable, ["-c", script, FRONT, "hash", "-a", "sha256", "f1"])
+    same("an early SIGINT", run, (-signal.SIGINT, b"", b""))
+
+
+# ---- runs that fail
+
+
+def faulty(program, how):
+    """A program that is sums, but for what lines of sh do first."""
+    path = os.path.abspath("faulty/sums")
+    os.makedirs("faulty", exist_ok=True)
+    with open(path, "w") as file:
+        file.write(f"#!/bin/sh\nsums={program}\n{how}\nexec \"$sums\" \"$@\"\n")
+    os.chmod(path, 0o755)
+    return path
+
+
+def killed(program, own):
+    whole = harness.run(program, ["hash", "-a", "sha256", *FEW])
+    path = faulty(program, 'case " $* " in *" f100 "*) printf "half a line"; kill -9 $$ ;; esac')
+    run = front(path, [*own, "hash", "-a", "sha256", *FEW], PATH=os.path.dirname(path) + ":" + os.environ["PATH"])
+    lines = [line for line in whole.out.splitlines(True) if not line.endswith(b"  f100\n")]
+    same(f"{own} a killed run", (run.status, run.out), (3, b"".join(lines)))
+    judge(f"{own} a killed run is told", re.search(b"(by signal 9|with status 137); lines are missing", run.err),
+          run.err)
+    good = harness.run(program, ["check", "-a", "sha256", "good"])
+    path = faulty(program, 'case $1 in check) head -n 1 > line; if grep -q "  f100$" line; then kill -9 $$; fi; '
+                  'exec "$sums" "$@" < line ;; esac')
+    run = front(path, ["-j1", "--block=1", "check", "-a", "sha256", "--summary", "good"])
+    lines = [line for line in good.out.splitlines(True) if line != b"f100: OK\n"]
+    same("a killed run of check", (run.status, run.out), (3, b"".join(lines)))
+    judge("no numbers where one is not known", b" OK, " not in run.err, run.err)
+
+
+def parts(program):
+    wanted = harness.run(program, ["hash", "-a", "blake3", "f1", "more", "f2"])
+    for how in ("exit 1", "kill -9 $$", "echo sums-part-1 blake3 0 1 x; exit 0", "exit 0"):
+        path = faulty(program, f'case "$1 $*" in "part "*" 16384 "*) {how} ;; esac')
+        same(f"a part that fails: {how}", front(path, ["-j2", "hash", "-a", "blake3", "f1", "more", "f2"]), wanted)
+    fill("changes", 50 * MIB)
+    for name, does in (("shrinks", "truncate -s 1000 changes"), ("grows", "truncate -s 60000000 changes"),
+                       ("is lost", "rm -f changes")):
+        run = front(faulty(program, f'case $1 in part) {does} ;; esac'), ["hash", "-a", "blake3", "changes"])
+        same(f"a file that {name} meanwhile", run, harness.run(program, ["hash", "-a", "blake3", "changes"]))
+    fill("changes", 50 * MIB)
+    fill("another", 50 * MIB)
+    path = faulty(program, 'case "$1 $*" in "part "*"--first 16384 "*) mv another changes ;; esac')
+    run = front(path, ["-j1", "--block=33554432", "hash", "-a", "blake3", "changes"])
+    same("a file that is replaced meanwhile", run, harness.run(program, ["hash", "-a", "blake3", "changes"]))
+
+
+def number_of_runs(program, own, words):
+    """How many runs are begun."""
+    with open("begun", "wb"):
+        path = faulty(program, f'echo >> "{os.path.abspath("begun")}"')
+    run = front(path, [*own, *words], PATH=os.path.dirname(path) + ":" + os.environ["PATH"])
+    return run.status, len(content("begun"))
+
+
+def few_runs(program):
+    """Small lists go to one run together, and a sparse file is not cut into more parts than are of use."""
+    status, count = number_of_runs(program, [], ["check", "-a", "sha256", *["one"] * 900])
+    judge("900 small lists", status == 0 and count < 5, count)
+    with open("sparse", "wb") as file:
+        file.truncate(1 << 42)
+    path = faulty(program, f'echo >> "{os.path.abspath("begun")}"; case $1 in part) exit 1 ;; esac; exec true')
+    front(path, ["hash", "-a", "blake3", "sparse"])
+    judge("a sparse file", len(content("begun")) < 1500, len(content("begun")))
+    status, count = number_of_runs(program, [], ["hash", "-a=blake3", "-l=99", "more"])
+    judge("-a= and -l= in one word are cut", status == 0 and count > 3, count)
+
+
+def not_begun(program):
+    """What begins the runs is not there, or the words are wrong."""
+    many = ["hash", "-a", "sha256", *FEW]
+    for own, status, text in ((["--by", "/nothing/there"], 127, b"/nothing/there: No such file or directory"),
+                              (["--by", "/nothing/there", "--block=1"], 3,
+                               b"/nothing/there: No such file or directory"),
+                              (["--by=x", "-S", "y"], 2, b"give only one of -S and --by"),
+                              (["-j", "0"], 2, b"-j: out of range"),
+                              (["-jx"], 2, b"-j: out of range"), (["--block="], 2, b"--block: out of range"),
+                              (["-x"], 2, b"-x: neither hash nor check, nor an option"),
+                              (["--by", "/usr/bin/ssh host"], 2, b"--by: ssh hands its words to a shell: give -S")):
+        run = front(program, [*own, *many])
+        judge(f"{own}: the status and the text", run.status == status and b"sums-parallel: " + text in run.err, run)
+    for words, text in ((["-j"], b"-j: needed"), ([], b"hash or check: needed"),
+                        (["mac"], b"mac: neither hash nor check")):
+        run = front(program, words)
+        judge(f"{words}: the status and the text", run.status == 2 and b"sums-parallel: " + text in run.err, run)
+    for words in (many, ["--block=1", *many]):
+        same("no sums", front("/nothing/there", words),
+             (127, b"", b"sums-parallel: /nothing/there: No such file or directory\n"))
+    same("no GNU parallel", front(program, ["-S", "2/:", "--block=1", *many], PATH="/nothing"),
+         (3, b"", b"sums-parallel: parallel: No such file or directory\n"))
+    text = front(program, ["--help"])
+    judge("the help", text.status == 0 and not text.err and max(map(len, text.out.splitlines())) <= 80, text)
+    same("-h", front(program, ["-h"]), text)
+    for word in ("-V", "--version"):
+        same(word, front(program, [word]), harness.run(program, ["--version"]))
+    same("the help on a full device", by_shell(program, [], "sums --help > /dev/full"),
+         (3, b"", b"sums: cannot write\n"))
+
+
+def streams(program):
+    """A full disk, and a pipe whose reader has gone."""
+    for words in (["hash", "-a", "sha256", *FEW], ["hash", "-a", "blake3", "more"], ["check", "-a", "sha256", "good"]):
+        answers = []
+        for command in ([program], [sys.executable, FRONT], [sys.executable, FRONT, "-j2", "--block=1"]):
+            with open("/dev/full", "wb") as full:
+                run = subprocess.run([*command, *words], stdout=full, stderr=subprocess.PIPE,
+                                     env={**os.environ, "SUMS": program})
+            reading, writing = os.pipe()
+            os.close(reading)
+            other = subprocess.run([*command, *words], stdout=writing, stderr=subprocess.PIPE,
+                                   env={**os.environ, "SUMS": program})
+            os.close(writing)
+            answers.append((run.returncode, run.stderr, other.returncode, other.stderr))
+        same(f"streams that take nothing {words[:3]}", answers[1:], answers[:1] * 2)
+
+
+def broken_input(program):
+    """Names and a list that cannot be read to their end: the terminal that they come from is closed."""
+    def run(command, words, data):
+        master, slave = pty.openpty()
+        os.write(slave, data)
+        os.close(slave)
+        done = subprocess.run([*command, *words], stdin=master, capture_output=True,
+                              env={**os.environ, "SUMS": program})
+        os.close(master)
+        return done.returncode, done.stdout, done.stderr
+
+    for words, data in ((["hash", "-a", "sha256", "--files0-from", "-"], b"f1\0f2\0"),
+                        (["check", "-a", "sha256", "--summary", "-"], content("good")[:300])):
+        same(f"broken input {words}", run([sys.executable, FRONT, "--block=1"], words, data),
+             run([program], words, data))
+
+
+def signals(program, own):
+    """Each signal ends the runs, with what they have begun."""
+    for number in (signal.SIGINT, signal.SIGTERM, signal.SIGHUP, signal.SIGQUIT):
+        begun = os.path.abspath("begun")
+        with open(begun, "wb"), contextlib.suppress(FileExistsError):
+            os.mkdir("temporary")
+        path = faulty(program, f'case " $* " in *" f9 "*) echo $$ > "{begun}"; sleep 60 ;; esac')
+        variables = {"SUMS": path, "TMPDIR": os.path.abspath("temporary"),
+                     "PATH": os.path.dirname(path) + ":" + os.environ["PATH"]}
+        run = subprocess.Popen([sys.executable, FRONT, *own, "hash", "-a", "sha256", *FEW[:20]], stdout=subprocess.PIPE,
+                               stderr=subprocess.DEVNULL, env={**os.environ, **variables})
+        wait_for(lambda: content(begun))
+        run.send_signal(number)
+        out = run.communicate(timeout=30)[0]
+        same(f"{own} signal {number}", (run.returncode, os.listdir("temporary")), (-number, []))
+        judge(f"{own} signal {number}: whole lines alone", out == b"" or out.endswith(b"\n"), out)
+        left = int(content(begun))
+        judge(f"{own} signal {number}: no run is left", wait_for(lambda: not os.path.exists(f"/proc/{left}")), left)
+
+
+def wait_for(holds):
+    for _ in range(200):
+        if holds():
+            return True
+        time.sleep(0.05)
+    return False
+
+
+# ---- a terminal
+
+
+def progress(program):
+    """How many bytes are done, and nothing where it is not asked for."""
+    for words, is_shown in ((["--progress", "just", "f1"], True), (["just", "f1"], False)):
+        master, slave = pty.openpty()
+        path = faulty(program, "case $1 in part) sleep 0.3 ;; esac")
+        run = subprocess.Popen([sys.executable, FRONT, "-j2", "hash", "-a", "blake3", *words], stdout=subprocess.PIPE,
+                               stderr=slave, env={**os.environ, "SUMS": path, "TERM": "xterm"})
+        os.close(slave)
+        out = run.communicate(timeout=60)[0]
+        shown = b""
+        try:
+            while piece := os.read(master, 65536):
+                shown += piece
+        except OSError:  # the terminal was closed
+            pass
+        same(f"progress {words}: the lines", out, harness.run(program, ["hash", "-a", "blake3", "just", "f1"]).out)
+        rows = re.findall(rb"(\d+) of 33554434 bytes, (\d+) %\r\x1b\[K", shown)
+        judge(f"progress {words}: the rows", bool(rows) == is_shown and shown == b"".join(
+            b"%b of 33554434 bytes, %b %%\r\x1b[K" % row for row in rows), shown)
+        same(f"progress {words}: they rise", sorted(map(int, (row[0] for row in rows))), [int(row[0]) for row in rows])
+
+
+# ---- GNU parallel
+
+
+def through_parallel(program):
+    path = faulty(program, "")
+    os.environ["PATH"] = os.path.dirname(path) + ":" + os.environ["PATH"]
+    own = ["-S", "4/:", "--block", "50000"]
+    for cases in (of_files(), of_names(), of_words(), of_lists(), of_few_lists()):
+        compare(program, [own], cases)
+    killed(program, ["-S", "2/:", "--block=1"])
+    signals(program, ["-S", "2/:", "--block=1"])
+    dead_hosts(program)
+    long_names(program)
+    run = by_shell(program, ["-S", "2/:", "--block=1"], "mkdir gone; cd gone; rmdir ../gone; sums hash -a sha256 /a /b")
+    same("-S in a folder that is gone", run, (3, b"", b"sums-parallel: .: No such file or directory\n"))
+
+
+def long_names(program):
+    """More names than a command takes go there too, and their length is counted in bytes."""
+    names = [str(number) + "\U0001f600" * 50 for number in range(400)]
+    for name in names:
+        fill(name, 1)
+    words = ["hash", "-a", "sha256", *names]
+    with open("begun", "wb"):
+        path = faulty(program, f'echo >> "{os.path.abspath("begun")}"')
+    run = front(program, ["-S", "2/:", "--block=3000000", *words], PATH=os.path.dirname(path) + ":" + os.environ["PATH"])
+    same("long names", run, harness.run(program, words))
+    judge("long names there", len(content("begun")) > 2, content("begun"))
+
+
+def dead_hosts(program):
+    """A machine that ssh does not reach, one whose connection breaks off, and one that is alive."""
+    words = ["hash", "-a", "sha256", *FEW[:9]]
+    whole = harness.run(program, words)
+    faulty(program, "")
+    with open("ssh", "w") as file:
+        # behind the host and -- stand the words of a command
+        file.write('#!/bin/sh\nhost=$1; shift 2\ncase $host in dead) exit 255 ;; '
+                   'breaks) sh -c "$*" | head -c 60; exit 255 ;; '
+                   'strange) printf "\\0run 99\\0\\0\\0status 0\\0" ;; esac\nexec sh -c "$*"\n')
+    os.chmod("ssh", 0o755)
+    ssh = {"PARALLEL_SSH": os.path.abspath("ssh")}
+    same("a host", front(program, ["-S", "2/host", "--block=1", *words], **ssh), whole)
+    same("a host that answers what it was not asked",
+         front(program, ["-S", "2/strange", "--block=1", *words], **ssh), whole)
+    same("a dead host beside this machine", front(program, ["-S", "2/dead,2/:", "--block=1", *words], **ssh), whole)
+    for host in ("dead", "breaks"):
+        run = front(program, ["-S", f"2/{host}", "--block=1", *words], **ssh)
+        same(f"a host alone that is {host}", (run.status, run.out), (3, b""))
+        judge(f"a host alone that is {host} is told", run.err.count(b"a run of sums ended with status 255") == 9,
+              run.err)
+
+
+def main():
+    program = harness.program()
+    with harness.folder():
+        files()
+        lists(program)
+        with open("good-many", "wb") as file:
+            file.write(harness.run(program, ["hash", "-a", "sha256", *MANY]).out)
+        for cases in (of_files(), of_names(), of_words(), of_lists(), of_few_lists()):
+            compare(program, WAYS, cases)
+        compare(program, [[], ["-j3", "--block=9999999"], ["--by", "env A=b", "--block=50000000"]], of_many())
+        shared(program)
+        own_source(program)
+        answered_at_once(program)
+        side_by_side(program)
+        begun_with(program)
+        ignored(program)
+        early_signal()
+        killed(program, ["-j", "2", "--block=1"])
+        parts(program)
+        few_runs(program)
+        not_begun(program)
+        streams(program)
+        broken_input(program)
+        signals(program, ["-j", "2", "--block=1"])
+        progress(program)
+        if shutil.which("parallel"):
+            through_parallel(program)
+        else:
+            print("GNU parallel is not installed: -S was not tried")
+        judge("nothing that a name spells was run", not os.path.exists("PWNED"))
+    harness.finish()
+
+
+main()

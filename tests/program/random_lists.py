@@ -1,0 +1,223 @@
+#!/usr/bin/env python3
+"""Checks random lists by the program and by a second, plain reading of docs/FORMAT.md in this file,
+and compares reports and statuses. No part of tools/test.
+usage: tests/program/random_lists.py PROGRAM [LINES] [SEED]    LINES is 200,000 where it is not named
+"""
+
+import hashlib
+import os
+import random
+import re
+import sys
+
+sys.path.append(os.path.join(os.path.dirname(os.path.realpath(__file__)), ".."))
+
+import harness
+import tables
+
+LONGEST_LINE = 65536
+LINES_A_LIST = 500
+CONTENTS = [b"", b"abc", bytes(i % 251 for i in range(1025))]
+# BLAKE3 of these contents, by b3sum
+BLAKE3 = {
+    b"": "af1349b9f5f9a1a6a0404dea36dcc9499bcb25c9adc112b7cc9a93cae41f3262",
+    b"abc": tables.HASHES["blake3"]["abc"],
+    CONTENTS[2]: "d00278ae47eb27b34faecf67b4fe263f82d5412916c1ffd97c8cb7fb814b8444",
+}
+NAMES = [
+    b"abc.txt", b"a b", b" blank", b"*star", b"#hash", b"a\\b", b"a\nb", b"a\rb", b"\\", b"\n", b"\r",
+    b"\\n", b"a) = b", b"x (y) = z", "größe".encode(), b"end ", b"(", b"-", b"x" * 200, b"-- x",
+]
+# the algorithm and the digest's bytes of a label without bits
+LABELS = {each["label"]: (name, int(each["most"])) for name, each in tables.HASHES.items()}
+LENGTHS = {name: range(int(each["least"]), int(each["most"]) + 1) for name, each in tables.HASHES.items()}
+ESCAPES = {b"\\": b"\\\\", b"\n": b"\\n", b"\r": b"\\r"}
+
+
+def digest(algorithm, size, content):
+    if algorithm == "blake3":
+        return BLAKE3[content]
+    settings = {"digest_size": size} if "blake2" in algorithm else {}
+    return hashlib.new(algorithm, content, **settings).hexdigest()
+
+
+def escaped(name):
+    return b"".join(ESCAPES.get(bytes([byte]), bytes([byte])) for byte in name)
+
+
+def opened(body):
+    """The name that an escaped body spells, or None."""
+    if b"\\" in re.sub(rb"\\[\\nr]", b"", body):
+        return None
+    return re.sub(rb"\\([\\nr])", lambda found: {b"\\": b"\\", b"n": b"\n", b"r": b"\r"}[found[1]], body)
+
+
+def of_label(label):
+    """The algorithm and the digest's bytes of a label, or None."""
+    if label in LABELS:
+        return LABELS[label]
+    found = re.fullmatch(r"(BLAKE2[bs])-([1-9][0-9]*)", label)
+    if found and int(found[2]) % 8 == 0 and int(found[2]) // 8 <= LABELS[found[1]][1]:
+        return LABELS[found[1]][0], int(found[2]) // 8
+    return None
+
+
+def is_name(name):
+    """A name has 1 byte or more, is UTF-8, and has no NUL."""
+    try:
+        return name and "\0" not in name.decode()
+    except UnicodeDecodeError:
+        return False
+
+
+def parsed(line, kind):
+    """("skipped",), ("malformed",) or ("entry", name, algorithm, digits) of a line without its LF."""
+    if len(line) > LONGEST_LINE:
+        return ("malformed",)
+    if line.endswith(b"\r"):
+        line = line[:-1]
+    if line == b"" or line.startswith(b"#"):
+        return ("skipped",)
+    is_escaped = line.startswith(b"\\")
+    text = line[1:] if is_escaped else line
+    untagged = re.fullmatch(rb"([0-9a-fA-F]+) [ *](.+)", text, re.DOTALL)
+    tagged = re.fullmatch(rb"([A-Za-z0-9-]+) \((.*)\) = ([0-9a-fA-F]+)", text, re.DOTALL)
+    if untagged:
+        digits, name = untagged[1], untagged[2]
+        sizes = LENGTHS[kind]
+        if len(digits) % 2 or len(digits) // 2 not in sizes:
+            return ("malformed",)
+        algorithm = kind
+    elif tagged:
+        name, digits = tagged[2], tagged[3]
+        meant = of_label(tagged[1].decode())
+        if not meant or len(digits) != 2 * meant[1]:
+            return ("malformed",)
+        algorithm = meant[0]
+    else:
+        return ("malformed",)
+    if is_escaped:
+        name = opened(name)
+    if name is None or not is_name(name):
+        return ("malformed",)
+    written = escaped(name)
+    if len(digits) + 2 + len(written) + (written != name) > LONGEST_LINE:
+        return ("malformed",)
+    return ("entry", name, algorithm, digits.decode().lower())
+
+
+def verdict_of(name, algorithm, digits):
+    try:
+        with open(name, "rb") as file:
+            content = file.read()
+    except FileNotFoundError:
+        return b"MISSING"
+    except OSError:
+        return b"UNREADABLE"
+    return b"OK" if digest(algorithm, len(digits) // 2, content) == digits else b"FAILED"
+
+
+def report(lines, kind):
+    """The report of a list and its status."""
+    out, status = [], 0
+    for number, line in enumerate(lines, 1):
+        answer = parsed(line, kind)
+        if answer[0] == "skipped":
+            continue
+        if answer[0] == "malformed":
+            out.append(b"line %d: MALFORMED\n" % number)
+            status = 1
+            continue
+        _, name, algorithm, digits = answer
+        verdict = verdict_of(name, algorithm, digits)
+        if verdict != b"OK":
+            status = 1
+        out.append(escaped(name) + b": " + verdict + b"\n")
+    return b"".join(out), status
+
+
+def good_line(source, kind, files):
+    name = source.choice(NAMES)
+    content = files.get(name, b"abc") if source.random() < 0.8 else source.choice(CONTENTS)
+    body, front = escaped(name), b""
+    if body != name:
+        front = b"\\"
+    if source.random() < 0.1:
+        body, front = name, b""
+    if source.random() < 0.5:
+        size = source.choice(list(LENGTHS[kind]))
+        digits = digest(kind, size, content)
+        line = digits.encode() + source.choice([b"  ", b" *"]) + body
+    else:
+        label = source.choice(list(LABELS))
+        algorithm, size = of_label(label)
+        if "2" in label[-2:] and source.random() < 0.6:
+            size = source.randrange(1, size + 1)
+            label += f"-{8 * size}"
+        digits = digest(algorithm, size, content)
+        line = label.encode() + b" (" + body + b") = " + digits.encode()
+    if source.random() < 0.1:
+        line = line.replace(digits.encode(), digits.upper().encode())
+    return front + line
+
+
+def mutated(source, line):
+    place = source.randrange(len(line) + 1)
+    kind = source.randrange(9)
+    if kind == 0:
+        return line[:place]
+    if kind == 1:
+        return line[:place] + bytes([source.randrange(256)]) + line[place:]
+    if kind == 2:
+        return line[:place] + line[place + 1:]
+    if kind == 3:
+        return line[:place] + source.choice([b" ", b"\\", b"*", b"\r", b"\0", b"\xff", b")", b"="]) + line[place:]
+    if kind == 4:
+        return line + b"\r"
+    if kind == 5:
+        return source.choice([b"#", b" ", b"\\", b"\t"]) + line
+    if kind == 6:
+        return line.swapcase()
+    if kind == 7:
+        return line[:place] + line[place:place + 8] * 2 + line[place + 8:]
+    return line + b"n" * source.choice([1, LONGEST_LINE - len(line), LONGEST_LINE - len(line) + 1])
+
+
+def random_line(source, kind, files):
+    line = good_line(source, kind, files)
+    chance = source.random()
+    if chance < 0.03:
+        return source.choice([b"", b"# a comment", b"\r", b"#"])
+    while source.random() < 0.5:
+        line = mutated(source, line) if line else b"x"
+    return line.replace(b"\n", b"")[: LONGEST_LINE + 2]
+
+
+def main():
+    program, *numbers = harness.arguments(1)
+    program = os.path.abspath(program)
+    wanted = int(numbers[0]) if numbers else 200_000
+    seed = int(numbers[1]) if len(numbers) > 1 else random.randrange(2**32)
+    print(f"tests/program/random_lists.py: {wanted} lines, seed {seed}")
+    source, differences, done = random.Random(seed), 0, 0
+    with harness.folder():
+        files = {name: source.choice(CONTENTS) for name in NAMES if source.random() < 0.8}
+        for name, content in files.items():
+            with open(name, "wb") as file:
+                file.write(content)
+        while done < wanted:
+            kind = source.choice(list(LENGTHS))
+            lines = [random_line(source, kind, files) for _ in range(LINES_A_LIST)]
+            run = harness.run(program, ["check", "-a", kind, "-"], b"".join(line + b"\n" for line in lines))
+            wanted_report, wanted_status = report(lines, kind)
+            if run != (wanted_status, wanted_report, b""):
+                differences += 1
+                pairs = zip(run.out.split(b"\n"), wanted_report.split(b"\n"))
+                first = next((pair for pair in pairs if pair[0] != pair[1]), None)
+                print(f"list {done // LINES_A_LIST}, {kind}: {first}")
+            done += len(lines)
+    print(f"tests/program/random_lists.py: {done} lines, {differences} lists with a difference")
+    return 1 if differences else 0
+
+
+sys.exit(main())

@@ -1,0 +1,243 @@
+#!/usr/bin/env python3
+"""Runs the program where its streams and files are more than a text: devices that take nothing, inputs and outputs
+that are longer than a buffer, a pipe that comes in two pieces, the names that `find` prints, files that are pipes,
+files of another user, files with names that are nearly another's, and many files of which few may be open at a time.
+usage: tests/program/streams.py PROGRAM
+"""
+
+import contextlib
+import functools
+import hashlib
+import hmac
+import os
+import resource
+import shutil
+import subprocess
+import sys
+import threading
+import time
+
+sys.path.append(os.path.join(os.path.dirname(os.path.realpath(__file__)), ".."))
+
+import harness
+import tables
+from harness import same
+
+ABC = tables.text("{sha256}")
+# What is not written to a full device: each command, and each way to write of it.
+FULL = [
+    ("hash", "hash -a blake2s"),
+    ("a long output", "hash -a blake3 -l 100000"),
+    ("a report", "check -a sha256 good-list"),
+    ("a report with a summary", "check -a sha256 --summary good-list"),
+    ("two reports", "check -a sha256 good-list good-list"),
+    ("help", "--help"),
+    ("a tagged line", "hash -a blake2s --tag"),
+    ("a tag", "mac -a hmac-sha256 --key 00"),
+    ("a key", "kdf -a sha256 --ikm-file abc.txt -l 1"),
+    ("a verdict", "mac -a blake2s --key 00 -l 1 --verify 00"),
+    ("a raw key", "kdf -a sha256 --ikm-file abc.txt -l 1 --raw"),
+    ("raw bytes", "hash -a blake3 -l 200000 --raw"),
+    ("a raw digest", "hash -a sha256 --raw"),
+    ("a raw tag", "mac -a blake2b --key 00 --raw"),
+    ("a part", "part -a blake3"),
+    ("first chunks", "part -a blake3 --list --chunks 1 zeros"),
+    ("a joined line", "join -a blake3 chunk.0 chunk.1"),
+    ("names from a file", "hash -a blake3 --files0-from mixed-names"),
+]
+# What a full standard error has no effect on: the words, the status and standard output.
+UNTOLD = [
+    ("a full standard error", "hash -a sha256 abc.txt", 0, ABC + b"  abc.txt\n"),
+    ("a summary told to a full standard error", "check -a sha256 --summary good-list", 0, b"abc.txt: OK\n"),
+    ("a fault told to a full standard error", "hash -a sha256 none abc.txt", 1, ABC + b"  abc.txt\n"),
+]
+# How many files a run needs open at a time, the three streams among them: a list stays open over the files that it
+# names.
+FEW = [
+    ("files", 4, "hash -a sha256" + 50 * " abc.txt"),
+    ("files in parts", 4, "hash -a blake3 --parts 1" + 50 * " abc.txt"),
+    ("files of a list of names", 5, "hash -a sha256 --files0-from many-names"),
+    ("files of lists", 5, "check -a sha256 many-lines many-lines"),
+    ("a file under a key", 4, "mac -a hmac-sha256 --key-file key20 abc.txt"),
+    ("the parts of a file", 4, "part -a blake3 --list --chunks 1 zeros"),
+    ("lists of parts", 4, "join -a blake3 --name zeros part.1 part.2 part.3"),
+]
+LONG = b"x" * 300_000
+# How many seconds a run has whose files are pipes, and the number of the user that has no files.
+PATIENCE = 60
+NOBODY = 65534
+CANNOT_READ = b"sums: this: cannot read\n"
+
+
+def run(words, given=b""):
+    return harness.run(program, words.split(), given)
+
+
+def full_devices():
+    with open("/dev/full", "wb") as full:
+        for name, words in FULL:
+            done = subprocess.run([program, *words.split()], input=b"abc", stdout=full, stderr=subprocess.PIPE)
+            same(f"{name} to a full device", (done.returncode, done.stderr), (3, b"sums: cannot write\n"))
+        for name, words, status, out in UNTOLD:
+            done = subprocess.run([program, *words.split()], stdout=subprocess.PIPE, stderr=full)
+            same(name, (done.returncode, done.stdout), (status, out))
+
+
+def long_inputs():
+    """Inputs that are longer than a read."""
+    with open("300000", "wb") as file:
+        file.write(LONG)
+    for name in tables.OTHERS:
+        wanted = hashlib.new(name, LONG).hexdigest().encode()
+        same(f"{name} of a long file", run(f"hash -a {name} 300000"), (0, wanted + b"  300000\n", b""))
+    wanted = hashlib.blake2b(LONG).hexdigest().encode()
+    same("blake2b of a long pipe", slow_pipe("hash -a blake2b"), (0, wanted + b"  -\n"))
+    line = hashlib.blake2b(LONG, digest_size=20).hexdigest().encode() + b"  300000\n"
+    same("a list over a long file", run("check -a blake2b -", line), (0, b"300000: OK\n", b""))
+
+
+def slow_pipe(words):
+    """A run whose input pauses behind a third of it."""
+    pipes = {"stdin": subprocess.PIPE, "stdout": subprocess.PIPE}
+    with subprocess.Popen([program, *words.split()], **pipes) as running:
+        running.stdin.write(LONG[:100_000])
+        running.stdin.flush()
+        time.sleep(0.1)
+        out, _ = running.communicate(LONG[100_000:])
+    return running.returncode, out
+
+
+def long_outputs():
+    """100,000 bytes of BLAKE3's output, raw and in digits, and the longest key of HKDF over each hash."""
+    digits = run("hash -a blake3 -l 100000 abc.txt").out.removesuffix(b"  abc.txt\n").decode()
+    same("100000 raw bytes", run("hash -a blake3 -l 100000 --raw abc.txt"), (0, bytes.fromhex(digits), b""))
+    same("100000 raw bytes, their number", len(digits), 200_000)
+    for name in tables.OTHERS:
+        key = longest_key(name, b"")
+        words = f"kdf -a {name} --ikm-file empty -l {len(key)}"
+        same(f"the longest key over {name}", run(words), (0, key.hex().encode() + b"\n", b""))
+        same(f"the longest key over {name}, raw", run(f"{words} --raw"), (0, key, b""))
+
+
+def longest_key(name, material):
+    """HKDF (RFC 5869) without salt and info: 255 blocks."""
+    extracted = hmac.new(b"", material, name).digest()
+    key, block = b"", b""
+    for number in range(1, 256):
+        block = hmac.new(extracted, block + bytes([number]), name).digest()
+        key += block
+    return key
+
+
+def names_of_find():
+    os.mkdir("many")
+    for i in range(200):
+        with open(f"many/a file {i}", "w") as file:
+            file.write(str(i))
+    names = subprocess.run(["find", "many", "-type", "f", "-print0"], capture_output=True, check=True).stdout
+    wanted = harness.run(program, [b"hash", b"-a", b"blake3", *names.split(b"\0")[:-1]])
+    same("names that find prints", run("hash -a blake3 --files0-from -", names), wanted)
+    same("names that find prints, their number", wanted.out.count(b"\n"), 200)
+
+
+def rest_of_input():
+    """Behind a part nothing is read of standard input: the next command has it."""
+    for chunks, size in (("1", 1024), ("2", 2048), ("4", 3000)):
+        with open("zeros", "rb") as given:
+            words = [program, "part", "-a", "blake3", "--chunks", chunks]
+            done = subprocess.run(words, stdin=given, capture_output=True)
+            place = os.lseek(given.fileno(), 0, os.SEEK_CUR)
+        same(f"the bytes read for {chunks} chunks", (done.returncode, place), (0, size))
+
+
+def named_pipes():
+    """Each file is a pipe that is filled once, so that a run that opens it twice waits for ever."""
+    for content, row in tables.places():
+        same(f"{row.place}: {row.name}, a pipe", of_pipe(content, row.words, row.given), row.answer)
+    behind = of_pipe(LONG, ["part", "-a", "blake3", "--first", "2", "this"])
+    same("a pipe has no positions", behind, (1, b"", CANNOT_READ))
+    listed = of_pipe(LONG, ["part", "-a", "blake3", "--list", "--chunks", "1", "this"])
+    same("a pipe has no parts to list", listed, (1, b"", CANNOT_READ))
+
+
+def of_pipe(content, words, given=b""):
+    """A run over a pipe of this content."""
+    os.mkfifo("this")
+    threading.Thread(target=fill, args=(os.path.abspath("this"), content), daemon=True).start()
+    try:
+        return harness.run(program, words, given, timeout=PATIENCE)
+    except subprocess.TimeoutExpired:
+        return f"no end after {PATIENCE} seconds"
+    finally:
+        os.remove("this")
+
+
+def fill(pipe, content):
+    with contextlib.suppress(BrokenPipeError), open(pipe, "wb") as file:
+        file.write(content)
+
+
+def files_of_another_user():
+    """Each file may be read and not written, and then not be read either; root, who may do all, gives its rights up."""
+    user = {"user": NOBODY, "group": NOBODY, "extra_groups": []} if os.geteuid() == 0 else {}
+    os.chmod(".", 0o755)
+    copy = shutil.copy(program, os.path.abspath("program"))
+    for content, row in tables.places():
+        write("this", content)
+        os.chmod("this", 0o444)
+        same(f"{row.place}: {row.name}, read-only", harness.run(copy, row.words, row.given, **user), row.answer)
+        os.chmod("this", 0)
+        refused = (1, b"this: UNREADABLE\n", b"") if row.name == "a listed file" else (1, b"", CANNOT_READ)
+        same(f"{row.place}: {row.name}, unreadable", harness.run(copy, row.words, row.given, **user), refused)
+        os.remove("this")
+
+
+def near_names():
+    """Each file is that of its very name, beside files of other content whose names differ from it in a byte, in case,
+    in the last of 255 bytes, or in being relative."""
+    absolute = f"{os.getcwd()}/evil"
+    os.makedirs(os.path.dirname(absolute[1:]))
+    names = ["evil.iso", "evil.isp", "Evil.iso", "evil.iso.", 255 * "e", 254 * "e" + "f", absolute, absolute[1:]]
+    for name in names:
+        write(name, b"another")
+    for name in map(os.fsencode, names):
+        for content, row in tables.places():
+            write(name, content)
+            words = [name if word == b"this" else word for word in row.words]
+            wanted = row.answer._replace(out=row.answer.out.replace(b"this", name))
+            got = harness.run(program, words, row.given.replace(b"this", name))
+            same(f"{row.place}: {row.name}, by the name {os.fsdecode(name)}", got, wanted)
+        write(name, b"another")
+
+
+def write(name, content):
+    with open(name, "wb") as file:
+        file.write(content)
+
+
+def few_open_files():
+    """Each file is closed before the next one is opened."""
+    with open("many-names", "wb") as file:
+        file.write(50 * b"abc.txt\0")
+    with open("many-lines", "wb") as file:
+        file.write(50 * (ABC + b"  abc.txt\n"))
+    for name, most, words in FEW:
+        few = functools.partial(resource.setrlimit, resource.RLIMIT_NOFILE, (most, most))
+        got = harness.run(program, words.split(), preexec_fn=few)
+        same(f"{name}, of which few are open at a time", (got, got.status), (run(words), 0))
+
+
+program = harness.program()
+os.umask(0o022)
+with harness.folder():
+    tables.make_files()
+    full_devices()
+    long_inputs()
+    long_outputs()
+    names_of_find()
+    rest_of_input()
+    named_pipes()
+    files_of_another_user()
+    near_names()
+    few_open_files()
+harness.finish()
