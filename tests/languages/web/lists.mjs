@@ -6,8 +6,8 @@ import { mkdirSync, mkdtempSync, rmSync, writeFileSync } from 'node:fs';
 import { tmpdir } from 'node:os';
 import { join, posix, resolve } from 'node:path';
 import { pathToFileURL } from 'node:url';
-import { Files, shown } from '../../web/names.js';
-import { jobsOf, keyOf, rowsOf, settle } from '../../web/plan.js';
+import { Files, shown } from '../../../web/names.js';
+import { jobsOf, keyOf, rowsOf, settle } from '../../../web/plan.js';
 
 const [program, folder, rounds = '400'] = process.argv.slice(2);
 const { hash } = await import(pathToFileURL(resolve(folder, 'node.js')));
