@@ -573,6 +573,9 @@ def dead_hosts(program):
 
 def main():
     program = harness.program()
+    # what began the tests may ignore signals, as a shell does behind `&`, and runs have that from it
+    for number in (signal.SIGINT, signal.SIGHUP, signal.SIGQUIT):
+        signal.signal(number, signal.SIG_DFL)
     with harness.folder():
         files()
         lists(program)
