@@ -16,7 +16,7 @@
 #define rattle_alloc our_alloc
 #define rattle_realloc our_realloc
 #define rattle_dealloc our_dealloc
-#include "../packaging/aarch64.c"
+#include "../../packaging/aarch64.c"
 #undef tried
 #undef rattle_arg_count
 #undef rattle_arg
