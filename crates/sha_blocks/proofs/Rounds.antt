@@ -1,10 +1,11 @@
 -- Words of a schedule and rounds, one after the other.
-use Rattle.std.proofs.Common.{◌≡◌, ◌≢◌, ℕ, ◌<◌, ◌+◌, ◌-◌, ◌*◌, List, slice_index}
+use Rattle.std.proofs.Common.{◌≡◌, ◌≢◌, ℕ, ◌<◌, ◌+◌, ◌-◌, ◌*◌, List, [], slice_index}
 use Rattle.std.proofs.Common.{arith, ap, sym, ◌∙◌, zero-add, below_more, get_or}
 use Rattle.std.proofs.Common.{get_or-set_other, get_or-set_same, length, slice_set}
 use Rattle.sha2.proofs.Schedule256.{rounds_next, slice_index-schedule_first, slice_index-schedule_next}
 use Rattle.sha2.specs.Sha256.{add32, round, round_constants, rounds, schedule}
 use Rattle.sha2.specs.Sha256.{small_sigma0, small_sigma1, word_at}
+use Rattle.sha_blocks.specs.inside.Schedules.{IsAhead, IsKeyedTo}
 
 -- one more place of a list that is filled from its front
 pub filled_more : {X : Type 0} (P : ℕ → X → Type 0) (xs : List X) (n : ℕ) (x d : X) → n < length xs
@@ -48,6 +49,34 @@ next_word_at b t k fits a x y z u made ex ey ez eu =
 pub sixteen_on : (ws : List ℕ) (t : ℕ) (f : ℕ → ℕ) → ((k : ℕ) → k < 16 → f k ≡ slice_index ws (t + (16 + k)))
     → (k : ℕ) → k < 16 → f k ≡ slice_index ws (t + 16 + k)
 sixteen_on ws t f each k below = each k below ∙ ap (slice_index ws) (omega arith)
+
+-- one more word in a lane, with the constant of its round added
+pub IsKeyedTo_more : (b : List ℕ) (n i : ℕ) (out : List (List ℕ)) (x y : List ℕ) → n < length out → IsKeyedTo b n i out
+    → slice_index x i ≡ slice_index (schedule b 48) n
+    → slice_index y i ≡ add32 (slice_index round_constants n) (slice_index x i)
+    → IsKeyedTo b (n + 1) i (slice_set out n y)
+IsKeyedTo_more b n i out x y room before word key =
+    filled_more (λ k y. slice_index y i ≡ add32 (slice_index round_constants k) (slice_index (schedule b 48) k))
+    out n y [] room before (key ∙ ap (add32 (slice_index round_constants n)) word)
+
+-- the same number of words, spelled another way
+pub IsKeyedTo_at : (b : List ℕ) (m n i : ℕ) (out : List (List ℕ)) → m ≡ n → IsKeyedTo b m i out → IsKeyedTo b n i out
+IsKeyedTo_at b m n i out e at = rw (← e) at
+
+-- one more word in a lane
+pub IsAhead_more : (b : List ℕ) (n i : ℕ) (w out : List (List ℕ)) (x y : List ℕ) → n < length w → n < length out
+    → IsAhead b n i w out → slice_index x i ≡ slice_index (schedule b 48) n
+    → slice_index y i ≡ add32 (slice_index round_constants n) (slice_index x i)
+    → IsAhead b (n + 1) i (slice_set w n x) (slice_set out n y)
+IsAhead_more b n i w out x y fits room before word key = (
+  filled_more (λ k x. slice_index x i ≡ slice_index (schedule b 48) k) w n x [] fits before.0 word,
+  IsKeyedTo_more b n i out x y room before.1 word key,
+)
+
+-- the same number of words, spelled another way
+pub IsAhead_at : (b : List ℕ) (m n i : ℕ) (w out : List (List ℕ)) → m ≡ n → IsAhead b m i w out
+    → IsAhead b n i w out
+IsAhead_at b m n i w out e at = rw (← e) at
 
 -- ---- rounds
 

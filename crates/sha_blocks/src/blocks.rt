@@ -1,14 +1,16 @@
 // SHA-256 on any number of blocks (FIPS 180-4, section 6.2.2): runs of eight have their schedules made at once, and the
-// rounds of one block follow those of the other.
+// rounds of one block follow those of the other. Of many runs the schedules of each are made while the rounds of the
+// run before it go on.
 
-ghost use Rattle.std.specs.Prelude.{◌≡◌, ◌<◌, ◌≤◌, ◌+◌, ◌*◌, ℕ, List, slice_index};
+ghost use Rattle.std.specs.Prelude.{◌≡◌, ◌<◌, ◌≤◌, ◌+◌, ◌-◌, ◌*◌, ℕ, List, [], length, slice_index, slice_index_or};
 ghost use Rattle.std.specs.Simd.Lanes.{fold_l};
 ghost use Rattle.sha2.specs.Sha256;
-ghost use Rattle.sha_blocks.specs.inside.Schedules.{IsKeyed, IsKeyedAt};
+ghost use Rattle.sha_blocks.specs.inside.Schedules.{AreKeyed, IsAhead, IsKeyedTo, StandIn};
 
 use crate::functions::{choice, majority, sums};
 use crate::ring::compress_block;
-use crate::schedules::{Schedules, put_schedules};
+use crate::schedules::{Schedules, Words, put_schedules, put_words};
+use std::simd::prelude::*;
 
 #[inline(always)]
 fn big_sigma0(x: u32) -> u32
@@ -45,54 +47,198 @@ fn round(v: [u32; 8], keyed: u32) -> [u32; 8]
     ]
 }
 
-// Sixteen rounds of block i.
+// Four rounds of block i.
 #[inline(always)]
-fn sixteen_rounds(v: [u32; 8], words: &[[u32; 8]; 16], i: usize) -> [u32; 8]
-    requires { i < 8 }
-    ensures { (h b : List ℕ) (t : ℕ) → v ≡ Sha256.rounds h (Sha256.schedule b 48) t → IsKeyedAt b t i words.now
-        → result ≡ Sha256.rounds h (Sha256.schedule b 48) (t + 16) }
+fn four_rounds(v: &mut [u32; 8], schedules: &Schedules, t: usize, i: usize)
+    requires block { i < 8 }
+    requires rounds { t + 4 ≤ 64 }
+    ensures { (h b : List ℕ) → v.old ≡ Sha256.rounds h (Sha256.schedule b 48) t → IsKeyedTo b 64 i schedules.now
+        → v.new ≡ Sha256.rounds h (Sha256.schedule b 48) (t + 4) }
 {
-    let v = round(v, words[0][i]);
-    let v = round(v, words[1][i]);
-    let v = round(v, words[2][i]);
-    let v = round(v, words[3][i]);
-    let v = round(v, words[4][i]);
-    let v = round(v, words[5][i]);
-    let v = round(v, words[6][i]);
-    let v = round(v, words[7][i]);
-    let v = round(v, words[8][i]);
-    let v = round(v, words[9][i]);
-    let v = round(v, words[10][i]);
-    let v = round(v, words[11][i]);
-    let v = round(v, words[12][i]);
-    let v = round(v, words[13][i]);
-    let v = round(v, words[14][i]);
-    round(v, words[15][i])
+    let x = round(*v, schedules[t][i]);
+    let x = round(x, schedules[t + 1][i]);
+    let x = round(x, schedules[t + 2][i]);
+    *v = round(x, schedules[t + 3][i]);
 }
 
-// Takes block i into a hash value.
+// Sixteen rounds of block i.
+#[inline(always)]
+fn sixteen_rounds(v: &mut [u32; 8], schedules: &Schedules, t: usize, i: usize)
+    requires block { i < 8 }
+    requires rounds { t + 16 ≤ 64 }
+    ensures { (h b : List ℕ) → v.old ≡ Sha256.rounds h (Sha256.schedule b 48) t → IsKeyedTo b 64 i schedules.now
+        → v.new ≡ Sha256.rounds h (Sha256.schedule b 48) (t + 16) }
+{
+    four_rounds(v, schedules, t, i);
+    four_rounds(v, schedules, t + 4, i);
+    four_rounds(v, schedules, t + 8, i);
+    four_rounds(v, schedules, t + 12, i);
+}
+
+// Takes block i into a hash value. Its rounds are written out, which is faster than a loop.
 #[inline(always)]
 fn take_block(h: &mut [u32; 8], schedules: &Schedules, i: usize)
     requires { i < 8 }
-    ensures { (b : List ℕ) → IsKeyed b 4 i schedules.now → h.new ≡ Sha256.compress h.old b }
+    ensures { (b : List ℕ) → IsKeyedTo b 64 i schedules.now → h.new ≡ Sha256.compress h.old b }
 {
-    let v = sixteen_rounds(*h, &schedules[0], i);
-    let v = sixteen_rounds(v, &schedules[1], i);
-    let v = sixteen_rounds(v, &schedules[2], i);
-    let v = sixteen_rounds(v, &schedules[3], i);
+    let mut v = *h;
+    sixteen_rounds(&mut v, schedules, 0, i);
+    sixteen_rounds(&mut v, schedules, 16, i);
+    sixteen_rounds(&mut v, schedules, 32, i);
+    sixteen_rounds(&mut v, schedules, 48, i);
     *h = sums(*h, v);
 }
 
-// Takes eight blocks into a hash value.
-fn take_run(h: &mut [u32; 8], run: &[[u8; 64]; 8], schedules: &mut Schedules)
-    ensures { h.new ≡ fold_l Sha256.compress h.old run.now }
+// Takes block i into a hash value, and puts the words from 8 * i on of the schedules of another run, eight of each. A
+// word comes after each four of eight rounds, so that the processor works on both side by side.
+#[inline(always)]
+fn take_block_ahead(
+    h: &mut [u32; 8],
+    schedules: &Schedules,
+    i: usize,
+    other: &[[u8; 64]; 8],
+    words: &mut Words,
+    next: &mut Schedules,
+)
+    requires { i < 8 }
+    ensures value { (b : List ℕ) → IsKeyedTo b 64 i schedules.now → h.new ≡ Sha256.compress h.old b }
+    ensures ahead { (j : ℕ) → j < 8 → IsAhead (slice_index_or other.now j []) (8 * i) j words.old next.old
+        → IsAhead (slice_index_or other.now j []) (8 * (i + 1)) j words.new next.new }
+    ensures words { length words.new ≡ 64 }
+    ensures next { length next.new ≡ 64 }
 {
-    put_schedules(run, schedules);
+    let mut v = *h;
+    'turns: for turn in 0..8 {
+        four_rounds(&mut v, schedules, 8 * turn, i);
+        put_words(other, words, next, 8 * i + turn);
+        four_rounds(&mut v, schedules, 8 * turn + 4, i);
+    }
+    *h = sums(*h, v);
+}
+
+// Takes a run of eight blocks into a hash value.
+#[inline(never)]
+fn take_run(h: &mut [u32; 8], schedules: &Schedules)
+    ensures { (run : List (List ℕ)) → AreKeyed run schedules.now → h.new ≡ fold_l Sha256.compress h.old run }
+{
     let mut value = *h;
     'blocks: for i in 0..8 {
         take_block(&mut value, schedules, i);
     }
     *h = value;
+}
+
+// Takes a run of eight blocks into a hash value, and puts the schedules of another to `next`. The first sixteen
+// words of a schedule are those of its block: they come beside the first two blocks, in a loop of their own, so that
+// neither loop asks where a word comes from.
+#[inline(never)]
+fn take_run_ahead(
+    h: &mut [u32; 8],
+    schedules: &Schedules,
+    other: &[[u8; 64]; 8],
+    words: &mut Words,
+    next: &mut Schedules,
+)
+    ensures value { (run : List (List ℕ)) → AreKeyed run schedules.now
+        → h.new ≡ fold_l Sha256.compress h.old run }
+    ensures next { AreKeyed other.now next.new }
+    ensures words { length words.new ≡ 64 }
+    ensures length { length next.new ≡ 64 }
+{
+    let mut value = *h;
+    'first: for i in 0..2 {
+        take_block_ahead(&mut value, schedules, i, other, words, next);
+    }
+    'others: for i in 2..8 {
+        take_block_ahead(&mut value, schedules, i, other, words, next);
+    }
+    *h = value;
+}
+
+// Takes the run before `run`, and puts the schedules of this one where those of a run k stand.
+#[inline(always)]
+fn take_next(
+    h: &mut [u32; 8],
+    run: &[[u8; 64]; 8],
+    k: usize,
+    words: &mut Words,
+    even: &mut Schedules,
+    odd: &mut Schedules,
+)
+    requires { 0 < k }
+    ensures value { (before : List (List ℕ)) → StandIn even.old odd.old (k - 1) before
+        → h.new ≡ fold_l Sha256.compress h.old before }
+    ensures next { StandIn even.new odd.new k run.now }
+    ensures words { length words.new ≡ 64 }
+    ensures even { length even.new ≡ 64 }
+    ensures odd { length odd.new ≡ 64 }
+{
+    if k % 2 == 0 {
+        take_run_ahead(h, odd, run, words, even);
+    } else {
+        take_run_ahead(h, even, run, words, odd);
+    }
+}
+
+// Takes run k.
+#[inline(always)]
+fn take_last(h: &mut [u32; 8], k: usize, even: &Schedules, odd: &Schedules)
+    ensures { (run : List (List ℕ)) → StandIn even.now odd.now k run → h.new ≡ fold_l Sha256.compress h.old run }
+{
+    if k % 2 == 0 {
+        take_run(h, even);
+    } else {
+        take_run(h, odd);
+    }
+}
+
+// Takes runs of eight blocks into a hash value, the schedules of each made before its rounds.
+#[inline(never)]
+fn take_apart(h: &mut [u32; 8], runs: &[[[u8; 64]; 8]])
+    ensures { h.new ≡ fold_l (λ v run. fold_l Sha256.compress v run) h.old runs.now }
+{
+    let mut schedules = [[0; 8]; 64];
+    'runs: for run in runs {
+        put_schedules(run, &mut schedules);
+        take_run(h, &schedules);
+    }
+}
+
+// The same, the schedules of each made beside the rounds of the run before it. They stand in `even` where its number is
+// even.
+#[inline(never)]
+fn take_ahead(h: &mut [u32; 8], runs: &[[[u8; 64]; 8]])
+    requires { 0 < length runs.now }
+    ensures { h.new ≡ fold_l (λ v run. fold_l Sha256.compress v run) h.old runs.now }
+{
+    let mut words = [u32x8::splat(0); 64];
+    let mut even = [[0; 8]; 64];
+    let mut odd = [[0; 8]; 64];
+    put_schedules(&runs[0], &mut even);
+    'runs: for k in 1..runs.len() {
+        take_next(h, &runs[k], k, &mut words, &mut even, &mut odd);
+    }
+    take_last(h, runs.len() - 1, &even, &odd);
+}
+
+// From how many runs on their schedules are made ahead: one alone would pay for rooms that it does not need.
+#[inline(always)]
+fn fewest() -> usize
+    ensures { 0 < result }
+{
+    2
+}
+
+// Takes runs of eight blocks into a hash value.
+#[inline(always)]
+fn take_runs(h: &mut [u32; 8], runs: &[[[u8; 64]; 8]])
+    ensures { h.new ≡ fold_l (λ v run. fold_l Sha256.compress v run) h.old runs.now }
+{
+    if runs.len() < fewest() {
+        take_apart(h, runs);
+    } else {
+        take_ahead(h, runs);
+    }
 }
 
 // Takes blocks into a hash value, one by one.
@@ -104,17 +250,14 @@ fn take_each(h: &mut [u32; 8], blocks: &[[u8; 64]])
     }
 }
 
-// Takes blocks into a hash value by runs of eight. A function of its own, so that fewer blocks need no room for
-// schedules.
+// Takes blocks into a hash value by runs of eight. A call, as are the two ways to take runs, so that none pays for the
+// rooms of another.
 #[inline(never)]
 fn take_by_runs(h: &mut [u32; 8], blocks: &[[u8; 64]])
     ensures { h.new ≡ fold_l Sha256.compress h.old blocks.now }
 {
     let (runs, rest) = blocks.as_chunks::<8>();
-    let mut schedules = [[[0; 8]; 16]; 4];
-    'runs: for run in runs {
-        take_run(h, run, &mut schedules);
-    }
+    take_runs(h, runs);
     take_each(h, rest);
 }
 

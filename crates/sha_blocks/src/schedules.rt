@@ -1,17 +1,21 @@
 //! The schedules of eight blocks at once (FIPS 180-4, section 6.2.2): a vector has one word of each.
 
 ghost use Rattle.std.specs.Prelude.{◌≡◌, ◌<◌, ◌≤◌, ◌+◌, ◌*◌, ◌^◌, ◌/◌, ℕ, List, [], slice_index, slice_index_or};
-ghost use Rattle.std.specs.Prelude.{bit_xor};
+ghost use Rattle.std.specs.Prelude.{bit_xor, length};
 ghost use Rattle.std.specs.Int.{w32, rotate_right};
 ghost use Rattle.sha2.specs.Sha256;
-ghost use Rattle.sha_blocks.specs.inside.Schedules.{IsKeyed, IsKeyedAt, IsWindowAt};
+ghost use Rattle.sha_blocks.specs.inside.Schedules.{AreKeyed, IsAhead, IsKeyedTo, IsWindowAt, IsWrittenTo};
 
 use crate::functions::word;
 use crate::table::K;
 use std::simd::prelude::*;
 
-/// Room for the words of eight schedules: word t of block i stands at t / 16, t % 16 and i.
-pub(crate) type Schedules = [[[u32; 8]; 16]; 4];
+/// Room for the words of eight schedules, each with the constant of its round added: word t of block i stands at t
+/// and i.
+pub(crate) type Schedules = [[u32; 8]; 64];
+
+/// Room for the words alone.
+pub(crate) type Words = [u32x8; 64];
 
 /// The sums of words.
 #[inline(always)]
@@ -120,39 +124,45 @@ pub fn keyed(w: u32x8, t: usize) -> [u32; 8]
     add(u32x8::splat(K[t]), w).to_array()
 }
 
-// The words from t on, each with the constant of its round added.
+// Puts word t + k of each schedule, where `w` has the words from t on.
 #[inline(always)]
-fn keyed_sixteen(w: [u32x8; 16], t: usize) -> [[u32; 8]; 16]
-    requires { t + 16 ≤ 64 }
-    ensures { (i : ℕ) → i < 8 → (b : List ℕ) → IsWindowAt b t i w → IsKeyedAt b t i result }
+fn put_one(out: &mut Schedules, w: &[u32x8; 16], t: usize, k: usize)
+    requires place { k < 16 }
+    requires words { t + 16 ≤ 64 }
+    ensures keyed { (i : ℕ) → i < 8 → (b : List ℕ) → IsWindowAt b t i w.now → IsKeyedTo b (t + k) i out.old
+        → IsKeyedTo b (t + (k + 1)) i out.new }
+    ensures length { length out.new ≡ 64 }
 {
-    [
-        keyed(w[0], t),
-        keyed(w[1], t + 1),
-        keyed(w[2], t + 2),
-        keyed(w[3], t + 3),
-        keyed(w[4], t + 4),
-        keyed(w[5], t + 5),
-        keyed(w[6], t + 6),
-        keyed(w[7], t + 7),
-        keyed(w[8], t + 8),
-        keyed(w[9], t + 9),
-        keyed(w[10], t + 10),
-        keyed(w[11], t + 11),
-        keyed(w[12], t + 12),
-        keyed(w[13], t + 13),
-        keyed(w[14], t + 14),
-        keyed(w[15], t + 15),
-    ]
+    out[t + k] = keyed(w[k], t + k);
 }
 
-// Puts them to `out`.
+// Puts the four words from t + k on.
 #[inline(always)]
-fn put_keyed(out: &mut [[u32; 8]; 16], w: &[u32x8; 16], t: usize)
-    requires { t + 16 ≤ 64 }
-    ensures { (i : ℕ) → i < 8 → (b : List ℕ) → IsWindowAt b t i w.now → IsKeyedAt b t i out.new }
+fn put_four(out: &mut Schedules, w: &[u32x8; 16], t: usize, k: usize)
+    requires places { k + 4 ≤ 16 }
+    requires words { t + 16 ≤ 64 }
+    ensures keyed { (i : ℕ) → i < 8 → (b : List ℕ) → IsWindowAt b t i w.now → IsKeyedTo b (t + k) i out.old
+        → IsKeyedTo b (t + (k + 4)) i out.new }
+    ensures length { length out.new ≡ 64 }
 {
-    *out = keyed_sixteen(*w, t);
+    put_one(out, w, t, k);
+    put_one(out, w, t, k + 1);
+    put_one(out, w, t, k + 2);
+    put_one(out, w, t, k + 3);
+}
+
+// Puts all sixteen. They are written out, which is faster than a loop.
+#[inline(always)]
+fn put_keyed(out: &mut Schedules, w: &[u32x8; 16], t: usize)
+    requires { t + 16 ≤ 64 }
+    ensures keyed { (i : ℕ) → i < 8 → (b : List ℕ) → IsWindowAt b t i w.now → IsKeyedTo b t i out.old
+        → IsKeyedTo b (t + 16) i out.new }
+    ensures length { length out.new ≡ 64 }
+{
+    put_four(out, w, t, 0);
+    put_four(out, w, t, 4);
+    put_four(out, w, t, 8);
+    put_four(out, w, t, 12);
 }
 
 // Word t of each block.
@@ -199,15 +209,43 @@ fn first_sixteen(blocks: &[[u8; 64]; 8]) -> [u32x8; 16]
     ]
 }
 
-/// Puts the schedules of eight blocks to `out`, each word with the constant of its round added.
+/// Puts the schedules of eight blocks to `out`.
 #[inline(never)]
 pub(crate) fn put_schedules(blocks: &[[u8; 64]; 8], out: &mut Schedules)
-    ensures { (i : ℕ) → i < 8 → IsKeyed (slice_index_or blocks.now i []) 4 i out.new }
+    ensures keyed { AreKeyed blocks.now out.new }
+    ensures length { length out.new ≡ 64 }
 {
     let mut w = first_sixteen(blocks);
     'turns: for turn in 0..3 {
-        put_keyed(&mut out[turn], &w, 16 * turn);
+        put_keyed(out, &w, 16 * turn);
         advance(&mut w);
     }
-    put_keyed(&mut out[3], &w, 48);
+    put_keyed(out, &w, 48);
+}
+
+// Word t of each schedule, where those before it stand in `words`.
+#[inline(always)]
+fn schedule_words(blocks: &[[u8; 64]; 8], words: &Words, t: usize) -> u32x8
+    requires { t < 64 }
+    ensures { (i : ℕ) → i < 8 → IsWrittenTo (slice_index_or blocks.now i []) t i words.now
+        → slice_index result i ≡ slice_index (Sha256.schedule (slice_index_or blocks.now i []) 48) t }
+{
+    if t < 16 {
+        return block_words(blocks, t);
+    }
+    next_word(words[t - 16], words[t - 15], words[t - 7], words[t - 2])
+}
+
+/// Puts word t of each schedule, after all those before it.
+#[inline(always)]
+pub(crate) fn put_words(blocks: &[[u8; 64]; 8], words: &mut Words, out: &mut Schedules, t: usize)
+    requires { t < 64 }
+    ensures ahead { (i : ℕ) → i < 8 → IsAhead (slice_index_or blocks.now i []) t i words.old out.old
+        → IsAhead (slice_index_or blocks.now i []) (t + 1) i words.new out.new }
+    ensures words { length words.new ≡ 64 }
+    ensures out { length out.new ≡ 64 }
+{
+    let word = schedule_words(blocks, words, t);
+    words[t] = word;
+    out[t] = keyed(word, t);
 }

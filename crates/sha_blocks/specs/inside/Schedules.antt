@@ -1,5 +1,5 @@
--- The schedules of eight blocks side by side: word t of block i stands in lane i of a vector.
-use Rattle.std.specs.Prelude.{◌≡◌, ℕ, ◌<◌, ◌+◌, ◌*◌, List, [], slice_index, slice_index_or}
+-- The schedules of eight blocks of SHA-256 side by side: word t of block i stands in lane i of a vector.
+use Rattle.std.specs.Prelude.{◌≡◌, ℕ, ◌<◌, ◌+◌, ◌%◌, List, [], length, slice_index, slice_index_or}
 use Rattle.sha2.specs.Sha256.{add32, round_constants, schedule}
 use Rattle.words.specs.inside.Lanes.{lane_at}
 
@@ -7,11 +7,23 @@ use Rattle.words.specs.inside.Lanes.{lane_at}
 abbrev pub IsWindowAt : List ℕ → ℕ → ℕ → List (List ℕ) → Type 0
 IsWindowAt b t i w = (k : ℕ) → k < 16 → lane_at w k i ≡ slice_index (schedule b 48) (t + k)
 
--- the same, each word with the constant of its round added
-abbrev pub IsKeyedAt : List ℕ → ℕ → ℕ → List (List ℕ) → Type 0
-IsKeyedAt b t i w = (k : ℕ) → k < 16
-    → lane_at w k i ≡ add32 (slice_index round_constants (t + k)) (slice_index (schedule b 48) (t + k))
+-- lane i of the first n vectors has the words of the schedule of b
+abbrev pub IsWrittenTo : List ℕ → ℕ → ℕ → List (List ℕ) → Type 0
+IsWrittenTo b n i w = (k : ℕ) → k < n → lane_at w k i ≡ slice_index (schedule b 48) k
 
--- so have n turns of sixteen vectors, from word 0 on
-abbrev pub IsKeyed : List ℕ → ℕ → ℕ → List (List (List ℕ)) → Type 0
-IsKeyed b n i turns = (turn : ℕ) → turn < n → IsKeyedAt b (16 * turn) i (slice_index_or turns turn [])
+-- the same, each word with the constant of its round added
+abbrev pub IsKeyedTo : List ℕ → ℕ → ℕ → List (List ℕ) → Type 0
+IsKeyedTo b n i out = (k : ℕ) → k < n
+    → lane_at out k i ≡ add32 (slice_index round_constants k) (slice_index (schedule b 48) k)
+
+-- both
+abbrev pub IsAhead : List ℕ → ℕ → ℕ → List (List ℕ) → List (List ℕ) → Type 0
+IsAhead b n i w out = IsWrittenTo b n i w × IsKeyedTo b n i out
+
+-- these are the schedules of a run of eight blocks
+abbrev pub AreKeyed : List (List ℕ) → List (List ℕ) → Type 0
+AreKeyed run out = (length run ≡ 8) × ((i : ℕ) → i < 8 → IsKeyedTo (slice_index_or run i []) 64 i out)
+
+-- the schedules of run k stand in the first where k is even, and else in the second
+abbrev pub StandIn : List (List ℕ) → List (List ℕ) → ℕ → List (List ℕ) → Type 0
+StandIn even odd k run = (k % 2 ≡ 0 → AreKeyed run even) × (k % 2 ≡ 1 → AreKeyed run odd)

@@ -1,11 +1,18 @@
-use Rattle.std.proofs.Common.{[], arith, ◌∙◌, slice_index_or, sym, ap}
+use Rattle.std.proofs.Common.{[], ◌∙◌, ap, arith, slice_index_or, sym}
+use Rattle.std.specs.Simd.Lanes.{fold_l}
+use Rattle.std.proofs.lemmas.List.{take_all}
 use Rattle.sha2.specs.Sha256.{compress}
 use Rattle.sha_blocks.proofs.Folds.{fold_more}
 use Rattle.sha_blocks.proofs.blocks.take_run.Goals as goal
 
 pub blocks-2-preserved : goal.blocks-2-preserved
-blocks-2-preserved c =
-    let b = slice_index_or c.args.run.now c.blocks-2.i [] in
-    c.take_block.ensures b (c.put_schedules.ensures c.blocks-2.i (omega arith))
-    ∙ ap (λ h. compress h b) c.blocks-2.invariant
-    ∙ sym (fold_more compress c.args.h.now c.args.run.now c.blocks-2.i [] (omega arith))
+blocks-2-preserved c = λ run keyed.
+    let i = c.blocks-2.i in
+    let b = slice_index_or run i [] in
+    c.take_block.ensures b (keyed.1 i (omega arith)) ∙ ap (λ h. compress h b) (c.blocks-2.invariant run keyed)
+    ∙ sym (fold_more compress c.args.h.now run i [] (omega (arith, keyed.0)))
+
+pub returns : goal.returns
+returns c = λ run keyed.
+    c.blocks-2.invariant run keyed
+    ∙ ap (fold_l compress c.args.h.now) (take_all c.blocks-2.i run (omega (arith, keyed.0)))
