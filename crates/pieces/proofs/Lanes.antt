@@ -1,6 +1,6 @@
 -- SHA-2 in lanes: what an operation on vectors does to the word in each lane.
 use Rattle.std.proofs.Common.{◌≡◌, ℕ, ◌<◌, ◌+◌, ◌*◌, ◌^◌, List, length, slice_index, bit_and, bit_xor, arith}
-use Rattle.std.proofs.Common.{◌∙◌, w8, w32, take, drop, get_or, refl, ap, inl, inr}
+use Rattle.std.proofs.Common.{[], ◌∙◌, w8, take, drop, get_or, refl, ap, inl, inr, slice_set, subst}
 use Rattle.std.specs.Int.{Width, bit_not}
 use Rattle.std.specs.Simd.Lanes.{zip2, Each1}
 use Rattle.std.proofs.lemmas.Simd.{Each1-get_or, below_from_Fits, get_or-zip2, length-zip2}
@@ -11,6 +11,8 @@ use Rattle.std.proofs.lemmas.Bool.{cases_lt}
 use Rattle.std.proofs.lemmas.List.{get_or-take, get_or-drop, length-take, get_or_past}
 use Rattle.sha2.specs.Sha256.{maj, word_at}
 use Rattle.sha_blocks.proofs.Lanes.{below_sixteen}
+use Rattle.sha_blocks.proofs.Rounds.{filled_more}
+use Rattle.pieces.specs.inside.Rounds.{HasWords, IsAfterRounds}
 use Rattle.sha2.specs.Sha512.{word_at as long_at}
 use Rattle.byteorder.specs.Endian.{little_number}
 use Rattle.pieces.specs.inside.Words.{reversed, reversed_long}
@@ -57,6 +59,17 @@ majority_lane n x y z lx ly lz i h =
 -- what stands at a count that is spelled another way
 pub at_count : (f : ℕ → List ℕ) (m n : ℕ) (v : List ℕ) → m ≡ n → v ≡ f m → v ≡ f n
 at_count f m n v same made = made ∙ ap f same
+
+-- the same of rounds with the words ahead of them
+pub rounds_at : (after : ℕ → List ℕ) (ws : List ℕ) (i : ℕ) (w : List (List ℕ)) (m n : ℕ) (v : List (List ℕ)) → m ≡ n
+    → IsAfterRounds after ws m i v w → IsAfterRounds after ws n i v w
+rounds_at after ws i w m n v e at = subst (λ k. IsAfterRounds after ws k i v w) e at
+
+-- one word of a schedule more
+pub HasWords_more : (ws : List ℕ) (n i : ℕ) (w : List (List ℕ)) (x : List ℕ) → n < length w → HasWords ws n i w
+    → slice_index x i ≡ slice_index ws n → HasWords ws (n + 1) i (slice_set w n x)
+HasWords_more ws n i w x fits before word =
+    filled_more (λ k x. slice_index x i ≡ slice_index ws k) w n x [] fits before word
 
 -- ---- words whose highest byte comes first
 

@@ -1,3 +1,3 @@
 pub mod Lanes2
-pub mod Rounds512
+pub mod Rounds
 pub mod Words

@@ -16,8 +16,6 @@ mod chunk_lanes;
 mod digests;
 mod fault;
 mod lanes2;
-mod lanes256;
-mod lanes512;
 mod last_blocks;
 mod piece_hash;
 mod sha256_lanes;

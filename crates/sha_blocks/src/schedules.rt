@@ -67,9 +67,9 @@ fn small_sigma1(x: u32x8) -> u32x8
     xor(rotated(x, 17), rotated(x, 19), shifted(x, 10))
 }
 
-// The words after sixteen others, of which these are the first, the second, the tenth and the fifteenth.
+/// The words after sixteen others, of which these are the first, the second, the tenth and the fifteenth.
 #[inline(always)]
-fn next_word(first: u32x8, second: u32x8, tenth: u32x8, fifteenth: u32x8) -> u32x8
+pub fn next_word(first: u32x8, second: u32x8, tenth: u32x8, fifteenth: u32x8) -> u32x8
     ensures { (i : ℕ) → i < 8 → slice_index result i ≡ Sha256.add32 (Sha256.add32 (Sha256.add32
         (Sha256.small_sigma1 (slice_index fifteenth i)) (slice_index tenth i))
         (Sha256.small_sigma0 (slice_index second i))) (slice_index first i) }
@@ -105,9 +105,9 @@ fn next_sixteen(w: [u32x8; 16]) -> [u32x8; 16]
     ]
 }
 
-/// Sixteen words on.
+// Sixteen words on.
 #[inline(always)]
-pub fn advance(w: &mut [u32x8; 16])
+fn advance(w: &mut [u32x8; 16])
     ensures { (i : ℕ) → i < 8 → (b : List ℕ) (t : ℕ) → t + 32 ≤ 64 → IsWindowAt b t i w.old
         → IsWindowAt b (t + 16) i w.new }
 {

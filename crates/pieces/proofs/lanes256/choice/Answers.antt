@@ -1,7 +1,0 @@
-use Rattle.std.specs.Int.{w32}
-use Rattle.pieces.proofs.Lanes.{choice_lane}
-use Rattle.pieces.proofs.lanes256.choice.Goals as goal
-
-pub returns : goal.returns
-returns c =
-    choice_lane w32 8 c.args.x c.args.y c.args.z c.fits-x.0 c.fits-x.1 c.fits-y.0 c.fits-y.1 c.fits-z.0 c.fits-z.1

@@ -1,5 +1,0 @@
-use Rattle.pieces.proofs.Lanes.{majority_lane}
-use Rattle.pieces.proofs.lanes512.majority.Goals as goal
-
-pub returns : goal.returns
-returns c = majority_lane 4 c.args.x c.args.y c.args.z c.fits-x.0 c.fits-y.0 c.fits-z.0
