@@ -3,12 +3,14 @@
 #![tactic(auto)]
 
 pub use blocks::compress_blocks256;
+pub use laws::value_laws;
 pub use message::{digest256, digest512};
 pub use sha512::compress_blocks512;
 pub use value::{HashValue, Value256, Value512};
 
 mod blocks;
 mod functions;
+mod laws;
 mod message;
 pub mod pieces;
 mod ring;
