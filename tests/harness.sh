@@ -141,6 +141,17 @@ each_tree() {
     for case_file in "$work/trees"/*; do "$@" "$case_file" || return; done
 }
 
+# stand_in_sha2 FOLDER: files in the place of the kit's definitions of SHA-2, as tools/installed.sh names them
+stand_in_sha2() (
+    # shellcheck disable=SC2034 # sha2_files takes it
+    sha2=$1
+    sha2_files stand_in
+)
+
+stand_in() {
+    mkdir -p "${2%/*}" && echo "of the kit, for $3" > "$2"
+}
+
 # adds_up FILE: adds up the cases of a script, whose output FILE has; whether all of them passed
 adds_up() {
     case_last=$(tail -n 1 "$1")

