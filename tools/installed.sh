@@ -210,7 +210,7 @@ parallel_files() {
 # the definitions that a reader of the proofs has to believe, the kit's of SHA-2 among them, and the lines of code that
 # ask the system
 documents() {
-    for document in README.md CHANGELOG.md LICENSE-MIT LICENSE-APACHE THIRD-PARTY docs/*.md bindings/*/README.md \
+    for document in README.md CHANGELOG.md LICENSE-MIT LICENSE-APACHE THIRD-PARTY docs/*.md docs/*.svg bindings/*/README.md \
         web/README.md bindings/openssl/*.cnf bindings/c/sums_hash.h crates/*/CALLING.md crates/source/src/device.rt \
         crates/sumlist/src/files.rt crates/sums/src/main.rt crates/sums/src/progress.rt crates/sums/src/watched.rt \
         packaging/aarch64.c \

@@ -1,7 +1,8 @@
 #!/usr/bin/env python3
 """Checks the documents: each link leads somewhere, here and where they are installed, sentences are short, nothing is
-dated, quoted code is there, README is short, begins with what somebody without the kit asks first, has two commands for
-those with it, and has the options and statuses of the program's help and manual pages.
+dated, quoted code is there, pictures show what they are made of, README is short, begins with what somebody without the
+kit asks first, has two commands for those with it, and has the options and statuses of the program's help and manual
+pages.
 usage: tests/documents/documents.py PROGRAM
 """
 
@@ -162,6 +163,22 @@ def check_quotes():
             harness.judge(f"{page} quotes code that is there", " ".join(quote.split()) in sources, quote)
 
 
+def check_pictures():
+    """The bars are what the table of BENCHMARKS.md makes them, and the picture of the crates has them in their rows."""
+    drawn = subprocess.run([os.path.join(ROOT, "bench/picture.py")], check=True, capture_output=True, text=True).stdout
+    harness.judge("docs/speed.svg is what bench/picture.py draws", read("docs/speed.svg") == drawn)
+    block = re.search(r"^## The crates\n\n((?: {4}.*\n)+)", read("docs/ARCHITECTURE.md"), re.M)[1]
+    rows = [re.split(" {2,}", line.strip()) for line in block.splitlines()]
+    crates = sorted(name for _, *parts in rows for part in parts for name in part.split(", "))
+    listed = re.findall(r"^(\w+)(?: staticlib)?:", read("crates.txt"), re.M)
+    harness.same("crates in the rows of docs/ARCHITECTURE.md", crates,
+                 sorted(name for name in listed if not name.endswith("_tests")))
+    picture = read("docs/crates.svg")
+    harness.same("crates in docs/crates.svg", sorted(re.findall(r'text-anchor="middle">(\w+)<', picture)), crates)
+    harness.same("rows of docs/crates.svg", re.findall(r'class="small" x="20" y="\d+">(.+)<', picture),
+                 [label for label, *_ in rows])
+
+
 def main():
     for page in LEADING:
         check_page(page)
@@ -174,6 +191,7 @@ def main():
     check_commands()
     check_statuses()
     check_quotes()
+    check_pictures()
     harness.finish()
 
 
