@@ -1,7 +1,7 @@
 #!/usr/bin/env python3
 """Checks the documents: each link leads somewhere, here and where they are installed, sentences are short, nothing is
-dated, quoted code is there, pictures show what they are made of, README is short, begins with what somebody without the
-kit asks first, has two commands for those with it, and has the options and statuses of the program's help and manual
+dated, quoted code is there, pictures show what they are made of, README is short, begins with what its readers ask
+first, among it two commands for those with the kit, and has the options and statuses of the program's help and manual
 pages.
 usage: tests/documents/documents.py PROGRAM
 """
@@ -18,10 +18,10 @@ import harness
 import links
 
 ROOT = os.path.dirname(harness.HERE)
-README_LINES = 160
-FIRST_LINES = 30
-FIRST_TEXTS = ["sums check -a ", "sums hash -a ", " --verify ", ": OK\n", "apt install", "tar -xf", "pip install",
-               "**Why"]
+README_LINES = 170
+FIRST_LINES = 45
+FIRST_TEXTS = ["sums check -a ", "sums hash -a ", " --verify ", ": OK\n", "gpg --verify SHA256SUMS.asc SHA256SUMS",
+               "apt install", "tar -xf", "pip install", "(#what-is-proved)", "(docs/READING.md)", "| `b3sum` "]
 SENTENCE_WORDS = 40
 DIARY = re.compile(r"20[0-9]{2}-|November|was seen|beside other")
 # the one line that tells when and on what was measured
@@ -143,17 +143,17 @@ def check_statuses():
 
 
 def check_first_screen():
-    """The first lines show what is printed, how to get it and why; the commands for those with the kit come last."""
+    """The first lines show what is printed, how to get it, the two commands for those with the kit, where a review begins,
+    and the other tools. Python comes next, and no other command needs the kit."""
     readme = read("README.md")
     first = "".join(readme.splitlines(keepends=True)[:FIRST_LINES])
     for text in FIRST_TEXTS:
         harness.judge(f"README.md has '{text.strip()}' in its first lines", text in first)
-    before, kit = readme.split("\n## With the kit\n")
-    early = re.findall(r"\brt (?:try|check|ci)\b.*|tools/test.*", before)
-    none("README.md: the kit's commands before its section", early)
-    commands = [line for block in re.findall(r"^```\w+ \w+\n(.*?)^```$", kit, re.M | re.S)
-                for line in block.splitlines() if line.startswith(("$ ", "tools/"))]
-    harness.judge("README.md has two commands for those with the kit", len(commands) == 2, *commands)
+    for whole, text in [("README.md", readme), ("the first lines of README.md", first)]:
+        commands = re.findall(r"^(?:\$ .*\brt |tools/|make).*", text, re.M)
+        harness.judge(f"{whole}: two commands for those with the kit", len(commands) == 2, *commands)
+    headings = re.findall(r"^## (.*)$", readme, re.M)
+    harness.same("the first heading of README.md", headings[0], "From Python")
 
 
 def check_quotes():

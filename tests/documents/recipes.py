@@ -677,6 +677,30 @@ def readme_download(bench):
                 lambda: same((got[0], b"two.iso: FAILED\n" in got[1]), (1, True), "status and report"))
 
 
+def readme_folder(bench):
+    """A list of a folder with files of each name, and what is not OK of it later: nothing, or what was changed."""
+    make, check = bench.text("README.md", "folder").splitlines()
+
+    def case(changed, report):
+        folder = bench.folder()
+        os.mkdir(os.path.join(folder, "backup"))
+        names = ["backup/" + name for name in tree(os.path.join(folder, "backup"))]
+        ends(bench.run(make, folder), 0, b"")
+        with open(os.path.join(folder, "LIST"), "rb") as file:
+            same(sorted(file.read().splitlines()),
+                 sorted(bench.sums(folder, "hash", "-a", "blake3", "--", *names).splitlines()), "the list")
+        for name in changed:
+            fill(os.path.join(folder, "backup", name), 1)
+            os.remove(os.path.join(folder, "backup/sub dir", name))
+        got = bench.run(check, folder)
+        same((got[0], sorted(got[1].splitlines()), got[2]), (0, sorted(report), b""), "what is not OK")
+
+    bench.judge("README.md folder", lambda: case([], []))
+    bench.judge("README.md folder, changed", lambda: case(["a b", "a\nb"], [
+        b"backup/a b: FAILED", b"backup/sub dir/a b: MISSING", b"backup/a\\nb: FAILED",
+        b"backup/sub dir/a\\nb: MISSING"]))
+
+
 def hash_page(bench):
     page = "man/sums-hash.1"
     folder, outputs = lines_of(bench, page)
@@ -906,8 +930,9 @@ def readme_package(bench):
         bench.missing("there is no folder dist: no package was installed")
         return
     works(bench, "README.md", "package", packages())
-    works(bench, "README.md", "package, used", bench.folder(), f"printf abc | /usr/bin/sums hash -a blake2s - && "
-          f"{packages()}/env/bin/python -c 'import sums_hash; sums_hash.sha256(b\"abc\").hexdigest()'")
+    script = write(bench.folder(), "script.py", bench.text("README.md", "python"))
+    works(bench, "README.md", "package, used", bench.folder(),
+          f"printf abc | /usr/bin/sums hash -a blake2s - && {packages()}/env/bin/python {script}")
     works(bench, "README.md", "package, taken away", packages(), "sudo apt-get remove -qq -y sums && rm -r env sums-*-x86_64")
 
 
@@ -926,7 +951,7 @@ def second_builder(bench):
 
 
 LONG = {
-    "README.md": {"try": readme_try, "package": readme_package},
+    "README.md": {"try": readme_try, "package": readme_package, "python": readme_package},
     "docs/CONTRIBUTING.md": {"build": source_build, "languages": languages,
                              "crate": in_clone("docs/CONTRIBUTING.md", "crate")},
     "docs/RELEASING.md": {"staged": source_build, "second": second_builder},
@@ -940,7 +965,8 @@ LONG = {
 
 # each recipe of each page, and what runs it
 RUNS = {
-    "README.md": {"first": readme_first, "download": readme_download, "use": readme_use, "checks": readme_checks},
+    "README.md": {"first": readme_first, "download": readme_download, "folder": readme_folder, "use": readme_use,
+                  "checks": readme_checks},
     "docs/SCALE.md": {"cores": scale_cores, "hosts": scale_hosts, "srun": scale_slurm, "file": scale_parts,
                       "device": scale_parts, "parts": scale_parts, "own": scale_own, "lines": scale_own,
                       "job.sh": scale_slurm, "join.sh": scale_slurm, "slurm": scale_slurm, "spark": scale_spark},
