@@ -156,11 +156,21 @@ def check_first_screen():
     harness.same("the first heading of README.md", headings[0], "From Python")
 
 
+def one_line(text):
+    """A text with one blank for all that stands between its words."""
+    return " ".join(text.split())
+
+
 def check_quotes():
-    sources = " ".join(" ".join(read(path).split()) for path in found("crates/*/src/*.rt"))
+    """Code is quoted as it stands in the sources, and definitions line by line."""
+    sources = " ".join(one_line(read(path)) for path in found("crates/*/src/*.rt"))
+    definitions = {one_line(line) for path in found("crates/*/specs/*.antt") for line in read(path).splitlines()}
     for page in PAGES:
         for quote in re.findall(r"^```rust\n(.*?)^```$", read(page), re.M | re.S):
-            harness.judge(f"{page} quotes code that is there", " ".join(quote.split()) in sources, quote)
+            harness.judge(f"{page} quotes code that is there", one_line(quote) in sources, quote)
+        for quote in re.findall(r"^```antt\n(.*?)^```$", read(page), re.M | re.S):
+            lines = {one_line(line) for line in quote.splitlines()}
+            none(f"{page}: definitions that are not there", sorted(lines - definitions))
 
 
 def check_pictures():
