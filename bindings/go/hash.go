@@ -1,7 +1,8 @@
 // SPDX-License-Identifier: MIT OR Apache-2.0
 
 // Package hash has BLAKE2b, BLAKE2s, BLAKE3, SHA-256, SHA-512 and HMAC over them as hash.Hash, and HKDF, over the C
-// library libsums_hash, whose every call is proved equal to its definition. It needs cgo.
+// library libsums_hash, whose every call is proved equal to its definition. This package above it is tested, and not
+// proved. It needs cgo.
 //
 // The library is the archive that comes with the module, for Linux on amd64 or arm64 with glibc; with the build tag
 // sums_system it is the installed one, which pkg-config finds. Keys and states are not wiped, and no constant time is

@@ -657,7 +657,7 @@ static int write_text(OSSL_PARAM params[], const char *name, const char *text)
 static int about(void *provider, OSSL_PARAM params[])
 {
     (void)provider;
-    return write_text(params, OSSL_PROV_PARAM_NAME, "sums: proved BLAKE2, BLAKE3 and SHA-2")
+    return write_text(params, OSSL_PROV_PARAM_NAME, "sums: BLAKE2, BLAKE3 and SHA-2 of a proved library")
         && write_text(params, OSSL_PROV_PARAM_VERSION, SUMS_HASH_VERSION)
         && write_text(params, OSSL_PROV_PARAM_BUILDINFO, SUMS_HASH_VERSION)
         && write_number(params, OSSL_PROV_PARAM_STATUS, 1);

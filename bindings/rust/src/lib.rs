@@ -1,6 +1,6 @@
 // SPDX-License-Identifier: MIT OR Apache-2.0
 //! BLAKE2, BLAKE3, SHA-2, HMAC and HKDF over the C library libsums_hash, whose every call is proved equal to its
-//! definition.
+//! definition. This crate above it is tested, and not proved.
 //!
 //! ```
 //! let mut digest = [0; 32];
