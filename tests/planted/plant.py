@@ -26,9 +26,14 @@ LEFT = [".git", "bin", "lib", "target", "__pycache__"]
 PYTHON = "cc -std=gnu11 -O2 -Wall -Wextra -Wno-missing-field-initializers -Werror -fsyntax-only -Ibindings/c " \
     "-I$(python3 -c 'import sysconfig; print(sysconfig.get_path(\"include\"))') bindings/python/native.c && " \
     "python3 -m py_compile bindings/python/sums_hash/*.py"
-# of each layer a command that compiles it, and those that test it
+# the tests of the package alone, over an extension that is made where it stands
+PACKAGE = ". tools/installed.sh && rm -rf $OUT && library $LIB $OUT && cd bindings/python && cc -std=gnu11 -O2 -fPIC " \
+    "-fvisibility=hidden -I$OUT -I$(python3 -c 'import sysconfig; print(sysconfig.get_path(\"include\"))') -shared native.c " \
+    "$OUT/libsums_hash.a -Wl,--exclude-libs,ALL -o sums_hash/_native.abi3.so && " \
+    "PYTHONPATH=. python3 -m unittest discover -f tests; done=$?; rm -f sums_hash/_native.abi3.so; exit $done"
+# of each layer a command that compiles it, and those that test it, the quickest first
 LAYERS = {
-    "python": (PYTHON, "LANGUAGES=python tests/library/library $LIB", "LANGUAGES=python tests/languages/bindings $LIB"),
+    "python": (PYTHON, PACKAGE, "LANGUAGES=python tests/library/library $LIB", "LANGUAGES=python tests/languages/bindings $LIB"),
     "go": (". tools/installed.sh && library $LIB $OUT && cd bindings/go && PKG_CONFIG_PATH=$OUT go vet -tags sums_system .",
            "LANGUAGES=go tests/languages/bindings $LIB"),
     "rust": ("rustc --edition 2021 -D warnings --crate-type lib --cfg 'feature=\"std\"' --emit metadata "
