@@ -909,6 +909,20 @@ class References(unittest.TestCase):
         # the interpreter's own caches grow now and then; what one call keeps is kept in each of a hundred
         self.assertLess(min(grown), 50, grown)
 
+    def test_none_is_kept_of_what_is_shared(self):
+        """The number of a refusal and the name of a class, of which no more are made."""
+        with self.assertRaises(sums_hash.Refused) as caught:
+            sums_hash.blake2b(digest_size=0)
+        hasher = sums_hash.sha256()
+        for shared, call, fault in (
+            (caught.exception.status, lambda: sums_hash.blake2b(digest_size=0), sums_hash.Refused),
+            (type(hasher).__name__, lambda: pickle.dumps(hasher), TypeError),
+        ):
+            before = sys.getrefcount(shared)
+            for _ in range(1000):
+                self.assertRaises(fault, call)
+            self.assertLess(sys.getrefcount(shared) - before, 500)
+
 
 if __name__ == "__main__":
     unittest.main()
