@@ -1,7 +1,8 @@
 #!/usr/bin/env python3
 """Compares with the header of C: the calls and states that the crate of Rust declares, the calls of the library itself
-with the order of their arguments, the refusals of the packages of Rust and Python, and the sizes that the states have
-for the C compiler and in the sources of the crates. The packages of Python and Go compile the header itself.
+with the order of their arguments and what their clauses name, the refusals of the packages of Rust and Python, and the
+sizes that the states have for the C compiler and in the sources of the crates. The packages of Python and Go compile the
+header itself.
 usage: tests/library/declarations.py HEADER SOURCES CRATES    with sums_hash on the path; SOURCES is src/ of the crate of Rust
 """
 
@@ -20,6 +21,21 @@ import harness
 from harness import same
 
 KINDS_OF_RUST = {"uint8_t": "u8", "size_t": "usize", "uint64_t": "u64"}
+# The words in a call's clauses that stand for a word in its name.
+WORDS_OF_CLAUSES = {
+    "sha256": r"sha256|(StateHolds|IsMac)256",
+    "sha512": r"sha512|(StateHolds|IsMac)512",
+    "blake2b": r"blake2b(_512)?|(StateHolds|IsMac)2b",
+    "blake2s": r"blake2s(_256)?|(StateHolds|IsMac)2s",
+    "blake3": r"(hash|keyed|derive)_root|StateHolds",
+    "hmac": r"hmac|IsMac\w+",
+    "extract": r"extract",
+    "expand": r"expand",
+    "salted": r"salted",
+    "keyed": r"keyed_(root|parameters)",
+    "derive": r"derive_(root|parameters)",
+    "pieces": r"digests",
+}
 
 
 def words(text):
@@ -80,12 +96,31 @@ def compare_calls(where, text, header, spelled):
         same(f"{name} in {where}", (bool(status), got), (answers, list(spelled(wanted))))
 
 
+def words_named(name):
+    """The words that the clauses of a call of this name have to stand for: HKDF is both of its steps."""
+    parts, steps = set(name.split("_")), {"extract", "expand"}
+    if "hkdf" in parts and not parts & steps:
+        parts |= steps
+    return sorted(parts & set(WORDS_OF_CLAUSES))
+
+
+def words_of(clauses):
+    """The words that clauses stand for."""
+    found = set(re.findall(r"\w+", clauses))
+    return sorted(word for word, form in WORDS_OF_CLAUSES.items() if any(re.fullmatch(form, each) for each in found))
+
+
 def compare_library(header, crates):
     texts = []
     for path in glob.glob(f"{crates}/hash_c/src/*.rt"):
         with open(path) as file:
             texts.append(file.read())
-    compare_calls("the library", "\n".join(texts), header, in_library)
+    text = "\n".join(texts)
+    compare_calls("the library", text, header, in_library)
+    calls = re.findall(r"fn (sums_\w+)\([^)]*\)(?: -> u32)?\n((?:    .*\n)+)\{", text)
+    same("calls with clauses", sorted(name for name, _ in calls), sorted(header))
+    for name, clauses in calls:
+        same(f"what the clauses of {name} name", words_of(clauses), words_named(name))
 
 
 def compare_rust(header, sizes, path):
