@@ -17,7 +17,8 @@ from harness import judge, same
 
 ERASED = b"\r\x1b[K"
 FIRST, SECOND = (b"first", 200_000), (b"second", 300_000)
-# The words, and each reading that shows its line: the name, and how many bytes are read where that is known.
+# The words, and each reading that shows its line: the name, and how many bytes are read where that is known. A device
+# has no size.
 RUNS = [
     ("hash -a sha256 --progress first second", b"", [FIRST, SECOND]),
     ("hash -a blake3 --parts 16 --progress second first", b"", [SECOND, FIRST]),
@@ -25,6 +26,7 @@ RUNS = [
     ("mac -a hmac-sha256 --key 00 --progress second", b"", [SECOND]),
     ("part -a blake3 --first 64 --chunks 64 --progress first", b"", [(b"first", 65_536)]),
     ("part -a blake3 --first 128 --progress first", b"", [(b"first", 68_928)]),
+    ("part -a blake3 --chunks 256 --progress /dev/zero", bytes(262_144), [(b"/dev/zero", None)]),
 ]
 
 

@@ -126,16 +126,49 @@ def ways():
 
 
 def far_positions():
-    """A part is read from its place in a file, however far that is: most of this one is a hole."""
+    """A part is read from its place in a file, however far that is: most of these are holes."""
+    for first in (2**21, 2**22 - 1, 2**23, 2**23 + 1, 2**30, 2**31 + 5, 2**32 - 1, 2**33 + 2**20):
+        far_position("far", first)
+    # as far as the system of the files goes, and that in memory, whose files may be longer
+    far_position("far", last_chunk("far"))
+    in_memory = f"/dev/shm/far{os.getpid()}"
+    if os.access("/dev/shm", os.W_OK):
+        for first in (2**34, 2**44 + 3, 2**45, 2**52 + 1, last_chunk(in_memory)):
+            far_position(in_memory, first)
+    else:
+        print("there is no /dev/shm: the farthest positions were not tried")
     with open("far", "wb") as file:
-        file.seek(2**40)
-        file.write(content(CHUNK))
-    for first, given in ((2**30, content(CHUNK)), (2**30 - 1, bytes(CHUNK))):
-        answer = part("--first", str(first), "--chunks", "1", "far")
-        same(f"chunk {first} of a file", answer, part("--first", str(first), given=given))
+        file.truncate(2**40 + 1)
     answer = part("--list", "--chunks", str(2**30), "far")
     same("the parts of a file with a hole", answer, (0, b"0\n1073741824\n", b""))
     os.remove("far")
+
+
+def far_position(name, first):
+    """The bytes of a chunk, and those before it, which are a hole."""
+    try:
+        with open(name, "wb") as file:
+            file.seek(CHUNK * first)
+            file.write(content(CHUNK))
+        for at, given in ((first, content(CHUNK)), (first - 1, bytes(CHUNK))):
+            answer = part("--first", str(at), "--chunks", "1", name)
+            same(f"chunk {at} of {name}", answer, part("--first", str(at), given=given))
+    finally:
+        os.remove(name)
+
+
+def last_chunk(name):
+    """The last whole chunk of the longest file that there can be of this name."""
+    least, most = 0, 2**53
+    with open(name, "wb") as file:
+        while least < most - 1:
+            middle = (least + most) // 2
+            try:
+                file.truncate(CHUNK * middle)
+                least = middle
+            except OSError:
+                most = middle
+    return least - 1
 
 
 # BLAKE3's chaining value of the byte 0 as chunk 256
