@@ -8,6 +8,7 @@ pub mod Given
 pub mod Sizes
 pub mod Naming
 pub mod Outputs
+pub mod Comparing
 pub mod Tagging
 pub mod MacLines
 pub mod Deriving

@@ -1,15 +1,13 @@
 // The command `hash`: the digest of each file, as a line of a list.
 
-ghost use Rattle.std.specs.Prelude.{◌≡◌, ◌≢◌, ◌≤◌, ◌-◌, ◌*◌, ◌^◌, ℕ, [], length, vec_len, Some, true, IfOk, IfSome};
-ghost use Rattle.std.specs.Prelude.{IsErrOf, IsOk, MatchResult, None, map};
+ghost use Rattle.std.specs.Prelude.{◌≡◌, ◌≢◌, ◌≤◌, ◌-◌, ◌*◌, ◌^◌, ◌⊎◌, ℕ, [], length, vec_len, Some, true, IfOk};
+ghost use Rattle.std.specs.Prelude.{IfSome, IsErr, IsErrOf, IsOk, IsSome, MatchResult, None, map};
 ghost use Rattle.std.specs.List.{sum_by};
 ghost use Rattle.b3.specs.Modes.{hash_root};
 ghost use Rattle.b3.specs.inside.Output.{output_root};
 ghost use Rattle.source.specs.Counts.{count_after};
 ghost use Rattle.source.specs.Digest.{IsInRange, digest, input_limit, digest_len};
-ghost use Rattle.sumlist.specs.Entry.{Fits};
-ghost use Rattle.sumlist.specs.Lines.{line_limit};
-ghost use Rattle.sumlist.specs.Tagged.{tagged, tagged_len};
+ghost use Rattle.source.specs.Written.{Writes};
 ghost use Rattle.task.specs.inside.Possible.{HasDigest, IsPartSize};
 ghost use Rattle.command.specs.Run.{TellsAll};
 ghost use Rattle.command.specs.Hashing.{HashesAll};
@@ -17,7 +15,6 @@ ghost use Rattle.command.specs.Lines.{FitsPlace, digest_line, opens_of};
 ghost use Rattle.command.specs.inside.Keys.{HasBytes, MakesOf, made_bytes};
 ghost use Rattle.command.specs.inside.Making.{made_len};
 ghost use Rattle.command.specs.inside.Hashed.{PrintsName, Settles};
-ghost use Rattle.command.specs.inside.Printing.{PrintsListed};
 ghost use Rattle.command.specs.inside.Reading.{Leaves, Reads, failed};
 ghost use Rattle.command.specs.inside.Seen.{OpensAtMost, DoesRun};
 ghost use Rattle.command.specs.inside.Streams.{AfterReading, IfContent, SameStreams};
@@ -28,11 +25,10 @@ use crate::making::{Made, write_made};
 use crate::session::{Session, Streams, absorb_feed, open_file};
 use b3::{Blake3, CHUNK_LEN, Mode, Output};
 use blake2::{Blake2b, Blake2s};
-use source::{Alg, AnyHash, Feed, Sink, digest_of, output_in_parts};
+use source::{Alg, AnyHash, Feed, Sink, WriteFailed, digest_of, output_in_parts};
 use std::alloc::{AllocError, Global};
-use sumlist::{Entry, TaggedFault, Tree, fits, tagged_fits, write_tagged};
+use sumlist::{Tree, WriteFault, fits, tagged_fits, write_tagged_line};
 use task::{Form, Hash, Hashing, Requested};
-use words::Tag;
 
 impl<'i, 't, 'o, L: Feed, T: Tree, W: Sink> Session<'i, 't, 'o, L, T, W> {
     /// Prints the line of each file, and goes on with the next after a file that can't be read or
@@ -51,6 +47,8 @@ impl<'i, 't, 'o, L: Feed, T: Tree, W: Sink> Session<'i, 't, 'o, L, T, W> {
         ensures opens { OpensAtMost (sum_by opens_of (map (λ n. n.now) names.entry.now))
             (⟦<Self as Streams>⟧.seen self.old) (⟦<Self as Streams>⟧.seen self.new) }
         ensures same { SameStreams self.old self.new }
+        ensures memory { IsErrOf result Fault.OutOfMemory
+            → IsSome hashing.parts ⊎ (T.wants_memory ≡ true) }
     {
         let mut status: u8 = 0;
         for name in names {
@@ -73,6 +71,8 @@ impl<'i, 't, 'o, L: Feed, T: Tree, W: Sink> Session<'i, 't, 'o, L, T, W> {
         ensures opens { OpensAtMost (opens_of name.entry.now) (⟦<Self as Streams>⟧.seen self.old)
             (⟦<Self as Streams>⟧.seen self.new) }
         ensures same { SameStreams self.old self.new }
+        ensures memory { IsErrOf result Fault.OutOfMemory
+            → IsSome hashing.parts ⊎ (T.wants_memory ≡ true) }
     {
         match self.print_compared(hashing, None, name, name) {
             Ok(status) => Ok(status),
@@ -97,6 +97,8 @@ impl<'i, 't, 'o, L: Feed, T: Tree, W: Sink> Session<'i, 't, 'o, L, T, W> {
             (⟦<Self as Streams>⟧.seen self.new) }
         ensures out { (⟦<Self as Streams>⟧.seen self.new).out ≡ (⟦<Self as Streams>⟧.seen self.old).out }
         ensures same { SameStreams self.old self.new }
+        ensures memory { IsErrOf result Fault.OutOfMemory
+            → IsSome hashing.parts ⊎ (T.wants_memory ≡ true) }
     {
         listable(hashing.requested, name)?;
         self.digest_of_file(hashing, file)
@@ -113,6 +115,8 @@ impl<'i, 't, 'o, L: Feed, T: Tree, W: Sink> Session<'i, 't, 'o, L, T, W> {
             (⟦<Self as Streams>⟧.seen self.new) }
         ensures out { (⟦<Self as Streams>⟧.seen self.new).out ≡ (⟦<Self as Streams>⟧.seen self.old).out }
         ensures same { SameStreams self.old self.new }
+        ensures memory { IsErrOf result Fault.OutOfMemory
+            → IsSome hashing.parts ⊎ (T.wants_memory ≡ true) }
     {
         let mut run = run_buffer(self.alloc, hashing.parts)?;
         if name == "-" {
@@ -127,7 +131,8 @@ impl<'i, 't, 'o, L: Feed, T: Tree, W: Sink> Session<'i, 't, 'o, L, T, W> {
 
 /// Tells the fault of a file, and answers its status. Two faults end a run, and name no file.
 pub(crate) fn settle<'f, E: Sink>(err: &mut E, fault: Fault<'_>) -> Result<u8, Fault<'f>>
-    ensures { Settles fault.entry result (E.shown err.old) (E.shown err.new) }
+    ensures settles { Settles fault.entry result (E.shown err.old) (E.shown err.new) }
+    ensures memory { IsErrOf result Fault.OutOfMemory → fault.entry ≡ Fault.OutOfMemory }
 {
     match fault {
         Fault::CannotWrite => Err(Fault::CannotWrite),
@@ -148,7 +153,8 @@ pub(crate) fn part_buffer(alloc: Global, chunks: u64) -> Result<Vec<u8>, AllocEr
 // The buffer of the parts that a file is hashed in, an empty one where it is hashed whole.
 fn run_buffer(alloc: Global, parts: Option<u64>) -> Result<Vec<u8>, AllocError>
     requires { IfSome parts IsPartSize }
-    ensures { IfOk result (λ buffer. vec_len buffer ≢ 0 → (e : ℕ) × (vec_len buffer ≡ 1024 * 2 ^ e)) }
+    ensures power { IfOk result (λ buffer. vec_len buffer ≢ 0 → (e : ℕ) × (vec_len buffer ≡ 1024 * 2 ^ e)) }
+    ensures memory { IsErr result → IsSome parts }
 {
     match parts {
         Some(chunks) => part_buffer(alloc, chunks),
@@ -261,51 +267,25 @@ fn output_of_feed<'n, F: Feed>(
     }
 }
 
-/// Writes a digest as it is, or its line with a name. Memory is taken for a tagged line alone, before
-/// its first byte.
-pub(crate) fn write_digest<'n, W: Sink>(
-    alloc: Global,
+/// Writes a digest as it is, or its line with a name.
+pub(crate) fn write_digest<W: Sink>(
     requested: Requested,
     made: Made,
-    name: &'n str,
+    name: &str,
     out: &mut W,
-) -> Result<(), Fault<'n>>
+) -> Result<(), WriteFault>
     requires digest { HasDigest requested }
     requires has { HasBytes made }
     requires sized { made_len made ≡ requested.stretch.length }
-    requires fits { FitsPlace (digest_line requested).place name.now }
-    ensures { PrintsListed result (W.shown out.old) (W.shown out.new)
-        ((digest_line requested).text name.entry.now (made_bytes made)) }
+    ensures { Writes result (W.shown out.old) (W.shown out.new)
+        ((digest_line requested).text name.now (made_bytes made)) }
 {
     match requested.form {
-        Form::Plain => Ok(write_made(made, false, name, out)?),
-        Form::Raw => Ok(write_made(made, true, name, out)?),
-        Form::Tagged => write_tagged_line(alloc, requested.alg(), made.into_tag(), name, out),
-    }
-}
-
-// Writes the line that names the algorithm of a digest.
-fn write_tagged_line<'n, W: Sink>(
-    alloc: Global,
-    alg: Alg,
-    tag: Tag,
-    name: &'n str,
-    out: &mut W,
-) -> Result<(), Fault<'n>>
-    requires range { IsInRange alg }
-    requires length { length tag ≡ digest_len alg }
-    requires fits { Fits (2 * digest_len alg) name.now }
-    requires tagged { tagged_len alg name.now ≤ line_limit }
-    ensures { PrintsListed result (W.shown out.old) (W.shown out.new)
-        (tagged (record { name = name.entry.now; alg = alg; tag = tag })) }
-{
-    let name = String::from_str(alloc, name)?;
-    let Ok(entry) = Entry::new(alg, name, tag) else {
-        unreachable!()
-    };
-    match write_tagged(&entry, out) {
-        Ok(()) => Ok(()),
-        Err(TaggedFault::Write) => Err(Fault::CannotWrite),
-        Err(TaggedFault::TooLong) => unreachable!(),
+        Form::Plain => write_made(made, false, name, out),
+        Form::Raw => write_made(made, true, name, out),
+        Form::Tagged => match write_tagged_line(requested.alg(), name, &made.into_tag(), out) {
+            Ok(()) => Ok(()),
+            Err(WriteFailed) => Err(WriteFault::Write),
+        },
     }
 }

@@ -1,6 +1,6 @@
 // The command `kdf`: a key that is derived from key material.
 
-ghost use Rattle.std.specs.Prelude.{◌≡◌, ◌*◌, ◌-◌, ◌≤◌, [], length, option_map, IfOk, IfSome};
+ghost use Rattle.std.specs.Prelude.{◌≡◌, ◌*◌, ◌-◌, ◌≤◌, [], length, option_map, true, IfOk, IfSome, IsErrOf};
 ghost use Rattle.command.specs.Keying.{KdfRuns};
 ghost use Rattle.command.specs.inside.Keys as spec;
 ghost use Rattle.command.specs.inside.Printing as printing;
@@ -42,6 +42,7 @@ impl<'i, 't, 'o, L: Feed, T: Tree, W: Sink> Session<'i, 't, 'o, L, T, W> {
         ensures opens { OpensAtMost 1 (⟦<Self as Streams>⟧.seen self.old)
             (⟦<Self as Streams>⟧.seen self.new) }
         ensures same { SameStreams self.old self.new }
+        ensures memory { IsErrOf result Fault.OutOfMemory → T.wants_memory ≡ true }
     {
         self.print_bytes(derivation, is_raw, material)?;
         write_all(self.out, line_end(is_raw))?;
@@ -61,6 +62,7 @@ impl<'i, 't, 'o, L: Feed, T: Tree, W: Sink> Session<'i, 't, 'o, L, T, W> {
         ensures read { AfterFile material.entry.now result (⟦<Self as Streams>⟧.seen self.old)
             (⟦<Self as Streams>⟧.seen self.new) }
         ensures same { SameStreams self.old self.new }
+        ensures memory { IsErrOf result Fault.OutOfMemory → T.wants_memory ≡ true }
     {
         hash_laws();
         match derivation {
@@ -91,6 +93,7 @@ impl<'i, 't, 'o, L: Feed, T: Tree, W: Sink> Session<'i, 't, 'o, L, T, W> {
         ensures read { AfterFile material.entry.now result (⟦<Self as Streams>⟧.seen self.old)
             (⟦<Self as Streams>⟧.seen self.new) }
         ensures same { SameStreams self.old self.new }
+        ensures memory { IsErrOf result Fault.OutOfMemory → T.wants_memory ≡ true }
     {
         let prk = self.extracted::<H>(hkdf, material)?;
         write_expanded::<H, W>(hkdf, prk.bytes(), is_raw, self.out)
@@ -110,6 +113,7 @@ impl<'i, 't, 'o, L: Feed, T: Tree, W: Sink> Session<'i, 't, 'o, L, T, W> {
             (⟦<Self as Streams>⟧.seen self.new) }
         ensures out { self.new.out.now ≡ self.old.out.now }
         ensures same { SameStreams self.old self.new }
+        ensures memory { IsErrOf result Fault.OutOfMemory → T.wants_memory ≡ true }
     {
         let Ok(mut extract) = Extract::<H>::new(salt_of(hkdf)) else {
             return Err(Fault::Usage(UsageFault::OutOfRange(Setting::Salt)));
@@ -132,6 +136,7 @@ impl<'i, 't, 'o, L: Feed, T: Tree, W: Sink> Session<'i, 't, 'o, L, T, W> {
         ensures read { AfterFile material.entry.now result (⟦<Self as Streams>⟧.seen self.old)
             (⟦<Self as Streams>⟧.seen self.new) }
         ensures same { SameStreams self.old self.new }
+        ensures memory { IsErrOf result Fault.OutOfMemory → T.wants_memory ≡ true }
     {
         let mut hasher = Blake3::derive(context.as_bytes());
         absorb_named(&mut hasher, material, self.tree)?;
@@ -166,9 +171,10 @@ fn write_expanded<H: BlockHash, W: Sink>(
 ) -> Result<(), Fault<'static>>
     requires length { hkdf.now.length ≤ 255 * H.OUT }
     requires prk { length prk.now ≡ H.OUT }
-    ensures { PrintsKey is_raw (expanded (function_with H.BLOCK H.OUT H.LIMIT H.hash_of)
+    ensures key { PrintsKey is_raw (expanded (function_with H.BLOCK H.OUT H.LIMIT H.hash_of)
         hkdf.now.length hkdf.now.info.items prk.now)
         result (W.shown out.old) (W.shown out.new) }
+    ensures memory { IsErrOf result Fault.OutOfMemory → ⊥ }
 {
     let mut key = [0; OUTPUT_LIMIT];
     let (key, _) = key.split_at_mut(hkdf.length);

@@ -1,6 +1,6 @@
 // A digest or tag that is yet to be printed or compared.
 
-ghost use Rattle.std.specs.Prelude.{◌≡◌, ◌+◌, ◌-◌, ◌^◌, ◌≤◌, IfOk, length};
+ghost use Rattle.std.specs.Prelude.{◌≡◌, ◌+◌, ◌-◌, ◌^◌, ◌≤◌, ◌↔◌, IsTrue, length};
 ghost use Rattle.b3.specs.Bytes.{slice};
 ghost use Rattle.b3.specs.inside.Output.{output_position, output_root};
 ghost use Rattle.source.specs.Written.{Writes};
@@ -8,10 +8,9 @@ ghost use Rattle.command.specs.inside.Keys.{HasBytes, IsWanted, made_bytes};
 ghost use Rattle.command.specs.inside.Making.{made_len};
 ghost use Rattle.command.specs.inside.Printing.{printed_beside};
 
-use crate::output::{write_beside, write_output, write_output_beside};
+use crate::output::{PIECE, write_beside, write_output_beside};
 use b3::Output;
-use source::{Sink, VecSink};
-use std::alloc::{AllocError, Global};
+use source::Sink;
 use sumlist::WriteFault;
 use words::Tag;
 
@@ -61,24 +60,48 @@ pub(crate) fn write_made<W: Sink>(
 }
 
 /// Whether they are these bytes.
-pub(crate) fn is_made(alloc: Global, made: Made, wanted: &[u8]) -> Result<bool, AllocError>
+pub(crate) fn is_made(made: Made, wanted: &[u8]) -> bool
     requires { HasBytes made }
-    ensures { IfOk result (IsWanted wanted.now (made_bytes made)) }
+    ensures { IsWanted wanted.now (made_bytes made) result }
 {
     match made {
-        Made::Tag(tag) => Ok(tag.bytes() == wanted),
-        Made::Output(output, length) => is_output(alloc, output, length, wanted),
+        Made::Tag(tag) => tag.bytes() == wanted,
+        Made::Output(output, length) => {
+            if length != wanted.len() as u64 {
+                return false;
+            }
+            is_output(output, wanted)
+        }
     }
 }
 
-// Whether the next bytes of an output are these.
-fn is_output(alloc: Global, output: Output, length: u64, wanted: &[u8]) -> Result<bool, AllocError>
-    requires { output_position output + length ≤ 2 ^ 64 - 1 }
-    ensures { IfOk result (IsWanted wanted.now (slice (output_root output) (output_position output) length)) }
+// Whether the next bytes of an output are these, piece by piece.
+fn is_output(mut output: Output, wanted: &[u8]) -> bool
+    requires { output_position output + length wanted.now ≤ 2 ^ 64 - 1 }
+    ensures { IsWanted wanted.now (slice (output_root output) (output_position output) (length wanted.now)) result }
 {
-    let mut bytes = VecSink::new(alloc);
-    match write_output(output, length, true, &mut bytes) {
-        Ok(()) => Ok(bytes.written() == wanted),
-        Err(_) => Err(AllocError),
+    let mut rest = wanted;
+    while !rest.is_empty() {
+        let (piece, after) = rest.split_at(rest.len().min(PIECE));
+        if !is_next(&mut output, piece) {
+            return false;
+        }
+        rest = after;
     }
+    true
+}
+
+// The same of so few bytes that they are one piece, behind which the output then stands.
+fn is_next(output: &mut Output, wanted: &[u8]) -> bool
+    requires few { length wanted.now ≤ PIECE }
+    requires within { output_position output.old + length wanted.now ≤ 2 ^ 64 - 1 }
+    ensures is { IsTrue result
+        ↔ (slice (output_root output.old) (output_position output.old) (length wanted.now) ≡ wanted.now) }
+    ensures moved { output_position output.new ≡ output_position output.old + length wanted.now }
+    ensures root { output_root output.new ≡ output_root output.old }
+{
+    let mut bytes = [0; PIECE];
+    let (bytes, _) = bytes.split_at_mut(wanted.len());
+    output.fill(bytes).unwrap();
+    &*bytes == wanted
 }

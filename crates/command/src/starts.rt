@@ -29,6 +29,7 @@ impl<'i, 't, 'o, L: Feed, T: Tree, W: Sink> Session<'i, 't, 'o, L, T, W> {
         ensures opens { OpensAtMost 55 (⟦<Self as Streams>⟧.seen self.old)
             (⟦<Self as Streams>⟧.seen self.new) }
         ensures same { SameStreams self.old self.new }
+        ensures memory { IsErrOf result Fault.OutOfMemory → T.wants_memory ≡ true }
     {
         let count = part_count(parts.chunks, name, self.tree)?;
         write_starts(parts.chunks, count, self.out)?;
@@ -46,6 +47,7 @@ fn part_count<'n, T: Tree>(chunks: u64, name: &'n str, tree: &mut T) -> Result<u
     ensures counted { IfSome (T.files tree.old) (λ files. T.failure_count tree.new
         ≡ count_after (T.failure_count tree.old) (failed false (files name.entry.now) result).files) }
     ensures opens { T.opens tree.new ≤ T.opens tree.old + 55 }
+    ensures memory { IsErrOf result Fault.OutOfMemory → T.wants_memory ≡ true }
 {
     let mut least = 0;
     let mut most = (MOST_CHUNKS - 1) / chunks + 1;
@@ -68,6 +70,7 @@ fn has_byte<'n, T: Tree>(name: &'n str, position: u64, tree: &mut T) -> Result<b
         ≡ count_after (T.failure_count tree.old) (failed false (files name.entry.now) result).files) }
     ensures kept { T.files tree.new ≡ T.files tree.old }
     ensures opens { T.opens tree.new ≤ T.opens tree.old + 1 }
+    ensures memory { IsErrOf result Fault.OutOfMemory → T.wants_memory ≡ true }
 {
     let mut feed = open_file(name, position, tree)?;
     let answer = gives_byte(name, &mut feed);

@@ -113,7 +113,8 @@ fn parsed<'a>(
 }
 
 fn fault_from(error: Error) -> WordsFault
-    ensures { (e : _) → result ≡ Words e → (e ≡ error) × (kind_of e ≢ ErrorKind.OutOfMemory) }
+    ensures words { (e : _) → result ≡ Words e → (e ≡ error) × (kind_of e ≢ ErrorKind.OutOfMemory) }
+    ensures memory { result ≡ OutOfMemory → kind_of error ≡ ErrorKind.OutOfMemory }
 {
     if error.kind() == ErrorKind::OutOfMemory {
         WordsFault::OutOfMemory

@@ -25,7 +25,7 @@ pub use memory::MemoryTree;
 pub use name_reader::NameReader;
 pub use report::{write_summary, write_verdict};
 pub use summary::Summary;
-pub use tagging::{TaggedFault, write_tagged};
+pub use tagging::{TaggedFault, write_tagged, write_tagged_line};
 pub use tree::{OpenFault, Tree};
 pub use verdict::Verdict;
 pub use writing::{WriteFault, write_end, write_entry, write_lead};

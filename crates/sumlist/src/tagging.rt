@@ -1,6 +1,7 @@
 // Tagged lines as they are written.
 
 ghost use Rattle.std.specs.Prelude.{OnOk, Option};
+ghost use Rattle.source.specs.Digest.{IsInRange};
 ghost use Rattle.source.specs.Written.{Writes};
 ghost use Rattle.sumlist.specs.Line.{Spells};
 ghost use Rattle.sumlist.specs.Tagged.{tagged, tagged_line};
@@ -13,8 +14,9 @@ use crate::fitting::tagged_fits;
 use crate::labels::label;
 use crate::writing::tag_digits;
 use itoa::Buffer;
-use source::{Sink, WriteFailed};
+use source::{Alg, Sink, WriteFailed};
 use thiserror::Error;
+use words::Tag;
 
 /// Why a tagged line was not written whole.
 #[derive(Clone, Copy, Debug, PartialEq, Eq, Drop, Error)]
@@ -36,18 +38,27 @@ pub fn write_tagged<W: Sink>(entry: &Entry, out: &mut W) -> Result<(), TaggedFau
     if !tagged_fits(entry.alg(), entry.name()) {
         return Err(TaggedFault::TooLong);
     }
-    match write_tagged_line(entry, out) {
+    match write_tagged_line(entry.alg(), entry.name(), entry.tag(), out) {
         Ok(()) => Ok(()),
         Err(_) => Err(TaggedFault::Write),
     }
 }
 
-fn write_tagged_line<W: Sink>(entry: &Entry, out: &mut W) -> Result<(), WriteFailed>
-    ensures { Writes result (W.shown out.old) (W.shown out.new) (tagged entry.now) }
+/// Writes the tagged line of an entry of this algorithm, name and tag, with its LF, however long it is. The name
+/// is lent, so no memory is taken.
+pub fn write_tagged_line<W: Sink>(
+    alg: Alg,
+    name: &str,
+    tag: &Tag,
+    out: &mut W,
+) -> Result<(), WriteFailed>
+    requires { IsInRange alg }
+    ensures { Writes result (W.shown out.old) (W.shown out.new)
+        (tagged (record { name = name.now; alg = alg; tag = tag.now })) }
 {
     let (mut room, mut number) = ([0; 128], Buffer::new());
-    let (front, bits) = label(entry.alg(), &mut number);
-    let (name, digits) = (entry.name(), tag_digits(entry.tag(), &mut room));
+    let (front, bits) = label(alg, &mut number);
+    let digits = tag_digits(tag, &mut room);
     write_name(
         &[
             lead(name).as_bytes(),

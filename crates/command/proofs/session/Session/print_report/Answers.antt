@@ -18,5 +18,5 @@ returns-in-Err-clause-report g c = record {
   run = c.in-Err.ensures.run;
   gave = c.in-Err.ensures.gave;
   files = c.in-Err.ensures.files;
-  answers = c.settle.ensures;
+  answers = c.settle.ensures.settles;
 }
