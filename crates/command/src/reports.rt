@@ -1,6 +1,6 @@
 // The command `check`: the reports on lists.
 
-ghost use Rattle.std.specs.Prelude.{◌≡◌, ◌≤◌, ◌+◌, ◌++◌, [], nat_lt, length, map, IfSome, Some, codes, true};
+ghost use Rattle.std.specs.Prelude.{◌≡◌, ◌≤◌, ◌+◌, ◌++◌, [], map, IfSome, Some, codes, true};
 ghost use Rattle.std.specs.Prelude.{if◌then◌else◌, option_map};
 ghost use Rattle.std.specs.List.{sum_by};
 ghost use Rattle.source.specs.Counts.{count_after};
@@ -25,24 +25,22 @@ use crate::session::{Session, Streams, open_file};
 use crate::visible::write_visible;
 use source::{Feed, Sink, WriteFailed, write_all};
 use sumlist::{CheckFault, Kind, ListRules, Summary, Tree, check_list, write_summary};
+use task::Checking;
 
 impl<'i, 't, 'o, L: Feed, T: Tree, W: Sink> Session<'i, 't, 'o, L, T, W> {
     /// Prints the report of each list, and goes on with the next after a list that can't be read to its
-    /// end, which is told on `err`. Untagged lines are of this kind; without one they are malformed. Of
-    /// several lists, a malformed line is told with its list's name. Where it is asked for, tells how many
-    /// lines of each list had each outcome. Of a list with untagged lines and no kind, and of one without an
-    /// entry or a malformed line, tells that. Answers 0 where every line that is not skipped is OK, else
-    /// 1. The faults are `CannotWrite` and `OutOfMemory`, after which no further list is read; what was
-    /// written before is a beginning of the reports.
+    /// end, which is told on `err`. Of several lists, a malformed line is told with its list's name. Where
+    /// it is asked for, tells how many lines of each list had each outcome. Of a list with untagged lines
+    /// and no kind, and of one without an entry or a malformed line, tells that. Answers 0 where every line
+    /// that is not skipped is OK, else 1. The faults are `CannotWrite` and `OutOfMemory`, after which no
+    /// further list is read; what was written before is a beginning of the reports.
     pub fn print_reports<'n, E: Sink>(
         &mut self,
-        kind: Option<Kind>,
-        is_summed: bool,
+        checking: Checking,
         lists: &[&'n str],
         err: &mut E,
     ) -> Result<u8, Fault<'n>>
-        ensures run { DoesRun (λ bytes files. CheckRuns is_summed files kind
-            (nat_lt 1 (length (map (λ n. n.now) lists.entry.now))) (map (λ n. n.now) lists.entry.now) bytes)
+        ensures run { DoesRun (λ bytes files. CheckRuns checking files (map (λ n. n.now) lists.entry.now) bytes)
             (λ notes. TellsAll (E.shown err.old) (E.shown err.new) notes)
             result (⟦<Self as Streams>⟧.seen self.old) (⟦<Self as Streams>⟧.seen self.new) }
         ensures opens { IfTold (⟦<Self as Streams>⟧.seen self.old) (λ bytes files. OpensAtMost
@@ -54,8 +52,8 @@ impl<'i, 't, 'o, L: Feed, T: Tree, W: Sink> Session<'i, 't, 'o, L, T, W> {
         let are_named = lists.len() > 1;
         let mut status: u8 = 0;
         for name in lists {
-            let rules = rules_of(kind, are_named, name);
-            status = status.max(self.print_report(rules, is_summed, name, err)?);
+            let rules = rules_of(checking.kind, are_named, name);
+            status = status.max(self.print_report(rules, checking.is_summed, name, err)?);
         }
         Ok(status)
     }

@@ -1,5 +1,5 @@
 -- What a run of the program prints, tells and answers, by its words, standard input and files.
-use Rattle.std.specs.Prelude.{◌⊎◌, ◌≡◌, ◌≤◌, ◌+◌, ℕ, List, [], ◌∷◌, Ok, Err, MatchResult, nat_lt, length, sum_by}
+use Rattle.std.specs.Prelude.{◌⊎◌, ◌≡◌, ◌≤◌, ◌+◌, ℕ, List, [], ◌∷◌, Ok, Err, MatchResult, length, sum_by}
 use Rattle.std.specs.Option.{option_map_or}
 use Rattle.source.specs.Written.{Shown}
 use Rattle.sumlist.specs.Lines.{lines}
@@ -23,8 +23,7 @@ TaskRuns (hashes r (in_file list)) files input = HashesListed (digest_line r) fi
 TaskRuns (prints_line r wanted name file) files input = LineRuns wanted (digest_line r) name file input files
 TaskRuns (tags mac is_raw key wanted name) files input = MacRuns mac is_raw key wanted name files input
 TaskRuns (derives derived is_raw name) files input = KdfRuns derived is_raw name files
-TaskRuns (checks kind is_summed lists) files input =
-    CheckRuns is_summed files kind (nat_lt 1 (length lists)) lists input
+TaskRuns (checks how lists) files input = CheckRuns how files lists input
 TaskRuns (prints_part first chunks name) files input = PartRuns first chunks name files input
 TaskRuns (prints_starts chunks name) files input = StartsRuns chunks name files
 TaskRuns (joins stretch bytes name lists) files input = JoinRuns stretch bytes name lists files input
@@ -38,7 +37,7 @@ most_opens (prints_line r wanted name file) files input = opens_of file
 most_opens (tags mac is_raw (these key) wanted name) files input = opens_of name
 most_opens (tags mac is_raw (in_file key) wanted name) files input = 1 + opens_of name
 most_opens (derives derived is_raw name) files input = 1
-most_opens (checks kind is_summed lists) files input =
+most_opens (checks how lists) files input =
     sum_by (λ list. opens_of list + length (option_map_or lines (content_of list input files) [])) lists
 most_opens (prints_part first chunks name) files input = opens_of name
 most_opens (prints_starts chunks name) files input = 55

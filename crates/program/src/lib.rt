@@ -120,11 +120,9 @@ fn run_request<'n, 'i, 't, 'o, L: Feed, T: Tree, W: Sink, E: Sink>(
             is_raw,
             material,
         } => session.print_key(&derivation, is_raw, material),
-        Task::Check {
-            kind,
-            is_summed,
-            lists,
-        } => session.print_reports(kind, is_summed, lists.as_slice(), err),
+        Task::Check { checking, lists } => {
+            session.print_reports(checking, lists.as_slice(), err)
+        }
     }
 }
 

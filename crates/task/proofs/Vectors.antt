@@ -52,7 +52,8 @@ kdf_context : Asks (codes "kdf" ∷ codes "-ablake3" ∷ codes "--ikm-file" ∷ 
 unfolding clap_on_literals sums_app
 kdf_context names macs = refl
 
-check_input : Asks (codes "check" ∷ []) (Ok (checks None false (codes "-" ∷ [])))
+check_input : Asks (codes "check" ∷ [])
+    (Ok (checks (record { kind = None; is_summed = false }) (codes "-" ∷ [])))
 unfolding clap_on_literals sums_app
 check_input names macs = refl
 

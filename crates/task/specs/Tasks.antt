@@ -23,6 +23,7 @@ use Rattle.task.specs.declared.parameters.HmacHash.{HmacHash}
 use Rattle.task.specs.declared.parameters.HmacHash.TheVariants as over
 use Rattle.task.specs.declared.tagging.Mac.{Mac}
 use Rattle.task.specs.declared.tagging.Mac.TheVariants.{Hmac, Blake2b, Blake2s, Blake3}
+use Rattle.task.specs.declared.tasks.Checking.{Checking}
 
 -- how a key is derived: by HKDF over a hash, with its length, the salt and the info, or under BLAKE3's context
 pub data Derived : Type 0 where
@@ -40,7 +41,7 @@ pub data Asked : Type 0 where
   prints_line : Requested → Option (List ℕ) → Text → Text → Asked
   tags : Mac → Bool → Source (List ℕ) → Option (List ℕ) → Text → Asked
   derives : Derived → Bool → Text → Asked
-  checks : Option Kind → Bool → List Text → Asked
+  checks : Checking → List Text → Asked
   prints_part : ℕ → Option ℕ → Text → Asked
   prints_starts : ℕ → Text → Asked
   joins : Stretch → Option ℕ → Text → List Text → Asked
@@ -121,7 +122,8 @@ kdf g = do
 
 -- that of `check`
 abbrev pub check : Given → Result Asked Text
-check g = given (named kinds) (codes "a") g >>= (λ k. Ok (checks k (has_flag (codes "summary") g) (names_or_input g)))
+check g = given (named kinds) (codes "a") g
+    >>= (λ k. Ok (checks (record { kind = k; is_summed = has_flag (codes "summary") g }) (names_or_input g)))
 
 -- only BLAKE3 has parts
 abbrev pub has_parts : Kind → Result (Unit {0}) Text

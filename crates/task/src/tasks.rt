@@ -33,6 +33,15 @@ pub enum Names<'a> {
     From(&'a str),
 }
 
+/// How `check` reads its lists, and what it tells of them.
+#[derive(Clone, Copy, Debug, PartialEq, Eq)]
+pub struct Checking {
+    /// The hash of their untagged lines, where there is one.
+    pub kind: Option<Kind>,
+    /// A summary of each list is told.
+    pub is_summed: bool,
+}
+
 /// What a run is to do. A name `-` of a file or a list is standard input; names are judged as they
 /// are used.
 #[derive(Debug, Drop)]
@@ -82,11 +91,9 @@ pub enum Task<'a> {
         is_raw: bool,
         material: &'a str,
     },
-    /// Report on lists, one at least, whose untagged lines are of this hash, where there is one, and tell
-    /// a summary of each where it is asked for.
+    /// Report on lists, one at least.
     Check {
-        kind: Option<Kind>,
-        is_summed: bool,
+        checking: Checking,
         lists: Vec<&'a str>,
     },
 }
@@ -215,13 +222,12 @@ fn kdf<'a>(alloc: Global, request: &Request<'a>) -> Result<Task<'a>, TaskFault>
 fn check<'a>(alloc: Global, request: &Request<'a>) -> Result<Task<'a>, TaskFault>
     ensures { IsAsDefined task_shown (spec.check (given_of request.now)) result }
 {
-    let kind = given_kind(request)?;
-    let lists = names_or_input(alloc, request)?;
-    Ok(Task::Check {
-        kind,
+    let checking = Checking {
+        kind: given_kind(request)?,
         is_summed: request.has("summary"),
-        lists,
-    })
+    };
+    let lists = names_or_input(alloc, request)?;
+    Ok(Task::Check { checking, lists })
 }
 
 fn part<'a>(request: &Request<'a>) -> Result<Task<'a>, UsageFault>

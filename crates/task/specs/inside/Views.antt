@@ -42,4 +42,4 @@ task_shown (code.Join joining name lists) = joins joining.stretch joining.bytes 
 task_shown (code.Mac form key wanted name) =
     tags form.mac form.is_raw (key_shown key) (option_map (λ v. v.items) wanted) name.now
 task_shown (code.Kdf derivation is_raw material) = derives (derivation_shown derivation) is_raw material.now
-task_shown (code.Check kind is_summed lists) = checks kind is_summed (texts_of lists)
+task_shown (code.Check checking lists) = checks checking (texts_of lists)
