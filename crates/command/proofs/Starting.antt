@@ -1,7 +1,7 @@
 -- The run of `part --list`.
-use Rattle.std.proofs.Common.{◌≡◌, ◌∙◌}
+use Rattle.std.proofs.Common.{◌≡◌}
 use Rattle.std.proofs.Common.{ℕ, zero, suc, ◌+◌, ◌-◌, ◌*◌, ◌/◌, ◌^◌, ◌<◌, ◌≤◌, List, [], ◌∷◌, ◌++◌, length, min}
-use Rattle.std.proofs.Common.{max, Bool, true, false, Option, Some, None, IfSome, Result, Ok, Err, refl, sym, ap, inl}
+use Rattle.std.proofs.Common.{max, Bool, true, false, Option, Some, None, IfSome, Result, Ok, Err, refl, inl}
 use Rattle.std.proofs.Common.{inr}
 use Rattle.std.proofs.Common.{subst, arith}
 use Rattle.std.proofs.Math.Nat.{div-mul-le_self, mul-div-le, mul-le-mul_left, two-pow-succ}
@@ -18,7 +18,7 @@ use Rattle.command.specs.Run.{Prints, Run}
 use Rattle.command.specs.Cutting.{StartsRuns}
 use Rattle.command.specs.inside.Troubles.{cannot_write, trouble_of}
 use Rattle.command.specs.declared.fault.Fault.{Fault}
-use Rattle.command.specs.inside.Cutting.{CountsParts, MayRefuseStarts, TellsByte, part_count, start_lines}
+use Rattle.command.specs.inside.Cutting.{CountsParts, TellsByte, part_count, start_lines}
 use Rattle.command.specs.inside.Reading.{failed}
 use Rattle.command.proofs.Refused.{Counted-file, Counted-none, unread_by}
 use Rattle.command.proofs.Tagging.{Taken, Taken-refused, Taken-said}
