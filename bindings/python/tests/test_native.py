@@ -5,7 +5,8 @@ python3 -m unittest discover bindings/python/tests    with sums_hash on the path
 import copy
 import ctypes
 import gc
-import importlib
+import importlib.machinery
+import importlib.util
 import inspect
 import mmap
 import multiprocessing
@@ -20,8 +21,10 @@ import threading
 import tracemalloc
 import unittest
 import warnings
+import weakref
 
 import sums_hash
+from sums_hash import _native
 
 from test_sums_hash import DATA, FIXED, every_object
 
@@ -908,6 +911,18 @@ class References(unittest.TestCase):
             grown.append(max(count() - past for count, past in zip(counts, before)))
         # the interpreter's own caches grow now and then; what one call keeps is kept in each of a hundred
         self.assertLess(min(grown), 50, grown)
+
+    def test_no_class_is_kept(self):
+        """A module that nobody uses any more goes with its classes."""
+        name = "sums_hash._native"
+        loader = importlib.machinery.ExtensionFileLoader(name, _native.__file__)
+        module = importlib.util.module_from_spec(importlib.util.spec_from_loader(name, loader))
+        loader.exec_module(module)
+        classes = [weakref.ref(kind) for kind in vars(module).values() if isinstance(kind, type)]
+        self.assertEqual((module is _native, len(classes)), (False, 10))
+        del module
+        gc.collect()
+        self.assertEqual([kind() for kind in classes], [None] * 10)
 
     def test_none_is_kept_of_what_is_shared(self):
         """The number of a refusal and the name of a class, of which no more are made."""
