@@ -880,6 +880,52 @@ def every_call():
     )
 
 
+WITHOUT_MEMORY = """
+import importlib.util, pickle, sys, _testcapi, sums_hash
+from test_native import every_call
+
+def fails(call, number):
+    # whether the allocation of this number was refused, where the call says so
+    _testcapi.set_nomemory(number, number + 1)
+    try:
+        call()
+    except MemoryError:
+        return True
+    except (TypeError, ValueError, BufferError, AttributeError, ImportError, pickle.PicklingError):
+        pass
+    except SystemError as fault:
+        # the interpreter's own, where it has no memory for the frame of a traceback or for the name of a type
+        assert str(fault) in ("error return without exception set",
+                              "execution of module sums_hash._native failed without setting an exception"), fault
+    finally:
+        _testcapi.remove_mem_hooks()
+    return False
+
+spec = importlib.util.spec_from_file_location("sums_hash._native", sums_hash._native.__file__)
+
+def load():
+    spec.loader.exec_module(spec.loader.create_module(spec))
+
+told = [fails(call, number) for call in every_call() for number in range(40)]
+assert sum(told) > 1000, sum(told)
+assert sum(fails(load, number) for number in range(300)) > 50
+assert sums_hash.sha256(b"abc").hexdigest().startswith("ba7816bf")
+print("ended")
+"""
+
+
+class Memory(unittest.TestCase):
+    def test_refused(self):
+        """Where memory is refused a call is a MemoryError, or one that it is in any case, or does without."""
+        if sys.version_info[:2] != (3, 11) or hasattr(sys, "gettotalrefcount"):
+            self.skipTest("the interpreter's own calls fail there in other ways without memory")
+        try:
+            import _testcapi  # noqa: F401
+        except ImportError:
+            self.skipTest("this Python has no module that refuses memory")
+        self.assertEqual(in_process(WITHOUT_MEMORY), "ended\n")
+
+
 class References(unittest.TestCase):
     def test_no_lock_is_kept(self):
         """An object whose calls let others run has a lock, which goes with it."""
