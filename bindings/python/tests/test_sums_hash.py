@@ -115,6 +115,10 @@ class Buffers(unittest.TestCase):
                 self.assertRaises(BufferError, hasher.update, data)
             self.assertEqual(hasher.digest(), before)
 
+    def test_two_places(self):
+        for kind in (sums_hash.sha256, sums_hash.sha512, sums_hash.blake2b, sums_hash.blake2s, sums_hash.blake3):
+            self.assertRaises(TypeError, kind, b"a", b"b")
+
     def test_no_bytes(self):
         for hasher in every_object():
             with self.assertRaisesRegex(TypeError, "^Strings must be encoded before hashing$"):
