@@ -11,6 +11,7 @@ use crate::functions::{choice, majority, sums};
 use crate::ring::compress_block;
 use crate::schedules::{Schedules, Words, put_schedules, put_words};
 use std::simd::prelude::*;
+use words::level;
 
 #[inline(always)]
 fn big_sigma0(x: u32) -> u32
@@ -75,17 +76,32 @@ fn sixteen_rounds(v: &mut [u32; 8], schedules: &Schedules, t: usize, i: usize)
     four_rounds(v, schedules, t + 12, i);
 }
 
-// Takes block i into a hash value. Its rounds are written out, which is faster than a loop.
+// The rounds of block i: written out, and below x86-64-v3 in a loop, which is faster there.
+#[inline(always)]
+fn all_rounds(v: &mut [u32; 8], schedules: &Schedules, i: usize)
+    requires { i < 8 }
+    ensures { (b : List ℕ) → IsKeyedTo b 64 i schedules.now → v.new ≡ Sha256.rounds v.old (Sha256.schedule b 48) 64 }
+{
+    if level() < 3 {
+        'quarters: for quarter in 0..4 {
+            sixteen_rounds(v, schedules, 16 * quarter, i);
+        }
+        return;
+    }
+    sixteen_rounds(v, schedules, 0, i);
+    sixteen_rounds(v, schedules, 16, i);
+    sixteen_rounds(v, schedules, 32, i);
+    sixteen_rounds(v, schedules, 48, i);
+}
+
+// Takes block i into a hash value.
 #[inline(always)]
 fn take_block(h: &mut [u32; 8], schedules: &Schedules, i: usize)
     requires { i < 8 }
     ensures { (b : List ℕ) → IsKeyedTo b 64 i schedules.now → h.new ≡ Sha256.compress h.old b }
 {
     let mut v = *h;
-    sixteen_rounds(&mut v, schedules, 0, i);
-    sixteen_rounds(&mut v, schedules, 16, i);
-    sixteen_rounds(&mut v, schedules, 32, i);
-    sixteen_rounds(&mut v, schedules, 48, i);
+    all_rounds(&mut v, schedules, i);
     *h = sums(*h, v);
 }
 
@@ -221,12 +237,13 @@ fn take_ahead(h: &mut [u32; 8], runs: &[[[u8; 64]; 8]])
     take_last(h, runs.len() - 1, &even, &odd);
 }
 
-// From how many runs on their schedules are made ahead: one alone would pay for rooms that it does not need.
+// From how many runs on their schedules are made ahead: one alone would pay for rooms that it does not need, and
+// below x86-64-v3 two gain less than the rooms cost.
 #[inline(always)]
 fn fewest() -> usize
     ensures { 0 < result }
 {
-    2
+    if level() < 3 { 3 } else { 2 }
 }
 
 // Takes runs of eight blocks into a hash value.
