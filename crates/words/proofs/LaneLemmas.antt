@@ -61,13 +61,13 @@ pub row_of : (r x : List (List ℕ)) → r ≡ transposed8 x → (i : ℕ) → i
 row_of r x e =
     below_eight _ (rw e refl) (rw e refl) (rw e refl) (rw e refl) (rw e refl) (rw e refl) (rw e refl) (rw e refl)
 
-pub xors_fit : (n : ℕ) (a : List ℕ) → length a ≡ n → (b : List ℕ) → length b ≡ n → Each1 (λ x. x < 2 ^ 32) a
-    → Each1 (λ x. x < 2 ^ 32) b
-    → (i : ℕ) → i < n → slice_index (zip2 bit_xor a b) i < 2 ^ 32
-xors_fit n a la b lb fa fb i h =
-    rw (get_or-zip2 bit_xor a b i 0 0 0 (omega arith) (omega arith))
-    (xor_lt 32 _ _ (Each1-get_or (λ x. x < 2 ^ 32) a i 0 (omega arith) fa)
-    (Each1-get_or (λ x. x < 2 ^ 32) b i 0 (omega arith) fb))
+-- the words of x xor y fit, in n lanes of so many bits
+pub xors_fit : (bits n : ℕ) (x : List ℕ) → length x ≡ n → (y : List ℕ) → length y ≡ n → Each1 (λ v. v < 2 ^ bits) x
+    → Each1 (λ v. v < 2 ^ bits) y → (i : ℕ) → i < n → slice_index (zip2 bit_xor x y) i < 2 ^ bits
+xors_fit bits n x lx y ly fx fy i h =
+    rw (get_or-zip2 bit_xor x y i 0 0 0 (omega arith) (omega arith))
+    (xor_lt bits _ _ (Each1-get_or (λ v. v < 2 ^ bits) x i 0 (omega arith) fx)
+    (Each1-get_or (λ v. v < 2 ^ bits) y i 0 (omega arith) fy))
 
 -- what holds of each number below four
 pub below_four : (P : ℕ → Type 0) → P 0 → P 1 → P 2 → P 3 → (i : ℕ) → i < 4 → P i

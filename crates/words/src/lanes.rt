@@ -1,60 +1,27 @@
 // The compression function of BLAKE3 on eight inputs side by side: vectors of eight words, one lane each.
 
-ghost use Rattle.std.specs.Prelude.{◌≡◌, ℕ, ◌<◌, ◌+◌, ◌*◌, ◌/◌, ◌%◌, ◌^◌, slice_index, slice_index_or, [], ◌∷◌, List};
+ghost use Rattle.std.specs.Prelude.{◌≡◌, ℕ, ◌<◌, ◌+◌, ◌*◌, ◌/◌, ◌%◌, ◌^◌, slice_index, slice_index_or, [], ◌∷◌};
 ghost use Rattle.std.specs.Prelude.{take, drop, length, bit_xor, ◌≤◌, ◌++◌};
-ghost use Rattle.words.specs.Blake3.{words_in_order, working_words3, rounds3, folded_halves3, compress3};
-ghost use Rattle.words.specs.Mix.{word_sum, rotated_xor, g, round};
-ghost use Rattle.words.specs.Tables.{permutation};
-ghost use Rattle.words.specs.Blake2.{schedule, blake2s};
+ghost use Rattle.words.specs.Blake3.{working_words3, compress3};
+ghost use Rattle.words.specs.Blake2.{blake2s};
 ghost use Rattle.std.specs.Int.{rotate_right, w32};
 ghost use Rattle.std.specs.Simd.Lanes.{number_l, chunk};
-ghost use Rattle.words.specs.inside.Lanes.{lane, lane4, lane8, rows_lane, OnLanes, transposed8, places_16, places_8};
-ghost use Rattle.words.specs.inside.Lanes.{word_at, lane_column, lane_at};
+ghost use Rattle.words.specs.inside.Lanes.{lane, lane8, transposed8, places_16, places_8};
+ghost use Rattle.words.specs.inside.Lanes.{word_at};
 ghost use Rattle.words.specs.Words.{words};
 
+use crate::lanes::mixing::{WordLanes, folded3, seven_rounds};
 use crate::levels::level;
 use crate::tables::IV32;
 use std::simd::prelude::*;
 
-// The message words in the order of the next round.
-macro_rules! permuted {
-    ($m:ident) => {
-        [
-            $m[2], $m[6], $m[3], $m[10], $m[7], $m[0], $m[4], $m[13], $m[1], $m[11], $m[12], $m[5],
-            $m[9], $m[14], $m[15], $m[8],
-        ]
-    };
-}
-
-// The seven rounds, each on the message words in its order.
-macro_rules! seven_rounds {
-    ($round:ident, $permute:ident, $turns:ident, $v:ident, $m:ident) => {{
-        let v = $round($turns, $v, $m);
-        let m1 = $permute($m);
-        let v = $round($turns, v, m1);
-        let m2 = $permute(m1);
-        let v = $round($turns, v, m2);
-        let m3 = $permute(m2);
-        let v = $round($turns, v, m3);
-        let m4 = $permute(m3);
-        let v = $round($turns, v, m4);
-        let m5 = $permute(m4);
-        let v = $round($turns, v, m5);
-        let m6 = $permute(m5);
-        $round($turns, v, m6)
-    }};
-}
-
-// f of the words at each of these places, of one list or of two, where f may take something behind them.
+// f of the words at each of these places, of one list or of two.
 macro_rules! each {
     ($f:path, [$($k:literal),*], $x:ident) => {
         [$($f($x[$k])),*]
     };
     ($f:path, [$($k:literal),*], $x:ident, $y:ident) => {
         [$($f($x[$k], $y[$k])),*]
-    };
-    ($f:path, [$($k:literal),*], $x:ident, $y:ident; $how:ident) => {
-        [$($f($x[$k], $y[$k], $how)),*]
     };
 }
 
@@ -66,6 +33,8 @@ macro_rules! both {
 }
 
 pub mod four;
+pub mod long;
+pub mod mixing;
 pub mod two;
 
 /// Where the bytes of eight words come from when they turn by 16 and by 8.
@@ -100,22 +69,6 @@ impl Turns {
     }
 }
 
-#[inline(always)]
-fn xor(x: u32x8, y: u32x8) -> u32x8
-    ensures lanes { (i : ℕ) → i < 8 → slice_index result i ≡ bit_xor (slice_index x i) (slice_index y i) }
-    ensures fit { (i : ℕ) → i < 8 → slice_index result i < 2 ^ 32 }
-{
-    x ^ y
-}
-
-// The sum of words.
-#[inline(always)]
-fn add(x: u32x8, y: u32x8) -> u32x8
-    ensures { (i : ℕ) → i < 8 → slice_index result i ≡ word_sum blake2s (slice_index x i) (slice_index y i) }
-{
-    x + y
-}
-
 // Each word of x xor y, rotated right.
 #[inline(always)]
 fn rotated(x: u32x8, y: u32x8, r: u32) -> u32x8
@@ -143,121 +96,50 @@ fn words_of(x: u8x32) -> u32x8
     u32x8::from_le_bytes(x)
 }
 
-// x xor y, rotated right by 16.
-#[inline(always)]
-fn turn16(x: u32x8, y: u32x8, turns: Turns) -> u32x8
-    ensures { (i : ℕ) → i < 8 → slice_index result i ≡ rotated_xor blake2s 0 (slice_index x i) (slice_index y i) }
-{
-    if level() < 2 {
-        return rotated(x, y, 16);
+impl WordLanes for u32x8 {
+    type Turns = Turns;
+
+    ghost variant = { blake2s };
+
+    ghost count = { 8 };
+
+    ghost words = { λ x. x };
+
+    #[inline(always)]
+    fn sum(self, y: u32x8) -> u32x8 {
+        self + y
     }
-    words_of(bytes(xor(x, y)).swizzle_dyn_within::<16>(turns.by_16))
-}
 
-// x xor y, rotated right by 8.
-#[inline(always)]
-fn turn8(x: u32x8, y: u32x8, turns: Turns) -> u32x8
-    ensures { (i : ℕ) → i < 8 → slice_index result i ≡ rotated_xor blake2s 2 (slice_index x i) (slice_index y i) }
-{
-    if level() < 2 {
-        return rotated(x, y, 8);
+    #[inline(always)]
+    fn xor(self, y: u32x8) -> u32x8 {
+        self ^ y
     }
-    words_of(bytes(xor(x, y)).swizzle_dyn_within::<16>(turns.by_8))
-}
 
-// The same of four words in each lane.
-#[inline(always)]
-fn sums(x: [u32x8; 4], y: [u32x8; 4]) -> [u32x8; 4]
-    ensures { OnLanes 8 (word_sum blake2s) x y result }
-{
-    each!(add, [0, 1, 2, 3], x, y)
-}
+    #[inline(always)]
+    fn turn1(self, y: u32x8, turns: Turns) -> u32x8 {
+        if level() < 2 {
+            return rotated(self, y, 16);
+        }
+        words_of(bytes(self.xor(y)).swizzle_dyn_within::<16>(turns.by_16))
+    }
 
-#[inline(always)]
-fn turned16(x: [u32x8; 4], y: [u32x8; 4], turns: Turns) -> [u32x8; 4]
-    ensures { OnLanes 8 (rotated_xor blake2s 0) x y result }
-{
-    each!(turn16, [0, 1, 2, 3], x, y; turns)
-}
+    #[inline(always)]
+    fn turn2(self, y: u32x8, _turns: Turns) -> u32x8 {
+        rotated(self, y, 12)
+    }
 
-#[inline(always)]
-fn all_rotated(x: [u32x8; 4], y: [u32x8; 4], r: u32) -> [u32x8; 4]
-    requires { (0 < r) × (r < 32) }
-    ensures { OnLanes 8 (λ v w. rotate_right w32 (bit_xor v w) r) x y result }
-{
-    each!(rotated, [0, 1, 2, 3], x, y; r)
-}
+    #[inline(always)]
+    fn turn3(self, y: u32x8, turns: Turns) -> u32x8 {
+        if level() < 2 {
+            return rotated(self, y, 8);
+        }
+        words_of(bytes(self.xor(y)).swizzle_dyn_within::<16>(turns.by_8))
+    }
 
-#[inline(always)]
-fn turned8(x: [u32x8; 4], y: [u32x8; 4], turns: Turns) -> [u32x8; 4]
-    ensures { OnLanes 8 (rotated_xor blake2s 2) x y result }
-{
-    each!(turn8, [0, 1, 2, 3], x, y; turns)
-}
-
-// G on the four columns of the state, step by step side by side.
-#[inline(always)]
-fn four_g(turns: Turns, rows: [[u32x8; 4]; 4], x: [u32x8; 4], y: [u32x8; 4]) -> [[u32x8; 4]; 4]
-    ensures { (j : ℕ) → j < 4 → (i : ℕ) → i < 8
-        → lane_column j i result ≡ g blake2s (lane_column j i rows) (lane_at x j i) (lane_at y j i) }
-{
-    let [a, b, c, d] = rows;
-    let a1 = sums(sums(a, b), x);
-    let d1 = turned16(d, a1, turns);
-    let c1 = sums(c, d1);
-    let b1 = all_rotated(b, c1, 12);
-    let a2 = sums(sums(a1, b1), y);
-    let d2 = turned8(d1, a2, turns);
-    let c2 = sums(c1, d2);
-    let b2 = all_rotated(b1, c2, 7);
-    [a2, b2, c2, d2]
-}
-
-// One round: G down the columns, and then down the diagonals, which are columns of turned rows.
-#[inline(always)]
-fn round_lanes(turns: Turns, rows: [[u32x8; 4]; 4], m: [u32x8; 16]) -> [[u32x8; 4]; 4]
-    ensures { (i : ℕ) → i < 8 → rows_lane i result ≡ round blake2s (rows_lane i rows) (lane i m) (schedule 0) }
-{
-    let x = [m[0], m[2], m[4], m[6]];
-    let y = [m[1], m[3], m[5], m[7]];
-    let [a, b, c, d] = four_g(turns, rows, x, y);
-    let turned = [
-        a,
-        [b[1], b[2], b[3], b[0]],
-        [c[2], c[3], c[0], c[1]],
-        [d[3], d[0], d[1], d[2]],
-    ];
-    let x = [m[8], m[10], m[12], m[14]];
-    let y = [m[9], m[11], m[13], m[15]];
-    let [a, b, c, d] = four_g(turns, turned, x, y);
-    [
-        a,
-        [b[3], b[0], b[1], b[2]],
-        [c[2], c[3], c[0], c[1]],
-        [d[1], d[2], d[3], d[0]],
-    ]
-}
-
-// The message words in the order of the next round.
-#[inline(always)]
-#[tactic(auto, unfolding(crate::specs::inside::Lanes::lane))]
-fn permute_lanes(m: [u32x8; 16]) -> [u32x8; 16]
-    ensures { (i : ℕ) → i < 8 → lane i result ≡ words_in_order (lane i m) permutation }
-{
-    permuted!(m)
-}
-
-// The seven rounds.
-#[inline(always)]
-#[tactic(auto, unfolding(crate::specs::Blake3::rounds3, crate::specs::Blake3::permuted_words))]
-fn rounds_lanes<const USE: usize>(
-    turns: Turns,
-    rows: [[u32x8; 4]; 4],
-    m: [u32x8; 16],
-) -> [[u32x8; 4]; 4]
-    ensures { (i : ℕ) → i < 8 → rows_lane i result ≡ rounds3 (rows_lane i rows) (lane i m) 7 }
-{
-    seven_rounds!(round_lanes, permute_lanes, turns, rows, m)
+    #[inline(always)]
+    fn turn4(self, y: u32x8, _turns: Turns) -> u32x8 {
+        rotated(self, y, 7)
+    }
 }
 
 #[inline(always)]
@@ -482,32 +364,28 @@ pub(crate) fn high(x: u64) -> u32
 
 // The working words before the first round.
 #[inline(always)]
-#[tactic(auto, unfolding(crate::specs::inside::Lanes::rows_lane))]
-fn working_lanes(h: [u32x8; 8], t: &[u64; 8], b: u32, d: u32) -> [[u32x8; 4]; 4]
-    ensures { (i : ℕ) → i < 8 → rows_lane i result ≡ working_words3 (lane8 i h) (slice_index t.now i) b d }
+#[tactic(auto, unfolding(crate::specs::inside::Lanes::lane))]
+fn working_lanes(h: [u32x8; 8], t: &[u64; 8], b: u32, d: u32) -> [u32x8; 16]
+    ensures { (i : ℕ) → i < 8 → lane i result ≡ working_words3 (lane8 i h) (slice_index t.now i) b d }
 {
-    let lows = u32x8::from_array(each!(low, [0, 1, 2, 3, 4, 5, 6, 7], t));
-    let highs = u32x8::from_array(each!(high, [0, 1, 2, 3, 4, 5, 6, 7], t));
     [
-        [h[0], h[1], h[2], h[3]],
-        [h[4], h[5], h[6], h[7]],
-        [
-            u32x8::splat(IV32[0]),
-            u32x8::splat(IV32[1]),
-            u32x8::splat(IV32[2]),
-            u32x8::splat(IV32[3]),
-        ],
-        [lows, highs, u32x8::splat(b), u32x8::splat(d)],
+        h[0],
+        h[1],
+        h[2],
+        h[3],
+        h[4],
+        h[5],
+        h[6],
+        h[7],
+        u32x8::splat(IV32[0]),
+        u32x8::splat(IV32[1]),
+        u32x8::splat(IV32[2]),
+        u32x8::splat(IV32[3]),
+        u32x8::from_array(each!(low, [0, 1, 2, 3, 4, 5, 6, 7], t)),
+        u32x8::from_array(each!(high, [0, 1, 2, 3, 4, 5, 6, 7], t)),
+        u32x8::splat(b),
+        u32x8::splat(d),
     ]
-}
-
-// The first eight words of output.
-#[inline(always)]
-fn fold_lanes(rows: [[u32x8; 4]; 4]) -> [u32x8; 8]
-    ensures { (i : ℕ) → i < 8 → lane8 i result ≡ take 8 (folded_halves3 [] (rows_lane i rows)) }
-{
-    let [a, b, c, d] = rows;
-    both!([0, 1, 2, 3], xor, a, c, xor, b, d)
 }
 
 /// The first eight words of `compress_3` in each of eight lanes. Each value of `USE` is a copy of the code of its
@@ -527,7 +405,9 @@ pub fn next_lanes<const USE: usize>(
     if level() < 3 {
         return four::next_fours(turns, h, m, t, b, d);
     }
-    fold_lanes(rounds_lanes::<USE>(turns, working_lanes(h, t, b, d), m))
+    let v = working_lanes(h, t, b, d);
+    let v = seven_rounds::<u32x8, USE>(turns, &v, &m);
+    folded3(&v)
 }
 
 /// The same words in each lane.

@@ -1,5 +1,6 @@
 -- Eight compressions side by side: each word is a vector, with one lane for each of them.
-use Rattle.std.specs.Prelude.{◌≡◌, ℕ, ◌<◌, drop, List, [], ◌∷◌, slice_index, slice_index_or}
+use Rattle.std.specs.Prelude.{◌≡◌, ℕ, ◌<◌, ◌+◌, ◌*◌, ◌/◌, ◌%◌, drop, List, [], ◌∷◌, map, slice_index, slice_index_or}
+use Rattle.std.specs.List.{range_with_len}
 use Rattle.byteorder.specs.Endian.{little_number}
 
 -- lane i of vector k
@@ -44,26 +45,18 @@ abbrev pub places_8 : List ℕ
 places_8 = 1 ∷ 2 ∷ 3 ∷ 0 ∷ 5 ∷ 6 ∷ 7 ∷ 4 ∷ 9 ∷ 10 ∷ 11 ∷ 8 ∷ 13 ∷ 14 ∷ 15 ∷ 12 ∷ 1 ∷ 2 ∷ 3 ∷ 0 ∷ 5 ∷ 6 ∷ 7 ∷ 4 ∷ 9 ∷ 10
     ∷ 11 ∷ 8 ∷ 13 ∷ 14 ∷ 15 ∷ 12 ∷ []
 
--- the word in lane i of vector j of row r
-abbrev pub row_lane_at : List (List (List ℕ)) → ℕ → ℕ → ℕ → ℕ
-row_lane_at rows r j i = lane_at (slice_index_or rows r []) j i
+-- f of the words of x and y in each of n lanes
+abbrev pub OnLanes : ℕ → (ℕ → ℕ → ℕ) → List ℕ → List ℕ → List ℕ → Type 0
+OnLanes n f x y z = (i : ℕ) → i < n → slice_index z i ≡ f (slice_index x i) (slice_index y i)
 
--- the words in lane i of vector j of each of four rows
-abbrev pub lane_column : ℕ → ℕ → List (List (List ℕ)) → List ℕ
-lane_column j i rows =
-    row_lane_at rows 0 j i ∷ row_lane_at rows 1 j i ∷ row_lane_at rows 2 j i ∷ row_lane_at rows 3 j i ∷ []
+-- the words in lane i of four vectors
+abbrev pub column_at : {A : Type 0} → (A → List ℕ) → ℕ → (A × A × A × A) → List ℕ
+column_at {A} words i x =
+    slice_index (words x.0) i ∷ slice_index (words x.1) i ∷ slice_index (words x.2) i ∷ slice_index (words x.3) i ∷ []
 
--- the sixteen words in lane i of four rows of four vectors
-unfoldable pub rows_lane : ℕ → List (List (List ℕ)) → List ℕ
-rows_lane i rows =
-    row_lane_at rows 0 0 i ∷ row_lane_at rows 0 1 i ∷ row_lane_at rows 0 2 i ∷ row_lane_at rows 0 3 i ∷
-    row_lane_at rows 1 0 i ∷ row_lane_at rows 1 1 i ∷ row_lane_at rows 1 2 i ∷ row_lane_at rows 1 3 i ∷
-    row_lane_at rows 2 0 i ∷ row_lane_at rows 2 1 i ∷ row_lane_at rows 2 2 i ∷ row_lane_at rows 2 3 i ∷
-    row_lane_at rows 3 0 i ∷ row_lane_at rows 3 1 i ∷ row_lane_at rows 3 2 i ∷ row_lane_at rows 3 3 i ∷ []
-
--- f of the words of x and y in each of n lanes of four vectors
-abbrev pub OnLanes : ℕ → (ℕ → ℕ → ℕ) → List (List ℕ) → List (List ℕ) → List (List ℕ) → Type 0
-OnLanes n f x y z = (j : ℕ) → j < 4 → (i : ℕ) → i < n → lane_at z j i ≡ f (lane_at x j i) (lane_at y j i)
+-- the 32 bytes of words of n bytes each, where each word is turned right by r bytes
+abbrev pub turned_bytes : ℕ → ℕ → List ℕ → List ℕ
+turned_bytes n r x = map (λ i. slice_index x (n * (i / n) + (i + r) % n)) (range_with_len 0 32)
 
 -- the word at byte i
 abbrev pub word_at : List ℕ → ℕ → ℕ

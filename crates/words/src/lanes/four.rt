@@ -1,19 +1,17 @@
 //! The same on four inputs side by side, for the few chunks of a short message.
 
 ghost use Rattle.std.specs.Prelude.{◌≡◌, ℕ, ◌<◌, ◌+◌, ◌*◌, ◌/◌, ◌%◌, ◌^◌, slice_index, slice_index_or, [], ◌∷◌};
-ghost use Rattle.std.specs.Prelude.{List, drop, length, take, bit_xor, ◌≤◌};
+ghost use Rattle.std.specs.Prelude.{drop, length, take, ◌≤◌};
 ghost use Rattle.std.specs.Simd.Lanes.{number_l, chunk};
-ghost use Rattle.words.specs.Blake2.{schedule, blake2s};
-ghost use Rattle.words.specs.Blake3.{words_in_order, working_words3, rounds3, folded_halves3, compress3};
-ghost use Rattle.words.specs.Mix.{g, rotated_xor, round};
-ghost use Rattle.words.specs.inside.Rows.{column, half_g};
-ghost use Rattle.words.specs.Tables.{permutation};
+ghost use Rattle.words.specs.Blake2.{blake2s};
+ghost use Rattle.words.specs.Blake3.{working_words3, compress3};
 ghost use Rattle.words.specs.Words.{words};
-ghost use Rattle.words.specs.inside.Lanes.{lane, lane4, lane8, places_16, places_8, word_at};
+ghost use Rattle.words.specs.inside.Lanes.{lane, lane4, lane8, word_at};
 
+use crate::lanes::mixing::{WordLanes, folded3, seven_rounds};
 use crate::lanes::{Turns, block_at, high, load, low};
 use crate::levels::level;
-use crate::rows::{rotated_xor32, sum32};
+use crate::rows::rotated_xor32;
 use crate::tables::IV32;
 use std::simd::prelude::*;
 
@@ -23,14 +21,6 @@ fn half(places: u8x32) -> u8x16
     ensures { result ≡ take 16 places }
 {
     places.swizzle([0, 1, 2, 3, 4, 5, 6, 7, 8, 9, 10, 11, 12, 13, 14, 15])
-}
-
-#[inline(always)]
-fn xor(x: u32x4, y: u32x4) -> u32x4
-    ensures lanes { (i : ℕ) → i < 4 → slice_index result i ≡ bit_xor (slice_index x i) (slice_index y i) }
-    ensures fit { (i : ℕ) → i < 4 → slice_index result i < 2 ^ 32 }
-{
-    x ^ y
 }
 
 #[inline(always)]
@@ -47,98 +37,50 @@ fn words_of(x: u8x16) -> u32x4
     u32x4::from_le_bytes(x)
 }
 
-// x xor y, rotated right by 16.
-#[inline(always)]
-fn turn16(x: u32x4, y: u32x4, turns: Turns) -> u32x4
-    ensures { (i : ℕ) → i < 4 → slice_index result i ≡ rotated_xor blake2s 0 (slice_index x i) (slice_index y i) }
-{
-    if level() < 2 {
-        return rotated_xor32(x, y, 16);
+impl WordLanes for u32x4 {
+    type Turns = Turns;
+
+    ghost variant = { blake2s };
+
+    ghost count = { 4 };
+
+    ghost words = { λ x. x };
+
+    #[inline(always)]
+    fn sum(self, y: u32x4) -> u32x4 {
+        self + y
     }
-    words_of(bytes(xor(x, y)).swizzle_dyn_within::<16>(half(turns.by_16)))
-}
 
-// x xor y, rotated right by 8.
-#[inline(always)]
-fn turn8(x: u32x4, y: u32x4, turns: Turns) -> u32x4
-    ensures { (i : ℕ) → i < 4 → slice_index result i ≡ rotated_xor blake2s 2 (slice_index x i) (slice_index y i) }
-{
-    if level() < 2 {
-        return rotated_xor32(x, y, 8);
+    #[inline(always)]
+    fn xor(self, y: u32x4) -> u32x4 {
+        self ^ y
     }
-    words_of(bytes(xor(x, y)).swizzle_dyn_within::<16>(half(turns.by_8)))
-}
 
-// The first half of G on a column or diagonal of the state in each lane.
-#[inline(always)]
-fn begin_mix(turns: Turns, rows: [u32x4; 4], x: u32x4) -> [u32x4; 4]
-    ensures { (i : ℕ) → i < 4 → column result i ≡ half_g blake2s 0 (column rows i) (slice_index x i) }
-{
-    let [a, b, c, d] = rows;
-    let a = sum32(sum32(a, b), x);
-    let d = turn16(d, a, turns);
-    let c = sum32(c, d);
-    let b = rotated_xor32(b, c, 12);
-    [a, b, c, d]
-}
+    #[inline(always)]
+    fn turn1(self, y: u32x4, turns: Turns) -> u32x4 {
+        if level() < 2 {
+            return rotated_xor32(self, y, 16);
+        }
+        words_of(bytes(self.xor(y)).swizzle_dyn_within::<16>(half(turns.by_16)))
+    }
 
-// The second half of G, where the first was on `v`.
-#[inline(always)]
-fn end_mix(turns: Turns, rows: [u32x4; 4], y: u32x4) -> [u32x4; 4]
-    ensures { (i : ℕ) → i < 4 → (v : List ℕ) (x : ℕ) → column rows i ≡ half_g blake2s 0 v x
-        → column result i ≡ g blake2s v x (slice_index y i) }
-{
-    let [a, b, c, d] = rows;
-    let a = sum32(sum32(a, b), y);
-    let d = turn8(d, a, turns);
-    let c = sum32(c, d);
-    let b = rotated_xor32(b, c, 7);
-    [a, b, c, d]
-}
+    #[inline(always)]
+    fn turn2(self, y: u32x4, _turns: Turns) -> u32x4 {
+        rotated_xor32(self, y, 12)
+    }
 
-// One round: G down the columns, and then down the diagonals. Four halves of G stand side by side, since each step of
-// one waits for the step before it.
-#[inline(always)]
-fn round_lanes(turns: Turns, v: [u32x4; 16], m: [u32x4; 16]) -> [u32x4; 16]
-    ensures { (i : ℕ) → i < 4 → lane i result ≡ round blake2s (lane i v) (lane i m) (schedule 0) }
-{
-    let p0 = begin_mix(turns, [v[0], v[4], v[8], v[12]], m[0]);
-    let p1 = begin_mix(turns, [v[1], v[5], v[9], v[13]], m[2]);
-    let p2 = begin_mix(turns, [v[2], v[6], v[10], v[14]], m[4]);
-    let p3 = begin_mix(turns, [v[3], v[7], v[11], v[15]], m[6]);
-    let [a0, b0, c0, d0] = end_mix(turns, p0, m[1]);
-    let [a1, b1, c1, d1] = end_mix(turns, p1, m[3]);
-    let [a2, b2, c2, d2] = end_mix(turns, p2, m[5]);
-    let [a3, b3, c3, d3] = end_mix(turns, p3, m[7]);
-    let q0 = begin_mix(turns, [a0, b1, c2, d3], m[8]);
-    let q1 = begin_mix(turns, [a1, b2, c3, d0], m[10]);
-    let q2 = begin_mix(turns, [a2, b3, c0, d1], m[12]);
-    let q3 = begin_mix(turns, [a3, b0, c1, d2], m[14]);
-    let [a0, b1, c2, d3] = end_mix(turns, q0, m[9]);
-    let [a1, b2, c3, d0] = end_mix(turns, q1, m[11]);
-    let [a2, b3, c0, d1] = end_mix(turns, q2, m[13]);
-    let [a3, b0, c1, d2] = end_mix(turns, q3, m[15]);
-    [
-        a0, a1, a2, a3, b0, b1, b2, b3, c0, c1, c2, c3, d0, d1, d2, d3,
-    ]
-}
+    #[inline(always)]
+    fn turn3(self, y: u32x4, turns: Turns) -> u32x4 {
+        if level() < 2 {
+            return rotated_xor32(self, y, 8);
+        }
+        words_of(bytes(self.xor(y)).swizzle_dyn_within::<16>(half(turns.by_8)))
+    }
 
-// The message words in the order of the next round.
-#[inline(always)]
-#[tactic(auto, unfolding(crate::specs::inside::Lanes::lane))]
-fn permute_lanes(m: [u32x4; 16]) -> [u32x4; 16]
-    ensures { (i : ℕ) → i < 4 → lane i result ≡ words_in_order (lane i m) permutation }
-{
-    permuted!(m)
-}
-
-// The seven rounds.
-#[inline(always)]
-#[tactic(auto, unfolding(crate::specs::Blake3::rounds3, crate::specs::Blake3::permuted_words))]
-fn rounds_lanes<const USE: usize>(turns: Turns, v: [u32x4; 16], m: [u32x4; 16]) -> [u32x4; 16]
-    ensures { (i : ℕ) → i < 4 → lane i result ≡ rounds3 (lane i v) (lane i m) 7 }
-{
-    seven_rounds!(round_lanes, permute_lanes, turns, v, m)
+    #[inline(always)]
+    fn turn4(self, y: u32x4, _turns: Turns) -> u32x4 {
+        rotated_xor32(self, y, 7)
+    }
 }
 
 // The working words before the first round.
@@ -167,23 +109,6 @@ fn working_lanes(h: [u32x4; 8], t: &[u64; 4], b: u32, d: u32) -> [u32x4; 16]
     ]
 }
 
-// The first eight words of output.
-#[inline(always)]
-fn fold_lanes(v: [u32x4; 16]) -> [u32x4; 8]
-    ensures { (i : ℕ) → i < 4 → lane8 i result ≡ take 8 (folded_halves3 [] (lane i v)) }
-{
-    [
-        xor(v[0], v[8]),
-        xor(v[1], v[9]),
-        xor(v[2], v[10]),
-        xor(v[3], v[11]),
-        xor(v[4], v[12]),
-        xor(v[5], v[13]),
-        xor(v[6], v[14]),
-        xor(v[7], v[15]),
-    ]
-}
-
 /// The first eight words of `compress_3` in each of four lanes. Each value of `USE` is a copy of the code of its own.
 #[inline(always)]
 #[tactic(auto, unfolding(crate::specs::Blake3::compress3))]
@@ -197,7 +122,9 @@ pub fn next_lanes<const USE: usize>(
 ) -> [u32x4; 8]
     ensures { (i : ℕ) → i < 4 → lane8 i result ≡ take 8 (compress3 (lane8 i h) (lane i m) (slice_index t.now i) b d) }
 {
-    fold_lanes(rounds_lanes::<USE>(turns, working_lanes(h, t, b, d), m))
+    let v = working_lanes(h, t, b, d);
+    let v = seven_rounds::<u32x4, USE>(turns, &v, &m);
+    folded3(&v)
 }
 
 /// The same words in each lane.

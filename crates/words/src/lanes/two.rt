@@ -3,34 +3,34 @@
 
 ghost use Rattle.std.specs.Prelude.{◌≡◌, ℕ, ◌<◌, ◌+◌, ◌*◌, slice_index, slice_index_or, [], ◌∷◌, take, drop, length, ◌≤◌};
 ghost use Rattle.words.specs.Blake2.{schedule, blake2s};
-ghost use Rattle.words.specs.Blake3.{words_in_order, working_words3, rounds3, folded_halves3, compress3};
-ghost use Rattle.words.specs.Mix.{g, round};
+ghost use Rattle.words.specs.Blake3.{words_in_order, working_words3, rounds3, compress3};
+ghost use Rattle.words.specs.Mix.{round};
 ghost use Rattle.words.specs.Tables.{permutation};
 ghost use Rattle.words.specs.Words.{words};
 ghost use Rattle.words.specs.inside.Halves.{half8, half16, half_message};
-ghost use Rattle.words.specs.inside.Rows.{column};
 
-use crate::lanes::{
-    Turns, add, block_at, halves_high, halves_low, high, low, quad, rotated, turn8, turn16, xor,
-};
+use crate::lanes::mixing::{WordLanes, mix};
+use crate::lanes::{Turns, block_at, halves_high, halves_low, high, low, quad};
 use crate::tables::IV32;
 use std::simd::prelude::*;
 
-// G down the eight columns.
-#[inline(always)]
-fn mix(turns: Turns, rows: [u32x8; 4], x: u32x8, y: u32x8) -> [u32x8; 4]
-    ensures { (j : ℕ) → j < 8 → column result j ≡ g blake2s (column rows j) (slice_index x j) (slice_index y j) }
-{
-    let [a, b, c, d] = rows;
-    let a1 = add(add(a, b), x);
-    let d1 = turn16(d, a1, turns);
-    let c1 = add(c, d1);
-    let b1 = rotated(b, c1, 12);
-    let a2 = add(add(a1, b1), y);
-    let d2 = turn8(d1, a2, turns);
-    let c2 = add(c1, d2);
-    let b2 = rotated(b1, c2, 7);
-    [a2, b2, c2, d2]
+// The seven rounds, each on the message words in its order.
+macro_rules! seven_rounds {
+    ($round:ident, $permute:ident, $turns:ident, $v:ident, $m:ident) => {{
+        let v = $round($turns, $v, $m);
+        let m1 = $permute($m);
+        let v = $round($turns, v, m1);
+        let m2 = $permute(m1);
+        let v = $round($turns, v, m2);
+        let m3 = $permute(m2);
+        let v = $round($turns, v, m3);
+        let m4 = $permute(m3);
+        let v = $round($turns, v, m4);
+        let m5 = $permute(m4);
+        let v = $round($turns, v, m5);
+        let m6 = $permute(m5);
+        $round($turns, v, m6)
+    }};
 }
 
 // Each half turned left by one word.
@@ -64,9 +64,10 @@ fn turned_by_3(x: u32x8) -> u32x8
 fn round_halves(turns: Turns, rows: [u32x8; 4], m: [u32x8; 4]) -> [u32x8; 4]
     ensures { (i : ℕ) → i < 2 → half16 i result ≡ round blake2s (half16 i rows) (half_message i m) (schedule 0) }
 {
-    let [a, b, c, d] = mix(turns, rows, m[0], m[1]);
-    let turned = [turned_by_3(a), b, turned_by_1(c), turned_by_2(d)];
-    let [a, b, c, d] = mix(turns, turned, m[2], m[3]);
+    let [a, b, c, d] = rows;
+    let (a, b, c, d) = mix(turns, (a, b, c, d), m[0], m[1]);
+    let turned = (turned_by_3(a), b, turned_by_1(c), turned_by_2(d));
+    let (a, b, c, d) = mix(turns, turned, m[2], m[3]);
     [turned_by_1(a), b, turned_by_3(c), turned_by_2(d)]
 }
 
@@ -136,7 +137,7 @@ pub fn next_halves(
         → half8 i result ≡ take 8 (compress3 (half8 i h) (half_message i m) (slice_index t.now i) b d) }
 {
     let [a, b, c, d] = rounds_halves(turns, working_halves(h, t, b, d), m);
-    [xor(a, c), xor(b, d)]
+    [a.xor(c), b.xor(d)]
 }
 
 // A round of two pairs in turn, since each step of one waits for the step before it.
@@ -189,8 +190,8 @@ pub fn next_pairs(
     ];
     let [v, w] = rounds_pairs(turns, rows, m);
     [
-        [xor(v[0], v[2]), xor(v[1], v[3])],
-        [xor(w[0], w[2]), xor(w[1], w[3])],
+        [v[0].xor(v[2]), v[1].xor(v[3])],
+        [w[0].xor(w[2]), w[1].xor(w[3])],
     ]
 }
 
