@@ -1,6 +1,4 @@
 pub mod Vectors
-pub mod LaneRounds
-pub mod WordTurns
 pub mod LongWords
 pub mod PieceChains
 pub mod PieceLemmas

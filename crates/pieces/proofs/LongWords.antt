@@ -3,11 +3,7 @@ use Rattle.std.proofs.Common.{◌≡◌, ℕ, ◌<◌, ◌+◌, ◌*◌, List, [
 use Rattle.std.proofs.lemmas.List.{get_or-drop}
 use Rattle.byteorder.specs.Endian.{little_number}
 use Rattle.words.specs.Words.{words}
-
--- eight bytes as a word, the lowest first
-abbrev pub word_of : ℕ → ℕ → ℕ → ℕ → ℕ → ℕ → ℕ → ℕ → ℕ
-word_of a b c d e f g h =
-    a + 256 * (b + 256 * (c + 256 * (d + 256 * (e + 256 * (f + 256 * (g + 256 * (h + 256 * 0)))))))
+use Rattle.words.proofs.LongTurns.{word_of}
 
 -- eight bytes of a list as a word
 pub le_word : (x : List ℕ) (at p q r s t u v w : ℕ) → p ≡ at → q ≡ at + 1 → r ≡ at + 2 → s ≡ at + 3 → t ≡ at + 4

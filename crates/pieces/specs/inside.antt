@@ -1,3 +1,2 @@
-pub mod Lanes2
 pub mod Rounds
 pub mod Words

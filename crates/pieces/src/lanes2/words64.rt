@@ -1,151 +1,16 @@
 // F of BLAKE2b on four inputs side by side.
 
-ghost use Rattle.std.specs.Prelude.{◌≡◌, ◌<◌, ◌≤◌, ◌+◌, ◌*◌, ◌/◌, ◌%◌, ◌^◌, [], ◌∷◌, ℕ, bit_xor};
+ghost use Rattle.std.specs.Prelude.{◌≡◌, ◌<◌, ◌≤◌, ◌+◌, ◌*◌, ◌%◌, [], ◌∷◌, ℕ};
 ghost use Rattle.std.specs.Prelude.{slice_index, slice_index_or, take, drop, length};
-ghost use Rattle.std.specs.Simd.Lanes.{number_l, chunk};
 ghost use Rattle.byteorder.specs.Endian.{little_number};
-ghost use Rattle.words.specs.Blake2.{blake2b, compress, folded_halves, rounds, working_words};
-ghost use Rattle.words.specs.Mix.{g, rotated_xor, round, word_sum};
+ghost use Rattle.words.specs.Blake2.{blake2b, compress, working_words};
 ghost use Rattle.words.specs.Words.{words};
 ghost use Rattle.words.specs.inside.Lanes.{lane, lane4, lane8};
-ghost use Rattle.pieces.specs.inside.Lanes2.{turned_bytes};
 
-use super::SIGMA;
 use std::simd::prelude::*;
 use words::IV64;
-
-#[inline(always)]
-fn sum(x: u64x4, y: u64x4) -> u64x4
-    ensures { (i : ℕ) → i < 4 → slice_index result i ≡ word_sum blake2b (slice_index x i) (slice_index y i) }
-{
-    x + y
-}
-
-#[inline(always)]
-fn xor(x: u64x4, y: u64x4) -> u64x4
-    ensures lanes { (i : ℕ) → i < 4 → slice_index result i ≡ bit_xor (slice_index x i) (slice_index y i) }
-    ensures fit { (i : ℕ) → i < 4 → slice_index result i < 2 ^ 64 }
-{
-    x ^ y
-}
-
-#[inline(always)]
-fn xor3(x: u64x4, y: u64x4, z: u64x4) -> u64x4
-    ensures { (i : ℕ) → i < 4
-        → slice_index result i ≡ bit_xor (bit_xor (slice_index x i) (slice_index y i)) (slice_index z i) }
-{
-    x ^ y ^ z
-}
-
-/// The bytes of four words.
-#[inline(always)]
-pub(crate) fn bytes_of(x: u64x4) -> u8x32
-    ensures { (i j : ℕ) → i < 4 → j < 8 → slice_index result (8 * i + j) ≡ slice_index x i / 256 ^ j % 256 }
-{
-    x.to_le_bytes()
-}
-
-/// The words of bytes.
-#[inline(always)]
-pub(crate) fn words_of(x: u8x32) -> u64x4
-    ensures { (i : ℕ) → i < 4 → slice_index result i ≡ number_l 256 (chunk (8 * i) 8 x) }
-{
-    u64x4::from_le_bytes(x)
-}
-
-// The bytes of words that turn by 32.
-#[inline(always)]
-fn move32(x: u8x32) -> u8x32
-    ensures { result ≡ turned_bytes 8 4 x }
-{
-    x.swizzle([
-        4, 5, 6, 7, 0, 1, 2, 3, 12, 13, 14, 15, 8, 9, 10, 11, 20, 21, 22, 23, 16, 17, 18, 19, 28,
-        29, 30, 31, 24, 25, 26, 27,
-    ])
-}
-
-// The bytes of words that turn by 24.
-#[inline(always)]
-fn move24(x: u8x32) -> u8x32
-    ensures { result ≡ turned_bytes 8 3 x }
-{
-    x.swizzle([
-        3, 4, 5, 6, 7, 0, 1, 2, 11, 12, 13, 14, 15, 8, 9, 10, 19, 20, 21, 22, 23, 16, 17, 18, 27,
-        28, 29, 30, 31, 24, 25, 26,
-    ])
-}
-
-// The bytes of words that turn by 16.
-#[inline(always)]
-fn move16(x: u8x32) -> u8x32
-    ensures { result ≡ turned_bytes 8 2 x }
-{
-    x.swizzle([
-        2, 3, 4, 5, 6, 7, 0, 1, 10, 11, 12, 13, 14, 15, 8, 9, 18, 19, 20, 21, 22, 23, 16, 17, 26,
-        27, 28, 29, 30, 31, 24, 25,
-    ])
-}
-
-// x xor y, rotated right by 32.
-#[inline(always)]
-fn turn32(x: u64x4, y: u64x4) -> u64x4
-    ensures { (i : ℕ) → i < 4 → slice_index result i ≡ rotated_xor blake2b 0 (slice_index x i) (slice_index y i) }
-{
-    words_of(move32(bytes_of(xor(x, y))))
-}
-
-// x xor y, rotated right by 24.
-#[inline(always)]
-fn turn24(x: u64x4, y: u64x4) -> u64x4
-    ensures { (i : ℕ) → i < 4 → slice_index result i ≡ rotated_xor blake2b 1 (slice_index x i) (slice_index y i) }
-{
-    words_of(move24(bytes_of(xor(x, y))))
-}
-
-// x xor y, rotated right by 16.
-#[inline(always)]
-fn turn16(x: u64x4, y: u64x4) -> u64x4
-    ensures { (i : ℕ) → i < 4 → slice_index result i ≡ rotated_xor blake2b 2 (slice_index x i) (slice_index y i) }
-{
-    words_of(move16(bytes_of(xor(x, y))))
-}
-
-// x xor y, rotated right by 63.
-#[inline(always)]
-fn turn63(x: u64x4, y: u64x4) -> u64x4
-    ensures { (i : ℕ) → i < 4 → slice_index result i ≡ rotated_xor blake2b 3 (slice_index x i) (slice_index y i) }
-{
-    let z = x ^ y;
-    (z >> u64x4::splat(63)) | (z << u64x4::splat(1))
-}
-
-#[inline(always)]
-fn mix(column: [u64x4; 4], x: u64x4, y: u64x4) -> [u64x4; 4]
-    ensures { (i : ℕ) → i < 4
-        → lane4 i result ≡ g blake2b (lane4 i column) (slice_index x i) (slice_index y i) }
-{
-    mixed!(column, x, y, [turn32, turn24, turn16, turn63])
-}
-
-// A round under the schedule `s`.
-#[inline(always)]
-#[tactic(auto, unfolding(words::specs::inside::Lanes::lane))]
-fn round(v: [u64x4; 16], m: &[u64x4; 16], s: &[usize; 16]) -> [u64x4; 16]
-    requires { (i : ℕ) → i < 16 → slice_index s.now i < 16 }
-    ensures { (i : ℕ) → i < 4 → lane i result ≡ round blake2b (lane i v) (lane i m.now) s.now }
-{
-    one_round!(v, m, s)
-}
-
-#[inline(always)]
-#[tactic(auto, unfolding(words::specs::Blake2::rounds))]
-fn twelve_rounds(v: [u64x4; 16], m: &[u64x4; 16]) -> [u64x4; 16]
-    ensures { (i : ℕ) → i < 4 → lane i result ≡ rounds blake2b (lane i v) (lane i m.now) 12 }
-{
-    let v = ten_rounds!(v, m);
-    let v = round(v, m, &SIGMA[0]);
-    round(v, m, &SIGMA[1])
-}
+use words::lanes::long::words_of;
+use words::lanes::mixing::{folded, twelve_rounds};
 
 #[inline(always)]
 #[tactic(auto, unfolding(words::specs::inside::Lanes::lane))]
@@ -157,20 +22,15 @@ fn working_lanes(h: [u64x4; 8], t: u128, last: bool) -> [u64x4; 16]
     working!(u64x4, h, IV64, low, high, last)
 }
 
-#[inline(always)]
-fn folded_lanes(h: [u64x4; 8], v: [u64x4; 16]) -> [u64x4; 8]
-    ensures { (i : ℕ) → i < 4 → lane8 i result ≡ folded_halves (lane8 i h) (lane i v) }
-{
-    folded!(h, v)
-}
-
 /// F in each of four lanes: takes the blocks `m` into the chaining values `h`, where `t` bytes have come with these
 /// blocks, and `last` marks the last ones (RFC 7693, section 3.2).
 #[tactic(auto, unfolding(words::specs::Blake2::compress))]
 pub(crate) fn next_lanes(h: [u64x4; 8], m: &[u64x4; 16], t: u128, last: bool) -> [u64x4; 8]
     ensures { (i : ℕ) → i < 4 → lane8 i result ≡ compress blake2b (lane8 i h) (lane i m.now) t last }
 {
-    folded_lanes(h, twelve_rounds(working_lanes(h, t, last), m))
+    let v = working_lanes(h, t, last);
+    let v = twelve_rounds((), &v, m);
+    folded(&h, &v)
 }
 
 /// The same words in each lane.

@@ -9,11 +9,12 @@ ghost use Rattle.pieces.specs.inside.Rounds.{HasWords, IsAfterRounds};
 ghost use Rattle.pieces.specs.inside.Words.{reversed_long};
 
 use super::HashValues;
-use crate::lanes2::words64::{bytes_of, message_lanes, same_lanes, words_of};
+use crate::lanes2::words64::{message_lanes, same_lanes};
 use sha_blocks::Value512;
 use sha_blocks::sha512::schedules::{Words, add, extend, keyed, rotated, xor};
 use std::simd::prelude::*;
 use words::IV64;
+use words::lanes::long::{bytes_of, words_of};
 
 #[inline(always)]
 fn big_sigma0(x: u64x4) -> u64x4

@@ -1,7 +1,7 @@
 use Rattle.std.proofs.Common.{◌≡◌, ◌<◌, ◌+◌, ◌*◌, ℕ, List, arith, slice_index}
 use Rattle.words.proofs.LaneLemmas.{below_four}
 use Rattle.pieces.specs.inside.Words.{reversed_long}
-use Rattle.pieces.proofs.LongWords.{word_of}
+use Rattle.words.proofs.LongTurns.{word_of}
 use Rattle.pieces.proofs.sha_lanes.words64.reverse.Goals as goal
 
 pub returns : goal.returns

@@ -1,5 +1,0 @@
-use Rattle.pieces.proofs.LaneRounds.{xors}
-use Rattle.pieces.proofs.lanes2.words32.xor3.Goals as goal
-
-pub returns : goal.returns
-returns c = xors 8 c.args.x c.fits-x.0 c.args.y c.fits-y.0 c.args.z c.fits-z.0
