@@ -77,7 +77,17 @@ def sizes():
                     want = (1, b"", b"sums: one part alone: hash the file itself\n")
                 else:
                     want = whole(size, *words)
+                    compared(words, lines, want)
                 same(" ".join([f"{size} bytes in parts of {chunks} chunks, joined", *words]), answer, want)
+
+
+def compared(words, lines, want):
+    """Joined parts have the digest of the whole, and no other."""
+    digits = want.out.split(b" ")[0]
+    other = digits[:-1] + (b"0" if digits.endswith(b"1") else b"1")
+    for verify, answer in ((digits, (0, b"-: OK\n", b"")), (other, (1, b"-: FAILED\n", b""))):
+        got = join("--verify", verify.decode(), *words, given=b"".join(lines))
+        same(f"{len(lines)} parts, compared with {verify.decode()}", got, answer)
 
 
 def listed():

@@ -43,6 +43,7 @@ FULL = [
     ("a part", "part -a blake3"),
     ("first chunks", "part -a blake3 --list --chunks 1 zeros"),
     ("a joined line", "join -a blake3 chunk.0 chunk.1"),
+    ("a joined digest, compared", "join -a blake3 --verify " + 64 * "0" + " chunk.0 chunk.1"),
     ("names from a file", "hash -a blake3 --files0-from mixed-names"),
 ]
 # What a full standard error has no effect on: the words, the status and standard output.

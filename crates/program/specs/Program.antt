@@ -26,7 +26,7 @@ TaskRuns (derives derived is_raw name) files input = KdfRuns derived is_raw name
 TaskRuns (checks how lists) files input = CheckRuns how files lists input
 TaskRuns (prints_part first chunks name) files input = PartRuns first chunks name files input
 TaskRuns (prints_starts chunks name) files input = StartsRuns chunks name files
-TaskRuns (joins stretch bytes name lists) files input = JoinRuns stretch bytes name lists files input
+TaskRuns (joins stretch bytes wanted name lists) files input = JoinRuns stretch bytes wanted name lists files input
 
 -- how many files it opens at most: a list, and each of what it names, included
 abbrev pub most_opens : Asked → Files → List ℕ → ℕ
@@ -41,7 +41,7 @@ most_opens (checks how lists) files input =
     sum_by (λ list. opens_of list + length (option_map_or lines (content_of list input files) [])) lists
 most_opens (prints_part first chunks name) files input = opens_of name
 most_opens (prints_starts chunks name) files input = 55
-most_opens (joins stretch count name lists) files input = sum_by opens_of lists
+most_opens (joins stretch count wanted name lists) files input = sum_by opens_of lists
 
 -- the run of a request, and how many files it opens at most: its task's, or the first fault of its settings, or want of
 -- memory before either

@@ -106,9 +106,10 @@ fn run_request<'n, 'i, 't, 'o, L: Feed, T: Tree, W: Sink, E: Sink>(
         Task::Starts { parts, file } => session.print_starts(parts, file),
         Task::Join {
             joining,
+            wanted,
             name,
             lists,
-        } => session.print_joined(joining, name, lists.as_slice()),
+        } => session.print_joined(joining, wanted, name, lists.as_slice()),
         Task::Mac {
             tagging,
             key,

@@ -70,8 +70,8 @@ commands names macs = command (codes "hash") (required (algorithm names) ∷ num
     ∷ command (codes "part") (required (algorithm names) ∷ number (option (codes "first"))
     ∷ number (option (codes "chunks")) ∷ flag (codes "list") ∷ flag (codes "progress") ∷ file ∷ [])
     ∷ command (codes "join") (required (algorithm names) ∷ option (codes "name") ∷ number (option (codes "bytes"))
-    ∷ number (letter (codes "l")) ∷ number (option (codes "seek")) ∷ flag (codes "progress") ∷ files ∷ [])
-    ∷ []
+    ∷ number (letter (codes "l")) ∷ number (option (codes "seek")) ∷ option (codes "verify") ∷ flag (codes "progress")
+    ∷ files ∷ []) ∷ []
 
 -- the program's command alone
 abbrev pub program_app : App

@@ -66,7 +66,12 @@ part_sha256 : Asks (codes "part" ∷ codes "-asha256" ∷ codes "--list" ∷ [])
 unfolding clap_on_literals sums_app
 part_sha256 names macs = refl
 
-join_input : Asks (codes "join" ∷ codes "-ablake3" ∷ []) (Ok (joins (record { position = 0; length = 32 }) None
+join_input : Asks (codes "join" ∷ codes "-ablake3" ∷ []) (Ok (joins (record { position = 0; length = 32 }) None None
     (codes "-") (codes "-" ∷ [])))
 unfolding clap_on_literals sums_app
 join_input names macs = refl
+
+join_digest : Asks (codes "join" ∷ codes "-ablake3" ∷ codes "-l0" ∷ codes "--verify=0" ∷ codes "f" ∷ codes "g" ∷ [])
+    (Err (codes "-l: out of range\n"))
+unfolding clap_on_literals sums_app
+join_digest names macs = refl

@@ -94,11 +94,14 @@ alg_of (hash.Blake2b salt personal) n = alg.Blake2b n
 alg_of (hash.Blake2s salt personal) n = alg.Blake2s n
 alg_of hash.Blake3 n = alg.Blake3
 
--- the digest or tag of `--verify`: it stands for the digits of one file, and is as long as what would be printed
+-- a digest or tag in digits, as long as what would be printed
+abbrev pub compared : ℕ → Text → Text → Result (List ℕ) Text
+compared n s t = hexadecimal s t >>= (λ bytes. sized n s (Some bytes))
+
+-- that of `--verify`, which stands for the digits of one file
 abbrev pub wanted : ℕ → Given → Result (Option (List ℕ)) Text
 wanted n g = given (λ s t. do
   unless (has_flag (codes "tag") g) (codes "--verify: not with --tag\n")
   unless (has_flag (codes "raw") g) (codes "--verify: not with --raw\n")
   unless (names_several g) (codes "--verify: one file only\n")
-  bytes ← hexadecimal s t
-  sized n s (Some bytes)) (codes "verify") g
+  compared n s t) (codes "verify") g

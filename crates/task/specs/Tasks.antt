@@ -14,7 +14,7 @@ use Rattle.source.specs.declared.alg.Alg.TheVariants as alg
 use Rattle.sumlist.specs.Kinds.{kinds, longest}
 use Rattle.sumlist.specs.declared.kind.Kind.{Kind}
 use Rattle.sumlist.specs.declared.kind.Kind.TheVariants as kind
-use Rattle.task.specs.Hashing.{names_several, requested, stretch_of, wanted}
+use Rattle.task.specs.Hashing.{compared, names_several, requested, stretch_of, wanted}
 use Rattle.task.specs.Settings.{◌>>=◌, ◌>>◌, absent, file_or_input, files, given, hexadecimal, named, names_or_input}
 use Rattle.task.specs.Settings.{needed, number, number_in, out_of_range, power_in, text, unless}
 use Rattle.task.specs.declared.hashing.Requested.{Requested}
@@ -44,7 +44,7 @@ pub data Asked : Type 0 where
   checks : Checking → List Text → Asked
   prints_part : ℕ → Option ℕ → Text → Asked
   prints_starts : ℕ → Text → Asked
-  joins : Stretch → Option ℕ → Text → List Text → Asked
+  joins : Stretch → Option ℕ → Option (List ℕ) → Text → List Text → Asked
 
 -- files are named by words, or in a file; one whose digest is compared, or that has a name, is the only one
 abbrev pub hash : Given → Result Asked Text
@@ -156,13 +156,14 @@ abbrev pub part : Given → Result Asked Text
 part g = needed (named kinds) (codes "a") g >>= has_parts
     >> (if has_flag (codes "list") g then starts g else one_part g)
 
--- which bytes of the joined output are printed, and how many bytes the parts have to have
+-- which bytes of the joined output are printed or compared, and how many bytes the parts have to have
 abbrev pub join : Given → Result Asked Text
 join g = do
   needed (named kinds) (codes "a") g >>= has_parts
   stretch ← stretch_of 32 1 (2 ^ 64 - 1) g
   bytes ← given (number_in 0 (2 ^ 64 - 1)) (codes "bytes") g
-  Ok (joins stretch bytes (unwrap_or (text_of (codes "name") g) (codes "-")) (names_or_input g))
+  digest ← given (compared stretch.length) (codes "verify") g
+  Ok (joins stretch bytes digest (unwrap_or (text_of (codes "name") g) (codes "-")) (names_or_input g))
 
 -- the commands by name; nothing depends on `--progress`, which is for the feeds that a run is given
 abbrev pub commands : List (Text × (Given → Result Asked Text))

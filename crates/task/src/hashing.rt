@@ -103,7 +103,8 @@ impl Hashing {
     }
 }
 
-/// The digest or tag that a request compares with, of so many bytes, where it is given.
+/// The digest or tag that a request compares with, of so many bytes, where it is given: it is that of one
+/// file, whose digits would be printed.
 pub(crate) fn wanted(
     alloc: Global,
     request: &Request<'_>,
@@ -117,8 +118,30 @@ pub(crate) fn wanted(
     unless(request.has("tag"), UsageFault::NotWithTag(Setting::Verify))?;
     unless(request.has("raw"), UsageFault::NotWithRaw(Setting::Verify))?;
     unless(names_several(request), UsageFault::OneFile(Setting::Verify))?;
+    Ok(Some(compared(alloc, digits, length)?))
+}
+
+/// The same, where it may be that of several files.
+pub(crate) fn given_digest(
+    alloc: Global,
+    request: &Request<'_>,
+    length: u64,
+) -> Result<Option<Vec<u8>>, TaskFault>
+    ensures { IsAsDefined (option_map (λ v. v.items))
+        (given (spec.compared length) (codes "verify") (given_of request.now)) result }
+{
+    match text_of(request, Setting::Verify) {
+        Some(digits) => Ok(Some(compared(alloc, digits, length)?)),
+        None => Ok(None),
+    }
+}
+
+// The digest or tag that these digits spell, of so many bytes.
+fn compared(alloc: Global, digits: &str, length: u64) -> Result<Vec<u8>, TaskFault>
+    ensures { IsAsDefined (λ v. v.items) (spec.compared length (codes "verify") digits.now) result }
+{
     let bytes = hexadecimal(alloc, Setting::Verify, digits)?;
-    Ok(Some(of_length(Setting::Verify, length, bytes)?))
+    Ok(of_length(Setting::Verify, length, bytes)?)
 }
 
 // Refuses the settings that the hash does not have.

@@ -14,7 +14,7 @@ ghost use Rattle.task.specs.inside.Views.{names_shown, task_shown, texts_of};
 
 use crate::derivation::Derivation;
 use crate::fault::{Setting, TaskFault, UsageFault};
-use crate::hashing::{Hashing, names_several, stretch_of, wanted};
+use crate::hashing::{Hashing, given_digest, names_several, stretch_of, wanted};
 use crate::parameters::{
     file_count, given_bytes, given_kind, given_number, needed, number, power_in, unless,
 };
@@ -71,9 +71,11 @@ pub enum Task<'a> {
         file: &'a str,
     },
     /// Print these bytes of the output of the parts in the lists, one at least, which have so many
-    /// bytes in all where that is asked for; the line has this name.
+    /// bytes in all where that is asked for, or whether they are the ones that are wanted, of as many;
+    /// the line has this name.
     Join {
         joining: Joining,
+        wanted: Option<Vec<u8>>,
         name: &'a str,
         lists: Vec<&'a str>,
     },
@@ -273,10 +275,12 @@ fn join<'a>(alloc: Global, request: &Request<'a>) -> Result<Task<'a>, TaskFault>
     names_blake3(request)?;
     let stretch = stretch_of(request, BLAKE3_LEN as u64, 1, u64::MAX)?;
     let bytes = given_number(request, Setting::Bytes, 0, u64::MAX)?;
+    let wanted = given_digest(alloc, request, stretch.length)?;
     let name = request.text("name").unwrap_or("-");
     let lists = names_or_input(alloc, request)?;
     Ok(Task::Join {
         joining: Joining { stretch, bytes },
+        wanted,
         name,
         lists,
     })

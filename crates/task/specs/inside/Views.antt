@@ -38,7 +38,8 @@ task_shown (code.Line hashing wanted name content) =
     prints_line hashing.requested (option_map (λ v. v.items) wanted) name.now content.now
 task_shown (code.Part place name) = prints_part place.first place.chunks name.now
 task_shown (code.Starts parts name) = prints_starts parts.chunks name.now
-task_shown (code.Join joining name lists) = joins joining.stretch joining.bytes name.now (texts_of lists)
+task_shown (code.Join joining wanted name lists) =
+    joins joining.stretch joining.bytes (option_map (λ v. v.items) wanted) name.now (texts_of lists)
 task_shown (code.Mac form key wanted name) =
     tags form.mac form.is_raw (key_shown key) (option_map (λ v. v.items) wanted) name.now
 task_shown (code.Kdf derivation is_raw material) = derives (derivation_shown derivation) is_raw material.now
