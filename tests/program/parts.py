@@ -71,6 +71,10 @@ def sizes():
             same(f"b3sum of {size} bytes", want, (0, by_peer, b""))
         for chunks in CHUNKS:
             lines = lines_of(size, chunks)
+            each = (0, b"".join(lines), b"")
+            same(f"each part of {chunks} chunks of {size} bytes", part("--each", str(chunks), str(size)), each)
+            given = part("--each", str(chunks), given=content(size))
+            same(f"each part of {chunks} chunks of {size} bytes of standard input", given, each)
             for words in ([], ["-l", "100", "--seek", "33"]):
                 answer = join("--name", str(size), "--bytes", str(size), *words, given=b"".join(lines))
                 if len(lines) == 1:

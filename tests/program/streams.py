@@ -41,6 +41,7 @@ FULL = [
     ("a raw digest", "hash -a sha256 --raw"),
     ("a raw tag", "mac -a blake2b --key 00 --raw"),
     ("a part", "part -a blake3"),
+    ("each part", "part -a blake3 --each 1 zeros"),
     ("first chunks", "part -a blake3 --list --chunks 1 zeros"),
     ("a joined line", "join -a blake3 chunk.0 chunk.1"),
     ("a joined digest, compared", "join -a blake3 --verify " + 64 * "0" + " chunk.0 chunk.1"),
@@ -61,6 +62,7 @@ FEW = [
     ("files of lists", 5, "check -a sha256 many-lines many-lines"),
     ("a file under a key", 4, "mac -a hmac-sha256 --key-file key20 abc.txt"),
     ("the parts of a file", 4, "part -a blake3 --list --chunks 1 zeros"),
+    ("each part of a file", 4, "part -a blake3 --each 1 zeros"),
     ("lists of parts", 4, "join -a blake3 --name zeros part.1 part.2 part.3"),
 ]
 LONG = b"x" * 300_000

@@ -14,6 +14,7 @@ pub mod MacLines
 pub mod Deriving
 pub mod CutParts
 pub mod Starting
+pub mod EachPart
 pub mod Listing
 pub mod Reporting
 pub mod Names

@@ -44,14 +44,14 @@ no_more n x some few =
 
 -- ---- the number of parts, by whether there is a byte
 
-counts_on : (n i : ℕ) (m : List ℕ) → 1 ≤ n → n * i < 2 ^ 54 → 1024 * (n * i) < length m → i + 1 ≤ part_count n m
+pub counts_on : (n i : ℕ) (m : List ℕ) → 1 ≤ n → n * i < 2 ^ 54 → 1024 * (n * i) < length m → i + 1 ≤ part_count n m
 counts_on n i m some within has =
     let x : ℕ = min (length m) (2 ^ 64 - 1) - 1 in
     let reached : i * (1024 * n) ≤ x = omega (arith, within, has) in
     let there : i ≤ x / (1024 * n) = le-div i x (1024 * n) (omega (arith, some)) reached in
     omega (arith, there)
 
-counts_none : (n i : ℕ) (m : List ℕ) → 1 ≤ n → length m ≤ 1024 * (n * i) → part_count n m ≤ max 1 i
+pub counts_none : (n i : ℕ) (m : List ℕ) → 1 ≤ n → length m ≤ 1024 * (n * i) → part_count n m ≤ max 1 i
 counts_none n zero m some none =
     let x : ℕ = min (length m) (2 ^ 64 - 1) - 1 in
     let first : x / (1024 * n) < 1 = div_below x (1024 * n) 1 (omega (arith, some)) (omega (arith, none, some)) in

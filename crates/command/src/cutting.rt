@@ -1,14 +1,15 @@
 // The command `part`: the line that tells a part of a file.
 
-ghost use Rattle.std.specs.Prelude.{◌≡◌, ℕ, ◌*◌, ◌^◌, ◌<◌, ◌≤◌, [], length, true, option_map};
-ghost use Rattle.std.specs.Prelude.{IfSome, IsErrOf, MatchOption, None, OnOk, Some};
+ghost use Rattle.std.specs.Prelude.{◌≡◌, ℕ, ◌%◌, ◌*◌, ◌^◌, ◌<◌, ◌≤◌, [], length, true, option_map};
+ghost use Rattle.std.specs.Prelude.{IfOk, IfSome, IsErrOf, MatchOption, None, OnOk, Some};
 ghost use Rattle.std.specs.Option.{SomeIff};
 ghost use Rattle.source.specs.Counts.{count_after};
+ghost use Rattle.source.specs.Pumped.{Gives, LeavesBehind, up_to};
 ghost use Rattle.command.specs.inside.Troubles.{Counted};
 ghost use Rattle.command.specs.Cutting.{PartRuns, cut};
 ghost use Rattle.command.specs.Lines.{is_input, opens_of};
 ghost use Rattle.command.specs.inside.Cutting as spec;
-ghost use Rattle.command.specs.inside.Cutting.{MakesPart, IsRoom, behind_chunks, first_chunks};
+ghost use Rattle.command.specs.inside.Cutting.{MakesPart, IsRoom, TakesPart, behind_chunks, first_chunks};
 ghost use Rattle.command.specs.inside.Reading.{failed};
 ghost use Rattle.command.specs.inside.Seen.{OpensAtMost, DoesRun};
 ghost use Rattle.command.specs.inside.Streams.{IfContent, SameStreams};
@@ -23,8 +24,8 @@ use source::{Feed, Sink, SourceFault, part_of};
 use sumlist::Tree;
 use task::Place;
 
-// A part is read in runs of at most so many chunks.
-const RUN: u64 = 1024;
+/// A part is read in runs of at most so many chunks.
+pub(crate) const RUN: u64 = 1024;
 
 impl<'i, 't, 'o, L: Feed, T: Tree, W: Sink> Session<'i, 't, 'o, L, T, W> {
     /// Prints the line of a part of the file: its bytes from the first chunk of a place on, in as many
@@ -102,6 +103,35 @@ fn part_of_feed<'n, F: Feed>(
     }
 }
 
+/// The part of the next bytes of a feed, or of the first `bytes` of them, as bytes from the chunk `first`
+/// on in at most `room` chunks: `None` where there are none and that is not the first chunk.
+pub(crate) fn next_part<'n, F: Feed>(
+    first: u64,
+    room: u64,
+    bytes: Option<u64>,
+    run: &mut [u8],
+    name: &'n str,
+    feed: &mut F,
+) -> Result<Option<PartValue>, Fault<'n>>
+    requires run { (e : ℕ) × (length run.old ≡ 1024 * 2 ^ e) }
+    requires room { (e : ℕ) × (room ≡ 2 ^ e) }
+    requires within { length run.old ≤ 1024 * room }
+    requires aligned { first % room ≡ 0 }
+    ensures part { IfSome (up_to bytes (F.remaining feed.old))
+        (λ x. TakesPart first room name.entry.now x result) }
+    ensures first { IfOk result (λ found. IfSome found (λ part. part.first_chunk ≡ first)) }
+    ensures left { OnOk result (LeavesBehind bytes (F.remaining feed.old) (F.remaining feed.new)) }
+    ensures gave { Gives (F.remaining feed.old) (F.remaining feed.new) }
+    ensures counted { F.failure_count feed.new
+        ≡ count_after (F.failure_count feed.old) (failed true (Some []) result).input }
+    ensures memory { IsErrOf result Fault.OutOfMemory → ⊥ }
+{
+    match part_of(Mode::Hash, first, room, bytes, feed, run) {
+        Ok(found) => Ok(found),
+        Err(fault) => Err(Fault::of_source(fault, name)),
+    }
+}
+
 // The fault of a part that was not made, where it had room up to the chunk `end`. What is too long for
 // a part there is a message that is too long only where that is the message's end.
 fn unmade(fault: SourceFault, end: u64, name: &str) -> Fault<'_>
@@ -114,8 +144,8 @@ fn unmade(fault: SourceFault, end: u64, name: &str) -> Fault<'_>
     }
 }
 
-// How many bytes so many chunks have, where that is a number: what is longer is too long.
-fn chunk_bytes(chunks: Option<u64>) -> Option<u64>
+/// How many bytes so many chunks have, where that is a number: what is longer is too long.
+pub(crate) fn chunk_bytes(chunks: Option<u64>) -> Option<u64>
     ensures { MatchOption chunks (result ≡ None) (λ n. SomeIff result (1024 * n < 2 ^ 64) (1024 * n)) }
 {
     (CHUNK_LEN as u64).checked_mul(chunks?)

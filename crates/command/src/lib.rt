@@ -8,6 +8,7 @@ pub use visible::write_visible;
 
 mod cutting;
 mod digests;
+mod each;
 mod fault;
 mod joining;
 mod keys;

@@ -7,10 +7,10 @@ use Rattle.sumlist.specs.Naming.{names}
 use Rattle.sumlist.specs.Report.{Files}
 use Rattle.request.specs.CommandLine.{AreRead, ErrorKind, Given, IsWrong, Text}
 use Rattle.task.specs.Tasks.{Asked, asked, checks, derives, hashes, in_file, joins, prints_line, prints_part}
-use Rattle.task.specs.Tasks.{prints_starts, tags, these}
+use Rattle.task.specs.Tasks.{prints_parts, prints_starts, tags, these}
 use Rattle.command.specs.Checking.{CheckRuns}
 use Rattle.command.specs.Run.{Counted, Prints, Run, Runs, out_of_memory, prints, stops}
-use Rattle.command.specs.Cutting.{PartRuns, StartsRuns}
+use Rattle.command.specs.Cutting.{EachRuns, PartRuns, StartsRuns}
 use Rattle.command.specs.Hashing.{HashesAll, HashesListed}
 use Rattle.command.specs.Joining.{JoinRuns}
 use Rattle.command.specs.Keying.{KdfRuns, LineRuns, MacRuns}
@@ -26,6 +26,7 @@ TaskRuns (derives derived is_raw name) files input = KdfRuns derived is_raw name
 TaskRuns (checks how lists) files input = CheckRuns how files lists input
 TaskRuns (prints_part first chunks name) files input = PartRuns first chunks name files input
 TaskRuns (prints_starts chunks name) files input = StartsRuns chunks name files
+TaskRuns (prints_parts chunks name) files input = EachRuns chunks name files input
 TaskRuns (joins stretch bytes wanted name lists) files input = JoinRuns stretch bytes wanted name lists files input
 
 -- how many files it opens at most: a list, and each of what it names, included
@@ -41,6 +42,7 @@ most_opens (checks how lists) files input =
     sum_by (λ list. opens_of list + length (option_map_or lines (content_of list input files) [])) lists
 most_opens (prints_part first chunks name) files input = opens_of name
 most_opens (prints_starts chunks name) files input = 55
+most_opens (prints_parts chunks name) files input = opens_of name
 most_opens (joins stretch count wanted name lists) files input = sum_by opens_of lists
 
 -- the run of a request, and how many files it opens at most: its task's, or the first fault of its settings, or want of

@@ -1,6 +1,6 @@
 -- What words ask for, computed: a wrong text, name, bound or order of the settings does not check.
 use Rattle.std.proofs.Common.{◌≡◌, List, [], ◌∷◌, Some, None, Result, Ok, Err, codes, false, option_map, refl}
-use Rattle.std.specs.Int.Count.{count_leading_zeros}
+use Rattle.std.specs.Int.Count.{count_leading_zeros, ones}
 use Rattle.request.proofs.ExampleWords.{clap_on_literals, subcommand_of}
 use Rattle.request.specs.CommandLine.{NameList, Text, sums_app}
 use Rattle.sumlist.specs.declared.kind.Kind.TheVariants as kind
@@ -65,6 +65,11 @@ part_room names macs = refl
 part_sha256 : Asks (codes "part" ∷ codes "-asha256" ∷ codes "--list" ∷ []) (Err (codes "-a: not for this command\n"))
 unfolding clap_on_literals sums_app
 part_sha256 names macs = refl
+
+part_each : Asks (codes "part" ∷ codes "-ablake3" ∷ codes "--each=2" ∷ codes "--chunks" ∷ codes "2" ∷ [])
+    (Err (codes "--chunks: not with --each\n"))
+unfolding clap_on_literals sums_app ones
+part_each names macs = refl
 
 join_input : Asks (codes "join" ∷ codes "-ablake3" ∷ []) (Ok (joins (record { position = 0; length = 32 }) None None
     (codes "-") (codes "-" ∷ [])))

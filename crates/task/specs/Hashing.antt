@@ -9,8 +9,8 @@ use Rattle.sumlist.specs.Kinds.{kinds, longest}
 use Rattle.sumlist.specs.declared.kind.Kind.{Kind}
 use Rattle.sumlist.specs.declared.kind.Kind.TheVariants as kind
 use Rattle.request.specs.CommandLine.{Given, Text, has_flag, text_of}
-use Rattle.task.specs.Settings.{◌>>=◌, ◌>>◌, absent, files, given, hexadecimal, named, needed, number, power_in}
-use Rattle.task.specs.Settings.{sized, unless}
+use Rattle.task.specs.Settings.{◌>>=◌, ◌>>◌, absent, files, given, hexadecimal, named, needed, not_for, number}
+use Rattle.task.specs.Settings.{power_in, sized, unless}
 use Rattle.task.specs.declared.hashing.Form.{Form}
 use Rattle.task.specs.declared.hashing.Form.TheVariants.{Plain, Raw, Tagged}
 use Rattle.task.specs.declared.hashing.Hash.{Hash}
@@ -80,7 +80,7 @@ hash_of k g = Ok (hash.Whole k)
 abbrev pub requested : Given → Result Requested Text
 requested g = do
   kind ← needed (named kinds) (codes "a") g
-  absent (others kind) g
+  absent not_for (others kind) g
   form ← form_of g
   stretch ← stretch_of (default_len kind (lengths kind form) g) (lengths kind form).0 (lengths kind form).1 g
   hash ← hash_of kind g

@@ -30,11 +30,15 @@ word s = if length s == 1 then 45 ∷ s else 45 ∷ 45 ∷ s
 abbrev pub unless : Bool → Text → Result (Unit {0}) Text
 unless is_wrong fault = if is_wrong then Err fault else Ok tt
 
--- settings that the algorithm does not have
-abbrev pub absent : List Text → Given → Result (Unit {0}) Text
-absent [] g = Ok tt
-absent (s ∷ settings) g = unless (is_some (text_of s g)) (word s ++ codes ": not for this algorithm\n")
-    >> absent settings g
+-- settings that may not be given, and what is told of the first that is
+abbrev pub absent : Text → List Text → Given → Result (Unit {0}) Text
+absent complaint [] g = Ok tt
+absent complaint (s ∷ settings) g =
+    unless (is_some (text_of s g)) (word s ++ complaint) >> absent complaint settings g
+
+-- where the algorithm does not have them
+abbrev pub not_for : Text
+not_for = codes ": not for this algorithm\n"
 
 -- what a setting says, where it was given: a reading takes its name, and its text
 abbrev pub given : {A : Type 0} → (Text → Text → Result A Text) → Text → Given → Result (Option A) Text

@@ -16,7 +16,7 @@ use Rattle.sumlist.specs.declared.kind.Kind.{Kind}
 use Rattle.sumlist.specs.declared.kind.Kind.TheVariants as kind
 use Rattle.task.specs.Hashing.{compared, names_several, requested, stretch_of, wanted}
 use Rattle.task.specs.Settings.{◌>>=◌, ◌>>◌, absent, file_or_input, files, given, hexadecimal, named, names_or_input}
-use Rattle.task.specs.Settings.{needed, number, number_in, out_of_range, power_in, text, unless}
+use Rattle.task.specs.Settings.{needed, not_for, number, number_in, out_of_range, power_in, text, unless}
 use Rattle.task.specs.declared.hashing.Requested.{Requested}
 use Rattle.task.specs.declared.hashing.Stretch.{Stretch}
 use Rattle.task.specs.declared.parameters.HmacHash.{HmacHash}
@@ -44,6 +44,7 @@ pub data Asked : Type 0 where
   checks : Checking → List Text → Asked
   prints_part : ℕ → Option ℕ → Text → Asked
   prints_starts : ℕ → Text → Asked
+  prints_parts : ℕ → Text → Asked
   joins : Stretch → Option ℕ → Option (List ℕ) → Text → List Text → Asked
 
 -- files are named by words, or in a file; one whose digest is compared, or that has a name, is the only one
@@ -94,7 +95,7 @@ mac g = do
 -- HKDF derives 255 times the digest at most
 abbrev pub hkdf : Alg → Given → Result Derived Text
 hkdf a g = do
-  absent (codes "context" ∷ []) g
+  absent not_for (codes "context" ∷ []) g
   n ← needed (number_in 1 (255 * digest_len a)) (codes "l") g
   salt ← given hexadecimal (codes "salt") g
   info ← given hexadecimal (codes "info") g
@@ -103,7 +104,7 @@ hkdf a g = do
 -- BLAKE3's derivation takes a context, and no salt and no info
 abbrev pub blake3 : Given → Result Derived Text
 blake3 g = do
-  absent (codes "salt" ∷ codes "info" ∷ []) g
+  absent not_for (codes "salt" ∷ codes "info" ∷ []) g
   context ← needed text (codes "context") g
   n ← needed (number_in 1 (2 ^ 64 - 1)) (codes "l") g
   Ok (by_blake3 context n)
@@ -139,9 +140,16 @@ least_power n = 2 ^ (64 - leading_zeros w64 (n - 1))
 abbrev pub starts : Given → Result Asked Text
 starts g = do
   n ← needed (power_in (2 ^ 54)) (codes "chunks") g
-  unless (is_some (text_of (codes "first") g)) (codes "--first: not with --list\n")
+  absent (codes ": not with --list\n") (codes "first" ∷ codes "each" ∷ []) g
   unless (bytes_eq (file_or_input g) (codes "-")) (codes "--list: not of standard input\n")
   Ok (prints_starts n (file_or_input g))
+
+-- all parts of so many chunks, a power of two, one behind the other
+abbrev pub each : Given → Result Asked Text
+each g = do
+  n ← needed (power_in (2 ^ 54)) (codes "each") g
+  absent (codes ": not with --each\n") (codes "first" ∷ codes "chunks" ∷ []) g
+  Ok (prints_parts n (file_or_input g))
 
 -- the first chunk of a part, and how many chunks it has at most: where that is given, such a power divides the first
 abbrev pub one_part : Given → Result Asked Text
@@ -154,7 +162,8 @@ one_part g = do
 -- that of `part`
 abbrev pub part : Given → Result Asked Text
 part g = needed (named kinds) (codes "a") g >>= has_parts
-    >> (if has_flag (codes "list") g then starts g else one_part g)
+    >> (if has_flag (codes "list") g then starts g
+    else if is_some (text_of (codes "each") g) then each g else one_part g)
 
 -- which bytes of the joined output are printed or compared, and how many bytes the parts have to have
 abbrev pub join : Given → Result Asked Text

@@ -44,6 +44,8 @@ pub enum Setting {
     Name,
     /// `--list`.
     Starts,
+    /// `--each`.
+    Each,
 }
 
 /// What is wrong with a request.
@@ -61,6 +63,8 @@ pub enum UsageFault {
     NotWithRaw(Setting),
     /// It says nothing beside `--list`.
     NotWithList(Setting),
+    /// It says nothing beside `--each`.
+    NotWithEach(Setting),
     /// It says nothing of several files.
     OneFile(Setting),
     /// It says nothing but of standard input alone.
@@ -129,6 +133,7 @@ impl Setting {
             Setting::Bytes => "--bytes",
             Setting::Name => "--name",
             Setting::Starts => "--list",
+            Setting::Each => "--each",
         }
     }
 
@@ -154,6 +159,7 @@ impl Setting {
             Setting::Bytes => "bytes",
             Setting::Name => "name",
             Setting::Starts => "list",
+            Setting::Each => "each",
         }
     }
 }
@@ -174,6 +180,7 @@ impl UsageFault {
             UsageFault::NotWithTag(setting) => (setting.text(), ": not with --tag\n"),
             UsageFault::NotWithRaw(setting) => (setting.text(), ": not with --raw\n"),
             UsageFault::NotWithList(setting) => (setting.text(), ": not with --list\n"),
+            UsageFault::NotWithEach(setting) => (setting.text(), ": not with --each\n"),
             UsageFault::OneFile(setting) => (setting.text(), ": one file only\n"),
             UsageFault::InputOnly(setting) => (setting.text(), ": standard input only\n"),
             UsageFault::FileOnly(setting) => (setting.text(), ": not of standard input\n"),

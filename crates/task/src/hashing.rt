@@ -6,7 +6,7 @@ ghost use Rattle.request.specs.CommandLine.{given_of};
 ghost use Rattle.source.specs.Digest.{IsInRange};
 ghost use Rattle.task.specs.Hashing as spec;
 ghost use Rattle.task.specs.Hashing.{alg_of};
-ghost use Rattle.task.specs.Settings.{absent, given, power_in};
+ghost use Rattle.task.specs.Settings.{absent, given, not_for, power_in};
 ghost use Rattle.task.specs.declared.hashing.Form.{Form};
 ghost use Rattle.task.specs.inside.Possible.{HasDigest, IsPartSize, lengths_of};
 ghost use Rattle.task.specs.inside.Seen.{IsAsDefined, judged};
@@ -146,7 +146,7 @@ fn compared(alloc: Global, digits: &str, length: u64) -> Result<Vec<u8>, TaskFau
 
 // Refuses the settings that the hash does not have.
 fn refused_others(request: &Request<'_>, kind: Kind) -> Result<(), UsageFault>
-    ensures { judged result ≡ absent (spec.others kind) (given_of request.now) }
+    ensures { judged result ≡ absent not_for (spec.others kind) (given_of request.now) }
 {
     match kind {
         Kind::Blake2b | Kind::Blake2s => absent(request, &[Setting::Seek, Setting::Parts]),

@@ -92,7 +92,7 @@ fn kind_named(name: &str) -> Result<Kind, UsageFault>
 
 /// Refuses the settings that the algorithm does not have.
 pub(crate) fn absent(request: &Request<'_>, settings: &[Setting]) -> Result<(), UsageFault>
-    ensures { judged result ≡ spec.absent (map setting_name settings.now) (given_of request.now) }
+    ensures { judged result ≡ spec.absent spec.not_for (map setting_name settings.now) (given_of request.now) }
 {
     for &setting in settings {
         if text_of(request, setting).is_some() {

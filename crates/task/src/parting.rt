@@ -1,7 +1,7 @@
 // What `part` and `join` read and print.
 
 ghost use Rattle.std.specs.Prelude.{◌≡◌, ◌+◌, ◌-◌, ◌<◌, ◌≤◌, ◌^◌, ◌%◌, ◌↔◌, false, true, IfSome, IsTrue};
-ghost use Rattle.std.specs.Prelude.{MatchResult, nat_lt};
+ghost use Rattle.std.specs.Prelude.{MatchResult, count_ones, nat_lt};
 ghost use Rattle.std.proofs.Props.{props};
 ghost use Rattle.std.specs.Option.{option_map_or};
 ghost use Rattle.request.specs.CommandLine.{given_of};
@@ -27,12 +27,13 @@ pub struct Place {
     ghost room: { IfSome chunks (HasRoom first) } by { Prim.hlevel props },
 }
 
-/// How many chunks each part of a file has but the last.
+/// How many chunks each part of a file has but the last: a power of two.
 #[derive(Clone, Copy, Debug)]
 pub struct PartLength {
     pub chunks: u64,
     ghost some: { 1 ≤ chunks },
     ghost most: { chunks ≤ 2 ^ 54 },
+    ghost power: { count_ones chunks ≡ 1 },
 }
 
 /// Bytes of the output of joined parts, and how many bytes the parts have to have, where that is said.

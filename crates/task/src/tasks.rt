@@ -70,6 +70,11 @@ pub enum Task<'a> {
         parts: PartLength,
         file: &'a str,
     },
+    /// Print all parts of a file, where each but the last has so many chunks.
+    Parts {
+        parts: PartLength,
+        file: &'a str,
+    },
     /// Print these bytes of the output of the parts in the lists, one at least, which have so many
     /// bytes in all where that is asked for, or whether they are the ones that are wanted, of as many;
     /// the line has this name.
@@ -238,6 +243,8 @@ fn part<'a>(request: &Request<'a>) -> Result<Task<'a>, UsageFault>
     names_blake3(request)?;
     if request.has("list") {
         starts(request)
+    } else if request.text("each").is_some() {
+        each(request)
     } else {
         one_part(request)
     }
@@ -253,10 +260,25 @@ fn starts<'a>(request: &Request<'a>) -> Result<Task<'a>, UsageFault>
     )?;
     let has_first = request.text("first").is_some();
     unless(has_first, UsageFault::NotWithList(Setting::First))?;
+    let has_each = request.text("each").is_some();
+    unless(has_each, UsageFault::NotWithList(Setting::Each))?;
     let file = file_or_input(request);
     unless(file == "-", UsageFault::FileOnly(Setting::Starts))?;
     let parts = PartLength { chunks };
     Ok(Task::Starts { parts, file })
+}
+
+fn each<'a>(request: &Request<'a>) -> Result<Task<'a>, UsageFault>
+    ensures { seen task_shown result ≡ spec.each (given_of request.now) }
+{
+    let chunks = power_in(Setting::Each, MOST_CHUNKS, needed(request, Setting::Each)?)?;
+    let has_first = request.text("first").is_some();
+    unless(has_first, UsageFault::NotWithEach(Setting::First))?;
+    let has_chunks = request.text("chunks").is_some();
+    unless(has_chunks, UsageFault::NotWithEach(Setting::Chunks))?;
+    let parts = PartLength { chunks };
+    let file = file_or_input(request);
+    Ok(Task::Parts { parts, file })
 }
 
 fn one_part<'a>(request: &Request<'a>) -> Result<Task<'a>, UsageFault>

@@ -60,6 +60,6 @@ HasRoom first n = (1 ≤ n) × (n ≤ 2 ^ 54) × ((p : ℕ) → IsLeastPowerFrom
 abbrev pub IsPlace : ℕ → Option ℕ → Type 0
 IsPlace first chunks = (first < 2 ^ 54) × IfSome chunks (HasRoom first)
 
--- a part can have so many chunks
+-- all parts of a file but the last can have so many chunks
 abbrev pub IsPartLength : ℕ → Type 0
-IsPartLength n = (1 ≤ n) × (n ≤ 2 ^ 54)
+IsPartLength n = (1 ≤ n) × (n ≤ 2 ^ 54) × (count_ones n ≡ 1)

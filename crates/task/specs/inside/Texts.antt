@@ -7,7 +7,7 @@ use Rattle.task.specs.declared.fault.Setting.TheVariants as setting
 use Rattle.task.specs.declared.fault.UsageFault.{UsageFault}
 use Rattle.task.specs.declared.fault.UsageFault.TheVariants.{InputOnly, Needed, NotForAlgorithm, NotForCommand}
 use Rattle.task.specs.declared.fault.UsageFault.TheVariants.{NotHexadecimal, NotWithRaw, NotWithTag, OneFile, OneKey}
-use Rattle.task.specs.declared.fault.UsageFault.TheVariants.{FileOnly, NoCommand, NotWithList, OneSource, OutOfRange}
+use Rattle.task.specs.declared.fault.UsageFault.TheVariants.{FileOnly, NoCommand, NotWithEach, NotWithList, OneSource, OutOfRange}
 use Rattle.task.specs.declared.fault.UsageFault.TheVariants.{WrongLength}
 
 -- the name of a setting, which is its id among the options and arguments of a request
@@ -29,6 +29,7 @@ setting_name setting.Chunks = codes "chunks"
 setting_name setting.Bytes = codes "bytes"
 setting_name setting.Name = codes "name"
 setting_name setting.Starts = codes "list"
+setting_name setting.Each = codes "each"
 
 -- what a fault is told of, a setting or nothing alone, and what is said of it
 abbrev pub usage_texts : UsageFault → Text × Text
@@ -38,6 +39,7 @@ usage_texts (NotForCommand s) = (word (setting_name s), codes ": not for this co
 usage_texts (NotWithTag s) = (word (setting_name s), codes ": not with --tag\n")
 usage_texts (NotWithRaw s) = (word (setting_name s), codes ": not with --raw\n")
 usage_texts (NotWithList s) = (word (setting_name s), codes ": not with --list\n")
+usage_texts (NotWithEach s) = (word (setting_name s), codes ": not with --each\n")
 usage_texts (OneFile s) = (word (setting_name s), codes ": one file only\n")
 usage_texts (InputOnly s) = (word (setting_name s), codes ": standard input only\n")
 usage_texts (FileOnly s) = (word (setting_name s), codes ": not of standard input\n")

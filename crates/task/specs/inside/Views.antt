@@ -3,7 +3,7 @@ use Rattle.std.specs.Prelude.{ℕ, List, Vec, map, option_map}
 use Rattle.std.specs.Borrow.{Bor}
 use Rattle.request.specs.CommandLine.{Text}
 use Rattle.task.specs.Tasks.{Asked, Derived, Source, by_blake3, by_hkdf, checks, derives, hashes, hmac_alg, in_file}
-use Rattle.task.specs.Tasks.{joins, prints_line, prints_part, prints_starts, tags, these}
+use Rattle.task.specs.Tasks.{joins, prints_line, prints_part, prints_parts, prints_starts, tags, these}
 use Rattle.task.specs.declared.derivation.Derivation.{Derivation}
 use Rattle.task.specs.declared.derivation.Derivation.TheVariants as derivation
 use Rattle.task.specs.declared.tagging.Key.{Key}
@@ -38,6 +38,7 @@ task_shown (code.Line hashing wanted name content) =
     prints_line hashing.requested (option_map (λ v. v.items) wanted) name.now content.now
 task_shown (code.Part place name) = prints_part place.first place.chunks name.now
 task_shown (code.Starts parts name) = prints_starts parts.chunks name.now
+task_shown (code.Parts parts name) = prints_parts parts.chunks name.now
 task_shown (code.Join joining wanted name lists) =
     joins joining.stretch joining.bytes (option_map (λ v. v.items) wanted) name.now (texts_of lists)
 task_shown (code.Mac form key wanted name) =

@@ -1,0 +1,115 @@
+// The command `part` with `--each`: the lines of all parts of a file.
+
+ghost use Rattle.std.specs.Prelude.{◌≡◌, ℕ, ◌%◌, ◌*◌, ◌^◌, ◌≤◌, [], Some, true, length, IfOk, IfSome, IsErrOf};
+ghost use Rattle.source.specs.Counts.{count_after};
+ghost use Rattle.command.specs.Cutting.{EachRuns};
+ghost use Rattle.command.specs.Lines.{is_input, opens_of};
+ghost use Rattle.command.specs.inside.Cutting.{PrintsLines, PrintsParts, TakesChunks};
+ghost use Rattle.command.specs.inside.Reading.{failed};
+ghost use Rattle.command.specs.inside.Seen.{DoesRun, OpensAtMost};
+ghost use Rattle.command.specs.inside.Streams.{IfContent, SameStreams};
+ghost use Rattle.command.specs.inside.Troubles.{Counted};
+ghost use Rattle.task.specs.inside.Possible.{IsPartLength};
+
+use crate::cutting::{RUN, chunk_bytes, next_part};
+use crate::digests::part_buffer;
+use crate::fault::Fault;
+use crate::session::{Session, Streams, open_file};
+use b3::{CHUNK_LEN, PartValue};
+use partlist::write_part;
+use source::{Feed, Sink};
+use sumlist::Tree;
+use task::PartLength;
+
+impl<'i, 't, 'o, L: Feed, T: Tree, W: Sink> Session<'i, 't, 'o, L, T, W> {
+    /// Prints the lines of all parts of a file, one behind the other, where each but the last has so many
+    /// chunks: the lines that `print_part` prints of them. An empty file has one part. Answers 0. The
+    /// file is read once, and each line is written before the bytes of the next part are read. The
+    /// faults are `CannotRead`, `TooLong` above 2^64 - 1 bytes, `CannotWrite` and `OutOfMemory`, which comes
+    /// before the file is opened.
+    pub fn print_parts<'n>(&mut self, parts: PartLength, name: &'n str) -> Result<u8, Fault<'n>>
+        ensures run { DoesRun (λ bytes files. EachRuns parts.chunks name.entry.now files bytes) (λ notes. notes ≡ [])
+            result (⟦<Self as Streams>⟧.seen self.old) (⟦<Self as Streams>⟧.seen self.new) }
+        ensures opens { OpensAtMost (opens_of name.entry.now) (⟦<Self as Streams>⟧.seen self.old)
+            (⟦<Self as Streams>⟧.seen self.new) }
+        ensures same { SameStreams self.old self.new }
+    {
+        self.print_each(parts.chunks, name)
+    }
+
+    // The same by the content of the name.
+    fn print_each<'n>(&mut self, chunks: u64, name: &'n str) -> Result<u8, Fault<'n>>
+        requires { IsPartLength chunks }
+        ensures printed { IfContent name.entry.now (⟦<Self as Streams>⟧.seen self.old) (λ content. PrintsParts chunks
+            name.entry.now content result (W.shown self.old.out.now) (W.shown self.new.out.now)) }
+        ensures counted { IfContent name.entry.now (⟦<Self as Streams>⟧.seen self.old) (λ content.
+            Counted (failed (is_input name.entry.now) content result)
+            (⟦<Self as Streams>⟧.seen self.old).input_failures (⟦<Self as Streams>⟧.seen self.new).input_failures
+            (⟦<Self as Streams>⟧.seen self.old).file_failures (⟦<Self as Streams>⟧.seen self.new).file_failures) }
+        ensures opens { OpensAtMost (opens_of name.entry.now) (⟦<Self as Streams>⟧.seen self.old)
+            (⟦<Self as Streams>⟧.seen self.new) }
+        ensures same { SameStreams self.old self.new }
+    {
+        let mut run = part_buffer(self.alloc, chunks.min(RUN))?;
+        if name == "-" {
+            return write_parts(chunks, run.as_mut_slice(), name, self.input, self.out);
+        }
+        let mut feed = open_file(name, 0, self.tree)?;
+        let answer = write_parts(chunks, run.as_mut_slice(), name, &mut feed, self.out);
+        self.tree.close(feed);
+        answer
+    }
+}
+
+// Writes the lines of all parts of so many chunks of what a feed gives.
+fn write_parts<'n, F: Feed, W: Sink>(
+    chunks: u64,
+    run: &mut [u8],
+    name: &'n str,
+    feed: &mut F,
+    out: &mut W,
+) -> Result<u8, Fault<'n>>
+    requires chunks { IsPartLength chunks }
+    requires run { (e : ℕ) × (length run.old ≡ 1024 * 2 ^ e) }
+    requires within { length run.old ≤ 1024 * chunks }
+    ensures printed { IfSome (F.remaining feed.old)
+        (λ m. PrintsLines chunks name.entry.now m result (W.shown out.old) (W.shown out.new)) }
+    ensures counted { F.failure_count feed.new
+        ≡ count_after (F.failure_count feed.old) (failed true (Some []) result).input }
+    ensures memory { IsErrOf result Fault.OutOfMemory → ⊥ }
+{
+    let mut first = 0;
+    'parts: loop {
+        let Some(part) = next_chunks(first, chunks, run, name, feed)? else {
+            return Ok(0);
+        };
+        write_part(&part, out)?;
+        let whole = part.len() / (CHUNK_LEN as u64);
+        if whole < chunks {
+            return Ok(0);
+        }
+        first += chunks;
+    }
+}
+
+// The part of the next bytes of a feed from a chunk on, of so many chunks or of fewer where it ends.
+fn next_chunks<'n, F: Feed>(
+    first: u64,
+    chunks: u64,
+    run: &mut [u8],
+    name: &'n str,
+    feed: &mut F,
+) -> Result<Option<PartValue>, Fault<'n>>
+    requires chunks { IsPartLength chunks }
+    requires run { (e : ℕ) × (length run.old ≡ 1024 * 2 ^ e) }
+    requires within { length run.old ≤ 1024 * chunks }
+    requires aligned { first % chunks ≡ 0 }
+    ensures part { IfSome (F.remaining feed.old)
+        (λ m. TakesChunks first chunks name.entry.now m (F.remaining feed.new) result) }
+    ensures first { IfOk result (λ found. IfSome found (λ part. part.first_chunk ≡ first)) }
+    ensures counted { F.failure_count feed.new
+        ≡ count_after (F.failure_count feed.old) (failed true (Some []) result).input }
+    ensures memory { IsErrOf result Fault.OutOfMemory → ⊥ }
+{
+    next_part(first, chunks, chunk_bytes(Some(chunks)), run, name, feed)
+}
