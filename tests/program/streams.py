@@ -24,6 +24,8 @@ import tables
 from harness import same
 
 ABC = tables.text("{sha256}")
+# The tag of an empty file under the key of the official vectors of BLAKE3.
+EMPTY_TAG = b"92b2b75604ed3c761f9d6f62392c8a9227ad0ea3f09573e783f1498a4ed60d26  empty\n"
 # What is not written to a full device: each command, and each way to write of it.
 FULL = [
     ("hash", "hash -a blake2s"),
@@ -46,12 +48,15 @@ FULL = [
     ("a joined line", "join -a blake3 chunk.0 chunk.1"),
     ("a joined digest, compared", "join -a blake3 --verify " + 64 * "0" + " chunk.0 chunk.1"),
     ("names from a file", "hash -a blake3 --files0-from mixed-names"),
+    ("tags of two files", "mac -a hmac-sha256 --key-file key20 abc.txt empty"),
+    ("tags of names from a file", "mac -a blake2s --key 00 --files0-from mixed-names"),
 ]
 # What a full standard error has no effect on: the words, the status and standard output.
 UNTOLD = [
     ("a full standard error", "hash -a sha256 abc.txt", 0, ABC + b"  abc.txt\n"),
     ("a summary told to a full standard error", "check -a sha256 --summary good-list", 0, b"abc.txt: OK\n"),
     ("a fault told to a full standard error", "hash -a sha256 none abc.txt", 1, ABC + b"  abc.txt\n"),
+    ("a fault of a tag told to a full standard error", "mac -a blake3 --key-file key32 none empty", 1, EMPTY_TAG),
 ]
 # How many files a run needs open at a time, the three streams among them: a list stays open over the files that it
 # names.
@@ -61,6 +66,8 @@ FEW = [
     ("files of a list of names", 5, "hash -a sha256 --files0-from many-names"),
     ("files of lists", 5, "check -a sha256 many-lines many-lines"),
     ("a file under a key", 4, "mac -a hmac-sha256 --key-file key20 abc.txt"),
+    ("files under a key", 4, "mac -a hmac-sha256 --key-file key20" + 50 * " abc.txt"),
+    ("files of a list of names under a key", 5, "mac -a blake2s --key-file key20 --files0-from many-names"),
     ("the parts of a file", 4, "part -a blake3 --list --chunks 1 zeros"),
     ("each part of a file", 4, "part -a blake3 --each 1 zeros"),
     ("lists of parts", 4, "join -a blake3 --name zeros part.1 part.2 part.3"),
@@ -138,9 +145,10 @@ def names_of_find():
         with open(f"many/a file {i}", "w") as file:
             file.write(str(i))
     names = subprocess.run(["find", "many", "-type", "f", "-print0"], capture_output=True, check=True).stdout
-    wanted = harness.run(program, [b"hash", b"-a", b"blake3", *names.split(b"\0")[:-1]])
-    same("names that find prints", run("hash -a blake3 --files0-from -", names), wanted)
-    same("names that find prints, their number", wanted.out.count(b"\n"), 200)
+    for command in ("hash -a blake3", "mac -a blake3 --key-file key32"):
+        wanted = harness.run(program, [*command.encode().split(), *names.split(b"\0")[:-1]])
+        same(f"names that find prints: {command}", run(f"{command} --files0-from -", names), wanted)
+        same(f"names that find prints, their number: {command}", wanted.out.count(b"\n"), 200)
 
 
 def rest_of_input():

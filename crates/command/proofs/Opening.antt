@@ -86,3 +86,22 @@ module _ (pieces : List ℕ → List (List ℕ)) where
   opens_of_file list remaining feed (Some input) (Some files) then_tree i j k l is opened same one more last =
       let most : k ≤ j + length (pieces opened.0) = rw (opened.2, same) at more in
       rw (is, opened.1) (omega (arith, one, most, last))
+
+-- ---- behind a key
+
+-- what was opened behind it, where that is told
+pub opens_behind : (most : List ℕ → Files → ℕ) (first later : Option (List ℕ)) (tree then_tree : Option Files)
+    (k i h j : ℕ) → later ≡ first → then_tree ≡ tree → h ≤ i + k
+    → IfSome later (λ bytes. IfSome then_tree (λ files. j ≤ h + most bytes files))
+    → IfSome first (λ bytes. IfSome tree (λ files. j ≤ i + (k + most bytes files)))
+opens_behind most None later tree then_tree k i h j a b key more = tt
+opens_behind most (Some bytes) later None then_tree k i h j a b key more = tt
+opens_behind most (Some bytes) later (Some files) then_tree k i h j a b key more =
+    let rest : j ≤ h + most bytes files = rw b at (rw a at more) in omega (arith, key, rest)
+
+-- nothing was
+pub opens_key : (most : List ℕ → Files → ℕ) (first : Option (List ℕ)) (tree : Option Files) (k i j : ℕ) → j ≤ i + k
+    → IfSome first (λ bytes. IfSome tree (λ files. j ≤ i + (k + most bytes files)))
+opens_key most None tree k i j key = tt
+opens_key most (Some bytes) None k i j key = tt
+opens_key most (Some bytes) (Some files) k i j key = omega (arith, key)

@@ -7,6 +7,7 @@ pub mod Seen
 pub mod Streams
 pub mod Making
 pub mod Keys
+pub mod Rules
 pub mod Cutting
 pub mod Listing
 pub mod Joining

@@ -34,11 +34,11 @@ impl<'i, 't, 'o, L: Feed, T: Tree, W: Sink> Session<'i, 't, 'o, L, T, W> {
             (⟦<Self as Streams>⟧.seen self.new) }
         ensures same { SameStreams self.old self.new }
     {
-        self.print_each(parts.chunks, name)
+        self.print_all_parts(parts.chunks, name)
     }
 
     // The same by the content of the name.
-    fn print_each<'n>(&mut self, chunks: u64, name: &'n str) -> Result<u8, Fault<'n>>
+    fn print_all_parts<'n>(&mut self, chunks: u64, name: &'n str) -> Result<u8, Fault<'n>>
         requires { IsPartLength chunks }
         ensures printed { IfContent name.entry.now (⟦<Self as Streams>⟧.seen self.old) (λ content. PrintsParts chunks
             name.entry.now content result (W.shown self.old.out.now) (W.shown self.new.out.now)) }

@@ -19,8 +19,8 @@ ghost use Rattle.command.specs.inside.Reported.{PrintsReport};
 ghost use Rattle.command.specs.inside.Seen.{IfTold, OpensAtMost, DoesRun, opens_from};
 ghost use Rattle.command.specs.inside.Streams.{SameStreams};
 
-use crate::digests::settle;
 use crate::fault::{Fault, write_of};
+use crate::lines::settle;
 use crate::session::{Session, Streams, open_file};
 use crate::visible::write_visible;
 use source::{Feed, Sink, WriteFailed, write_all};

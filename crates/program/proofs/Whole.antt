@@ -10,16 +10,14 @@ use Rattle.request.specs.inside.Reading.{IsRead}
 use Rattle.request.specs.declared.request.Request.{Request}
 use Rattle.request.specs.declared.request.WordsFault.{WordsFault}
 use Rattle.request.specs.declared.request.WordsFault.TheVariants as words_fault
-use Rattle.task.specs.Tasks.{Asked, Source, asked, in_file, tags, these}
-use Rattle.task.specs.declared.tagging.Mac.{Mac}
+use Rattle.task.specs.Tasks.{Asked, asked}
 use Rattle.task.specs.declared.fault.TaskFault.{TaskFault}
 use Rattle.task.specs.declared.fault.TaskFault.TheVariants as task
 use Rattle.task.specs.inside.Seen.{IsAsDefined}
 use Rattle.task.specs.inside.Views.{task_shown}
 use Rattle.command.specs.Run.{Counted, Run, Runs, Tells, TellsAll, end_of, prints, stops}
 use Rattle.command.specs.Run.{cannot_write as run_cannot_write, out_of_memory as run_out_of_memory}
-use Rattle.command.specs.Lines.{opens_of}
-use Rattle.command.specs.inside.Seen.{Does, key_opens}
+use Rattle.command.specs.inside.Seen.{Does}
 use Rattle.command.specs.inside.Troubles.{cannot_write, of_task, out_of_memory, shown, status_of, told, trouble_of}
 use Rattle.command.specs.declared.fault.Fault.{Fault}
 use Rattle.command.proofs.Refused.{Does-refused}
@@ -96,13 +94,6 @@ opens_always : (first : Option (List ℕ)) (tree : Option Files) (task : Asked) 
 opens_always None tree task x y most = tt
 opens_always (Some bytes) None task x y most = tt
 opens_always (Some bytes) (Some files) task x y most = most bytes files
-
--- a key is read of a file, or given
-pub tag_opens : (mac : Mac) (is_raw : Bool) (key : Source (List ℕ)) (wanted : Option (List ℕ)) (name : Text)
-    (files : Files) (bytes : List ℕ) (x y : ℕ) → y ≤ x + (key_opens key + opens_of name)
-    → y ≤ x + most_opens (tags mac is_raw key wanted name) files bytes
-tag_opens mac is_raw (these key) wanted name files bytes x y most = omega (arith, most)
-tag_opens mac is_raw (in_file key) wanted name files bytes x y most = most
 
 requested : (r : Given) (task : Asked) (files : Files) (bytes : List ℕ) (run : Run) (x y : ℕ) → asked r ≡ Ok task
     → TaskRuns task files bytes run → y ≤ x + most_opens task files bytes

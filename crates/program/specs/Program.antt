@@ -6,22 +6,23 @@ use Rattle.sumlist.specs.Lines.{lines}
 use Rattle.sumlist.specs.Naming.{names}
 use Rattle.sumlist.specs.Report.{Files}
 use Rattle.request.specs.CommandLine.{AreRead, ErrorKind, Given, IsWrong, Text}
-use Rattle.task.specs.Tasks.{Asked, asked, checks, derives, hashes, in_file, joins, prints_line, prints_part}
-use Rattle.task.specs.Tasks.{prints_parts, prints_starts, tags, these}
+use Rattle.task.specs.Tasks.{Asked, asked, checks, derives, in_file, joins, prints_line, prints_lines, prints_part}
+use Rattle.task.specs.Tasks.{prints_parts, prints_starts, these}
 use Rattle.command.specs.Checking.{CheckRuns}
 use Rattle.command.specs.Run.{Counted, Prints, Run, Runs, out_of_memory, prints, stops}
 use Rattle.command.specs.Cutting.{EachRuns, PartRuns, StartsRuns}
-use Rattle.command.specs.Hashing.{HashesAll, HashesListed}
+use Rattle.command.specs.Hashing.{LinesGiven, LinesListed}
 use Rattle.command.specs.Joining.{JoinRuns}
-use Rattle.command.specs.Keying.{KdfRuns, LineRuns, MacRuns}
-use Rattle.command.specs.Lines.{content_of, digest_line, opens_of}
+use Rattle.command.specs.Keying.{KdfRuns, LineRuns, SumRuns}
+use Rattle.command.specs.Lines.{content_of, key_opens, opens_of}
 
 -- the run of a task
 abbrev pub TaskRuns : Asked → Files → List ℕ → Run → Type 0
-TaskRuns (hashes r (these found)) files input = HashesAll (digest_line r) files found input
-TaskRuns (hashes r (in_file list)) files input = HashesListed (digest_line r) files list (content_of list input files)
-TaskRuns (prints_line r wanted name file) files input = LineRuns wanted (digest_line r) name file input files
-TaskRuns (tags mac is_raw key wanted name) files input = MacRuns mac is_raw key wanted name files input
+TaskRuns (prints_lines sum (these found)) files input = SumRuns sum files (λ l. LinesGiven l files found input)
+TaskRuns (prints_lines sum (in_file list)) files input =
+    SumRuns sum files (λ l. LinesListed l files list (content_of list input files))
+TaskRuns (prints_line sum wanted name file) files input =
+    SumRuns sum files (λ l. LineRuns wanted l name file input files)
 TaskRuns (derives derived is_raw name) files input = KdfRuns derived is_raw name files
 TaskRuns (checks how lists) files input = CheckRuns how files lists input
 TaskRuns (prints_part first chunks name) files input = PartRuns first chunks name files input
@@ -31,12 +32,10 @@ TaskRuns (joins stretch bytes wanted name lists) files input = JoinRuns stretch 
 
 -- how many files it opens at most: a list, and each of what it names, included
 abbrev pub most_opens : Asked → Files → List ℕ → ℕ
-most_opens (hashes r (these found)) files input = sum_by opens_of found
-most_opens (hashes r (in_file list)) files input =
-    opens_of list + length (option_map_or names (content_of list input files) [])
-most_opens (prints_line r wanted name file) files input = opens_of file
-most_opens (tags mac is_raw (these key) wanted name) files input = opens_of name
-most_opens (tags mac is_raw (in_file key) wanted name) files input = 1 + opens_of name
+most_opens (prints_lines sum (these found)) files input = key_opens sum + sum_by opens_of found
+most_opens (prints_lines sum (in_file list)) files input =
+    key_opens sum + (opens_of list + length (option_map_or names (content_of list input files) []))
+most_opens (prints_line sum wanted name file) files input = key_opens sum + opens_of file
 most_opens (derives derived is_raw name) files input = 1
 most_opens (checks how lists) files input =
     sum_by (λ list. opens_of list + length (option_map_or lines (content_of list input files) [])) lists

@@ -92,16 +92,16 @@ fn run_request<'n, 'i, 't, 'o, L: Feed, T: Tree, W: Sink, E: Sink>(
     ensures same { SameStreams session.old session.new }
 {
     match Task::of(session.alloc, request)? {
-        Task::Hash { hashing, names } => match names {
-            Names::Given(files) => session.print_digests(hashing, files.as_slice(), err),
-            Names::From(list) => session.print_digests_from(hashing, list, err),
+        Task::Lines { sum, names } => match names {
+            Names::Given(files) => session.print_lines(sum, files.as_slice(), err),
+            Names::From(list) => session.print_lines_from(sum, list, err),
         },
         Task::Line {
-            hashing,
+            sum,
             wanted,
             name,
             file,
-        } => session.print_hashed(hashing, wanted, name, file),
+        } => session.print_line(sum, wanted, name, file),
         Task::Part { place, file } => session.print_part(place, file),
         Task::Starts { parts, file } => session.print_starts(parts, file),
         Task::Parts { parts, file } => session.print_parts(parts, file),
@@ -111,12 +111,6 @@ fn run_request<'n, 'i, 't, 'o, L: Feed, T: Tree, W: Sink, E: Sink>(
             name,
             lists,
         } => session.print_joined(joining, wanted, name, lists.as_slice()),
-        Task::Mac {
-            tagging,
-            key,
-            wanted,
-            file,
-        } => session.print_tag(tagging, key, wanted, file),
         Task::Kdf {
             derivation,
             is_raw,

@@ -4,21 +4,22 @@ use Rattle.std.specs.Int.Count.{count_leading_zeros, ones}
 use Rattle.request.proofs.ExampleWords.{clap_on_literals, subcommand_of}
 use Rattle.request.specs.CommandLine.{NameList, Text, sums_app}
 use Rattle.sumlist.specs.declared.kind.Kind.TheVariants as kind
-use Rattle.task.specs.Tasks.{Asked, asked, checks, hashes, in_file, joins, least_power, tags, these}
+use Rattle.task.specs.Tasks.{Asked, asked, checks, digests, in_file, joins, least_power, prints_line, prints_lines}
+use Rattle.task.specs.Tasks.{tags, these}
 use Rattle.task.specs.declared.hashing.Form.TheVariants.{Plain}
 use Rattle.task.specs.declared.hashing.Hash.TheVariants.{Whole}
-use Rattle.task.specs.declared.tagging.Mac.TheVariants.{Blake2b}
+use Rattle.task.specs.declared.tagging.Mac.TheVariants.{Blake2b, Blake2s}
 
 -- these words behind the program's name are judged so, whatever the names of `-a` are
 abbrev Asks : List Text → Result Asked Text → Type 0
 Asks words answer = (names macs : NameList)
     → option_map asked (subcommand_of (sums_app names macs) (codes "sums" ∷ words)) ≡ Some answer
 
-hash_file : Asks (codes "hash" ∷ codes "-asha256" ∷ codes "f" ∷ []) (Ok (hashes (record {
+hash_file : Asks (codes "hash" ∷ codes "-asha256" ∷ codes "f" ∷ []) (Ok (prints_lines (digests (record {
   hash = Whole kind.Sha256;
   stretch = record { position = 0; length = 32 };
   form = Plain;
-}) (these (codes "f" ∷ []))))
+})) (these (codes "f" ∷ []))))
 unfolding clap_on_literals sums_app
 hash_file names macs = refl
 
@@ -38,9 +39,29 @@ unfolding clap_on_literals sums_app
 hash_verify names macs = refl
 
 mac_key : Asks (codes "mac" ∷ codes "-ablake2b" ∷ codes "--key-file" ∷ codes "k" ∷ codes "f" ∷ [])
-    (Ok (tags (Blake2b 64) false (in_file (codes "k")) None (codes "f")))
+    (Ok (prints_lines (tags (Blake2b 64) false (in_file (codes "k"))) (these (codes "f" ∷ []))))
 unfolding clap_on_literals sums_app
 mac_key names macs = refl
+
+mac_listed : Asks (codes "mac" ∷ codes "-ablake2s" ∷ codes "--key-file=k" ∷ codes "--files0-from=l" ∷ [])
+    (Ok (prints_lines (tags (Blake2s 32) false (in_file (codes "k"))) (in_file (codes "l"))))
+unfolding clap_on_literals sums_app
+mac_listed names macs = refl
+
+mac_named : Asks (codes "mac" ∷ codes "-ablake2s" ∷ codes "--key-file=k" ∷ codes "--name=n" ∷ [])
+    (Ok (prints_line (tags (Blake2s 32) false (in_file (codes "k"))) None (codes "n") (codes "-")))
+unfolding clap_on_literals sums_app
+mac_named names macs = refl
+
+mac_raw : Asks (codes "mac" ∷ codes "-ablake2s" ∷ codes "-l33" ∷ codes "--raw" ∷ codes "f" ∷ codes "g" ∷ [])
+    (Err (codes "--raw: one file only\n"))
+unfolding clap_on_literals sums_app
+mac_raw names macs = refl
+
+mac_sources : Asks (codes "mac" ∷ codes "-ablake2s" ∷ codes "--key-file=k" ∷ codes "--files0-from=l" ∷ codes "f" ∷ [])
+    (Err (codes "give only one of FILE and --files0-from\n"))
+unfolding clap_on_literals sums_app
+mac_sources names macs = refl
 
 mac_keys : Asks (codes "mac" ∷ codes "-ahmac-sha256" ∷ codes "-l15" ∷ codes "--key=" ∷ codes "--key-file=k" ∷ [])
     (Err (codes "-l: out of range\n"))

@@ -14,7 +14,7 @@ use Rattle.source.specs.declared.alg.Alg.TheVariants as alg
 use Rattle.sumlist.specs.Kinds.{kinds, longest}
 use Rattle.sumlist.specs.declared.kind.Kind.{Kind}
 use Rattle.sumlist.specs.declared.kind.Kind.TheVariants as kind
-use Rattle.task.specs.Hashing.{compared, names_several, requested, stretch_of, wanted}
+use Rattle.task.specs.Hashing.{compared, form_of, names_several, requested, stretch_of, wanted}
 use Rattle.task.specs.Settings.{◌>>=◌, ◌>>◌, absent, file_or_input, files, given, hexadecimal, named, names_or_input}
 use Rattle.task.specs.Settings.{needed, not_for, number, number_in, out_of_range, power_in, text, unless}
 use Rattle.task.specs.declared.hashing.Requested.{Requested}
@@ -35,11 +35,15 @@ pub data Source (A : Type 0) : Type 0 where
   these : A → Source A
   in_file : Text → Source A
 
+-- what is printed of a file: a digest, or a tag under a key, in digits or as it is
+pub data Sum : Type 0 where
+  digests : Requested → Sum
+  tags : Mac → Bool → Source (List ℕ) → Sum
+
 -- what a run is to do
 pub data Asked : Type 0 where
-  hashes : Requested → Source (List Text) → Asked
-  prints_line : Requested → Option (List ℕ) → Text → Text → Asked
-  tags : Mac → Bool → Source (List ℕ) → Option (List ℕ) → Text → Asked
+  prints_lines : Sum → Source (List Text) → Asked
+  prints_line : Sum → Option (List ℕ) → Text → Text → Asked
   derives : Derived → Bool → Text → Asked
   checks : Checking → List Text → Asked
   prints_part : ℕ → Option ℕ → Text → Asked
@@ -47,18 +51,23 @@ pub data Asked : Type 0 where
   prints_parts : ℕ → Text → Asked
   joins : Stretch → Option ℕ → Option (List ℕ) → Text → List Text → Asked
 
--- files are named by words, or in a file; one whose digest is compared, or that has a name, is the only one
-abbrev pub hash : Given → Result Asked Text
-hash g = do
-  r ← requested g
+-- the same of a sum of so many bytes: files are named by words, or in a file; one whose sum is compared, or that has a
+-- name, is the only one
+abbrev pub of_files : Sum → ℕ → Given → Result Asked Text
+of_files sum n g = do
   unless (is_some (text_of (codes "files0-from") g) && nat_lt 0 (length (files g)))
       (codes "give only one of FILE and --files0-from\n")
   unless (is_some (text_of (codes "name") g) && (names_several g || not (bytes_eq (file_or_input g) (codes "-"))))
       (codes "--name: standard input only\n")
-  digest ← wanted r.stretch.length g
-  Ok (if is_some (text_of (codes "name") g) || is_some digest
-      then prints_line r digest (unwrap_or (text_of (codes "name") g) (file_or_input g)) (file_or_input g)
-      else hashes r (option_map_or (λ list. in_file list) (text_of (codes "files0-from") g) (these (names_or_input g))))
+  bytes ← wanted n g
+  Ok (if is_some (text_of (codes "name") g) || is_some bytes
+      then prints_line sum bytes (unwrap_or (text_of (codes "name") g) (file_or_input g)) (file_or_input g)
+      else prints_lines sum
+      (option_map_or (λ list. in_file list) (text_of (codes "files0-from") g) (these (names_or_input g))))
+
+-- that of `hash`
+abbrev pub hash : Given → Result Asked Text
+hash g = requested g >>= (λ r. of_files (digests r) r.stretch.length g)
 
 -- the algorithm of a hash under HMAC, with its longest digests
 abbrev pub hmac_alg : HmacHash → Alg
@@ -85,12 +94,12 @@ macs = (codes "hmac-sha256", hmac over.Sha256) ∷ (codes "hmac-sha512", hmac ov
 -- a key is given in one of two ways; the digits of `--key` are judged first
 abbrev pub mac : Given → Result Asked Text
 mac g = do
+  form_of g
   m ← needed (named macs) (codes "a") g >>= (λ f. f g)
   key ← given hexadecimal (codes "key") g
   unless (beq (is_some key) (is_some (text_of (codes "key-file") g))) (codes "give one of --key and --key-file\n")
-  tag ← wanted m.1 g
-  Ok (tags m.0 (has_flag (codes "raw") g)
-      (option_map_or (λ f. in_file f) (text_of (codes "key-file") g) (these (unwrap_or key []))) tag (file_or_input g))
+  of_files (tags m.0 (has_flag (codes "raw") g)
+      (option_map_or (λ f. in_file f) (text_of (codes "key-file") g) (these (unwrap_or key [])))) m.1 g
 
 -- HKDF derives 255 times the digest at most
 abbrev pub hkdf : Alg → Given → Result Derived Text

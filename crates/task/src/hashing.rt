@@ -165,8 +165,8 @@ fn refused_others(request: &Request<'_>, kind: Kind) -> Result<(), UsageFault>
 }
 
 impl Form {
-    // Refuses `--raw` beside `--tag` and of several files.
-    fn of(request: &Request<'_>) -> Result<Form, UsageFault>
+    /// How a digest is printed. Refuses `--raw` beside `--tag` and of several files.
+    pub(crate) fn of(request: &Request<'_>) -> Result<Form, UsageFault>
         ensures { judged result ≡ spec.form_of (given_of request.now) }
     {
         let is_raw = request.has("raw");

@@ -7,7 +7,7 @@ pub use hashing::{Form, Hash, Hashing, Requested, Stretch};
 pub use parameters::HmacHash;
 pub use parting::{Joining, PartLength, Place};
 pub use tagging::{Key, Mac, Tagging};
-pub use tasks::{Checking, Names, Task};
+pub use tasks::{Checking, Names, Sum, Task};
 
 mod derivation;
 mod fault;

@@ -10,11 +10,11 @@ ghost use Rattle.task.specs.Settings.{files};
 ghost use Rattle.task.specs.Tasks as spec;
 ghost use Rattle.task.specs.Tasks.{asked, in_file, these};
 ghost use Rattle.task.specs.inside.Seen.{IsAsDefined, judged, seen};
-ghost use Rattle.task.specs.inside.Views.{names_shown, task_shown, texts_of};
+ghost use Rattle.task.specs.inside.Views.{names_shown, sum_shown, task_shown, texts_of};
 
 use crate::derivation::Derivation;
 use crate::fault::{Setting, TaskFault, UsageFault};
-use crate::hashing::{Hashing, given_digest, names_several, stretch_of, wanted};
+use crate::hashing::{Form, Hashing, given_digest, names_several, stretch_of, wanted};
 use crate::parameters::{
     file_count, given_bytes, given_kind, given_number, needed, number, power_in, unless,
 };
@@ -26,7 +26,14 @@ use source::BLAKE3_LEN;
 use std::alloc::{AllocError, Global};
 use sumlist::Kind;
 
-/// What `hash` hashes: files that were named, one at least, or those that a file names.
+/// What is printed of a file: a digest, or a tag under a key.
+#[derive(Debug, Drop)]
+pub enum Sum<'a> {
+    Digest(Hashing),
+    Tag(Tagging, Key<'a>),
+}
+
+/// Of which files: those that were named, one at least, or those that a file names.
 #[derive(Debug, Drop)]
 pub enum Names<'a> {
     Given(Vec<&'a str>),
@@ -46,15 +53,14 @@ pub struct Checking {
 /// are used.
 #[derive(Debug, Drop)]
 pub enum Task<'a> {
-    /// Print this of each file, which is hashed in parts of so many chunks where that is asked for.
-    Hash {
-        hashing: Hashing,
+    /// Print this of each file.
+    Lines {
+        sum: Sum<'a>,
         names: Names<'a>,
     },
-    /// Print this of one file under this name, or whether it is the digest that is wanted, of as many
-    /// bytes; the file is hashed in such parts.
+    /// Print this of one file under this name, or whether it is what is wanted, of as many bytes.
     Line {
-        hashing: Hashing,
+        sum: Sum<'a>,
         wanted: Option<Vec<u8>>,
         name: &'a str,
         file: &'a str,
@@ -83,14 +89,6 @@ pub enum Task<'a> {
         wanted: Option<Vec<u8>>,
         name: &'a str,
         lists: Vec<&'a str>,
-    },
-    /// Print the tag of a file under a key, in digits or as it is, or whether it is the one that is
-    /// wanted, of as many bytes.
-    Mac {
-        tagging: Tagging,
-        key: Key<'a>,
-        wanted: Option<Vec<u8>>,
-        file: &'a str,
     },
     /// Print the key that is derived of a file's bytes, in digits or as it is. Here `-` is a file.
     Kdf {
@@ -133,24 +131,37 @@ fn hash<'a>(alloc: Global, request: &Request<'a>) -> Result<Task<'a>, TaskFault>
     ensures { IsAsDefined task_shown (spec.hash (given_of request.now)) result }
 {
     let hashing = Hashing::of(alloc, request)?;
+    let length = hashing.requested.stretch.length;
+    of_files(alloc, request, Sum::Digest(hashing), length)
+}
+
+// The files of which a sum is printed, of so many bytes.
+fn of_files<'a>(
+    alloc: Global,
+    request: &Request<'a>,
+    sum: Sum<'a>,
+    length: u64,
+) -> Result<Task<'a>, TaskFault>
+    ensures { IsAsDefined task_shown (spec.of_files (sum_shown sum.entry) length (given_of request.now)) result }
+{
     unless(has_two_sources(request), UsageFault::OneSource)?;
     unless(
         has_useless_name(request),
         UsageFault::InputOnly(Setting::Name),
     )?;
-    let wanted = wanted(alloc, request, hashing.requested.stretch.length)?;
+    let wanted = wanted(alloc, request, length)?;
     let name = request.text("name");
     if name.is_some() || wanted.is_some() {
         let file = file_or_input(request);
         return Ok(Task::Line {
-            hashing,
+            sum,
             wanted,
             name: name.unwrap_or(file),
             file,
         });
     }
     let names = Names::of(alloc, request)?;
-    Ok(Task::Hash { hashing, names })
+    Ok(Task::Lines { sum, names })
 }
 
 // Whether files are named both by words and in a file.
@@ -200,18 +211,14 @@ fn names_or_input<'a>(alloc: Global, request: &Request<'a>) -> Result<Vec<&'a st
 fn mac<'a>(alloc: Global, request: &Request<'a>) -> Result<Task<'a>, TaskFault>
     ensures { IsAsDefined task_shown (spec.mac (given_of request.now)) result }
 {
+    Form::of(request)?;
     let mac = Mac::of(request)?;
     let given = given_bytes(alloc, request, Setting::Key)?;
     let key_file = request.text("key-file");
     unless(given.is_some() == key_file.is_some(), UsageFault::OneKey)?;
-    let wanted = wanted(alloc, request, mac.tag_len())?;
     let is_raw = request.has("raw");
-    Ok(Task::Mac {
-        tagging: Tagging { mac, is_raw },
-        key: Key::of(alloc, key_file, given),
-        wanted,
-        file: file_or_input(request),
-    })
+    let sum = Sum::Tag(Tagging { mac, is_raw }, Key::of(alloc, key_file, given));
+    of_files(alloc, request, sum, mac.tag_len())
 }
 
 fn kdf<'a>(alloc: Global, request: &Request<'a>) -> Result<Task<'a>, TaskFault>

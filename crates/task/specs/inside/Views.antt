@@ -2,14 +2,17 @@
 use Rattle.std.specs.Prelude.{ℕ, List, Vec, map, option_map}
 use Rattle.std.specs.Borrow.{Bor}
 use Rattle.request.specs.CommandLine.{Text}
-use Rattle.task.specs.Tasks.{Asked, Derived, Source, by_blake3, by_hkdf, checks, derives, hashes, hmac_alg, in_file}
-use Rattle.task.specs.Tasks.{joins, prints_line, prints_part, prints_parts, prints_starts, tags, these}
+use Rattle.task.specs.Tasks.{Asked, Derived, Source, Sum, by_blake3, by_hkdf, checks, derives, digests, hmac_alg}
+use Rattle.task.specs.Tasks.{in_file, joins, prints_line, prints_lines, prints_part, prints_parts, prints_starts, tags}
+use Rattle.task.specs.Tasks.{these}
 use Rattle.task.specs.declared.derivation.Derivation.{Derivation}
 use Rattle.task.specs.declared.derivation.Derivation.TheVariants as derivation
 use Rattle.task.specs.declared.tagging.Key.{Key}
 use Rattle.task.specs.declared.tagging.Key.TheVariants.{Given as GivenKey, File}
 use Rattle.task.specs.declared.tasks.Names.{Names}
 use Rattle.task.specs.declared.tasks.Names.TheVariants.{Given as GivenNames, From}
+use Rattle.task.specs.declared.tasks.Sum.{Sum as CodeSum}
+use Rattle.task.specs.declared.tasks.Sum.TheVariants.{Digest, Tag}
 use Rattle.task.specs.declared.tasks.Task.{Task}
 use Rattle.task.specs.declared.tasks.Task.TheVariants as code
 
@@ -27,21 +30,23 @@ abbrev pub key_shown : Key → Source (List ℕ)
 key_shown (GivenKey key) = these key.items
 key_shown (File name) = in_file name.now
 
+abbrev pub sum_shown : CodeSum → Sum
+sum_shown (Digest hashing) = digests hashing.requested
+sum_shown (Tag form key) = tags form.mac form.is_raw (key_shown key)
+
 abbrev pub derivation_shown : Derivation → Derived
 derivation_shown (derivation.Hkdf by) =
     by_hkdf (hmac_alg by.hash) by.length (option_map (λ v. v.items) by.salt) by.info.items
 derivation_shown (derivation.Blake3 context n) = by_blake3 context.now n
 
 abbrev pub task_shown : Task → Asked
-task_shown (code.Hash hashing names) = hashes hashing.requested (names_shown names)
-task_shown (code.Line hashing wanted name content) =
-    prints_line hashing.requested (option_map (λ v. v.items) wanted) name.now content.now
+task_shown (code.Lines sum names) = prints_lines (sum_shown sum) (names_shown names)
+task_shown (code.Line sum wanted name content) =
+    prints_line (sum_shown sum) (option_map (λ v. v.items) wanted) name.now content.now
 task_shown (code.Part place name) = prints_part place.first place.chunks name.now
 task_shown (code.Starts parts name) = prints_starts parts.chunks name.now
 task_shown (code.Parts parts name) = prints_parts parts.chunks name.now
 task_shown (code.Join joining wanted name lists) =
     joins joining.stretch joining.bytes (option_map (λ v. v.items) wanted) name.now (texts_of lists)
-task_shown (code.Mac form key wanted name) =
-    tags form.mac form.is_raw (key_shown key) (option_map (λ v. v.items) wanted) name.now
 task_shown (code.Kdf derivation is_raw material) = derives (derivation_shown derivation) is_raw material.now
 task_shown (code.Check checking lists) = checks checking (texts_of lists)

@@ -1,48 +1,49 @@
 use Rattle.std.proofs.Common.{Ok, ap, refl}
 use Rattle.std.specs.Prelude.{option_map}
 use Rattle.std.proofs.lemmas.Result.{err_from_is_err_and}
-use Rattle.command.specs.Lines.{digest_line, is_input}
+use Rattle.command.specs.Lines.{is_input}
+use Rattle.command.specs.inside.Rules.{line_by}
 use Rattle.command.specs.inside.Streams.{seen_of}
 use Rattle.command.proofs.Answering.{digest_said, left_failed, line_said, said_failed}
 use Rattle.command.proofs.Reading.{told_then}
 use Rattle.command.proofs.session.Session.print_compared.Goals as goal
 
-pub returns-in_err-write_digest-clause-answer : goal.returns-in_err-write_digest-clause-answer
-returns-in_err-write_digest-clause-answer g c =
+pub returns-in_err-write_sum-clause-answer : goal.returns-in_err-write_sum-clause-answer
+returns-in_err-write_sum-clause-answer g c =
     let see = seen_of g.L.Feed.remaining g.L.Feed.failure_count g.T.Tree.files g.T.Tree.failure_count
     g.T.Tree.opens g.W.Sink.shown in
-    let l = digest_line c.args.hashing.requested in
+    let l = line_by c.args.rule.now in
     rw (ap (option_map (λ tag. tag.now)) c.in_default.is)
     (told_then (see c.args.self.now) c.in_ok-made.ensures.made
     (λ bytes files made. line_said l c.args.name.now c.args.file.now c.in_ok-made.made _ _ _ _ made
-    (said_failed _ 0 _ _ _ c.from_residual-in_err-write_digest.ensures.1
-    (rw c.make_digest.ensures.out at c.in_err-write_digest.ensures))))
+    (said_failed _ 0 _ _ _ c.from_residual-in_err-write_sum.ensures.1
+    (rw c.make.ensures.out at c.in_err-write_sum.ensures))))
 
 pub returns-in_default-clause-answer : goal.returns-in_default-clause-answer
 returns-in_default-clause-answer g c =
     let see = seen_of g.L.Feed.remaining g.L.Feed.failure_count g.T.Tree.files g.T.Tree.failure_count
     g.T.Tree.opens g.W.Sink.shown in
-    let l = digest_line c.args.hashing.requested in
+    let l = line_by c.args.rule.now in
     rw (ap (option_map (λ tag. tag.now)) c.in_default.is)
     (told_then (see c.args.self.now) c.in_ok-made.ensures.made
     (λ bytes files made. line_said l c.args.name.now c.args.file.now c.in_ok-made.made _ (Ok 0) _ _ made
-    (refl, rw c.make_digest.ensures.out at c.in_ok-write_digest.ensures)))
+    (refl, rw c.make.ensures.out at c.in_ok-write_sum.ensures)))
 
 pub returns-clause-answer : goal.returns-clause-answer
 returns-clause-answer g c =
     let see = seen_of g.L.Feed.remaining g.L.Feed.failure_count g.T.Tree.files g.T.Tree.failure_count
     g.T.Tree.opens g.W.Sink.shown in
-    let l = digest_line c.args.hashing.requested in
+    let l = line_by c.args.rule.now in
     rw (ap (option_map (λ tag. tag.now)) c.in-Some.is)
     (told_then (see c.args.self.now) c.in_ok-made.ensures.made
-    (λ bytes files made. digest_said l c.args.name.now c.args.file.now c.in_ok-made.made c.in-Some.digest.now
+    (λ bytes files made. digest_said l c.args.name.now c.args.file.now c.in_ok-made.made c.in-Some.bytes.now
     c.is_made.result _ _ _ _ made c.is_made.ensures
-    (rw c.make_digest.ensures.out at c.print_verdict.ensures.said)))
+    (rw c.make.ensures.out at c.print_verdict.ensures.said)))
 
-pub returns-in_err-write_digest-clause-read : goal.returns-in_err-write_digest-clause-read
-returns-in_err-write_digest-clause-read g c =
+pub returns-in_err-write_sum-clause-read : goal.returns-in_err-write_sum-clause-read
+returns-in_err-write_sum-clause-read g c =
     let read = c.in_ok-made.ensures.read in
-    let failed = c.from_residual-in_err-write_digest in
+    let failed = c.from_residual-in_err-write_sum in
     let e = err_from_is_err_and failed.result failed.ensures.1 in
     rw (e.1, e.2) (record {
       counted = read.counted;

@@ -4,4 +4,4 @@ use Rattle.command.proofs.session.Session.print_name.Goals as goal
 
 pub returns-in-Some-clause-opens : goal.returns-in-Some-clause-opens
 returns-in-Some-clause-opens g c =
-    let most = c.print_digest.ensures.opens in omega (arith, most, opens_once c.in-Some.name.now)
+    let most = c.print_one.ensures.opens in omega (arith, most, opens_once c.in-Some.name.now)

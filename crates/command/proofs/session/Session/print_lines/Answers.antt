@@ -1,0 +1,21 @@
+use Rattle.std.proofs.Common.{map, refl}
+use Rattle.command.specs.Hashing.{LinesGiven}
+use Rattle.command.specs.Run.{TellsAll}
+use Rattle.command.specs.inside.Rules.{line_by}
+use Rattle.command.proofs.Tagging.{sum_had, sum_refused}
+use Rattle.command.proofs.session.Session.print_lines.Goals as goal
+use Rattle.task.specs.inside.Views.{sum_shown}
+
+pub returns-in_err-rule-clause-run : goal.returns-in_err-rule-clause-run
+returns-in_err-rule-clause-run g c =
+    sum_refused (sum_shown c.args.sum) (λ l bytes files. LinesGiven l files (map (λ n. n.now) c.args.names.now) bytes)
+    (TellsAll (g.E.Sink.shown c.args.err.now) (g.E.Sink.shown c.args.err.now)) _ _ c.in_err-rule.field-0.0 _ _ _ _ _ _ _
+    c.from_residual.ensures.1 refl refl refl c.in_err-rule.ensures.rule c.in_err-rule.ensures.counted
+
+pub returns-clause-run : goal.returns-clause-run
+returns-clause-run g c =
+    sum_had (sum_shown c.args.sum) (λ l bytes files. LinesGiven l files (map (λ n. n.now) c.args.names.now) bytes)
+    (TellsAll (g.E.Sink.shown c.args.err.now) (g.E.Sink.shown c.print_each.new.err)) _ _ _ _
+    (line_by c.in_ok-rule.rule) _ _ _ _ _ _ _ _ _ _
+    refl c.rule_of.ensures.files refl refl c.in_ok-rule.ensures.rule c.in_ok-rule.ensures.counted
+    c.print_each.ensures.run

@@ -1,0 +1,58 @@
+-- The rule of the lines that a command prints, as the code holds it, and how it is had.
+use Rattle.std.specs.Prelude.{◌⊎◌, ◌≡◌, ⊤, true, false, List, Option, None, ℕ, IsSome}
+use Rattle.sumlist.specs.Report.{Files}
+use Rattle.task.specs.Tasks.{Sum, digests, tags}
+use Rattle.task.specs.inside.Views.{key_shown}
+use Rattle.task.specs.declared.tasks.Sum.{Sum as CodeSum}
+use Rattle.task.specs.declared.tasks.Sum.TheVariants as code
+use Rattle.command.specs.Keying.{mac_line}
+use Rattle.command.specs.Lines.{LineRule, digest_line}
+use Rattle.command.specs.inside.Keys.{IsKey, MayRefuseKey, key_content, takes_key}
+use Rattle.command.specs.inside.Making.{made_len}
+use Rattle.command.specs.inside.Seen.{source_opens}
+use Rattle.command.specs.inside.Troubles.{Trouble, key_length}
+use Rattle.command.specs.declared.making.Made.{Made}
+use Rattle.command.specs.declared.rule.Keyed.{Keyed}
+use Rattle.command.specs.declared.rule.Rule.{Rule}
+use Rattle.command.specs.declared.rule.Rule.TheVariants.{Digest, Tag}
+
+-- the lines of tags under a key
+abbrev pub keyed_line : Keyed → LineRule
+keyed_line keyed = mac_line keyed.tagging.is_raw keyed.tagging.mac keyed.key.items
+
+-- and those by any rule
+abbrev pub line_by : Rule → LineRule
+line_by (Digest hashing) = digest_line hashing.requested
+line_by (Tag keyed) = keyed_line keyed
+
+-- a digest that was made has as many bytes as were asked for
+abbrev pub IsSized : Rule → Made → Type 0
+IsSized (Digest hashing) made = made_len made ≡ hashing.requested.stretch.length
+IsSized (Tag keyed) made = ⊤
+
+-- these are the lines of a sum, whose key is had of these files
+abbrev pub HasRule : Files → Sum → LineRule → Type 0
+HasRule files (digests r) l = l ≡ digest_line r
+HasRule files (tags mac is_raw source) l = (key : List ℕ) × IsKey files source key × (takes_key mac key ≡ true)
+    × (l ≡ mac_line is_raw mac key)
+
+-- why they are not had
+abbrev pub MayRefuseSum : Files → Sum → Trouble → Type 0
+MayRefuseSum files (digests r) t = ⊥
+MayRefuseSum files (tags mac is_raw source) t = MayRefuseKey files source t
+    ⊎ ((t ≡ key_length) × ((key : List ℕ) × IsKey files source key × (takes_key mac key ≡ false)))
+
+-- what the key file of a sum has, where there is one
+abbrev pub sum_content : Files → Sum → Option (List ℕ)
+sum_content files (digests r) = None
+sum_content files (tags mac is_raw source) = key_content files source
+
+-- memory is taken for what is printed of each file: for the parts that it is hashed in
+abbrev pub TakesRoom : Rule → Type 0
+TakesRoom (Digest hashing) = IsSome hashing.parts
+TakesRoom (Tag keyed) = ⊥
+
+-- for what is printed of all of them: that, or the key in a file
+abbrev pub WantsRoom : CodeSum → Type 0
+WantsRoom (code.Digest hashing) = IsSome hashing.parts
+WantsRoom (code.Tag tagging key) = source_opens (key_shown key) ≡ 1

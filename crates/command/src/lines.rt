@@ -1,0 +1,296 @@
+// The commands `hash` and `mac`: the digest of each file, or its tag under a key, as a line of a list, or
+// whether that of one is the one that is wanted.
+
+ghost use Rattle.std.specs.Prelude.{◌≡◌, ◌≢◌, ◌≤◌, ◌+◌, ◌*◌, ◌^◌, ◌⊎◌, ℕ, [], false, length, vec_len, map, true};
+ghost use Rattle.std.specs.Prelude.{IfOk, IfSome, IsErr, IsErrOf, IsOk, MatchResult, None, Some, option_map};
+ghost use Rattle.std.specs.List.{sum_by};
+ghost use Rattle.source.specs.Counts.{count_after};
+ghost use Rattle.source.specs.Written.{Writes};
+ghost use Rattle.task.specs.inside.Possible.{IsPartSize};
+ghost use Rattle.task.specs.inside.Views.{sum_shown};
+ghost use Rattle.command.specs.Hashing.{LinesGiven};
+ghost use Rattle.command.specs.Keying.{LineRuns, SumRuns};
+ghost use Rattle.command.specs.Lines.{FitsPlace, key_opens, opens_of};
+ghost use Rattle.command.specs.Run.{TellsAll};
+ghost use Rattle.command.specs.inside.Hashed.{PrintsName, Settles};
+ghost use Rattle.command.specs.inside.Keys.{HasBytes, MakesOf, PrintsAnswer, made_bytes};
+ghost use Rattle.command.specs.inside.Reading.{Leaves, Reads, failed};
+ghost use Rattle.command.specs.inside.Rules.{IsSized, TakesRoom, WantsRoom, line_by};
+ghost use Rattle.command.specs.inside.Seen.{DoesRun, OpensAtMost};
+ghost use Rattle.command.specs.inside.Streams.{AfterReading, IfContent, SameStreams};
+ghost use Rattle.command.specs.declared.fault.Fault.TheVariants.{BadName};
+
+use crate::digests::{digest_of_feed, listable, part_buffer, write_digest};
+use crate::fault::{Fault, tell};
+use crate::keying::rule_of;
+use crate::making::{Made, is_made, write_made};
+use crate::output::named;
+use crate::rule::Rule;
+use crate::session::{Session, Streams, open_file};
+use crate::tags::{tag_digits, tag_of_feed};
+use crate::verifying::{print_verdict, slice_of};
+use source::{Feed, Sink};
+use std::alloc::{AllocError, Global};
+use sumlist::{Tree, WriteFault};
+use task::Sum;
+
+impl<'i, 't, 'o, L: Feed, T: Tree, W: Sink> Session<'i, 't, 'o, L, T, W> {
+    /// Prints the line of each file, and goes on with the next after a file that can't be read or
+    /// named, which is told on `err`. Answers the status: 1 where one had no line, else 0. A key is read
+    /// and judged first, once: the faults are `KeyFileTooLong`, `KeyLength` and `CannotRead` of its file.
+    /// Then come `CannotWrite` and `OutOfMemory`, after which no further file is read.
+    pub fn print_lines<'n, E: Sink>(
+        &mut self,
+        sum: Sum<'n>,
+        names: &[&'n str],
+        err: &mut E,
+    ) -> Result<u8, Fault<'n>>
+        ensures run { DoesRun (λ bytes files. SumRuns (sum_shown sum.entry) files
+            (λ l. LinesGiven l files (map (λ n. n.now) names.entry.now) bytes))
+            (λ notes. TellsAll (E.shown err.old) (E.shown err.new) notes)
+            result (⟦<Self as Streams>⟧.seen self.old) (⟦<Self as Streams>⟧.seen self.new) }
+        ensures opens { OpensAtMost (key_opens (sum_shown sum.entry) + sum_by opens_of (map (λ n. n.now) names.entry.now))
+            (⟦<Self as Streams>⟧.seen self.old) (⟦<Self as Streams>⟧.seen self.new) }
+        ensures same { SameStreams self.old self.new }
+        ensures memory { IsErrOf result Fault.OutOfMemory
+            → WantsRoom sum.entry ⊎ (T.wants_memory ≡ true) }
+    {
+        let rule = rule_of(self.alloc, sum, self.tree)?;
+        self.print_each(&rule, names, err)
+    }
+
+    /// Prints the line of a file under a name, or where a digest or tag is wanted whether it is the file's,
+    /// and answers the status: 1 where it is not, else 0. The key comes first, with the faults that it
+    /// has in `print_lines`. Then come `BadName` of the name, `CannotRead` and `TooLong` of the file,
+    /// `CannotWrite` and `OutOfMemory`.
+    pub fn print_line<'n>(
+        &mut self,
+        sum: Sum<'n>,
+        wanted: Option<Vec<u8>>,
+        name: &'n str,
+        file: &'n str,
+    ) -> Result<u8, Fault<'n>>
+        ensures run { DoesRun (λ bytes files. SumRuns (sum_shown sum.entry) files
+            (λ l. LineRuns (option_map (λ v. v.items) wanted) l name.entry.now file.entry.now bytes files))
+            (λ notes. notes ≡ [])
+            result (⟦<Self as Streams>⟧.seen self.old) (⟦<Self as Streams>⟧.seen self.new) }
+        ensures opens { OpensAtMost (key_opens (sum_shown sum.entry) + opens_of file.entry.now)
+            (⟦<Self as Streams>⟧.seen self.old) (⟦<Self as Streams>⟧.seen self.new) }
+        ensures same { SameStreams self.old self.new }
+        ensures memory { IsErrOf result Fault.OutOfMemory
+            → WantsRoom sum.entry ⊎ (T.wants_memory ≡ true) }
+    {
+        let rule = rule_of(self.alloc, sum, self.tree)?;
+        self.print_compared(&rule, slice_of(&wanted), name, file)
+    }
+
+    // Prints the line of each file by a rule.
+    fn print_each<'n, E: Sink>(
+        &mut self,
+        rule: &Rule,
+        names: &[&'n str],
+        err: &mut E,
+    ) -> Result<u8, Fault<'n>>
+        ensures run { DoesRun (λ bytes files.
+            LinesGiven (line_by rule.now) files (map (λ n. n.now) names.entry.now) bytes)
+            (λ notes. TellsAll (E.shown err.old) (E.shown err.new) notes)
+            result (⟦<Self as Streams>⟧.seen self.old) (⟦<Self as Streams>⟧.seen self.new) }
+        ensures opens { OpensAtMost (sum_by opens_of (map (λ n. n.now) names.entry.now))
+            (⟦<Self as Streams>⟧.seen self.old) (⟦<Self as Streams>⟧.seen self.new) }
+        ensures same { SameStreams self.old self.new }
+        ensures memory { IsErrOf result Fault.OutOfMemory
+            → TakesRoom rule.now ⊎ (T.wants_memory ≡ true) }
+    {
+        let mut status: u8 = 0;
+        for name in names {
+            status = status.max(self.print_one(rule, name, err)?);
+        }
+        Ok(status)
+    }
+
+    /// Prints the line of a file, or tells why it has none, and answers the status of either. Only a
+    /// failed write and want of memory end a run.
+    pub(crate) fn print_one<'f, E: Sink>(
+        &mut self,
+        rule: &Rule,
+        name: &str,
+        err: &mut E,
+    ) -> Result<u8, Fault<'f>>
+        ensures name { PrintsName (line_by rule.now) name.entry.now result
+            (⟦<Self as Streams>⟧.seen self.old) (⟦<Self as Streams>⟧.seen self.new)
+            (E.shown err.old) (E.shown err.new) }
+        ensures opens { OpensAtMost (opens_of name.entry.now) (⟦<Self as Streams>⟧.seen self.old)
+            (⟦<Self as Streams>⟧.seen self.new) }
+        ensures same { SameStreams self.old self.new }
+        ensures memory { IsErrOf result Fault.OutOfMemory
+            → TakesRoom rule.now ⊎ (T.wants_memory ≡ true) }
+    {
+        match self.print_compared(rule, None, name, name) {
+            Ok(status) => Ok(status),
+            Err(fault) => settle(err, fault),
+        }
+    }
+
+    fn print_compared<'n>(
+        &mut self,
+        rule: &Rule,
+        wanted: Option<&[u8]>,
+        name: &'n str,
+        file: &'n str,
+    ) -> Result<u8, Fault<'n>>
+        ensures answer { IfContent file.entry.now (⟦<Self as Streams>⟧.seen self.old) (λ content.
+            PrintsAnswer (option_map (λ tag. tag.now) wanted.entry) (line_by rule.now) name.entry.now
+            file.entry.now content result (W.shown self.old.out.now) (W.shown self.new.out.now)) }
+        ensures read { AfterReading file.entry.now result (⟦<Self as Streams>⟧.seen self.old)
+            (⟦<Self as Streams>⟧.seen self.new) }
+        ensures same { SameStreams self.old self.new }
+        ensures memory { IsErrOf result Fault.OutOfMemory
+            → TakesRoom rule.now ⊎ (T.wants_memory ≡ true) }
+    {
+        let made = self.make(rule, name, file)?;
+        let Some(bytes) = wanted else {
+            write_sum(rule, made, name, self.out)?;
+            return Ok(0);
+        };
+        print_verdict(is_made(made, bytes), name, self.out)
+    }
+
+    // The digest or tag of a file under a name, which is judged before the file is opened.
+    fn make<'n>(&mut self, rule: &Rule, name: &'n str, file: &'n str) -> Result<Made, Fault<'n>>
+        ensures made { IfContent file.entry.now (⟦<Self as Streams>⟧.seen self.old) (λ content. MakesOf
+            (λ bytes made. made_bytes made ≡ bytes) (line_by rule.now) name.entry.now
+            file.entry.now content result) }
+        ensures has { IfOk result HasBytes }
+        ensures sized { IfOk result (IsSized rule.now) }
+        ensures fits { IsOk result → FitsPlace (line_by rule.now).place name.now }
+        ensures read { AfterReading file.entry.now result (⟦<Self as Streams>⟧.seen self.old)
+            (⟦<Self as Streams>⟧.seen self.new) }
+        ensures out { (⟦<Self as Streams>⟧.seen self.new).out ≡ (⟦<Self as Streams>⟧.seen self.old).out }
+        ensures same { SameStreams self.old self.new }
+        ensures memory { IsErrOf result Fault.OutOfMemory
+            → TakesRoom rule.now ⊎ (T.wants_memory ≡ true) }
+    {
+        named_by(rule, name)?;
+        self.made_of_file(rule, file)
+    }
+
+    // That of a file; the buffer of its parts is made before it is opened.
+    fn made_of_file<'n>(&mut self, rule: &Rule, name: &'n str) -> Result<Made, Fault<'n>>
+        ensures made { IfContent name.entry.now (⟦<Self as Streams>⟧.seen self.old) (λ content.
+            Reads (line_by rule.now).limit (λ m made. made_bytes made ≡ (line_by rule.now).bytes m)
+            name.entry.now content result) }
+        ensures has { IfOk result HasBytes }
+        ensures sized { IfOk result (IsSized rule.now) }
+        ensures read { AfterReading name.entry.now result (⟦<Self as Streams>⟧.seen self.old)
+            (⟦<Self as Streams>⟧.seen self.new) }
+        ensures out { (⟦<Self as Streams>⟧.seen self.new).out ≡ (⟦<Self as Streams>⟧.seen self.old).out }
+        ensures same { SameStreams self.old self.new }
+        ensures memory { IsErrOf result Fault.OutOfMemory
+            → TakesRoom rule.now ⊎ (T.wants_memory ≡ true) }
+    {
+        let mut run = run_buffer(self.alloc, rule)?;
+        if name == "-" {
+            return made_of_feed(rule, run.as_mut_slice(), name, self.input);
+        }
+        made_of_named(rule, run.as_mut_slice(), name, self.tree)
+    }
+}
+
+/// Tells the fault of a file, and answers its status. Two faults end a run, and name no file.
+pub(crate) fn settle<'f, E: Sink>(err: &mut E, fault: Fault<'_>) -> Result<u8, Fault<'f>>
+    ensures settles { Settles fault.entry result (E.shown err.old) (E.shown err.new) }
+    ensures memory { IsErrOf result Fault.OutOfMemory → fault.entry ≡ Fault.OutOfMemory }
+{
+    match fault {
+        Fault::CannotWrite => Err(Fault::CannotWrite),
+        Fault::OutOfMemory => Err(Fault::OutOfMemory),
+        fault => Ok(tell(err, fault)),
+    }
+}
+
+// Refuses a name that cannot stand on a line of this rule.
+fn named_by<'n>(rule: &Rule, name: &'n str) -> Result<(), Fault<'n>>
+    ensures { MatchResult result (λ _. FitsPlace (line_by rule.now).place name.now)
+        (λ fault. (fault ≡ BadName name.entry) × (FitsPlace (line_by rule.now).place name.now → ⊥)) }
+{
+    match rule {
+        Rule::Digest(hashing) => listable(hashing.requested, name),
+        Rule::Tag(keyed) => named(tag_digits(keyed.tagging), name),
+    }
+}
+
+// The buffer of the parts that a file is hashed in, an empty one where it is hashed whole.
+fn run_buffer(alloc: Global, rule: &Rule) -> Result<Vec<u8>, AllocError>
+    ensures power { IfOk result (λ buffer. vec_len buffer ≢ 0 → (e : ℕ) × (vec_len buffer ≡ 1024 * 2 ^ e)) }
+    ensures memory { IsErr result → TakesRoom rule.now }
+{
+    match rule {
+        Rule::Digest(hashing) => match hashing.parts {
+            Some(chunks) => part_buffer(alloc, chunks),
+            None => Ok(Vec::new(alloc)),
+        },
+        Rule::Tag(_) => Ok(Vec::new(alloc)),
+    }
+}
+
+// The digest or tag of the file of this name, by way of this buffer, if that is not empty.
+fn made_of_named<'n, T: Tree>(
+    rule: &Rule,
+    run: &mut [u8],
+    name: &'n str,
+    tree: &mut T,
+) -> Result<Made, Fault<'n>>
+    requires { length run.old ≢ 0 → (e : ℕ) × (length run.old ≡ 1024 * 2 ^ e) }
+    ensures made { IfSome (T.files tree.old) (λ files.
+        Reads (line_by rule.now).limit (λ m made. made_bytes made ≡ (line_by rule.now).bytes m)
+        name.entry.now (files name.entry.now) result) }
+    ensures has { IfOk result HasBytes }
+    ensures sized { IfOk result (IsSized rule.now) }
+    ensures counted { IfSome (T.files tree.old) (λ files. T.failure_count tree.new
+        ≡ count_after (T.failure_count tree.old) (failed false (files name.entry.now) result).files) }
+    ensures files { T.files tree.new ≡ T.files tree.old }
+    ensures opens { T.opens tree.new ≤ T.opens tree.old + 1 }
+    ensures memory { IsErrOf result Fault.OutOfMemory → T.wants_memory ≡ true }
+{
+    let mut feed = open_file(name, 0, tree)?;
+    let answer = made_of_feed(rule, run, name, &mut feed);
+    tree.close(feed);
+    answer
+}
+
+// The digest or tag of all that a feed gives, by way of this buffer, if that is not empty.
+fn made_of_feed<'n, F: Feed>(
+    rule: &Rule,
+    run: &mut [u8],
+    name: &'n str,
+    feed: &mut F,
+) -> Result<Made, Fault<'n>>
+    requires { length run.old ≢ 0 → (e : ℕ) × (length run.old ≡ 1024 * 2 ^ e) }
+    ensures made { IfSome (F.remaining feed.old) (λ bytes.
+        Reads (line_by rule.now).limit (λ m made. made_bytes made ≡ (line_by rule.now).bytes m)
+        name.entry.now (Some bytes) result) }
+    ensures has { IfOk result HasBytes }
+    ensures sized { IfOk result (IsSized rule.now) }
+    ensures counted { F.failure_count feed.new
+        ≡ count_after (F.failure_count feed.old) (failed true (Some []) result).input }
+    ensures gave { Leaves true result (F.remaining feed.old) (F.remaining feed.new) }
+    ensures memory { IsErrOf result Fault.OutOfMemory → ⊥ }
+{
+    match rule {
+        Rule::Digest(hashing) => digest_of_feed(hashing.requested, run, name, feed),
+        Rule::Tag(keyed) => tag_of_feed(keyed, name, feed),
+    }
+}
+
+// Writes a digest or tag as it is, or its line with a name.
+fn write_sum<W: Sink>(rule: &Rule, made: Made, name: &str, out: &mut W) -> Result<(), WriteFault>
+    requires has { HasBytes made }
+    requires sized { IsSized rule.now made }
+    ensures { Writes result (W.shown out.old) (W.shown out.new)
+        ((line_by rule.now).text name.now (made_bytes made)) }
+{
+    match rule {
+        Rule::Digest(hashing) => write_digest(hashing.requested, made, name, out),
+        Rule::Tag(keyed) => write_made(made, keyed.tagging.is_raw, name, out),
+    }
+}
