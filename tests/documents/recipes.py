@@ -274,6 +274,54 @@ def device(bench):
     bench.run(f"losetup --detach {place}", folder)
 
 
+def flipped(path):
+    """Three bits of a file are other ones."""
+    with open(path, "r+b") as file:
+        for place in (0, 70000000, 99999999):
+            file.seek(place)
+            byte = file.read(1)[0] ^ 1
+            file.seek(place)
+            file.write(bytes([byte]))
+
+
+def scale_damage(bench):
+    """The parts of a file, and a copy that is found to be damaged, or sound, and mended."""
+
+    def case(name, damage, report):
+        folder = bench.folder()
+        path, copy = os.path.join(folder, name), os.path.join(folder, "copy")
+        fill(path, 100000000)
+        shutil.copy(path, copy)
+        damage(copy)
+        digest = bench.sums(folder, "hash", "-a", "blake3", "--raw", "--", name).hex()
+        ok = b"0 67108864: OK\n65536 32891136: OK\n"
+
+        def step(block):
+            return bench.run(named(behind_file(bench, block), name, 65536), folder, digest=digest)
+
+        ends(step("damage-list"), 0, b"")
+        ends(step("damage-trust"), 0, b"-: OK\n")
+        got = step("damage-find")
+        is_longer = os.path.getsize(copy) > os.path.getsize(path)
+        ends(got, 1 if is_longer or report != ok else 0, b"", b"sums: copy: bytes behind the last part\n" if is_longer else b"")
+        with open(os.path.join(folder, "report"), "rb") as file:
+            same(file.read(), report, "the report")
+        ends(step("damage-mend"), 0, ok)
+        ends(bench.run("cmp -- copy " + shlex.quote("./" + name), folder), 0)
+        shutil.rmtree(folder)
+
+    ok = b"0 67108864: OK\n65536 32891136: OK\n"
+    for name in NAMES:
+        bench.judge(f"docs/SCALE.md damage, {name!r}", lambda: case(name, flipped, ok.replace(b"OK", b"FAILED")))
+    for title, damage, report in (
+            ("none", lambda copy: None, ok),
+            ("a truncated end", lambda copy: os.truncate(copy, 90000000), ok.replace(b"6: OK", b"6: MISSING")),
+            ("the end of the first part", lambda copy: os.truncate(copy, 67108864), ok.replace(b"6: OK", b"6: MISSING")),
+            ("nothing left", lambda copy: os.truncate(copy, 0), ok.replace(b"OK", b"MISSING")),
+            ("one byte too many", lambda copy: os.truncate(copy, 100000001), ok)):
+        bench.judge(f"docs/SCALE.md damage, {title}", lambda: case("big", damage, report))
+
+
 def scale_own(bench):
     """The part of a file that a machine has, and the lines of parts in files."""
     folder = bench.folder()
@@ -969,6 +1017,8 @@ RUNS = {
                   "checks": readme_checks},
     "docs/SCALE.md": {"cores": scale_cores, "hosts": scale_hosts, "srun": scale_slurm, "file": scale_parts,
                       "device": scale_parts, "parts": scale_parts, "own": scale_own, "lines": scale_own,
+                      "damage-list": scale_damage, "damage-trust": scale_damage, "damage-find": scale_damage,
+                      "damage-mend": scale_damage,
                       "job.sh": scale_slurm, "join.sh": scale_slurm, "slurm": scale_slurm, "spark": scale_spark},
     "man/sums.1": {"lines": lambda bench: lines_of(bench, "man/sums.1"), "folder": folders},
     "man/sums-hash.1": {"lines": hash_page},

@@ -56,6 +56,10 @@ SHARED = (
     "sums check --summary list-stdin < f1",
     "cat f1 > pipe & sums check -a sha256 --summary list-pipe",
     "sums check -a sha256 /dev/stdin < good",
+    "cat parts-small | sums part -a blake3 --verify /dev/stdin large",
+    "cat parts | sums part -a blake3 --verify /dev/stdin damaged",
+    "sums part -a blake3 --verify parts < damaged",
+    "cat large | sums part -a blake3 --verify parts /dev/stdin",
     "sums hash -a sha256 f1 more f2 > told; sums hash -a sha256 f1 told more /dev/stdout f2 >> told; cat told")
 
 
@@ -184,6 +188,49 @@ def of_few_lists():
     """Lists that one run takes together, and one among them that it does not."""
     yield "check many lists", ["check", "-a", "sha256", "--summary", *["one", "missing", "none", "mixed"] * 20], b""
     yield "check a large list among others", ["check", "-a", "blake3", *["tagged", "large-list"] * 2, "one", "one"], b""
+
+
+def part_lists(program):
+    """Lists of the parts of `large`, and files beside it that are damaged, shorter and longer."""
+    good = harness.run(program, ["part", "-a", "blake3", "--each", "8192", "large"]).out
+    lines = good.splitlines(keepends=True)
+    other = lines[3].replace(lines[3].split()[4], lines[2].split()[4])
+    for name, data in (("parts", good), ("parts-no-end", good[:-1]), ("parts-other", b"".join(lines[:3]) + other
+                        + b"".join(lines[4:])), ("parts-few", b"".join(lines[:5])), ("parts-twice", good + good),
+                       ("parts-gap", b"".join(lines[:2] + lines[3:])), ("parts-bad", b"".join(lines[:2]) + b"x\n"),
+                       ("parts-crlf", good.replace(b"\n", b"\r\n")), ("parts-long", b"".join(lines[:2]) + b"1" * 70000),
+                       ("parts-small", harness.run(program, ["part", "-a", "blake3", "--each", "64", "large"]).out),
+                       ("-parts", good), ("parts-one", harness.run(program, ["part", "-a", "blake3", "large"]).out)):
+        with open(name, "wb") as file:
+            file.write(data)
+    whole = content("large")
+    for name, data in (("damaged", whole[:9 * MIB] + b"\1" + whole[9 * MIB + 1:-1] + bytes([whole[-1] ^ 1])),
+                       ("short", whole[:40 * MIB]), ("short-by-one", whole[:-1]), ("long-by-one", whole + b"x")):
+        with open(name, "wb") as file:
+            file.write(data)
+
+
+def of_parts():
+    for words in (["--each", "8192", "large"], ["--each=65536", "large"], ["--each", "8192", "--progress", "link"],
+                  ["--each", "16384", "--", "-large"], ["--each", "8192", "large\n\\{}"], ["--each", "32768", "just"],
+                  ["--each", "8", "large"], ["--each", "3", "large"], ["--each", "0", "large"],
+                  ["--each", "1" * 30, "large"], ["--each", "8192", "missing"], ["--each", "8192", "folder"],
+                  ["--each", "8192", "/dev/null"], ["--each", "8192"], ["--each", "8192", "-"],
+                  ["--each", "8192", "large", "more"], ["--each", "8192", "--each", "8192", "large"],
+                  ["--each", "8192", "--first", "0", "large"], ["--each", "8192", "--list", "large"],
+                  ["--chunks", "8192", "large"], ["--first", "8192", "large"], ["large"], ["--help"]):
+        yield f"part {words}", ["part", "-a", "blake3", *words], b"given"
+    yield "part by another hash", ["part", "-a", "sha256", "--each", "8192", "large"], b""
+    yield "part by no hash", ["part", "--each", "8192", "large"], b""
+    for name in ("parts", "parts-no-end", "parts-other", "parts-few", "parts-twice", "parts-gap", "parts-bad",
+                 "parts-crlf", "parts-long", "parts-small", "parts-one", "-parts", "none", "missing", "folder", "",
+                 "/dev/null", "large", "-"):
+        yield f"part --verify {name}", ["part", "-a", "blake3", f"--verify={name}", "large"], content("parts")
+    for name in ("damaged", "short", "short-by-one", "long-by-one", "missing", "folder", "/dev/null", "-", "parts"):
+        yield f"part --verify parts {name}", ["part", "-a", "blake3", "--verify", "parts", name], content("damaged")
+    yield "part --verify and --each", ["part", "-a", "blake3", "--verify", "parts", "--each", "8192", "large"], b""
+    yield "part --verify of no file", ["part", "-a", "blake3", "--verify", "parts"], content("large")
+    yield "part --verify of two files", ["part", "-a", "blake3", "--verify", "parts", "large", "more"], b""
 
 
 def of_many():
@@ -372,6 +419,17 @@ def parts(program):
                        ("is lost", "rm -f changes")):
         run = front(faulty(program, f'case $1 in part) {does} ;; esac'), ["hash", "-a", "blake3", "changes"])
         same(f"a file that {name} meanwhile", run, harness.run(program, ["hash", "-a", "blake3", "changes"]))
+    for how in ("exit 1", "kill -9 $$", "exit 0"):
+        path = faulty(program, f'case "$1 $*" in "part "*"--first 16384 "*) {how} ;; esac')
+        for words in (["--each", "8192", "large"], ["--verify", "parts", "damaged"]):
+            same(f"a part of part {words} that fails: {how}", front(path, ["part", "-a", "blake3", *words]),
+                 harness.run(program, ["part", "-a", "blake3", *words]))
+    for words in (["--each", "8192"], ["--verify", "parts"]):
+        shutil.copy("large", "changes")
+        path = faulty(program, 'case "$1 $*" in "part "*"--first 16384 "*) cp damaged new; mv new changes ;; esac')
+        run = front(path, ["-j1", "--block=33554432", "part", "-a", "blake3", *words, "changes"])
+        same(f"a file of part {words} that is replaced meanwhile", run,
+             harness.run(program, ["part", "-a", "blake3", *words, "changes"]))
     fill("changes", 50 * MIB)
     fill("another", 50 * MIB)
     path = faulty(program, 'case "$1 $*" in "part "*"--first 16384 "*) mv another changes ;; esac')
@@ -398,6 +456,9 @@ def few_runs(program):
     judge("a sparse file", len(content("begun")) < 1500, len(content("begun")))
     status, count = number_of_runs(program, [], ["hash", "-a=blake3", "-l=99", "more"])
     judge("-a= and -l= in one word are cut", status == 0 and count > 3, count)
+    for words in (["--each", "8192", "large"], ["--verify", "parts", "large"]):
+        status, count = number_of_runs(program, [], ["part", "-a", "blake3", *words])
+        judge(f"the parts of part {words} are runs", status == 0 and count == 10, count)
 
 
 def not_begun(program):
@@ -409,12 +470,12 @@ def not_begun(program):
                               (["--by=x", "-S", "y"], 2, b"give only one of -S and --by"),
                               (["-j", "0"], 2, b"-j: out of range"),
                               (["-jx"], 2, b"-j: out of range"), (["--block="], 2, b"--block: out of range"),
-                              (["-x"], 2, b"-x: neither hash nor check, nor an option"),
+                              (["-x"], 2, b"-x: none of hash, check and part, nor an option"),
                               (["--by", "/usr/bin/ssh host"], 2, b"--by: ssh hands its words to a shell: give -S")):
         run = front(program, [*own, *many])
         judge(f"{own}: the status and the text", run.status == status and b"sums-parallel: " + text in run.err, run)
-    for words, text in ((["-j"], b"-j: needed"), ([], b"hash or check: needed"),
-                        (["mac"], b"mac: neither hash nor check")):
+    for words, text in ((["-j"], b"-j: needed"), ([], b"hash, check or part: needed"),
+                        (["mac"], b"mac: none of hash, check and part")):
         run = front(program, words)
         judge(f"{words}: the status and the text", run.status == 2 and b"sums-parallel: " + text in run.err, run)
     for words in (many, ["--block=1", *many]):
@@ -581,7 +642,8 @@ def main():
         lists(program)
         with open("good-many", "wb") as file:
             file.write(harness.run(program, ["hash", "-a", "sha256", *MANY]).out)
-        for cases in (of_files(), of_names(), of_words(), of_lists(), of_few_lists()):
+        part_lists(program)
+        for cases in (of_files(), of_names(), of_words(), of_lists(), of_few_lists(), of_parts()):
             compare(program, WAYS, cases)
         compare(program, [[], ["-j3", "--block=9999999"], ["--by", "env A=b", "--block=50000000"]], of_many())
         shared(program)
