@@ -18,8 +18,8 @@
 #include <stddef.h>
 #include <stdint.h>
 
-#define SUMS_HASH_VERSION "1.1.0" /* whose shared library is libsums_hash.so.1 */
-#define SUMS_HASH_VERSION_NUMBER 10100 /* for #if, with two digits for each number behind the first */
+#define SUMS_HASH_VERSION "1.2.0" /* whose shared library is libsums_hash.so.1 */
+#define SUMS_HASH_VERSION_NUMBER 10200 /* for #if, with two digits for each number behind the first */
 
 #ifdef __cplusplus
 extern "C" {
