@@ -15,7 +15,7 @@ WORDS = {"--parts": " ".join(str(1 << exponent) for exponent in range(11))}
 FILE = "<F>"
 # the program over sums, and which commands it has
 PARALLEL = os.path.join(os.path.dirname(os.path.realpath(__file__)), "../scripts/sums-parallel")
-PARALLEL_COMMANDS = "hash check"
+PARALLEL_COMMANDS = "hash check part"
 
 
 class Command:
