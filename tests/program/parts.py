@@ -75,6 +75,7 @@ def sizes():
             same(f"each part of {chunks} chunks of {size} bytes", part("--each", str(chunks), str(size)), each)
             given = part("--each", str(chunks), given=content(size))
             same(f"each part of {chunks} chunks of {size} bytes of standard input", given, each)
+            verified(size, chunks, lines)
             for words in ([], ["-l", "100", "--seek", "33"]):
                 answer = join("--name", str(size), "--bytes", str(size), *words, given=b"".join(lines))
                 if len(lines) == 1:
@@ -83,6 +84,33 @@ def sizes():
                     want = whole(size, *words)
                     compared(words, lines, want)
                 same(" ".join([f"{size} bytes in parts of {chunks} chunks, joined", *words]), answer, want)
+
+
+def verified(size, chunks, lines):
+    """Which parts another file has, by their lines and by the bytes of both."""
+    whole = content(size)
+    with open("parts", "wb") as file:
+        file.writelines(lines)
+    for what, other in (("it", whole), ("its first bit flipped", flip(whole, 0)), ("its last", flip(whole, size - 1)),
+                        ("it without its last byte", whole[:-1]), ("its first half", whole[:size // 2]),
+                        ("it and one byte more", whole + b"x"), ("nothing", b"")):
+        out, told = b"", b"sums: -: bytes behind the last part\n" if len(other) > size else b""
+        for line in lines:
+            first, length = map(int, line.split()[2:4])
+            end = CHUNK * first + length
+            is_same = other[CHUNK * first : end] == whole[CHUNK * first : end]
+            verdict = "MISSING" if len(other) < end else "OK" if is_same else "FAILED"
+            out += f"{first} {length}: {verdict}\n".encode()
+        status = int(bool(told) or out.count(b": OK\n") < len(lines))
+        answer = part("--verify", "parts", given=other)
+        same(f"{what}, by the parts of {chunks} chunks of {size} bytes", answer, (status, out, told))
+
+
+def flip(data, place):
+    """The bytes with a bit flipped at a place, where there is one."""
+    if not 0 <= place < len(data):
+        return data
+    return data[:place] + bytes([data[place] ^ 1]) + data[place + 1 :]
 
 
 def compared(words, lines, want):
