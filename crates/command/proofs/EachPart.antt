@@ -1,17 +1,15 @@
 -- The run of `part --each`.
-use Rattle.std.proofs.Common.{◌≡◌, ◌∙◌, ℕ, zero, suc, ◌+◌, ◌-◌, ◌*◌, ◌/◌, ◌^◌, ◌<◌, ◌≤◌, List, [], ◌∷◌, ◌++◌, length, min, max}
+use Rattle.std.proofs.Common.{◌≡◌, ◌∙◌, ℕ, zero, suc, ◌+◌, ◌-◌, ◌*◌, ◌/◌, ◌^◌, ◌<◌, ◌≤◌, List, [], ◌∷◌, ◌++◌, length, min}
 use Rattle.std.proofs.Common.{take, drop, Option, Some, None, IfSome, Result, Ok, Err, Bool, true, false, refl, sym, ap, inl, inr}
-use Rattle.std.proofs.Common.{arith, subst, length-drop}
+use Rattle.std.proofs.Common.{arith, length-drop}
 use Rattle.std.proofs.KnownBytes.{Appends-nil}
 use Rattle.std.proofs.lemmas.List.{drop-drop, length-take, nil_from_length, take_all}
 use Rattle.std.proofs.lemmas.Result.{err_from_is_err_and}
 use Rattle.std.specs.Io.KnownBytes.{IsAtEnd}
 use Rattle.std.specs.List.{flat_map, range_with_len}
-use Rattle.std.specs.Option.{SomeIff}
 use Rattle.std.specs.Borrow.{Bor}
-use Rattle.std.specs.Prelude.{◌⊎◌, IsErrAnd, IsSomeAnd, MatchOption, MatchResult, OnOk}
+use Rattle.std.specs.Prelude.{◌⊎◌, IsErrAnd, MatchOption, MatchResult, OnOk}
 use Rattle.b3.specs.Modes.{hash_parameters}
-use Rattle.b3.specs.Parts.{IsPlacedAt}
 use Rattle.b3.specs.declared.row.PartValue.{PartValue}
 use Rattle.b3.specs.Values.{IsValueOf}
 use Rattle.request.specs.CommandLine.{Text}
@@ -20,9 +18,9 @@ use Rattle.source.proofs.Writing.{Writing, Writing-end, Writing-failed, Writing-
 use Rattle.source.specs.Pumped.{Gives, IsLongerThan, LeavesBehind, up_to}
 use Rattle.source.specs.declared.pumping.SourceFault.{SourceFault}
 use Rattle.source.specs.declared.pumping.SourceFault.TheVariants as source
-use Rattle.source.specs.Written.{Begins, Done, Failed, Shown}
+use Rattle.source.specs.Written.{Done, Failed, Shown}
 use Rattle.sumlist.specs.Report.{Files}
-use Rattle.command.specs.Run.{IsRefused, Run, stops}
+use Rattle.command.specs.Run.{Run, stops}
 use Rattle.command.specs.Cutting.{EachRuns, lines_of}
 use Rattle.command.specs.Lines.{content_of, is_input}
 use Rattle.command.specs.inside.Seen.{Does}

@@ -1,6 +1,6 @@
 // The command `part`: the line that tells a part of a file.
 
-ghost use Rattle.std.specs.Prelude.{◌≡◌, ℕ, ◌%◌, ◌*◌, ◌^◌, ◌<◌, ◌≤◌, [], length, true, option_map};
+ghost use Rattle.std.specs.Prelude.{◌≡◌, ℕ, ◌%◌, ◌*◌, ◌^◌, ◌<◌, ◌≤◌, [], length, true, option_map, vec_len};
 ghost use Rattle.std.specs.Prelude.{IfOk, IfSome, IsErrOf, MatchOption, None, OnOk, Some};
 ghost use Rattle.std.specs.Option.{SomeIff};
 ghost use Rattle.source.specs.Counts.{count_after};
@@ -21,6 +21,7 @@ use crate::session::{Session, Streams, open_file};
 use b3::{CHUNK_LEN, MOST_CHUNKS, Mode, PartValue};
 use partlist::write_part;
 use source::{Feed, Sink, SourceFault, part_of};
+use std::alloc::{AllocError, Global};
 use sumlist::Tree;
 use task::Place;
 
@@ -65,7 +66,7 @@ impl<'i, 't, 'o, L: Feed, T: Tree, W: Sink> Session<'i, 't, 'o, L, T, W> {
         ensures same { SameStreams self.old self.new }
     {
         let room = room_from(place.first, place.chunks);
-        let mut run = part_buffer(self.alloc, room.min(RUN))?;
+        let mut run = room_for_run(self.alloc, room)?;
         if name == "-" {
             return part_of_feed(place, room, run.as_mut_slice(), name, self.input);
         }
@@ -74,6 +75,15 @@ impl<'i, 't, 'o, L: Feed, T: Tree, W: Sink> Session<'i, 't, 'o, L, T, W> {
         self.tree.close(feed);
         answer
     }
+}
+
+/// Room for a part of so many chunks, or for a run of it.
+pub(crate) fn room_for_run(alloc: Global, chunks: u64) -> Result<Vec<u8>, AllocError>
+    requires { (e : ℕ) × (chunks ≡ 2 ^ e) }
+    ensures power { IfOk result (λ buffer. (e : ℕ) × (vec_len buffer ≡ 1024 * 2 ^ e)) }
+    ensures within { IfOk result (λ buffer. vec_len buffer ≤ 1024 * chunks) }
+{
+    part_buffer(alloc, chunks.min(RUN))
 }
 
 // The part of what a feed gives, in so many chunks of it or in all.

@@ -11,8 +11,7 @@ ghost use Rattle.command.specs.inside.Streams.{IfContent, SameStreams};
 ghost use Rattle.command.specs.inside.Troubles.{Counted};
 ghost use Rattle.task.specs.inside.Possible.{IsPartLength};
 
-use crate::cutting::{RUN, chunk_bytes, next_part};
-use crate::digests::part_buffer;
+use crate::cutting::{chunk_bytes, next_part, room_for_run};
 use crate::fault::Fault;
 use crate::session::{Session, Streams, open_file};
 use b3::{CHUNK_LEN, PartValue};
@@ -50,7 +49,7 @@ impl<'i, 't, 'o, L: Feed, T: Tree, W: Sink> Session<'i, 't, 'o, L, T, W> {
             (⟦<Self as Streams>⟧.seen self.new) }
         ensures same { SameStreams self.old self.new }
     {
-        let mut run = part_buffer(self.alloc, chunks.min(RUN))?;
+        let mut run = room_for_run(self.alloc, chunks)?;
         if name == "-" {
             return write_parts(chunks, run.as_mut_slice(), name, self.input, self.out);
         }

@@ -1,7 +1,6 @@
-use Rattle.std.proofs.Common.{◌%◌, ◌≡◌, ◌∙◌, ◌+◌, ◌<◌, ◌^◌, ℕ, ap, arith, refl}
+use Rattle.std.proofs.Common.{◌%◌, ◌∙◌, ◌+◌, ℕ, ap, arith, refl}
 use Rattle.std.proofs.Math.Nat.{mul-mod_right}
 use Rattle.command.proofs.EachPart.{each_ended, each_last, each_more, each_start, each_stopped, each_unwritten}
-use Rattle.command.proofs.EachPart.{next_first}
 use Rattle.command.proofs.each.write_parts.Goals as goal
 
 pub parts-init : goal.parts-init
