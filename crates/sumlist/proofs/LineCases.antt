@@ -111,20 +111,19 @@ spells_any line kind e s =
       },
     )
 
-untagged_if : (line : List ℕ) (kind : Option Kind) (e : Listing) → kind ≡ None → IsMalformed line kind
+untagged_if : (line : List ℕ) (kind : Option Kind) (e : Listing) → IsMalformed line kind
     → Spells line (Some Blake2b) e → IsUntagged line kind
-untagged_if line kind e none m s = (m, none, Blake2b, e, s)
+untagged_if line kind e m s = (m, Blake2b, e, s)
 
 untagged_none : (line : List ℕ) (kind : Option Kind) → ((d : Listing) → Spells line (Some Blake2b) d → ⊥)
     → IsUntagged line kind → ⊥
-untagged_none line kind none u = let s = spells_any line u.2 u.3 u.4 in none s.0 s.1
+untagged_none line kind none u = let s = spells_any line u.1 u.2 u.3 in none s.0 s.1
 
 pub untagged_cases : (line : List ℕ) (kind : Option Kind) → IsMalformed line kind → Either (IsUntagged line kind)
-untagged_cases line (Some k) m = inr (λ u. none-some k (sym u.1))
-untagged_cases line None m = elim (line_cases line (Some Blake2b)) [
+untagged_cases line kind m = elim (line_cases line (Some Blake2b)) [
   | inl skipped ↦ absurd (m.0 skipped)
-  | inr (inl s) ↦ inl (untagged_if line None s.0 refl m s.1)
-  | inr (inr bad) ↦ inr (untagged_none line None bad.1)
+  | inr (inl s) ↦ inl (untagged_if line kind s.0 m s.1)
+  | inr (inr bad) ↦ inr (untagged_none line kind bad.1)
 ]
 
 -- the core of a malformed line states an entry of BLAKE2b where the line is untagged, and only there
@@ -133,8 +132,8 @@ module _ (line : List ℕ) (kind : Option Kind) (k : List ℕ) (is : k ≡ core 
   more : IsBlank k → false ≡ true
   more blank = absurd (m.0 (l, subst IsBlank is blank))
 
-  pub untagged_stated : kind ≡ None → (e : Listing) → IsStated (Some Blake2b) k e → IsUntagged line kind
-  untagged_stated none e s = untagged_if line kind e none m (spells_if line (Some Blake2b) k is more l e s)
+  pub untagged_stated : (e : Listing) → IsStated (Some Blake2b) k e → IsUntagged line kind
+  untagged_stated e s = untagged_if line kind e m (spells_if line (Some Blake2b) k is more l e s)
 
   pub untagged_unstated : ((e : Listing) → IsStated (Some Blake2b) k e → ⊥) → IsUntagged line kind → ⊥
   untagged_unstated none = untagged_none line kind (λ e s. none e (stated_if line (Some Blake2b) k is more e s))

@@ -1,6 +1,6 @@
 -- What a line of a list means (docs/FORMAT.md, Grammar).
 use Rattle.std.specs.Prelude.{◌⊎◌, ◌≡◌, ℕ, ◌*◌, ◌-◌, ◌≤◌, List, [], ◌∷◌, ◌++◌, length, take, slice_index}
-use Rattle.std.specs.Prelude.{if◌then◌else◌, ◌==◌, Ok, Contains, Option, None, Some, codes}
+use Rattle.std.specs.Prelude.{if◌then◌else◌, ◌==◌, Ok, Contains, Option, Some, codes}
 use Rattle.hex.specs.Hex.{decode_of}
 use Rattle.source.specs.declared.alg.Alg.{Alg}
 use Rattle.source.specs.Digest.{digest_len, IsInRange}
@@ -52,6 +52,6 @@ pub record Spells (line : List ℕ) (kind : Option Kind) (e : Listing) : Type 0 
 abbrev pub IsMalformed : List ℕ → Option Kind → Type 0
 IsMalformed line kind = (IsSkipped line → ⊥) × ((e : Listing) → Spells line kind e → ⊥)
 
--- a line that is malformed only for want of a kind: of some kind it would spell an entry
+-- a line that is malformed only for want of its kind: of some other kind it would spell an entry
 abbrev pub IsUntagged : List ℕ → Option Kind → Type 0
-IsUntagged line kind = IsMalformed line kind × (kind ≡ None) × (some : Kind) × (e : Listing) × Spells line (Some some) e
+IsUntagged line kind = IsMalformed line kind × (other : Kind) × (e : Listing) × Spells line (Some other) e

@@ -78,17 +78,14 @@ pub(crate) fn read_line(alloc: Global, line: &[u8], kind: Option<Kind>) -> Resul
     Ok(Line::Entry(Entry::from_parts(name, alg, tag)))
 }
 
-/// Whether a malformed line is so only because there is no kind: of some kind it would spell an entry.
+/// Whether a malformed line is so only for want of its kind: of some other kind it would spell an entry.
 /// Nothing grows.
 pub(crate) fn needs_kind(line: &[u8], kind: Option<Kind>) -> bool
     requires { IsMalformed line.now kind }
     ensures { MatchBool result (IsUntagged line.now kind) (IsUntagged line.now kind → ⊥) }
 {
-    if kind.is_some() || !is_line(line) {
-        return false;
-    }
     // BLAKE2b has digests of each length that those of another kind have
-    read_core(without_cr(line), Some(Kind::Blake2b)).is_some()
+    is_line(line) && read_core(without_cr(line), Some(Kind::Blake2b)).is_some()
 }
 
 fn is_line(line: &[u8]) -> bool
