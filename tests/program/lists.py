@@ -33,17 +33,20 @@ def sized(name):
 
 # The numbers of a summary, in its order.
 OUTCOMES = ("OK", "failed", "missing", "unreadable", "too long", "malformed", "skipped")
+# What is told of a list beside its report.
+EMPTY, OTHER = b"no entries", b"digests of another length than those of -a"
+FAILED = b"all FAILED, untagged lines may need another -a"
 
 
-def check(name, alg, given, report, numbers=None):
+def check(name, alg, given, report, numbers=None, hint=b""):
     """Checks a list, with --summary where its numbers are named. What has no report has no entries."""
     told = b""
     words = ["check", "-a", alg, "-"]
     if numbers is not None:
         words.insert(3, "--summary")
         told = ("sums: " + ", ".join(f"{n} {what}" for n, what in zip(numbers, OUTCOMES)) + "\n").encode()
-    if not report:
-        told += b"sums: -: no entries\n"
+    if hint or not report:
+        told += b"sums: -: " + (hint or EMPTY) + b"\n"
     status = 0 if all(line.endswith(b": OK") for line in report.split(b"\n")[:-1]) else 1
     same(sized(name), run(*words, given=given), (status, report, told))
 
@@ -112,7 +115,6 @@ LINES = [
     ("that byte alone", b"", b"  \xff", MALFORMED),
     ("a torn character", b"", b"  \xc3", MALFORMED),
     ("one digit more", b"0", b"  abc.txt", MALFORMED),
-    ("two digits more", b"00", b"  abc.txt", MALFORMED),
     ("a letter that is no digit", b"g", b"  abc.txt", MALFORMED),
     ("a tagged line", b"SHA256 (abc.txt) = ", b"", b"abc.txt"),
 ]
@@ -196,6 +198,7 @@ def lines():
         line = before + SHA256_ABC + after
         for ending, end in (("", b""), (" and an LF", b"\n")):
             check(about + ending, "sha256", line + end, reported(meaning))
+    check("two digits more", "sha256", b"00" + SHA256_ABC + b"  abc.txt\n", reported(MALFORMED), hint=OTHER)
     upper = SHA256_ABC.upper() + b"  abc.txt\n"
     check("digits in upper case", "sha256", upper, b"abc.txt: OK\n", (1, 0, 0, 0, 0, 0, 0))
     for line, meaning in LINES_WITHOUT_DIGITS:
@@ -211,12 +214,13 @@ def sizes():
         for size in range(67):
             digits = digest_of_abc(alg, size)
             right = b"line 1: MALFORMED\n" if digits is None else b"abc.txt: OK\n"
+            hint = OTHER if digits is None and 0 < size <= 64 else b""
             digits = digits or b"aF" * size
             digits = digits[:size].upper() + digits[size:]
-            check(f"{alg} of {size} bytes", alg, digits + b"  abc.txt\n", right)
+            check(f"{alg} of {size} bytes", alg, digits + b"  abc.txt\n", right, hint=hint)
             check(f"{alg} of {size} bytes and a digit", alg, digits + b"0  abc.txt\n", b"line 1: MALFORMED\n")
     other = b"50  abc.txt\n"
-    check("a shorter digest is another function's", "blake2s", other, b"abc.txt: FAILED\n")
+    check("a shorter digest is another function's", "blake2s", other, b"abc.txt: FAILED\n", hint=FAILED)
 
 
 def longest_lines():

@@ -102,7 +102,8 @@ def lists(program):
     names = [*map(os.fsencode, names), b"", b"-", b"a\xff", b"x" * 65537, b"missing", b"folder", b"large"]
     names += [*map(os.fsencode, FEW), b"", b"-", b"b\xff", b"y" * 200000, b"more", b"missing"]
     for name, data in (("good", good), ("tagged", tagged), ("mixed", b"".join(lines)), ("none", b""),
-                       ("comments", b"#\n\n"),
+                       ("comments", b"#\n\n"), ("commented", b"#\n" * 1000 + good + b"#\n" * 1000),
+                       ("nearly", good + tagged[:tagged.index(b"\n") + 1]),
                        ("no-end", good[:-1]), ("one", good[:good.index(b"\n") + 1]), ("endless", b"y" * 300000),
                        ("list\n\x1b[1m\\", b"".join(lines[:40])), ("all", good + tagged + b"".join(lines)),
                        ("large-list", harness.run(program, ["hash", "-a", "blake3", "just", "more"]).out),
@@ -175,6 +176,9 @@ def of_lists():
     for path in LISTS:
         for words in ([], ["-a", "sha256"], ["-a", "sha256", "--summary"]):
             yield f"check {path} {words}", ["check", *words, "--", path], b""
+    for alg, path in (("blake3", "good"), ("blake3", "commented"), ("blake2b", "commented"), ("blake3", "nearly"),
+                      ("blake3", "mixed"), ("sha512", "commented"), ("blake2s", "tagged")):
+        yield f"check {path} by another hash, {alg}", ["check", "-a", alg, path], b""
     yield "check several", ["check", "-a", "sha256", "--summary", "good", "missing", "list\n\x1b[1m\\", "none",
                             "folder",
                             "mixed", "tagged", "all"], b""

@@ -1,14 +1,15 @@
 // The command `check`: the reports on lists.
 
-ghost use Rattle.std.specs.Prelude.{◌≡◌, ◌≤◌, ◌+◌, ◌++◌, [], map, IfSome, Some, codes, true};
-ghost use Rattle.std.specs.Prelude.{if◌then◌else◌, option_map};
+ghost use Rattle.std.specs.Prelude.{◌≡◌, ◌≤◌, ◌+◌, ◌++◌, ◌∷◌, [], map, IfSome, MatchOption, Some, codes, true};
+ghost use Rattle.std.specs.Prelude.{false, if◌then◌else◌, is_some, option_map};
+ghost use Rattle.std.specs.Option.{option_map_or};
 ghost use Rattle.std.specs.List.{sum_by};
 ghost use Rattle.source.specs.Counts.{count_after};
 ghost use Rattle.source.specs.Written.{Writes};
 ghost use Rattle.sumlist.specs.Checked.{name_in};
 ghost use Rattle.sumlist.specs.Lines.{lines};
 ghost use Rattle.sumlist.specs.Tally.{summary_text};
-ghost use Rattle.command.specs.Checking.{CheckRuns, ListRuns};
+ghost use Rattle.command.specs.Checking.{CheckRuns, ListRuns, has_lengths, hints};
 ghost use Rattle.command.specs.Visible.{visible};
 ghost use Rattle.command.specs.Lines.{content_of, is_input, opens_of};
 ghost use Rattle.command.specs.Run.{TellsAll};
@@ -30,8 +31,9 @@ use task::Checking;
 impl<'i, 't, 'o, L: Feed, T: Tree, W: Sink> Session<'i, 't, 'o, L, T, W> {
     /// Prints the report of each list, and goes on with the next after a list that can't be read to its
     /// end, which is told on `err`. Of several lists, a malformed line is told with its list's name. Where
-    /// it is asked for, tells how many lines of each list had each outcome. Of a list with untagged lines
-    /// and no kind, and of one without an entry or a malformed line, tells that. Answers 0 where every line
+    /// it is asked for, tells how many lines of each list had each outcome. Tells what the report of a list
+    /// does not say: that malformed lines would be entries of another kind, that all lines are skipped, or
+    /// that all others are FAILED, where another hash may have digests as long. Answers 0 where every line
     /// that is not skipped is OK, else 1. The faults are `CannotWrite` and `OutOfMemory`, after which no
     /// further list is read; what was written before is a beginning of the reports.
     pub fn print_reports<'n, E: Sink>(
@@ -139,7 +141,7 @@ impl<'i, 't, 'o, L: Feed, T: Tree, W: Sink> Session<'i, 't, 'o, L, T, W> {
     {
         let answer = check_list(self.alloc, self.input, rules, self.tree, self.out);
         note(rules.name, is_summed, &answer, err);
-        hint(name, &answer, err);
+        hint(name, rules.kind, &answer, err);
         status_of(answer, name)
     }
 }
@@ -184,19 +186,48 @@ fn write_note<E: Sink>(
     write_summary(summary, err)
 }
 
-// Tells what a list lacks, in one text: what is not taken of it is dropped.
-fn hint<E: Sink>(name: &str, answer: &Result<Summary, CheckFault>, err: &mut E)
-    ensures { TellsAll (E.shown err.old) (E.shown err.new) (hinted_of name.now answer.now) }
+// Tells what the report of a list does not say, in one text: what is not taken of it is dropped.
+fn hint<E: Sink>(name: &str, kind: Option<Kind>, answer: &Result<Summary, CheckFault>, err: &mut E)
+    ensures { TellsAll (E.shown err.old) (E.shown err.new) (hinted_of name.now kind answer.now) }
 {
-    match answer {
-        Ok(summary) if summary.needs_kind => {
-            let _ = write_hint(name, ": untagged lines need -a\n", err);
-        }
-        Ok(summary) if summary.is_empty() => {
-            let _ = write_hint(name, ": no entries\n", err);
-        }
-        _ => {}
+    let Ok(summary) = answer else {
+        return;
+    };
+    if let Some(hint) = hint_of(kind, summary) {
+        let _ = write_hint(name, hint, err);
     }
+}
+
+fn hint_of(kind: Option<Kind>, summary: &Summary) -> Option<&'static str>
+    ensures { MatchOption result (hints kind summary.now ≡ []) (λ hint. hints kind summary.now ≡ hint.now ∷ []) }
+{
+    if summary.needs_kind {
+        return Some(needed_kind(kind));
+    }
+    if summary.is_empty() {
+        return Some(": no entries\n");
+    }
+    if summary.is_all_failed() && has_lengths(kind) {
+        return Some(": all FAILED, untagged lines may need another -a\n");
+    }
+    None
+}
+
+fn needed_kind(kind: Option<Kind>) -> &'static str
+    ensures { result.now ≡ (if is_some kind then codes ": digests of another length than those of -a\n"
+        else codes ": untagged lines need -a\n") }
+{
+    match kind {
+        Some(_) => ": digests of another length than those of -a\n",
+        None => ": untagged lines need -a\n",
+    }
+}
+
+// Whether it is a hash with digests of several lengths: one of theirs may be as long as another hash's.
+fn has_lengths(kind: Option<Kind>) -> bool
+    ensures { result ≡ option_map_or has_lengths kind false }
+{
+    matches!(kind, Some(Kind::Blake2b | Kind::Blake2s | Kind::Blake3))
 }
 
 fn write_hint<E: Sink>(name: &str, hint: &str, err: &mut E) -> Result<(), WriteFailed>

@@ -148,7 +148,10 @@ function shownLine(reported) {
 function ofProgram(kind, names) {
   const run = spawnSync(program, ['check', ...(kind ? ['-a', kind] : []), ...names], { cwd: work, maxBuffer: 2 ** 30 });
   const report = run.stdout.toString().split('\n').slice(0, -1).map(shownLine);
-  const remarks = run.stderr.toString().split('\n').slice(0, -1).map((it) => it.replace(/^sums: /, ''));
+  // the page, which may be told the hash of each list, does not say that lists may be of another one
+  const isOfAnother = /: (digests of another length than those of|all FAILED, untagged lines may need another) -a$/;
+  const remarks = run.stderr.toString().split('\n').slice(0, -1).map((it) => it.replace(/^sums: /, ''))
+    .filter((it) => !isOfAnother.test(it));
   return { report, remarks };
 }
 
