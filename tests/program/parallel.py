@@ -647,28 +647,29 @@ def main():
         with open("good-many", "wb") as file:
             file.write(harness.run(program, ["hash", "-a", "sha256", *MANY]).out)
         part_lists(program)
-        for cases in (of_files(), of_names(), of_words(), of_lists(), of_few_lists(), of_parts()):
-            compare(program, WAYS, cases)
-        compare(program, [[], ["-j3", "--block=9999999"], ["--by", "env A=b", "--block=50000000"]], of_many())
-        shared(program)
-        own_source(program)
-        answered_at_once(program)
-        side_by_side(program)
-        begun_with(program)
-        ignored(program)
-        early_signal()
-        killed(program, ["-j", "2", "--block=1"])
-        parts(program)
-        few_runs(program)
+        # what takes long comes last, so that most wrong bodies are found soon
         not_begun(program)
+        few_runs(program)
+        parts(program)
+        killed(program, ["-j", "2", "--block=1"])
         streams(program)
         broken_input(program)
+        early_signal()
+        ignored(program)
+        begun_with(program)
         signals(program, ["-j", "2", "--block=1"])
         progress(program)
+        answered_at_once(program)
+        side_by_side(program)
+        for cases in (of_words(), of_few_lists(), of_parts(), of_lists(), of_names(), of_files()):
+            compare(program, WAYS, cases)
+        shared(program)
+        own_source(program)
         if shutil.which("parallel"):
             through_parallel(program)
         else:
             print("GNU parallel is not installed: -S was not tried")
+        compare(program, [[], ["-j3", "--block=9999999"], ["--by", "env A=b", "--block=50000000"]], of_many())
         judge("nothing that a name spells was run", not os.path.exists("PWNED"))
     harness.finish()
 
