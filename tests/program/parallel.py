@@ -423,7 +423,7 @@ def parts(program):
                        ("is lost", "rm -f changes")):
         run = front(faulty(program, f'case $1 in part) {does} ;; esac'), ["hash", "-a", "blake3", "changes"])
         same(f"a file that {name} meanwhile", run, harness.run(program, ["hash", "-a", "blake3", "changes"]))
-    for how in ("exit 1", "kill -9 $$", "exit 0"):
+    for how in ("exit 1", "kill -9 $$", "exit 0", f"exec {shlex.quote(program)} part -a blake3 --chunks 8192 large"):
         path = faulty(program, f'case "$1 $*" in "part "*"--first 16384 "*) {how} ;; esac')
         for words in (["--each", "8192", "large"], ["--verify", "parts", "damaged"]):
             same(f"a part of part {words} that fails: {how}", front(path, ["part", "-a", "blake3", *words]),
