@@ -11,5 +11,6 @@ pub mod Rules
 pub mod Cutting
 pub mod Listing
 pub mod Joining
+pub mod Verifying
 pub mod Hashed
 pub mod Reported

@@ -23,5 +23,6 @@ mod rule;
 mod session;
 mod starts;
 mod tags;
+mod verified;
 mod verifying;
 mod visible;

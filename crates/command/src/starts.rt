@@ -78,8 +78,8 @@ fn has_byte<'n, T: Tree>(name: &'n str, position: u64, tree: &mut T) -> Result<b
     answer
 }
 
-// Whether the feed of this name gives one byte more.
-fn gives_byte<'n, F: Feed>(name: &'n str, feed: &mut F) -> Result<bool, Fault<'n>>
+/// Whether the feed of this name gives one byte more.
+pub(crate) fn gives_byte<'n, F: Feed>(name: &'n str, feed: &mut F) -> Result<bool, Fault<'n>>
     ensures byte { IfSome (F.remaining feed.old) (λ bytes. TellsByte name.entry.now 0 (Some bytes) result) }
     ensures counted { F.failure_count feed.new
         ≡ count_after (F.failure_count feed.old) (failed true (Some []) result).input }

@@ -1,7 +1,7 @@
 // Parts that lines tell, joined in the order in which they come.
 
 ghost use Rattle.std.specs.Prelude.{◌≡◌, ℕ, ◌+◌, ◌-◌, ◌*◌, ◌<◌, ◌≤◌, List, [], ◌∷◌, ◌++◌, length, MatchResult};
-ghost use Rattle.std.specs.Prelude.{MatchOption};
+ghost use Rattle.std.specs.Prelude.{MatchOption, Some};
 ghost use Rattle.std.specs.Prelude.{OnOk, OnErr, IfErr, IfOk, IfSome};
 ghost use Rattle.std.specs.Io.KnownBytes.{IsAtEnd};
 ghost use Rattle.arrayvec.specs.ArrayVec.{array_vec_len};
@@ -16,6 +16,7 @@ ghost use Rattle.partlist.specs.declared.fault.JoinFault.TheVariants.{Line};
 ghost use Rattle.partlist.specs.declared.fault.PartFault.TheVariants.{NotAPart};
 ghost use Rattle.partlist.specs.inside.Few.{most_parts};
 
+use crate::reader::{Found, PartReader};
 use crate::{EndFault, JoinFault, PartFault, parse_part};
 use arrayvec::ArrayVec;
 use b3::{CHUNK_LEN, Mode, NotNext, Output, PartValue, Row};
@@ -23,7 +24,7 @@ use source::Feed;
 use sumlist::split_at_byte;
 
 // No line of a part is longer.
-const PART_LINE_LIMIT: usize = 256;
+pub(crate) const PART_LINE_LIMIT: usize = 256;
 
 /// Parts of one message under the mode `Hash`, each of which begins where the one before it ends, from
 /// the first chunk on. It holds at most 54 chaining values, however many parts there were.
@@ -38,6 +39,7 @@ pub struct Joiner {
 impl Joiner {
     ghost use Rattle.partlist.specs.inside.Joiner.{Halts, HasJoined, JoinCounts, LeavesJoined, Partway, StopsSo};
     ghost use Rattle.partlist.specs.inside.Joiner.{joined_count};
+    ghost use Rattle.partlist.specs.inside.Reader.{JoinsNext, ahead};
 
     /// No part yet.
     pub fn new() -> Joiner
@@ -119,6 +121,32 @@ impl Joiner {
         }
     }
 
+    /// Joins the part that the next line of a feed tells behind those that were joined before, and answers
+    /// it, or `None` where no line is left. A line that can't be joined is refused by its number, where each
+    /// part before it had a line, and then nothing changes but the reader.
+    pub fn add_next<F: Feed>(
+        &mut self,
+        reader: &mut PartReader,
+        feed: &mut F,
+    ) -> Result<Option<PartValue>, JoinFault>
+        ensures joined { IfSome (F.remaining feed.old) (λ bytes. (left : List ℕ) × (F.remaining feed.new ≡ Some left)
+            × ((parts : List PartValue) → HasJoined self.old parts
+            → JoinsNext (ahead reader.old ++ bytes) parts self.new (ahead reader.new ++ left) result)) }
+        ensures gave { Gives (F.remaining feed.old) (F.remaining feed.new) }
+        ensures count { JoinCounts result (F.failure_count feed.old) (F.failure_count feed.new) }
+        ensures forth { IfOk result (λ found. IfSome found
+            (λ _. joined_count self.new ≡ joined_count self.old + 1)) }
+    {
+        match reader.read_line(feed)? {
+            Found::End => Ok(None),
+            Found::Long => Err(self.fault_of_line(0, PartFault::NotAPart)),
+            Found::Line => match self.add_told(reader.line()) {
+                Ok(part) => Ok(Some(part)),
+                Err(fault) => Err(self.fault_of_line(0, fault)),
+            },
+        }
+    }
+
     // What is wrong with the next line of a feed before which so many parts were joined.
     fn fault_of_line(&self, start: u64, fault: PartFault) -> JoinFault
         requires { start ≤ joined_count self.now }
@@ -191,6 +219,21 @@ impl Joiner {
         self.add_line(line)
     }
 
+    // Joins the part that the line tells, and answers it.
+    fn add_told(&mut self, line: &[u8]) -> Result<PartValue, PartFault>
+        ensures added { (parts : List PartValue) → HasJoined self.old parts → MatchResult result
+            (λ part. TellsPart line.now part × HasJoined self.new (parts ++ part ∷ []))
+            (λ fault. IsWrongBehind parts line.now fault) }
+        ensures count { OnOk result (joined_count self.new ≡ joined_count self.old + 1) }
+        ensures refused { OnErr result (self.new ≡ self.old) }
+    {
+        let Some(part) = parse_part(line) else {
+            return Err(PartFault::NotAPart);
+        };
+        self.add(part)?;
+        Ok(part)
+    }
+
     // Joins the part that the line tells.
     fn add_line(&mut self, line: &[u8]) -> Result<(), PartFault>
         ensures added { (parts : List PartValue) → HasJoined self.old parts → MatchResult result
@@ -200,10 +243,8 @@ impl Joiner {
         ensures count { OnOk result (joined_count self.new ≡ joined_count self.old + 1) }
         ensures refused { OnErr result (self.new ≡ self.old) }
     {
-        let Some(part) = parse_part(line) else {
-            return Err(PartFault::NotAPart);
-        };
-        self.add(part)
+        self.add_told(line)?;
+        Ok(())
     }
 
     /// The output of the message that the parts are all of, at position 0. It is refused exactly where
@@ -230,7 +271,7 @@ impl Joiner {
 }
 
 // Holds these bytes of a line too, if it is not longer than the line of a part then.
-fn hold(bytes: &[u8], held: &mut ArrayVec<u8, PART_LINE_LIMIT>) -> Result<(), PartFault>
+pub(crate) fn hold(bytes: &[u8], held: &mut ArrayVec<u8, PART_LINE_LIMIT>) -> Result<(), PartFault>
     ensures held { OnOk result ((held.new.items ≡ held.old.items ++ bytes.now)
         × (array_vec_len held.new ≡ array_vec_len held.old + length bytes.now)) }
     ensures fits { MatchResult result (λ _. array_vec_len held.old + length bytes.now ≤ 256)

@@ -7,7 +7,7 @@ use Rattle.sumlist.specs.Naming.{names}
 use Rattle.sumlist.specs.Report.{Files}
 use Rattle.request.specs.CommandLine.{AreRead, ErrorKind, Given, IsWrong, Text}
 use Rattle.task.specs.Tasks.{Asked, asked, checks, derives, in_file, joins, prints_line, prints_lines, prints_part}
-use Rattle.task.specs.Tasks.{prints_parts, prints_starts, these}
+use Rattle.task.specs.Tasks.{prints_parts, prints_starts, these, verifies}
 use Rattle.command.specs.Checking.{CheckRuns}
 use Rattle.command.specs.Run.{Counted, Prints, Run, Runs, out_of_memory, prints, stops}
 use Rattle.command.specs.Cutting.{EachRuns, PartRuns, StartsRuns}
@@ -15,6 +15,7 @@ use Rattle.command.specs.Hashing.{LinesGiven, LinesListed}
 use Rattle.command.specs.Joining.{JoinRuns}
 use Rattle.command.specs.Keying.{KdfRuns, LineRuns, SumRuns}
 use Rattle.command.specs.Lines.{content_of, key_opens, opens_of}
+use Rattle.command.specs.Verifying.{VerifyRuns}
 
 -- the run of a task
 abbrev pub TaskRuns : Asked → Files → List ℕ → Run → Type 0
@@ -28,6 +29,7 @@ TaskRuns (checks how lists) files input = CheckRuns how files lists input
 TaskRuns (prints_part first chunks name) files input = PartRuns first chunks name files input
 TaskRuns (prints_starts chunks name) files input = StartsRuns chunks name files
 TaskRuns (prints_parts chunks name) files input = EachRuns chunks name files input
+TaskRuns (verifies parts name) files input = VerifyRuns parts name files input
 TaskRuns (joins stretch bytes wanted name lists) files input = JoinRuns stretch bytes wanted name lists files input
 
 -- how many files it opens at most: a list, and each of what it names, included
@@ -42,6 +44,7 @@ most_opens (checks how lists) files input =
 most_opens (prints_part first chunks name) files input = opens_of name
 most_opens (prints_starts chunks name) files input = 55
 most_opens (prints_parts chunks name) files input = opens_of name
+most_opens (verifies parts name) files input = 1 + opens_of name
 most_opens (joins stretch count wanted name lists) files input = sum_by opens_of lists
 
 -- the run of a request, and how many files it opens at most: its task's, or the first fault of its settings, or want of

@@ -105,6 +105,7 @@ fn run_request<'n, 'i, 't, 'o, L: Feed, T: Tree, W: Sink, E: Sink>(
         Task::Part { place, file } => session.print_part(place, file),
         Task::Starts { parts, file } => session.print_starts(parts, file),
         Task::Parts { parts, file } => session.print_parts(parts, file),
+        Task::Verify { parts, file } => session.print_verified(parts, file),
         Task::Join {
             joining,
             wanted,

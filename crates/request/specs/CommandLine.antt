@@ -70,7 +70,7 @@ commands names macs = command (codes "hash") (required (algorithm names) ∷ num
     ∷ command (codes "check") (algorithm names ∷ flag (codes "summary") ∷ flag (codes "progress") ∷ files ∷ [])
     ∷ command (codes "part") (required (algorithm names) ∷ number (option (codes "first"))
     ∷ number (option (codes "chunks")) ∷ flag (codes "list") ∷ number (option (codes "each"))
-    ∷ flag (codes "progress") ∷ file ∷ [])
+    ∷ option (codes "verify") ∷ flag (codes "progress") ∷ file ∷ [])
     ∷ command (codes "join") (required (algorithm names) ∷ option (codes "name") ∷ number (option (codes "bytes"))
     ∷ number (letter (codes "l")) ∷ number (option (codes "seek")) ∷ option (codes "verify") ∷ flag (codes "progress")
     ∷ files ∷ []) ∷ []

@@ -49,6 +49,7 @@ pub data Asked : Type 0 where
   prints_part : ℕ → Option ℕ → Text → Asked
   prints_starts : ℕ → Text → Asked
   prints_parts : ℕ → Text → Asked
+  verifies : Text → Text → Asked
   joins : Stretch → Option ℕ → Option (List ℕ) → Text → List Text → Asked
 
 -- the same of a sum of so many bytes: files are named by words, or in a file; one whose sum is compared, or that has a
@@ -149,9 +150,15 @@ least_power n = 2 ^ (64 - leading_zeros w64 (n - 1))
 abbrev pub starts : Given → Result Asked Text
 starts g = do
   n ← needed (power_in (2 ^ 54)) (codes "chunks") g
-  absent (codes ": not with --list\n") (codes "first" ∷ codes "each" ∷ []) g
+  absent (codes ": not with --list\n") (codes "first" ∷ codes "each" ∷ codes "verify" ∷ []) g
   unless (bytes_eq (file_or_input g) (codes "-")) (codes "--list: not of standard input\n")
   Ok (prints_starts n (file_or_input g))
+
+-- whether a file has the parts that the lines of another one tell
+abbrev pub verify : Text → Given → Result Asked Text
+verify parts g = do
+  absent (codes ": not with --verify\n") (codes "first" ∷ codes "chunks" ∷ codes "each" ∷ []) g
+  Ok (verifies parts (file_or_input g))
 
 -- all parts of so many chunks, a power of two, one behind the other
 abbrev pub each : Given → Result Asked Text
@@ -172,7 +179,8 @@ one_part g = do
 abbrev pub part : Given → Result Asked Text
 part g = needed (named kinds) (codes "a") g >>= has_parts
     >> (if has_flag (codes "list") g then starts g
-    else if is_some (text_of (codes "each") g) then each g else one_part g)
+    else option_map_or (λ parts. verify parts g)
+    (text_of (codes "verify") g) (if is_some (text_of (codes "each") g) then each g else one_part g))
 
 -- which bytes of the joined output are printed or compared, and how many bytes the parts have to have
 abbrev pub join : Given → Result Asked Text

@@ -65,6 +65,8 @@ pub enum UsageFault {
     NotWithList(Setting),
     /// It says nothing beside `--each`.
     NotWithEach(Setting),
+    /// It says nothing beside `--verify`.
+    NotWithVerify(Setting),
     /// It says nothing of several files.
     OneFile(Setting),
     /// It says nothing but of standard input alone.
@@ -181,6 +183,7 @@ impl UsageFault {
             UsageFault::NotWithRaw(setting) => (setting.text(), ": not with --raw\n"),
             UsageFault::NotWithList(setting) => (setting.text(), ": not with --list\n"),
             UsageFault::NotWithEach(setting) => (setting.text(), ": not with --each\n"),
+            UsageFault::NotWithVerify(setting) => (setting.text(), ": not with --verify\n"),
             UsageFault::OneFile(setting) => (setting.text(), ": one file only\n"),
             UsageFault::InputOnly(setting) => (setting.text(), ": standard input only\n"),
             UsageFault::FileOnly(setting) => (setting.text(), ": not of standard input\n"),

@@ -81,6 +81,12 @@ pub enum Task<'a> {
         parts: PartLength,
         file: &'a str,
     },
+    /// Print of each part that the lines in a file tell whether it is that of another file. Of the two only
+    /// the second may be standard input.
+    Verify {
+        parts: &'a str,
+        file: &'a str,
+    },
     /// Print these bytes of the output of the parts in the lists, one at least, which have so many
     /// bytes in all where that is asked for, or whether they are the ones that are wanted, of as many;
     /// the line has this name.
@@ -250,6 +256,8 @@ fn part<'a>(request: &Request<'a>) -> Result<Task<'a>, UsageFault>
     names_blake3(request)?;
     if request.has("list") {
         starts(request)
+    } else if let Some(parts) = request.text("verify") {
+        verify(request, parts)
     } else if request.text("each").is_some() {
         each(request)
     } else {
@@ -269,10 +277,25 @@ fn starts<'a>(request: &Request<'a>) -> Result<Task<'a>, UsageFault>
     unless(has_first, UsageFault::NotWithList(Setting::First))?;
     let has_each = request.text("each").is_some();
     unless(has_each, UsageFault::NotWithList(Setting::Each))?;
+    let has_verify = request.text("verify").is_some();
+    unless(has_verify, UsageFault::NotWithList(Setting::Verify))?;
     let file = file_or_input(request);
     unless(file == "-", UsageFault::FileOnly(Setting::Starts))?;
     let parts = PartLength { chunks };
     Ok(Task::Starts { parts, file })
+}
+
+fn verify<'a>(request: &Request<'a>, parts: &'a str) -> Result<Task<'a>, UsageFault>
+    ensures { seen task_shown result ≡ spec.verify parts.now (given_of request.now) }
+{
+    let has_first = request.text("first").is_some();
+    unless(has_first, UsageFault::NotWithVerify(Setting::First))?;
+    let has_chunks = request.text("chunks").is_some();
+    unless(has_chunks, UsageFault::NotWithVerify(Setting::Chunks))?;
+    let has_each = request.text("each").is_some();
+    unless(has_each, UsageFault::NotWithVerify(Setting::Each))?;
+    let file = file_or_input(request);
+    Ok(Task::Verify { parts, file })
 }
 
 fn each<'a>(request: &Request<'a>) -> Result<Task<'a>, UsageFault>

@@ -7,8 +7,8 @@ use Rattle.task.specs.declared.fault.Setting.TheVariants as setting
 use Rattle.task.specs.declared.fault.UsageFault.{UsageFault}
 use Rattle.task.specs.declared.fault.UsageFault.TheVariants.{InputOnly, Needed, NotForAlgorithm, NotForCommand}
 use Rattle.task.specs.declared.fault.UsageFault.TheVariants.{NotHexadecimal, NotWithRaw, NotWithTag, OneFile, OneKey}
-use Rattle.task.specs.declared.fault.UsageFault.TheVariants.{FileOnly, NoCommand, NotWithEach, NotWithList, OneSource, OutOfRange}
-use Rattle.task.specs.declared.fault.UsageFault.TheVariants.{WrongLength}
+use Rattle.task.specs.declared.fault.UsageFault.TheVariants.{FileOnly, NoCommand, NotWithEach, NotWithList, NotWithVerify, OneSource}
+use Rattle.task.specs.declared.fault.UsageFault.TheVariants.{OutOfRange, WrongLength}
 
 -- the name of a setting, which is its id among the options and arguments of a request
 abbrev pub setting_name : Setting → Text
@@ -40,6 +40,7 @@ usage_texts (NotWithTag s) = (word (setting_name s), codes ": not with --tag\n")
 usage_texts (NotWithRaw s) = (word (setting_name s), codes ": not with --raw\n")
 usage_texts (NotWithList s) = (word (setting_name s), codes ": not with --list\n")
 usage_texts (NotWithEach s) = (word (setting_name s), codes ": not with --each\n")
+usage_texts (NotWithVerify s) = (word (setting_name s), codes ": not with --verify\n")
 usage_texts (OneFile s) = (word (setting_name s), codes ": one file only\n")
 usage_texts (InputOnly s) = (word (setting_name s), codes ": standard input only\n")
 usage_texts (FileOnly s) = (word (setting_name s), codes ": not of standard input\n")

@@ -4,7 +4,7 @@ use Rattle.std.specs.Borrow.{Bor}
 use Rattle.request.specs.CommandLine.{Text}
 use Rattle.task.specs.Tasks.{Asked, Derived, Source, Sum, by_blake3, by_hkdf, checks, derives, digests, hmac_alg}
 use Rattle.task.specs.Tasks.{in_file, joins, prints_line, prints_lines, prints_part, prints_parts, prints_starts, tags}
-use Rattle.task.specs.Tasks.{these}
+use Rattle.task.specs.Tasks.{these, verifies}
 use Rattle.task.specs.declared.derivation.Derivation.{Derivation}
 use Rattle.task.specs.declared.derivation.Derivation.TheVariants as derivation
 use Rattle.task.specs.declared.tagging.Key.{Key}
@@ -46,6 +46,7 @@ task_shown (code.Line sum wanted name content) =
 task_shown (code.Part place name) = prints_part place.first place.chunks name.now
 task_shown (code.Starts parts name) = prints_starts parts.chunks name.now
 task_shown (code.Parts parts name) = prints_parts parts.chunks name.now
+task_shown (code.Verify parts name) = verifies parts.now name.now
 task_shown (code.Join joining wanted name lists) =
     joins joining.stretch joining.bytes (option_map (λ v. v.items) wanted) name.now (texts_of lists)
 task_shown (code.Kdf derivation is_raw material) = derives (derivation_shown derivation) is_raw material.now

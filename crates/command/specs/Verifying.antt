@@ -1,0 +1,61 @@
+-- The run of `part --verify`: the lines of parts and the bytes of a file, side by side.
+use Rattle.std.specs.Prelude.{◌⊎◌, ◌≡◌, ℕ, ◌+◌, ◌*◌, List, [], ◌∷◌, ◌++◌, drop, length, max, take}
+use Rattle.std.specs.Prelude.{IsSomeAnd, Some, codes, false, if◌then◌else◌, nat_lt}
+use Rattle.std.specs.Fmt.{decimal}
+use Rattle.std.specs.List.{flat_map}
+use Rattle.std.specs.Str.{bytes_eq}
+use Rattle.b3.specs.Modes.{hash_parameters, tree_of}
+use Rattle.b3.specs.Node.{cv}
+use Rattle.b3.specs.declared.row.PartValue.{PartValue}
+use Rattle.request.specs.CommandLine.{Text}
+use Rattle.partlist.specs.Joined.{AllTell, AreInRow, IsWrongBehind, bytes_of}
+use Rattle.partlist.specs.declared.fault.PartFault.{PartFault}
+use Rattle.sumlist.specs.Lines.{lines}
+use Rattle.sumlist.specs.Report.{Files, verdict_text}
+use Rattle.sumlist.specs.declared.verdict.Verdict.{Verdict}
+use Rattle.sumlist.specs.declared.verdict.Verdict.TheVariants.{Differs, Matches, Missing}
+use Rattle.command.specs.Joining.{line_complaint}
+use Rattle.command.specs.Lines.{content_of, is_input}
+use Rattle.command.specs.Run.{IsUnread, Run, cannot_write, of_name, prints, stops}
+
+-- whether these bytes reach to the end of a part, and those at its place have its chaining value
+abbrev pub verdict : List ℕ → PartValue → Verdict
+verdict m part = let x = take part.len (drop (1024 * part.first_chunk) m) in
+    if nat_lt (length m) (1024 * part.first_chunk + part.len) then Missing
+    else if bytes_eq part.value (cv (tree_of hash_parameters part.first_chunk x)) then Matches else Differs
+
+-- the line that says so
+abbrev pub verdict_line : List ℕ → PartValue → Text
+verdict_line m part = decimal part.first_chunk ++ 32 ∷ (decimal part.len ++ verdict_text (verdict m part))
+
+-- the status of a verdict, and the greatest of those of parts
+abbrev pub status_of : Verdict → ℕ
+status_of Matches = 0
+status_of _ = 1
+
+abbrev pub status : List ℕ → List PartValue → ℕ
+status m [] = 0
+status m (part ∷ parts) = max (status_of (verdict m part)) (status m parts)
+
+-- what a run ends with behind the lines of these parts, where others follow: there are none; the next tells no part
+-- behind those; or a read of either file failed
+abbrev pub VerifyEnds : Text → Text → (text m : List ℕ) → List PartValue → List (List ℕ) → Run → Type 0
+VerifyEnds parts name text m told after run = ((after ≡ []) × (run ≡ (if nat_lt (bytes_of told) (length m)
+    then stops (of_name name (codes ": bytes behind the last part\n")) else prints [] (status m told))))
+    ⊎ ((line : List ℕ) × (rest : List (List ℕ)) × (after ≡ line ∷ rest) × (fault : PartFault)
+    × IsWrongBehind told line fault
+    × (run ≡ stops (of_name parts (codes ": line " ++ (decimal (length told + 1) ++ line_complaint fault)))))
+    ⊎ IsUnread false parts (Some text) run ⊎ IsUnread (is_input name) name (Some m) run
+
+-- the lines of parts so far were printed, and the run ends; or a write of them failed
+abbrev pub Compares : Text → Text → (text m : List ℕ) → Run → Type 0
+Compares parts name text m run = (before : List (List ℕ)) × (after : List (List ℕ)) × (told : List PartValue)
+    × (lines text ≡ before ++ after) × AllTell before told × AreInRow told × let said = flat_map (verdict_line m) told in
+    ((run ≡ record (stops cannot_write) { text = said; is_whole = false })
+    ⊎ ((end : Run) × VerifyEnds parts name text m told after end × (run ≡ record end { text = said })))
+
+-- the run of `part --verify`, where `-` is a file of parts, and any name of the file that they are of
+abbrev pub VerifyRuns : Text → Text → Files → List ℕ → Run → Type 0
+VerifyRuns parts name files input run = let content = content_of name input files in
+    IsUnread false parts (files parts) run ⊎ IsSomeAnd (files parts) (λ text.
+    IsUnread (is_input name) name content run ⊎ IsSomeAnd content (λ m. Compares parts name text m run))

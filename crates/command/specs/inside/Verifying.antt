@@ -1,0 +1,53 @@
+-- What the parts of a run that verifies parts answer.
+use Rattle.std.specs.Prelude.{◌⊎◌, ◌≡◌, ℕ, [], Bool, List, IsSomeAnd, MatchBool, MatchResult, Ok, Option, Result, Some}
+use Rattle.std.specs.Prelude.{drop, false, if◌then◌else◌, length, nat_lt, take}
+use Rattle.std.specs.Str.{bytes_eq}
+use Rattle.b3.specs.Modes.{hash_parameters, tree_of}
+use Rattle.b3.specs.Node.{cv}
+use Rattle.b3.specs.declared.row.PartValue.{PartValue}
+use Rattle.request.specs.CommandLine.{Text}
+use Rattle.source.specs.Counts.{count_after}
+use Rattle.source.specs.Written.{Shown}
+use Rattle.sumlist.specs.declared.verdict.Verdict.{Verdict}
+use Rattle.sumlist.specs.declared.verdict.Verdict.TheVariants.{Differs, Matches, Missing}
+use Rattle.command.specs.Lines.{is_input}
+use Rattle.command.specs.Run.{IsUnread, Run}
+use Rattle.command.specs.Verifying.{Compares}
+use Rattle.command.specs.inside.Seen.{Does}
+use Rattle.command.specs.inside.Troubles.{Counted, Failures, cannot_read, counts, failures_from, plus, trouble_of}
+use Rattle.command.specs.declared.fault.Fault.{Fault}
+
+-- the verdict on a part by the bytes from its first one on
+abbrev pub verdict_on : List ℕ → PartValue → Verdict
+verdict_on rest part = if nat_lt (length rest) part.len then Missing
+    else if bytes_eq part.value (cv (tree_of hash_parameters part.first_chunk (take part.len rest)))
+    then Matches else Differs
+
+-- the next bytes of a name were judged by a part, or not be read
+abbrev pub Judges : PartValue → Text → List ℕ → Option (List ℕ) → Result Verdict Fault → Type 0
+Judges part name rest after r = MatchResult r
+    (λ v. (v ≡ verdict_on rest part) × (after ≡ Some (drop part.len rest)))
+    (λ fault. trouble_of fault ≡ cannot_read name)
+
+-- the same, where nothing is read of a name that has ended
+abbrev pub JudgesNext : Bool → PartValue → Text → List ℕ → Option (List ℕ) → Result Verdict Fault → Type 0
+JudgesNext has_ended part name rest after r =
+    MatchBool has_ended ((r ≡ Ok Missing) × (after ≡ Some rest)) (Judges part name rest after r)
+
+-- one of these runs was done, whose failures are so many of the list of parts, which counted them, and others
+abbrev pub DoesBeside : (Run → Type 0) → Result ℕ Fault → (old new : Shown) → (i j : ℕ) → (Failures → Type 0)
+    → Type 0
+DoesBeside is r old new i j others = (run : Run) × is run × Does run r old new × (run.notes ≡ [])
+    × (n : ℕ) × (f : Failures) × (counts run.failures ≡ plus (failures_from false n) f)
+    × (j ≡ count_after i n) × others f
+
+-- parts were compared with what two feeds gave, and each counted its failures
+abbrev pub ComparesFeeds : Text → Text → (text m : List ℕ) → Result ℕ Fault → (old new : Shown) → (i j u v : ℕ)
+    → Type 0
+ComparesFeeds parts name text m r old new i j u v = DoesBeside (Compares parts name text m) r old new i j
+    (λ f. (k : ℕ) × (f ≡ failures_from (is_input name) k) × (v ≡ count_after u k))
+
+-- the same of what a name gives, where that is had
+abbrev pub ComparesName : Text → Text → List ℕ → Option (List ℕ) → Run → Type 0
+ComparesName parts name text content run = IsUnread (is_input name) name content run
+    ⊎ IsSomeAnd content (λ m. Compares parts name text m run)

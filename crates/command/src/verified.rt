@@ -1,0 +1,203 @@
+// The command `part` with `--verify`: whether the parts that lines tell are those of a file.
+
+ghost use Rattle.std.specs.Prelude.{◌≡◌, ◌≤◌, ◌+◌, ◌*◌, ◌++◌, ◌∷◌, ℕ, [], true, length, IfOk, IfSome, IsErrOf, Some};
+ghost use Rattle.std.specs.Fmt.{decimal};
+ghost use Rattle.b3.specs.Parts.{IsPlacedAt};
+ghost use Rattle.source.specs.Counts.{count_after};
+ghost use Rattle.source.specs.Written.{Writes};
+ghost use Rattle.sumlist.specs.Report.{verdict_text};
+ghost use Rattle.command.specs.Lines.{content_of, is_input, opens_of};
+ghost use Rattle.command.specs.Verifying.{VerifyRuns, status_of};
+ghost use Rattle.command.specs.inside.Reading.{failed};
+ghost use Rattle.command.specs.inside.Seen.{DoesRun, IfTold, OpensAtMost};
+ghost use Rattle.command.specs.inside.Streams.{SameStreams};
+ghost use Rattle.command.specs.inside.Troubles.{Counted};
+ghost use Rattle.command.specs.inside.Verifying.{ComparesFeeds, ComparesName, DoesBeside, IsRoomOf, Judges, JudgesNext};
+
+use crate::cutting::{RUN, next_part};
+use crate::digests::part_buffer;
+use crate::fault::Fault;
+use crate::session::{Session, Streams, open_file};
+use crate::starts::gives_byte;
+use b3::{CHUNK_LEN, PartValue};
+use itoa::Buffer;
+use partlist::{Joiner, PartReader};
+use source::{Feed, Sink, WriteFailed, write_pieces};
+use sumlist::{Tree, Verdict, write_verdict};
+
+impl<'i, 't, 'o, L: Feed, T: Tree, W: Sink> Session<'i, 't, 'o, L, T, W> {
+    /// Prints of each part that the lines of the file `parts` tell, one behind the other from the first chunk
+    /// on, whether it is that of the file of a name. Answers 0 where all are and the file ends with the last
+    /// one, and 1 where one is not. Both are read once and side by side; `-` is a file of parts. The faults
+    /// are `CannotRead` of either, `BadLine` with the first line that tells no part behind those before it,
+    /// `BytesBehind` where the file does not end with the last part, `CannotWrite` and `OutOfMemory`, which
+    /// comes before either is opened.
+    pub fn print_verified<'n>(&mut self, parts: &'n str, name: &'n str) -> Result<u8, Fault<'n>>
+        ensures run { DoesRun (λ bytes files. VerifyRuns parts.entry.now name.entry.now files bytes)
+            (λ notes. notes ≡ [])
+            result (⟦<Self as Streams>⟧.seen self.old) (⟦<Self as Streams>⟧.seen self.new) }
+        ensures opens { OpensAtMost (1 + opens_of name.entry.now) (⟦<Self as Streams>⟧.seen self.old)
+            (⟦<Self as Streams>⟧.seen self.new) }
+        ensures same { SameStreams self.old self.new }
+    {
+        let mut run = part_buffer(self.alloc, RUN)?;
+        let mut list = open_file(parts, 0, self.tree)?;
+        let answer = self.verify_by(run.as_mut_slice(), parts, &mut list, name);
+        self.tree.close(list);
+        answer
+    }
+
+    // The same by the lines that a feed gives.
+    fn verify_by<'n, P: Feed>(
+        &mut self,
+        run: &mut [u8],
+        parts: &'n str,
+        list: &mut P,
+        name: &'n str,
+    ) -> Result<u8, Fault<'n>>
+        requires { length run.old ≡ 1024 * RUN }
+        ensures run { IfTold (⟦<Self as Streams>⟧.seen self.old) (λ bytes files. IfSome (P.remaining list.old)
+            (λ text. DoesBeside (ComparesName parts.entry.now name.entry.now text
+            (content_of name.entry.now bytes files)) result
+            (⟦<Self as Streams>⟧.seen self.old).out (⟦<Self as Streams>⟧.seen self.new).out
+            (P.failure_count list.old) (P.failure_count list.new)
+            (λ f. Counted f
+            (⟦<Self as Streams>⟧.seen self.old).input_failures (⟦<Self as Streams>⟧.seen self.new).input_failures
+            (⟦<Self as Streams>⟧.seen self.old).file_failures (⟦<Self as Streams>⟧.seen self.new).file_failures))) }
+        ensures opens { OpensAtMost (opens_of name.entry.now) (⟦<Self as Streams>⟧.seen self.old)
+            (⟦<Self as Streams>⟧.seen self.new) }
+        ensures same { SameStreams self.old self.new }
+    {
+        if name == "-" {
+            return verify_feed(run, parts, list, name, self.input, self.out);
+        }
+        let mut feed = open_file(name, 0, self.tree)?;
+        let answer = verify_feed(run, parts, list, name, &mut feed, self.out);
+        self.tree.close(feed);
+        answer
+    }
+}
+
+// Writes of each part that the lines of a feed tell whether it is that of another feed.
+fn verify_feed<'n, P: Feed, F: Feed, W: Sink>(
+    run: &mut [u8],
+    parts: &'n str,
+    list: &mut P,
+    name: &'n str,
+    feed: &mut F,
+    out: &mut W,
+) -> Result<u8, Fault<'n>>
+    requires { length run.old ≡ 1024 * RUN }
+    ensures { IfSome (P.remaining list.old) (λ text. IfSome (F.remaining feed.old) (λ m.
+        ComparesFeeds parts.entry.now name.entry.now text m result (W.shown out.old) (W.shown out.new)
+        (P.failure_count list.old) (P.failure_count list.new)
+        (F.failure_count feed.old) (F.failure_count feed.new))) }
+{
+    let (mut joiner, mut reader) = (Joiner::new(), PartReader::new());
+    let (mut status, mut has_ended) = (0, false);
+    'parts: loop {
+        let told = match joiner.add_next(&mut reader, list) {
+            Ok(Some(told)) => told,
+            Ok(None) if has_ended => return Ok(status),
+            Ok(None) => return status_at_end(status, name, feed),
+            Err(fault) => return Err(Fault::of_join(fault, parts)),
+        };
+        let verdict = next_verdict(&told, has_ended, run, name, feed)?;
+        write_told(&told, verdict, out)?;
+        status = status_of(verdict).max(status);
+        has_ended = matches!(verdict, Verdict::Missing);
+    }
+}
+
+// The verdict on the part that is told next, where nothing is read of what has ended.
+fn next_verdict<'n, F: Feed>(
+    told: &PartValue,
+    has_ended: bool,
+    run: &mut [u8],
+    name: &'n str,
+    feed: &mut F,
+) -> Result<Verdict, Fault<'n>>
+    requires { length run.old ≡ 1024 * RUN }
+    ensures verdict { IfSome (F.remaining feed.old) (λ rest.
+        JudgesNext has_ended told.now name.entry.now rest (F.remaining feed.new) result) }
+    ensures counted { F.failure_count feed.new
+        ≡ count_after (F.failure_count feed.old) (failed true (Some []) result).input }
+    ensures memory { IsErrOf result Fault.OutOfMemory → ⊥ }
+{
+    if has_ended {
+        return Ok(Verdict::Missing);
+    }
+    read_verdict(told, run, name, feed)
+}
+
+// The verdict on a part, by the next bytes of a feed.
+fn read_verdict<'n, F: Feed>(
+    told: &PartValue,
+    run: &mut [u8],
+    name: &'n str,
+    feed: &mut F,
+) -> Result<Verdict, Fault<'n>>
+    requires { length run.old ≡ 1024 * RUN }
+    ensures verdict { IfSome (F.remaining feed.old) (λ rest.
+        Judges told.now name.entry.now rest (F.remaining feed.new) result) }
+    ensures counted { F.failure_count feed.new
+        ≡ count_after (F.failure_count feed.old) (failed true (Some []) result).input }
+    ensures memory { IsErrOf result Fault.OutOfMemory → ⊥ }
+{
+    let room = room_of(told);
+    let few = CHUNK_LEN * room.min(RUN) as usize;
+    let (first, len) = (told.first_chunk(), told.len());
+    match next_part(first, room, Some(len), &mut run[..few], name, feed)? {
+        Some(part) if part.len() == len => Ok(verdict_of(told, &part)),
+        _ => Ok(Verdict::Missing),
+    }
+}
+
+// The least power of two of chunks that has room for a part.
+fn room_of(part: &PartValue) -> u64
+    ensures { IsRoomOf part.now result }
+{
+    let chunks = part.len().saturating_sub(1) / CHUNK_LEN as u64 + 1;
+    chunks.next_power_of_two()
+}
+
+// The verdict on a part, by the part of as many bytes that are there.
+fn verdict_of(told: &PartValue, found: &PartValue) -> Verdict
+{
+    if told.bytes() == found.bytes() {
+        Verdict::Matches
+    } else {
+        Verdict::Differs
+    }
+}
+
+// The status of a verdict.
+fn status_of(verdict: Verdict) -> u8
+    ensures { result ≡ status_of verdict }
+{
+    match verdict {
+        Verdict::Matches => 0,
+        _ => 1,
+    }
+}
+
+// The status of a run at the end of the lines, where the feed of this name has to end too.
+fn status_at_end<'n, F: Feed>(status: u8, name: &'n str, feed: &mut F) -> Result<u8, Fault<'n>>
+{
+    if gives_byte(name, feed)? {
+        Err(Fault::BytesBehind(name))
+    } else {
+        Ok(status)
+    }
+}
+
+// Writes a verdict behind the numbers of its part.
+fn write_told<W: Sink>(told: &PartValue, verdict: Verdict, out: &mut W) -> Result<(), WriteFailed>
+    ensures { Writes result (W.shown out.old) (W.shown out.new)
+        (decimal told.now.first_chunk ++ 32 ∷ (decimal told.now.len ++ verdict_text verdict)) }
+{
+    let (mut first, mut len) = (Buffer::new(), Buffer::new());
+    let first = first.format(told.first_chunk()).as_bytes();
+    write_pieces(out, &[first, b" ", len.format(told.len()).as_bytes()])?;
+    write_verdict("", verdict, out)
+}

@@ -1,0 +1,118 @@
+// The lines of parts that a feed gives, one by one.
+
+ghost use Rattle.std.specs.Prelude.{◌≡◌, ◌+◌, ◌≤◌, ◌++◌, [], ℕ, List, Some, false, IfOk, IfSome, OnOk};
+ghost use Rattle.std.specs.Prelude.{length};
+ghost use Rattle.arrayvec.specs.ArrayVec.{array_vec_len};
+ghost use Rattle.source.specs.Counts.{CountsFailure};
+ghost use Rattle.source.specs.Pumped.{Gives};
+ghost use Rattle.sumlist.specs.inside.Cut.{HasNo};
+
+use crate::PartFault;
+use crate::joining::{PART_LINE_LIMIT, hold};
+use arrayvec::ArrayVec;
+use source::{Feed, ReadFailed};
+use sumlist::split_at_byte;
+
+/// Reads the lines of parts that a feed gives, one after the other. It keeps one read of 4,096 bytes and one
+/// line.
+#[derive(Drop)]
+pub struct PartReader {
+    buffer: [u8; 4096],
+    // what is ahead of what was read
+    start: usize,
+    end: usize,
+    // what came of the line
+    held: ArrayVec<u8, PART_LINE_LIMIT>,
+    ghost order: { start ≤ end },
+    ghost within: { end ≤ 4096 },
+    ghost size: { length buffer ≡ 4096 },
+}
+
+// What comes next of a feed: a line that may be a part's, one that is too long for that, or nothing.
+#[derive(Clone, Copy)]
+pub(crate) enum Found {
+    Line,
+    Long,
+    End,
+}
+
+impl PartReader {
+    ghost use Rattle.partlist.specs.inside.Reader.{IsFound, TakesLine, ahead};
+
+    /// No line yet, and nothing read.
+    pub fn new() -> PartReader
+        ensures { ahead result ≡ [] }
+    {
+        PartReader {
+            buffer: [0; 4096],
+            start: 0,
+            end: 0,
+            held: ArrayVec::new(),
+        }
+    }
+
+    // The line that was read last.
+    pub(crate) fn line(&self) -> &[u8]
+        ensures { result.now ≡ self.now.held.items }
+    {
+        self.held.as_slice()
+    }
+
+    // Reads the next line. LF ends it, and at the end of the feed it may be left out.
+    pub(crate) fn read_line<F: Feed>(&mut self, feed: &mut F) -> Result<Found, ReadFailed>
+        ensures found { IfOk result (λ found. IfSome (F.remaining feed.old) (λ bytes. (left : List ℕ)
+            × (F.remaining feed.new ≡ Some left)
+            × IsFound found self.new.held.items (ahead self.old ++ bytes) (ahead self.new ++ left))) }
+        ensures gave { Gives (F.remaining feed.old) (F.remaining feed.new) }
+        ensures count { CountsFailure result (F.failure_count feed.old) (F.failure_count feed.new) }
+    {
+        self.held.clear();
+        'pieces: loop {
+            if self.start == self.end {
+                let count = feed.read(&mut self.buffer)?;
+                self.start = 0;
+                self.end = count;
+                if count == 0 {
+                    return Ok(self.found_at_end());
+                }
+            }
+            match self.take() {
+                Ok(true) => return Ok(Found::Line),
+                Ok(false) => {}
+                Err(_) => return Ok(Found::Long),
+            }
+        }
+    }
+
+    // What was found where the feed has ended.
+    fn found_at_end(&self) -> Found
+        requires { HasNo 10 self.now.held.items }
+        ensures { IsFound result self.now.held.items self.now.held.items [] }
+    {
+        if self.held.is_empty() {
+            Found::End
+        } else {
+            Found::Line
+        }
+    }
+
+    // Holds what is ahead up to its first LF, without that, and answers whether there was one.
+    fn take(&mut self) -> Result<bool, PartFault>
+        requires { array_vec_len self.old.held ≤ 256 }
+        ensures line { TakesLine self.old.held.items (ahead self.old) self.new.held.items (ahead self.new) result }
+        ensures bound { OnOk result (array_vec_len self.new.held ≤ 256) }
+        ensures forth { IfOk result (λ ended. ended ≡ false → array_vec_len self.new.held
+            ≡ array_vec_len self.old.held + length (ahead self.old)) }
+    {
+        let (_, ahead) = self.buffer[..self.end].split_at(self.start);
+        let Some((front, _)) = split_at_byte(ahead, b'\n') else {
+            hold(ahead, &mut self.held)?;
+            self.start = self.end;
+            return Ok(false);
+        };
+        let start = self.start + front.len() + 1;
+        hold(front, &mut self.held)?;
+        self.start = start;
+        Ok(true)
+    }
+}
