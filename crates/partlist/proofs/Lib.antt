@@ -4,3 +4,4 @@ pub mod Behind
 pub mod Reading
 pub mod Outcomes
 pub mod Pieces
+pub mod Ahead

@@ -36,7 +36,7 @@ same_last n (l ∷ ls) (x ∷ xs) (y ∷ ys) t u =
 same_last n ls xs ys t u = grind arith
 
 -- a part in a row begins where those before it end, the last of which is whole
-place_in_row : (n last : ℕ) (xs : List PartValue) (p : PartValue) (ys : List PartValue)
+pub place_in_row : (n last : ℕ) (xs : List PartValue) (p : PartValue) (ys : List PartValue)
     → FollowEachOther n last (xs ++ p ∷ ys)
     → (1024 * p.first_chunk ≡ n + bytes_of xs) × IsWhole (last_of last xs)
 place_in_row n last [] p ys follow = (omega (arith, follow.0), follow.1)

@@ -35,7 +35,7 @@ HasNo-more xs c free other =
     All-push (λ x. eqb x 10 ≡ false) xs c free (grind (arith, nat_tests, other))
 
 -- the first line begins with bytes that stand at the beginning and have no LF among them
-first_line : (front more : List ℕ) → HasNo 10 front → 0 < length front
+pub first_line : (front more : List ℕ) → HasNo 10 front → 0 < length front
     → (rest : List ℕ) × (after : List (List ℕ)) × (lines (front ++ more) ≡ (front ++ rest) ∷ after)
 first_line front [] free some =
     let one = append-nil front in
@@ -73,7 +73,7 @@ AllTell-length [] (part ∷ parts) tell = absurd tell
 AllTell-length (line ∷ ls) [] tell = absurd tell
 AllTell-length (line ∷ ls) (part ∷ parts) tell = let same = AllTell-length ls parts tell.1 in omega (arith, same)
 
-AllTell-more : (ls : List (List ℕ)) (parts : List PartValue) (line : List ℕ) (part : PartValue) → AllTell ls parts
+pub AllTell-more : (ls : List (List ℕ)) (parts : List PartValue) (line : List ℕ) (part : PartValue) → AllTell ls parts
     → TellsPart line part → AllTell (ls ++ line ∷ []) (parts ++ part ∷ [])
 AllTell-more [] [] line part tell one = (one, tt)
 AllTell-more [] (other ∷ parts) line part tell one = absurd tell

@@ -224,6 +224,7 @@ impl Joiner {
         ensures added { (parts : List PartValue) → HasJoined self.old parts → MatchResult result
             (λ part. TellsPart line.now part × HasJoined self.new (parts ++ part ∷ []))
             (λ fault. IsWrongBehind parts line.now fault) }
+        ensures short { OnOk result (length line.now ≤ 256) }
         ensures count { OnOk result (joined_count self.new ≡ joined_count self.old + 1) }
         ensures refused { OnErr result (self.new ≡ self.old) }
     {

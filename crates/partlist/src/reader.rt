@@ -1,6 +1,6 @@
 // The lines of parts that a feed gives, one by one.
 
-ghost use Rattle.std.specs.Prelude.{◌≡◌, ◌+◌, ◌≤◌, ◌++◌, [], ℕ, List, Some, false, IfOk, IfSome, OnOk};
+ghost use Rattle.std.specs.Prelude.{◌≡◌, ◌+◌, ◌<◌, ◌≤◌, ◌++◌, [], ℕ, List, Some, false, true, IfOk, IfSome, OnOk};
 ghost use Rattle.std.specs.Prelude.{length};
 ghost use Rattle.arrayvec.specs.ArrayVec.{array_vec_len};
 ghost use Rattle.source.specs.Counts.{CountsFailure};
@@ -37,7 +37,7 @@ pub(crate) enum Found {
 }
 
 impl PartReader {
-    ghost use Rattle.partlist.specs.inside.Reader.{IsFound, TakesLine, ahead};
+    ghost use Rattle.partlist.specs.inside.Reader.{IsAhead, IsFound, TakesLine, ahead};
 
     /// No line yet, and nothing read.
     pub fn new() -> PartReader
@@ -68,13 +68,8 @@ impl PartReader {
     {
         self.held.clear();
         'pieces: loop {
-            if self.start == self.end {
-                let count = feed.read(&mut self.buffer)?;
-                self.start = 0;
-                self.end = count;
-                if count == 0 {
-                    return Ok(self.found_at_end());
-                }
+            if !self.has_more(feed)? {
+                return Ok(self.found_at_end());
             }
             match self.take() {
                 Ok(true) => return Ok(Found::Line),
@@ -82,6 +77,24 @@ impl PartReader {
                 Err(_) => return Ok(Found::Long),
             }
         }
+    }
+
+    // Reads more where nothing is ahead, and answers whether something is then.
+    fn has_more<F: Feed>(&mut self, feed: &mut F) -> Result<bool, ReadFailed>
+        ensures ahead { IfOk result (λ has. IfSome (F.remaining feed.old)
+            (IsAhead has (ahead self.old) (ahead self.new) (F.remaining feed.new))) }
+        ensures some { IfOk result (λ has. has ≡ true → 0 < length (ahead self.new)) }
+        ensures held { self.new.held ≡ self.old.held }
+        ensures gave { Gives (F.remaining feed.old) (F.remaining feed.new) }
+        ensures count { CountsFailure result (F.failure_count feed.old) (F.failure_count feed.new) }
+    {
+        if self.start < self.end {
+            return Ok(true);
+        }
+        let count = feed.read(&mut self.buffer)?;
+        self.start = 0;
+        self.end = count;
+        Ok(count > 0)
     }
 
     // What was found where the feed has ended.

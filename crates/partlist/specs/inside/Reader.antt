@@ -1,5 +1,5 @@
 -- What contracts see of a reader of lines, and what was found of the bytes that it reads.
-use Rattle.std.specs.Prelude.{◌≡◌, ◌<◌, ℕ, Bool, List, [], ◌∷◌, ◌++◌, MatchBool, MatchOption, MatchResult, Option}
+use Rattle.std.specs.Prelude.{◌≡◌, ◌<◌, ℕ, Bool, List, [], ◌∷◌, ◌++◌, MatchBool, MatchOption, MatchResult, Option, false}
 use Rattle.std.specs.Prelude.{Result, Some, ⊤, drop, length, take, ◌+◌}
 use Rattle.b3.specs.declared.row.PartValue.{PartValue}
 use Rattle.sumlist.specs.Lines.{lines}
@@ -17,6 +17,11 @@ use Rattle.partlist.specs.inside.Joiner.{HasJoined}
 -- the bytes that it has read and are yet to be taken
 abbrev pub ahead : PartReader → List ℕ
 ahead r = drop r.start (take r.end r.buffer)
+
+-- of these bytes to come some are ahead now, or there are none
+abbrev pub IsAhead : Bool → (old new : List ℕ) → Option (List ℕ) → List ℕ → Type 0
+IsAhead has old new rest bytes = (left : List ℕ) × (rest ≡ Some left) × (old ++ bytes ≡ new ++ left)
+    × (has ≡ false → old ++ bytes ≡ [])
 
 -- these bytes of a line were held, behind which others are ahead: up to the first LF, or all, or they are too many
 abbrev pub TakesLine : {E : Type 0} → (held old items new : List ℕ) → Result Bool E → Type 0
