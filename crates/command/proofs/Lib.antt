@@ -15,6 +15,8 @@ pub mod Deriving
 pub mod CutParts
 pub mod Starting
 pub mod EachPart
+pub mod VerifiedParts
+pub mod VerifiedNames
 pub mod Listing
 pub mod Reporting
 pub mod Names

@@ -1,18 +1,20 @@
 // The command `part` with `--verify`: whether the parts that lines tell are those of a file.
 
 ghost use Rattle.std.specs.Prelude.{◌≡◌, ◌≤◌, ◌+◌, ◌*◌, ◌++◌, ◌∷◌, ℕ, [], true, length, IfOk, IfSome, IsErrOf, Some};
+ghost use Rattle.std.specs.Prelude.{if◌then◌else◌, nat_lt};
 ghost use Rattle.std.specs.Fmt.{decimal};
-ghost use Rattle.b3.specs.Parts.{IsPlacedAt};
 ghost use Rattle.source.specs.Counts.{count_after};
 ghost use Rattle.source.specs.Written.{Writes};
 ghost use Rattle.sumlist.specs.Report.{verdict_text};
+ghost use Rattle.sumlist.specs.declared.verdict.Verdict.TheVariants.{Missing};
 ghost use Rattle.command.specs.Lines.{content_of, is_input, opens_of};
 ghost use Rattle.command.specs.Verifying.{VerifyRuns, status_of};
 ghost use Rattle.command.specs.inside.Reading.{failed};
 ghost use Rattle.command.specs.inside.Seen.{DoesRun, IfTold, OpensAtMost};
 ghost use Rattle.command.specs.inside.Streams.{SameStreams};
 ghost use Rattle.command.specs.inside.Troubles.{Counted};
-ghost use Rattle.command.specs.inside.Verifying.{ComparesFeeds, ComparesName, DoesBeside, IsRoomOf, Judges, JudgesNext};
+ghost use Rattle.command.specs.inside.Verifying.{ComparesFeeds, ComparesName, DoesBeside, EndsWith, IsRoomOf, Judges};
+ghost use Rattle.command.specs.inside.Verifying.{JudgesNext, is_missing, same_value};
 
 use crate::cutting::{RUN, next_part};
 use crate::digests::part_buffer;
@@ -105,7 +107,7 @@ fn verify_feed<'n, P: Feed, F: Feed, W: Sink>(
         let verdict = next_verdict(&told, has_ended, run, name, feed)?;
         write_told(&told, verdict, out)?;
         status = status_of(verdict).max(status);
-        has_ended = matches!(verdict, Verdict::Missing);
+        has_ended = is_missing(verdict);
     }
 }
 
@@ -147,10 +149,10 @@ fn read_verdict<'n, F: Feed>(
     let room = room_of(told);
     let few = CHUNK_LEN * room.min(RUN) as usize;
     let (first, len) = (told.first_chunk(), told.len());
-    match next_part(first, room, Some(len), &mut run[..few], name, feed)? {
-        Some(part) if part.len() == len => Ok(verdict_of(told, &part)),
-        _ => Ok(Verdict::Missing),
-    }
+    let Some(found) = next_part(first, room, Some(len), &mut run[..few], name, feed)? else {
+        return Ok(Verdict::Missing);
+    };
+    Ok(verdict_of(told, &found))
 }
 
 // The least power of two of chunks that has room for a part.
@@ -161,10 +163,14 @@ fn room_of(part: &PartValue) -> u64
     chunks.next_power_of_two()
 }
 
-// The verdict on a part, by the part of as many bytes that are there.
+// The verdict on a part, by the part of as many of its bytes as there are.
 fn verdict_of(told: &PartValue, found: &PartValue) -> Verdict
+    ensures { result ≡ (if nat_lt found.now.len told.now.len then Missing
+        else same_value told.now.value found.now.value) }
 {
-    if told.bytes() == found.bytes() {
+    if found.len() < told.len() {
+        Verdict::Missing
+    } else if told.bytes() == found.bytes() {
         Verdict::Matches
     } else {
         Verdict::Differs
@@ -181,8 +187,19 @@ fn status_of(verdict: Verdict) -> u8
     }
 }
 
+// Whether it says that the bytes end before the part.
+fn is_missing(verdict: Verdict) -> bool
+    ensures { result ≡ is_missing verdict }
+{
+    matches!(verdict, Verdict::Missing)
+}
+
 // The status of a run at the end of the lines, where the feed of this name has to end too.
 fn status_at_end<'n, F: Feed>(status: u8, name: &'n str, feed: &mut F) -> Result<u8, Fault<'n>>
+    ensures end { IfSome (F.remaining feed.old) (λ rest. EndsWith status name.entry.now rest result) }
+    ensures counted { F.failure_count feed.new
+        ≡ count_after (F.failure_count feed.old) (failed true (Some []) result).input }
+    ensures memory { IsErrOf result Fault.OutOfMemory → ⊥ }
 {
     if gives_byte(name, feed)? {
         Err(Fault::BytesBehind(name))

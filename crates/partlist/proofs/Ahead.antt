@@ -1,7 +1,7 @@
 -- Lines of parts that are read one by one.
 use Rattle.std.proofs.Common.{◌≡◌, ◌∙◌, ℕ, ◌+◌, ◌-◌, ◌<◌, ◌≤◌, Bool, true, false, List, [], ◌∷◌, ◌++◌, length, take, drop}
 use Rattle.std.proofs.Common.{Option, Some, None, IfSome, Result, Ok, Err, MatchResult, refl, sym, ap, subst, arith}
-use Rattle.std.proofs.Common.{append_assoc, append-nil, length-append, length-drop, eqb, MatchBool, OnOk}
+use Rattle.std.proofs.Common.{append_assoc, length-append, length-drop, eqb}
 use Rattle.std.proofs.Math.Seq.{drop-append-add}
 use Rattle.std.proofs.lemmas.List.{drop-drop, length-take, nil_from_length}
 use Rattle.std.proofs.lemmas.List.Elements.{All-append}
@@ -99,9 +99,12 @@ module _ (known now after : Option (List ℕ)) (whole old new held items : List 
           let all : whole ++ bytes ≡ (held ++ front) ++ 10 ∷ (new ++ left)
           = so.2 ∙ ap (λ (l : List ℕ). held ++ (l ++ left)) split
           ∙ ap (λ (l : List ℕ). held ++ l) (append_assoc front (10 ∷ new) left)
-          ∙ sym (append_assoc held front (10 ∷ (new ++ left))) in
-          (left, so.1, ap lines all ∙ lines-ended (held ++ front) (new ++ left) line
-              ∙ ap (λ (l : List ℕ). l ∷ lines (new ++ left)) (sym is))
+          ∙ sym (append_assoc held front (10 ∷ (new ++ left))) in (
+            left,
+            so.1,
+            ap lines all ∙ lines-ended (held ++ front) (new ++ left) line
+                ∙ ap (λ (l : List ℕ). l ∷ lines (new ++ left)) (sym is),
+          )
 
   -- all that was ahead was held
   pub reads_on : (E : Type 0) → (let r : Result Bool E = Ok false in TakesLine held old items new r)

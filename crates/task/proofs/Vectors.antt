@@ -5,7 +5,7 @@ use Rattle.request.proofs.ExampleWords.{clap_on_literals, subcommand_of}
 use Rattle.request.specs.CommandLine.{NameList, Text, sums_app}
 use Rattle.sumlist.specs.declared.kind.Kind.TheVariants as kind
 use Rattle.task.specs.Tasks.{Asked, asked, checks, digests, in_file, joins, least_power, prints_line, prints_lines}
-use Rattle.task.specs.Tasks.{tags, these}
+use Rattle.task.specs.Tasks.{tags, these, verifies}
 use Rattle.task.specs.declared.hashing.Form.TheVariants.{Plain}
 use Rattle.task.specs.declared.hashing.Hash.TheVariants.{Whole}
 use Rattle.task.specs.declared.tagging.Mac.TheVariants.{Blake2b, Blake2s}
@@ -101,3 +101,13 @@ join_digest : Asks (codes "join" ∷ codes "-ablake3" ∷ codes "-l0" ∷ codes 
     (Err (codes "-l: out of range\n"))
 unfolding clap_on_literals sums_app
 join_digest names macs = refl
+
+part_verify : Asks (codes "part" ∷ codes "-ablake3" ∷ codes "--verify=p" ∷ codes "f" ∷ [])
+    (Ok (verifies (codes "p") (codes "f")))
+unfolding clap_on_literals sums_app
+part_verify names macs = refl
+
+part_verify_each : Asks (codes "part" ∷ codes "-ablake3" ∷ codes "--each=3" ∷ codes "--verify=p" ∷ codes "f" ∷ [])
+    (Err (codes "--each: not with --verify\n"))
+unfolding clap_on_literals sums_app
+part_verify_each names macs = refl

@@ -1,6 +1,6 @@
 -- What the parts of a run that verifies parts answer.
-use Rattle.std.specs.Prelude.{◌⊎◌, ◌≡◌, ℕ, [], Bool, List, IsSomeAnd, MatchBool, MatchResult, Ok, Option, Result, Some}
-use Rattle.std.specs.Prelude.{drop, false, if◌then◌else◌, length, nat_lt, take}
+use Rattle.std.specs.Prelude.{◌⊎◌, ◌≡◌, ℕ, ◌*◌, ◌%◌, ◌^◌, ◌<◌, ◌≤◌, [], Bool, List, IsSomeAnd, MatchBool, MatchResult, Ok, Option, Result, Some}
+use Rattle.std.specs.Prelude.{drop, false, true, if◌then◌else◌, length, nat_lt, take}
 use Rattle.std.specs.Str.{bytes_eq}
 use Rattle.b3.specs.Modes.{hash_parameters, tree_of}
 use Rattle.b3.specs.Node.{cv}
@@ -14,14 +14,29 @@ use Rattle.command.specs.Lines.{is_input}
 use Rattle.command.specs.Run.{IsUnread, Run}
 use Rattle.command.specs.Verifying.{Compares}
 use Rattle.command.specs.inside.Seen.{Does}
-use Rattle.command.specs.inside.Troubles.{Counted, Failures, cannot_read, counts, failures_from, plus, trouble_of}
+use Rattle.command.specs.inside.Troubles.{Failures, bytes_behind, cannot_read, counts, failures_from, plus}
+use Rattle.command.specs.inside.Troubles.{trouble_of}
 use Rattle.command.specs.declared.fault.Fault.{Fault}
+
+-- a power of two of chunks, in which there is room for a part where it stands
+pub record IsRoomOf (part : PartValue) (room : ℕ) : Type 0 where
+  pub power : (e : ℕ) × (room ≡ 2 ^ e)
+  pub aligned : part.first_chunk % room ≡ 0
+  pub enough : part.len ≤ 1024 * room
+
+-- what chaining values make of a part, where all its bytes are there
+abbrev pub same_value : (told found : List ℕ) → Verdict
+same_value told found = if bytes_eq told found then Matches else Differs
 
 -- the verdict on a part by the bytes from its first one on
 abbrev pub verdict_on : List ℕ → PartValue → Verdict
 verdict_on rest part = if nat_lt (length rest) part.len then Missing
-    else if bytes_eq part.value (cv (tree_of hash_parameters part.first_chunk (take part.len rest)))
-    then Matches else Differs
+    else same_value part.value (cv (tree_of hash_parameters part.first_chunk (take part.len rest)))
+
+-- it says that the bytes end before the part
+abbrev pub is_missing : Verdict → Bool
+is_missing Missing = true
+is_missing _ = false
 
 -- the next bytes of a name were judged by a part, or not be read
 abbrev pub Judges : PartValue → Text → List ℕ → Option (List ℕ) → Result Verdict Fault → Type 0
@@ -33,6 +48,11 @@ Judges part name rest after r = MatchResult r
 abbrev pub JudgesNext : Bool → PartValue → Text → List ℕ → Option (List ℕ) → Result Verdict Fault → Type 0
 JudgesNext has_ended part name rest after r =
     MatchBool has_ended ((r ≡ Ok Missing) × (after ≡ Some rest)) (Judges part name rest after r)
+
+-- the status of a run at the end of the lines, where these bytes are left of a name, or a fault tells why there is none
+abbrev pub EndsWith : ℕ → Text → List ℕ → Result ℕ Fault → Type 0
+EndsWith status name rest r = MatchResult r (λ s. (s ≡ status) × (rest ≡ []))
+    (λ fault. ((trouble_of fault ≡ bytes_behind name) × (0 < length rest)) ⊎ (trouble_of fault ≡ cannot_read name))
 
 -- one of these runs was done, whose failures are so many of the list of parts, which counted them, and others
 abbrev pub DoesBeside : (Run → Type 0) → Result ℕ Fault → (old new : Shown) → (i j : ℕ) → (Failures → Type 0)

@@ -7,7 +7,6 @@ use Rattle.sumlist.specs.inside.Cut.{HasNo}
 use Rattle.partlist.specs.Joined.{IsWrongBehind, TellsPart}
 use Rattle.partlist.specs.declared.fault.JoinFault.{JoinFault}
 use Rattle.partlist.specs.declared.fault.JoinFault.TheVariants as join
-use Rattle.partlist.specs.declared.fault.PartFault.{PartFault}
 use Rattle.partlist.specs.declared.joining.Joiner.{Joiner}
 use Rattle.partlist.specs.declared.reader.Found.{Found}
 use Rattle.partlist.specs.declared.reader.Found.TheVariants as found

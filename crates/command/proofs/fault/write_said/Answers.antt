@@ -22,3 +22,6 @@ returns-in_ok-write_visible-in-BadLine g c =
     rw c.in-BadLine.is (Writes-after _ _ _ _ (visible c.in-BadLine.list.now) _
     c.in_ok-write_visible-in-BadLine.ensures
     (rw c.line_complaint.ensures at c.write_number-in-BadLine.ensures))
+
+pub returns-in-BytesBehind : goal.returns-in-BytesBehind
+returns-in-BytesBehind g c = rw c.in-BytesBehind.is c.write_of-in-BytesBehind.ensures

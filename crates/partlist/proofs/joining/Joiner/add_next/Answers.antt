@@ -1,4 +1,3 @@
-use Rattle.std.proofs.Common.{[]}
 use Rattle.partlist.specs.inside.Reader.{ahead}
 use Rattle.partlist.proofs.Ahead.{joins_long, joins_part, joins_wrong}
 use Rattle.partlist.proofs.joining.Joiner.add_next.Goals as goal

@@ -1,0 +1,487 @@
+-- The run of `part --verify`.
+use Rattle.std.proofs.Common.{◌≡◌, ◌∙◌, ℕ, ◌+◌, ◌-◌, ◌*◌, ◌<◌, ◌≤◌, Bool, true, false, List, [], ◌∷◌, ◌++◌, length, max}
+use Rattle.std.proofs.Common.{take, drop, Option, Some, None, IfSome, Result, Ok, Err, refl, sym, ap, subst, arith}
+use Rattle.std.proofs.Common.{inl, inr, append_assoc, append-nil, length-drop, codes, nat_lt, if◌then◌else◌}
+use Rattle.std.proofs.KnownBytes.{Appends-nil}
+use Rattle.std.proofs.lemmas.Bool.Decides.{nat_tests}
+use Rattle.std.proofs.lemmas.Grind.{flat_map-append}
+use Rattle.std.proofs.lemmas.List.{drop-drop, drop_all}
+use Rattle.std.proofs.lemmas.Result.{err_from_is_err_and}
+use Rattle.std.specs.Borrow.{Bor}
+use Rattle.std.specs.Prelude.{IsErrAnd}
+use Rattle.std.specs.Fmt.{decimal}
+use Rattle.std.specs.List.{flat_map}
+use Rattle.std.specs.Str.{bytes_eq}
+use Rattle.b3.specs.Modes.{hash_parameters, tree_of}
+use Rattle.b3.specs.Node.{cv}
+use Rattle.b3.specs.declared.row.PartValue.{PartValue}
+use Rattle.request.specs.CommandLine.{Text}
+use Rattle.partlist.proofs.Behind.{bytes_of-more}
+use Rattle.partlist.proofs.Outcomes.{place_in_row}
+use Rattle.partlist.proofs.Reading.{AllTell-more, row-is}
+use Rattle.partlist.specs.Joined.{AllTell, AreInRow, IsWrongBehind, bytes_of}
+use Rattle.partlist.specs.declared.fault.JoinFault.{JoinFault}
+use Rattle.partlist.specs.declared.fault.JoinFault.TheVariants.{Line, Read}
+use Rattle.partlist.specs.declared.fault.PartFault.{PartFault}
+use Rattle.partlist.specs.declared.joining.Joiner.{Joiner}
+use Rattle.partlist.specs.inside.Joiner.{HasJoined, JoinCounts}
+use Rattle.partlist.specs.inside.Reader.{IsStopped, JoinsNext}
+use Rattle.source.proofs.Writing.{Done-after, Failed-after}
+use Rattle.source.specs.Counts.{count_after}
+use Rattle.source.specs.Written.{Done, Failed, Shown}
+use Rattle.sumlist.specs.Lines.{lines}
+use Rattle.sumlist.specs.Report.{verdict_text}
+use Rattle.sumlist.specs.declared.verdict.Verdict.{Verdict}
+use Rattle.sumlist.specs.declared.verdict.Verdict.TheVariants.{Differs, Matches, Missing}
+use Rattle.command.specs.Joining.{line_complaint}
+use Rattle.command.specs.Lines.{is_input}
+use Rattle.command.specs.Run.{Run, of_name, prints, stops}
+use Rattle.command.specs.Verifying.{Compares, VerifyEnds, status, status_of, verdict, verdict_line}
+use Rattle.command.specs.inside.Faults.{of_join}
+use Rattle.command.specs.inside.Seen.{Does}
+use Rattle.command.specs.inside.Troubles.{bad_line, bytes_behind, cannot_read, cannot_write, counts, failures_from}
+use Rattle.command.specs.inside.Troubles.{plus, shown, trouble_of}
+use Rattle.command.specs.inside.Reading.{failed}
+use Rattle.command.specs.inside.Verifying.{ComparesFeeds, EndsWith, JudgesNext, is_missing, verdict_on}
+use Rattle.command.specs.declared.fault.Fault.{Fault}
+use Rattle.command.proofs.Refused.{Does-unprinted, unprinted}
+
+-- of what two feeds give, where both are told
+abbrev pub Both : Option (List ℕ) → Option (List ℕ) → (List ℕ → List ℕ → Type 0) → Type 0
+Both list file P = IfSome list (λ text. IfSome file (λ m. P text m))
+
+-- what was said of the parts so far, and what is still to come of both
+pub record SoFar (text m : List ℕ) (joiner : Joiner) (front : List ℕ) (list file : Option (List ℕ)) (n : ℕ)
+    (has_ended : Bool) (old new : Shown) : Type 0 where
+  pub before : List (List ℕ)
+  pub told : List PartValue
+  pub left : List ℕ
+  pub list_is : list ≡ Some left
+  pub split : lines text ≡ before ++ lines (front ++ left)
+  pub tells : AllTell before told
+  pub joined : HasJoined joiner told
+  pub file_is : file ≡ Some (drop (bytes_of told) m)
+  pub status_is : n ≡ status m told
+  pub ended : has_ended ≡ nat_lt (length m) (bytes_of told)
+  pub written : Done old new (flat_map (verdict_line m) told)
+
+pub so_start : (list file : Option (List ℕ)) (joiner : Joiner) (front : List ℕ) (old : Shown) → HasJoined joiner []
+    → front ≡ [] → Both list file (λ text m. SoFar text m joiner front list file 0 false old old)
+so_start None file joiner front old joined none = tt
+so_start (Some text) None joiner front old joined none = tt
+so_start (Some text) (Some m) joiner front old joined none = record {
+  before = [];
+  told = [];
+  left = text;
+  list_is = refl;
+  split = ap (λ (l : List ℕ). lines (l ++ text)) (sym none);
+  tells = tt;
+  joined = joined;
+  file_is = refl;
+  status_is = refl;
+  ended = grind (arith, nat_tests);
+  written = (refl, Appends-nil old.contents);
+}
+
+-- ---- the next part
+
+-- what the next line was found to be
+abbrev pub Next : Joiner → Joiner → (front ahead : List ℕ) → (list after : Option (List ℕ))
+    → Result (Option PartValue) JoinFault → Type 0
+Next joiner next front ahead list after r = IfSome list (λ bytes. (left : List ℕ) × (after ≡ Some left)
+    × ((parts : List PartValue) → HasJoined joiner parts → JoinsNext (front ++ bytes) parts next (ahead ++ left) r))
+
+-- a part was told behind others
+pub record NextPart (text : List ℕ) (next : Joiner) (ahead : List ℕ) (after : Option (List ℕ))
+    (before : List (List ℕ)) (told : List PartValue) (part : PartValue) : Type 0 where
+  pub line : List ℕ
+  pub left : List ℕ
+  pub list_is : after ≡ Some left
+  pub split : lines text ≡ (before ++ line ∷ []) ++ lines (ahead ++ left)
+  pub tells : AllTell (before ++ line ∷ []) (told ++ part ∷ [])
+  pub joined : HasJoined next (told ++ part ∷ [])
+  pub place : 1024 * part.first_chunk ≡ bytes_of told
+
+verdict_same : (m : List ℕ) (part : PartValue) → 1024 * part.first_chunk ≤ length m
+    → verdict_on (drop (1024 * part.first_chunk) m) part ≡ verdict m part
+verdict_same m part within =
+    let size = length-drop (1024 * part.first_chunk) m in
+    let test : nat_lt (length (drop (1024 * part.first_chunk) m)) part.len
+    ≡ nat_lt (length m) (1024 * part.first_chunk + part.len) = grind (arith, nat_tests) in
+    rw test refl
+
+verdict_missing : (m : List ℕ) (part : PartValue) → length m < 1024 * part.first_chunk + part.len
+    → verdict m part ≡ Missing
+verdict_missing m part short =
+    let test : nat_lt (length m) (1024 * part.first_chunk + part.len) ≡ true = grind (arith, nat_tests) in rw test refl
+
+-- what a verdict says of the end of the bytes
+verdict_ends : (m : List ℕ) (part : PartValue)
+    → is_missing (verdict m part) ≡ nat_lt (length m) (1024 * part.first_chunk + part.len)
+verdict_ends m part = on (nat_lt (length m) (1024 * part.first_chunk + part.len))
+    (bytes_eq part.value (cv (tree_of hash_parameters part.first_chunk
+    (take part.len (drop (1024 * part.first_chunk) m)))))
+  where
+    on : (short same : Bool)
+        → is_missing (if short then Missing else if same then Matches else Differs) ≡ short
+    on true same = refl
+    on false true = refl
+    on false false = refl
+
+-- the verdict on the next part, and what is left behind it
+judged : (m : List ℕ) (told : List PartValue) (part : PartValue) (name : Text) (has_ended : Bool)
+    (after : Option (List ℕ)) (v : Verdict) → 1024 * part.first_chunk ≡ bytes_of told
+    → has_ended ≡ nat_lt (length m) (bytes_of told)
+    → (let r : Result Verdict Fault = Ok v in JudgesNext has_ended part name (drop (bytes_of told) m) after r)
+    → (v ≡ verdict m part) × (after ≡ Some (drop (bytes_of (told ++ part ∷ [])) m))
+judged m told part name true after v place ended judges =
+    let same : v ≡ Missing = (let e = judges.0 in cc) in
+    let short : length m < bytes_of told = grind (arith, nat_tests) in
+    let more = bytes_of-more told part in (
+      same ∙ sym (verdict_missing m part (omega (arith, short, place))),
+      judges.1 ∙ ap Some (drop_all (bytes_of told) m (omega (arith, short))
+          ∙ sym (drop_all (bytes_of (told ++ part ∷ [])) m (omega (arith, short, more)))),
+    )
+judged m told part name false after v place ended judges =
+    let within : bytes_of told ≤ length m = grind (arith, nat_tests) in
+    let more = bytes_of-more told part in (
+      judges.0 ∙ ap (λ (k : ℕ). verdict_on (drop k m) part) (sym place)
+          ∙ verdict_same m part (omega (arith, place, within)),
+      judges.1 ∙ ap Some (drop-drop part.len (bytes_of told) m ∙ ap (λ (k : ℕ). drop k m) (sym more)),
+    )
+
+status-more : (m : List ℕ) (told : List PartValue) (part : PartValue)
+    → status m (told ++ part ∷ []) ≡ max (status_of (verdict m part)) (status m told)
+status-more m [] part = refl
+status-more m (first ∷ told) part = let rest = status-more m told part in omega (arith, rest)
+
+lines_said : (m : List ℕ) (told : List PartValue) (part : PartValue)
+    → flat_map (verdict_line m) (told ++ part ∷ []) ≡ flat_map (verdict_line m) told ++ verdict_line m part
+lines_said m told part = flat_map-append (verdict_line m) told (part ∷ [])
+    ∙ ap (λ (l : Text). flat_map (verdict_line m) told ++ l) (append-nil (verdict_line m part))
+
+-- the line that is written of a verdict
+abbrev pub line_said : PartValue → Verdict → Text
+line_said part v = decimal part.first_chunk ++ 32 ∷ (decimal part.len ++ verdict_text v)
+
+-- ---- how a run ends
+
+abbrev pub Compared : Text → Text → (text m : List ℕ) → Result ℕ Fault → (old new : Shown) → (i j u v : ℕ) → Type 0
+Compared parts name text m r old new i j u v = ComparesFeeds parts name text m r old new i j u v
+
+quiet_both : (b : Bool) → counts [] ≡ plus (failures_from false 0) (failures_from b 0)
+quiet_both true = refl
+quiet_both false = refl
+
+list_failed : (b : Bool) → counts (false ∷ []) ≡ plus (failures_from false 1) (failures_from b 0)
+list_failed true = refl
+list_failed false = refl
+
+file_failed : (b : Bool) → counts (b ∷ []) ≡ plus (failures_from false 0) (failures_from b 1)
+file_failed true = refl
+file_failed false = refl
+
+Does-begun : (front : Text) (end : Run) (f : Fault) (old new : Shown) → end.ending ≡ Err (shown (trouble_of f))
+    → end.is_whole ≡ true → Done old new front
+    → (let r : Result ℕ Fault = Err f in Does (record end { text = front }) r old new)
+Does-begun front end f old new is whole done =
+    record { ending = is; out = rw whole done; cut = λ no. let e = sym whole ∙ no in cc }
+
+module _ (parts name : Text) (text m : List ℕ) (joiner : Joiner) (front : List ℕ) (list file : Option (List ℕ)) (n : ℕ)
+    (has_ended : Bool) (old mid : Shown) (i j u v : ℕ)
+    (so : SoFar text m joiner front list file n has_ended old mid) where
+  abbrev said : Text
+  said = flat_map (verdict_line m) so.told
+
+  row : AreInRow so.told
+  row = row-is joiner.row so.told so.joined.row
+
+  -- no more is said, by what the run ends with
+  ends_by : (after : List (List ℕ)) → lines (front ++ so.left) ≡ after → (end : Run)
+      → VerifyEnds parts name text m so.told after end → Compares parts name text m (record end { text = said })
+  ends_by after is end ends =
+      (so.before, after, so.told, so.split ∙ ap (λ ls. so.before ++ ls) is, so.tells, row, inr (end, ends, refl))
+
+  none_after : front ++ so.left ≡ [] → lines (front ++ so.left) ≡ []
+  none_after none = ap lines none
+
+  pub ends_ok : front ++ so.left ≡ [] → length m ≤ bytes_of so.told → j ≡ i → v ≡ u
+      → Compared parts name text m (Ok n) old mid i j u v
+  ends_ok none few p q =
+      let test : nat_lt (bytes_of so.told) (length m) ≡ false = grind (arith, nat_tests) in (
+        prints said (status m so.told),
+        ends_by [] (none_after none) (prints [] (status m so.told)) (inl (refl, rw test refl)),
+        record { ending = ap Ok (sym so.status_is); out = so.written; cut = λ e. cc },
+        refl,
+        0,
+        failures_from (is_input name) 0,
+        quiet_both (is_input name),
+        omega (arith, p),
+        (0, refl, omega (arith, q)),
+      )
+
+  pub ends_behind : (f : Fault) → trouble_of f ≡ bytes_behind name → front ++ so.left ≡ [] → bytes_of so.told < length m
+      → j ≡ i → v ≡ u → Compared parts name text m (Err f) old mid i j u v
+  ends_behind f is none more p q =
+      let test : nat_lt (bytes_of so.told) (length m) ≡ true = grind (arith, nat_tests) in
+      let end : Run = stops (of_name name (codes ": bytes behind the last part\n")) in (
+        record end { text = said },
+        ends_by [] (none_after none) end (inl (refl, rw test refl)),
+        Does-begun said end f old mid (ap (λ t. Err (shown t)) (sym is)) refl so.written,
+        refl,
+        0,
+        failures_from (is_input name) 0,
+        quiet_both (is_input name),
+        omega (arith, p),
+        (0, refl, omega (arith, q)),
+      )
+
+  -- a read of the file failed
+  pub ends_unread : (f : Fault) → trouble_of f ≡ cannot_read name → j ≡ i → v ≡ count_after u 1
+      → Compared parts name text m (Err f) old mid i j u v
+  ends_unread f is p q =
+      let end : Run = record (stops (of_name name (codes ": cannot read\n"))) { failures = is_input name ∷ [] } in (
+        record end { text = said },
+        ends_by (lines (front ++ so.left)) refl end (inr (inr (inr (inr refl)))),
+        Does-begun said end f old mid (ap (λ t. Err (shown t)) (sym is)) refl so.written,
+        refl,
+        0,
+        failures_from (is_input name) 1,
+        file_failed (is_input name),
+        omega (arith, p),
+        (1, refl, q),
+      )
+
+  -- a read of the lines failed
+  pub ends_unlisted : (f : Fault) → trouble_of f ≡ cannot_read parts → j ≡ count_after i 1 → v ≡ u
+      → Compared parts name text m (Err f) old mid i j u v
+  ends_unlisted f is p q =
+      let end : Run = record (stops (of_name parts (codes ": cannot read\n"))) { failures = false ∷ [] } in (
+        record end { text = said },
+        ends_by (lines (front ++ so.left)) refl end (inr (inr (inl (inr refl)))),
+        Does-begun said end f old mid (ap (λ t. Err (shown t)) (sym is)) refl so.written,
+        refl,
+        1,
+        failures_from (is_input name) 0,
+        list_failed (is_input name),
+        p,
+        (0, refl, omega (arith, q)),
+      )
+
+  -- a line tells no part behind those before it
+  pub ends_wrong : (f : Fault) (number : ℕ) (fault : PartFault) → trouble_of f ≡ bad_line parts number fault
+      → IsStopped (lines (front ++ so.left)) so.told (Line number fault) → j ≡ i → v ≡ u
+      → Compared parts name text m (Err f) old mid i j u v
+  ends_wrong f number fault is (line, rest, cut, place, wrong) p q =
+      let end : Run = stops (of_name parts (codes ": line " ++ (decimal (length so.told + 1) ++ line_complaint fault))) in
+      let told : Err (shown (bad_line parts (length so.told + 1) fault)) ≡ Err (shown (trouble_of f))
+      = ap (λ (k : ℕ). Err (shown (bad_line parts k fault))) (sym place) ∙ ap (λ t. Err (shown t)) (sym is) in (
+        record end { text = said },
+        ends_by (lines (front ++ so.left)) refl end (inr (inl (line, rest, cut, fault, wrong, refl))),
+        Does-begun said end f old mid told refl so.written,
+        refl,
+        0,
+        failures_from (is_input name) 0,
+        quiet_both (is_input name),
+        omega (arith, p),
+        (0, refl, omega (arith, q)),
+      )
+
+  module _ (next : Joiner) (ahead : List ℕ) (after : Option (List ℕ)) where
+    abbrev pub Finds : Result (Option PartValue) JoinFault → Type 0
+    Finds r = Next joiner next front ahead list after r
+
+    -- what was found behind the parts so far
+    found : (r : Result (Option PartValue) JoinFault) → Finds r
+        → (left : List ℕ) × (after ≡ Some left) × JoinsNext (front ++ so.left) so.told next (ahead ++ left) r
+    found r line = let it = rw so.list_is at line in (it.0, it.1, it.2 so.told so.joined)
+
+    pub ends_at : Finds (Ok None) → (front ++ so.left ≡ []) × HasJoined next so.told
+    ends_at line = (found (Ok None) line).2
+
+    pub ends_fault : (f : Fault) (fault : JoinFault) (name_of : Bor Text) → name_of.now ≡ parts
+        → f ≡ of_join fault name_of → Finds (Err fault)
+        → (let r : Result (Option PartValue) JoinFault = Err fault in JoinCounts r i j) → v ≡ u
+        → Compared parts name text m (Err f) old mid i j u v
+    ends_fault f Read name_of same is line p q = ends_unlisted f (ap trouble_of is ∙ ap cannot_read same) p q
+    ends_fault f (Line number fault) name_of same is line p q =
+        ends_wrong f number fault (ap trouble_of is ∙ ap (λ (l : Text). bad_line l number fault) same)
+        (found (Err (Line number fault)) line).2 p q
+
+    module _ (part : PartValue) (finds : Finds (Ok (Some part))) where
+      pub next_part : NextPart text next ahead after so.before so.told part
+      next_part =
+          let it = found (Ok (Some part)) finds in
+          let line = it.2.0 in
+          let row = row-is next.row (so.told ++ part ∷ []) it.2.3.row in
+          let at = (place_in_row 0 1024 so.told part [] row).0 in
+          record {
+            line = line;
+            left = it.0;
+            list_is = it.1;
+            split = so.split ∙ ap (λ ls. so.before ++ ls) it.2.1
+                ∙ sym (append_assoc so.before (line ∷ []) (lines (ahead ++ it.0)));
+            tells = AllTell-more so.before so.told line part so.tells it.2.2;
+            joined = it.2.3;
+            place = omega (arith, at);
+          }
+
+      module _ (w : Verdict) (file' : Option (List ℕ))
+          (judges : IfSome file (λ rest. let r : Result Verdict Fault = Ok w in
+          JudgesNext has_ended part name rest file' r)) where
+        verdict_is : (w ≡ verdict m part) × (file' ≡ Some (drop (bytes_of (so.told ++ part ∷ [])) m))
+        verdict_is = judged m so.told part name has_ended file' w next_part.place so.ended (rw so.file_is at judges)
+
+        line_is : line_said part w ≡ verdict_line m part
+        line_is = ap (line_said part) verdict_is.0
+
+        pub said_more : (new : Shown) (k : ℕ) (ends : Bool) → k ≡ max (status_of w) n → ends ≡ is_missing w
+            → Done mid new (line_said part w) → SoFar text m next ahead after file' k ends old new
+        said_more new k ends is end done =
+            let np = next_part in
+            let more = bytes_of-more so.told part in
+            let place = np.place in
+            record {
+              before = so.before ++ np.line ∷ [];
+              told = so.told ++ part ∷ [];
+              left = np.left;
+              list_is = np.list_is;
+              split = np.split;
+              tells = np.tells;
+              joined = np.joined;
+              file_is = verdict_is.1;
+              status_is = is ∙ ap (λ (x : Verdict). max (status_of x) n) verdict_is.0
+                  ∙ ap (max (status_of (verdict m part))) so.status_is ∙ sym (status-more m so.told part);
+              ended = end ∙ ap is_missing verdict_is.0 ∙ verdict_ends m part
+                  ∙ ap (nat_lt (length m)) (omega (arith, more, place));
+              written = subst (Done old new) (sym (lines_said m so.told part))
+                  (Done-after old mid new said (verdict_line m part) so.written (rw line_is at done));
+            }
+
+        -- a write of its line failed
+        pub ends_unwritten : (new : Shown) (f : Fault) → trouble_of f ≡ cannot_write → Failed mid new (line_said part w)
+            → j ≡ i → v ≡ u → Compared parts name text m (Err f) old new i j u v
+        ends_unwritten new f is failed p q =
+            let np = next_part in
+            let all : Text = flat_map (verdict_line m) (so.told ++ part ∷ []) in (
+              unprinted all,
+              (
+                so.before ++ np.line ∷ [],
+                lines (ahead ++ np.left),
+                so.told ++ part ∷ [],
+                np.split,
+                np.tells,
+                row-is next.row (so.told ++ part ∷ []) np.joined.row,
+                inl refl,
+              ),
+              Does-unprinted all [] f old new is (subst (Failed old new) (sym (lines_said m so.told part))
+                  (Failed-after old mid new said (verdict_line m part) so.written (rw line_is at failed))),
+              refl,
+              0,
+              failures_from (is_input name) 0,
+              quiet_both (is_input name),
+              omega (arith, p),
+              (0, refl, omega (arith, q)),
+            )
+
+-- ---- the same where both are told
+
+both_then : (list file : Option (List ℕ)) (P Q : List ℕ → List ℕ → Type 0) → Both list file P
+    → ((text m : List ℕ) → P text m → Q text m) → Both list file Q
+both_then None file P Q p step = tt
+both_then (Some text) None P Q p step = tt
+both_then (Some text) (Some m) P Q p step = step text m p
+
+module _ (parts name : Text) (lines_known file_known : Option (List ℕ)) (joiner : Joiner) (front : List ℕ)
+    (list file : Option (List ℕ)) (n : ℕ) (has_ended : Bool) (old mid : Shown)
+    (so : Both lines_known file_known (λ text m. SoFar text m joiner front list file n has_ended old mid)) where
+  abbrev So : List ℕ → List ℕ → Type 0
+  So text m = SoFar text m joiner front list file n has_ended old mid
+
+  -- what is to be shown of an answer
+  abbrev pub Says : Result ℕ Fault → (new : Shown) → (i j u v : ℕ) → Type 0
+  Says r new i j u v = Both lines_known file_known (λ text m. ComparesFeeds parts name text m r old new i j u v)
+
+  module _ (next : Joiner) (ahead : List ℕ) (after : Option (List ℕ)) where
+    abbrev pub Found : Result (Option PartValue) JoinFault → Type 0
+    Found r = Next joiner next front ahead list after r
+
+    pub says_all : has_ended ≡ true → Found (Ok None) → (i j u v : ℕ) → j ≡ i → v ≡ u → Says (Ok n) mid i j u v
+    says_all ended finds i j u v p q = both_then lines_known file_known So
+        (λ text m. ComparesFeeds parts name text m (Ok n) old mid i j u v) so (λ text m s.
+        let none = (ends_at parts name text m joiner front list file n has_ended old mid i j u v s
+        next ahead after finds).0 in
+        let is : nat_lt (length m) (bytes_of s.told) ≡ true = sym s.ended ∙ ended in
+        let short : length m < bytes_of s.told = grind (arith, nat_tests) in
+        ends_ok parts name text m joiner front list file n has_ended old mid i j u v s none (omega (arith, short)) p q)
+
+    pub says_end : (r : Result ℕ Fault) → Found (Ok None) → IfSome file (λ rest. EndsWith n name rest r)
+        → (i j u v : ℕ) → j ≡ i → v ≡ count_after u (failed true (Some []) r).input → Says r mid i j u v
+    says_end r finds ends i j u v p q = both_then lines_known file_known So
+        (λ text m. ComparesFeeds parts name text m r old mid i j u v) so (λ text m s.
+        on text m s (ends_at parts name text m joiner front list file n has_ended old mid i j u v s
+        next ahead after finds).0 r (rw s.file_is at ends) q)
+      where
+        on : (text m : List ℕ) (s : So text m) → front ++ s.left ≡ [] → (r : Result ℕ Fault)
+            → EndsWith n name (drop (bytes_of s.told) m) r → v ≡ count_after u (failed true (Some []) r).input
+            → ComparesFeeds parts name text m r old mid i j u v
+        on text m s none (Ok k) e q =
+            let size = length-drop (bytes_of s.told) m in
+            let zero = ap length e.1 in
+            rw e.0 (ends_ok parts name text m joiner front list file n has_ended old mid i j u v s none
+            (omega (arith, size, zero)) p (omega (arith, q)))
+        on text m s none (Err f) (inl e) q =
+            let size = length-drop (bytes_of s.told) m in
+            let some = e.1 in
+            let same : v ≡ count_after u 0 = rw e.0 at q in
+            ends_behind parts name text m joiner front list file n has_ended old mid i j u v s f e.0 none
+            (omega (arith, size, some)) p (omega (arith, same))
+        on text m s none (Err f) (inr e) q =
+            ends_unread parts name text m joiner front list file n has_ended old mid i j u v s f e p (rw e at q)
+
+    pub says_fault : (f : Fault) (fault : JoinFault) (list_name : Bor Text) → list_name.now ≡ parts
+        → f ≡ of_join fault list_name → Found (Err fault) → (i j u v : ℕ)
+        → (let r : Result (Option PartValue) JoinFault = Err fault in JoinCounts r i j) → v ≡ u
+        → Says (Err f) mid i j u v
+    says_fault f fault list_name same is finds i j u v p q = both_then lines_known file_known So
+        (λ text m. let r : Result ℕ Fault = Err f in ComparesFeeds parts name text m r old mid i j u v) so (λ text m s.
+        ends_fault parts name text m joiner front list file n has_ended old mid i j u v s next ahead after f fault
+        list_name same is finds p q)
+
+    module _ (part : PartValue) (finds : Found (Ok (Some part))) (file' : Option (List ℕ)) where
+      abbrev pub Judged : Result Verdict Fault → Type 0
+      Judged r = IfSome file (λ rest. JudgesNext has_ended part name rest file' r)
+
+      pub says_unread : (f : Fault) (r : Result ℕ Fault) → IsErrAnd r (λ g. g ≡ f) → Judged (Err f) → (i j u v : ℕ)
+          → j ≡ i → (let w : Result Verdict Fault = Err f in v ≡ count_after u (failed true (Some []) w).input)
+          → Says r mid i j u v
+      says_unread f r stopped judges i j u v p q =
+          let e = err_from_is_err_and r stopped in
+          rw (e.1, e.2) (both_then lines_known file_known So
+          (λ text m. let r : Result ℕ Fault = Err f in ComparesFeeds parts name text m r old mid i j u v) so
+          (λ text m s. let is = cannot (drop (bytes_of s.told) m) has_ended (rw s.file_is at judges) in
+          ends_unread parts name text m joiner front list file n has_ended old mid i j u v s f is p (rw is at q)))
+        where
+          cannot : (rest : List ℕ) (ended : Bool)
+              → (let w : Result Verdict Fault = Err f in JudgesNext ended part name rest file' w)
+              → trouble_of f ≡ cannot_read name
+          cannot rest true judges = let e = judges.0 in absurd (cc)
+          cannot rest false judges = judges
+
+      module _ (w : Verdict) (judges : Judged (Ok w)) (new : Shown) where
+        pub says_unwritten : (f : Fault) (r : Result ℕ Fault) → IsErrAnd r (λ g. g ≡ f) → trouble_of f ≡ cannot_write
+            → Failed mid new (line_said part w) → (i j u v : ℕ) → j ≡ i → v ≡ u → Says r new i j u v
+        says_unwritten f r stopped is failed i j u v p q =
+            let e = err_from_is_err_and r stopped in
+            rw (e.1, e.2) (both_then lines_known file_known So
+            (λ text m. let r : Result ℕ Fault = Err f in ComparesFeeds parts name text m r old new i j u v) so
+            (λ text m s. ends_unwritten parts name text m joiner front list file n has_ended old mid i j u v s next
+            ahead after part finds w file' judges new f is failed p q))
+
+        pub so_more : (k : ℕ) (ends : Bool) → k ≡ max (status_of w) n → ends ≡ is_missing w
+            → Done mid new (line_said part w)
+            → Both lines_known file_known (λ text m. SoFar text m next ahead after file' k ends old new)
+        so_more k ends is end done = both_then lines_known file_known So
+            (λ text m. SoFar text m next ahead after file' k ends old new) so (λ text m s.
+            said_more parts name text m joiner front list file n has_ended old mid 0 0 0 0 s next ahead after part
+            finds w file' judges new k ends is end done)
