@@ -2,6 +2,7 @@ pub mod Answering
 pub mod Printing
 pub mod Reading
 pub mod Refused
+pub mod Inputs
 pub mod Digits
 pub mod Going
 pub mod Given

@@ -1,6 +1,6 @@
 -- The run of `part --verify`.
 use Rattle.std.proofs.Common.{◌≡◌, ◌∙◌, ℕ, ◌+◌, ◌-◌, ◌*◌, ◌<◌, ◌≤◌, Bool, true, false, List, [], ◌∷◌, ◌++◌, length, max}
-use Rattle.std.proofs.Common.{take, drop, Option, Some, None, IfSome, Result, Ok, Err, refl, sym, ap, subst, arith}
+use Rattle.std.proofs.Common.{take, drop, Option, Some, None, IfSome, Result, Ok, Err, refl, sym, ap, subst, arith, fold}
 use Rattle.std.proofs.Common.{inl, inr, append_assoc, append-nil, length-drop, codes, nat_lt, if◌then◌else◌}
 use Rattle.std.proofs.KnownBytes.{Appends-nil}
 use Rattle.std.proofs.lemmas.Bool.Decides.{nat_tests}
@@ -36,13 +36,13 @@ use Rattle.sumlist.specs.declared.verdict.Verdict.TheVariants.{Differs, Matches,
 use Rattle.command.specs.Joining.{line_complaint}
 use Rattle.command.specs.Lines.{is_input}
 use Rattle.command.specs.Run.{Run, of_name, prints, stops}
-use Rattle.command.specs.Verifying.{Compares, VerifyEnds, status, status_of, verdict, verdict_line}
+use Rattle.command.specs.Verifying.{Compares, VerifyEnds, status, verdict, verdict_line}
 use Rattle.command.specs.inside.Faults.{of_join}
 use Rattle.command.specs.inside.Seen.{Does}
 use Rattle.command.specs.inside.Troubles.{bad_line, bytes_behind, cannot_read, cannot_write, counts, failures_from}
 use Rattle.command.specs.inside.Troubles.{plus, shown, trouble_of}
 use Rattle.command.specs.inside.Reading.{failed}
-use Rattle.command.specs.inside.Verifying.{ComparesFeeds, EndsWith, JudgesNext, is_missing, verdict_on}
+use Rattle.command.specs.inside.Verifying.{ComparesFeeds, EndsWith, JudgesNext, is_missing, status_of, verdict_on}
 use Rattle.command.specs.declared.fault.Fault.{Fault}
 use Rattle.command.proofs.Refused.{Does-unprinted, unprinted}
 
@@ -102,28 +102,50 @@ pub record NextPart (text : List ℕ) (next : Joiner) (ahead : List ℕ) (after 
   pub joined : HasJoined next (told ++ part ∷ [])
   pub place : 1024 * part.first_chunk ≡ bytes_of told
 
+-- the verdict without its status
+abbrev pub mark : List ℕ → PartValue → Verdict
+mark m part = (verdict m part).0
+
+has_value : List ℕ → PartValue → Bool
+has_value m part = bytes_eq part.value (cv (tree_of hash_parameters part.first_chunk
+    (take part.len (drop (1024 * part.first_chunk) m))))
+
+-- and that
+status_is : (m : List ℕ) (part : PartValue) → (verdict m part).1 ≡ status_of (mark m part)
+status_is m part = on (nat_lt (length m) (1024 * part.first_chunk + part.len)) (has_value m part)
+  where
+    on : (short same : Bool) → (if short then (Missing, 1) else if same then (Matches, 0) else (Differs, 1)).1
+        ≡ status_of (if short then (Missing, 1) else if same then (Matches, 0) else (Differs, 1)).0
+    on true same = refl
+    on false true = refl
+    on false false = refl
+
 verdict_same : (m : List ℕ) (part : PartValue) → 1024 * part.first_chunk ≤ length m
-    → verdict_on (drop (1024 * part.first_chunk) m) part ≡ verdict m part
+    → verdict_on (drop (1024 * part.first_chunk) m) part ≡ mark m part
 verdict_same m part within =
     let size = length-drop (1024 * part.first_chunk) m in
     let test : nat_lt (length (drop (1024 * part.first_chunk) m)) part.len
     ≡ nat_lt (length m) (1024 * part.first_chunk + part.len) = grind (arith, nat_tests) in
-    rw test refl
+    rw test (marked (nat_lt (length m) (1024 * part.first_chunk + part.len)) (has_value m part))
+  where
+    marked : (short same : Bool) → (if short then Missing else if same then Matches else Differs)
+        ≡ (if short then (Missing, 1) else if same then (Matches, 0) else (Differs, 1)).0
+    marked true same = refl
+    marked false true = refl
+    marked false false = refl
 
 verdict_missing : (m : List ℕ) (part : PartValue) → length m < 1024 * part.first_chunk + part.len
-    → verdict m part ≡ Missing
+    → mark m part ≡ Missing
 verdict_missing m part short =
     let test : nat_lt (length m) (1024 * part.first_chunk + part.len) ≡ true = grind (arith, nat_tests) in rw test refl
 
 -- what a verdict says of the end of the bytes
 verdict_ends : (m : List ℕ) (part : PartValue)
-    → is_missing (verdict m part) ≡ nat_lt (length m) (1024 * part.first_chunk + part.len)
-verdict_ends m part = on (nat_lt (length m) (1024 * part.first_chunk + part.len))
-    (bytes_eq part.value (cv (tree_of hash_parameters part.first_chunk
-    (take part.len (drop (1024 * part.first_chunk) m)))))
+    → is_missing (mark m part) ≡ nat_lt (length m) (1024 * part.first_chunk + part.len)
+verdict_ends m part = on (nat_lt (length m) (1024 * part.first_chunk + part.len)) (has_value m part)
   where
     on : (short same : Bool)
-        → is_missing (if short then Missing else if same then Matches else Differs) ≡ short
+        → is_missing (if short then (Missing, 1) else if same then (Matches, 0) else (Differs, 1)).0 ≡ short
     on true same = refl
     on false true = refl
     on false false = refl
@@ -133,7 +155,7 @@ judged : (m : List ℕ) (told : List PartValue) (part : PartValue) (name : Text)
     (after : Option (List ℕ)) (v : Verdict) → 1024 * part.first_chunk ≡ bytes_of told
     → has_ended ≡ nat_lt (length m) (bytes_of told)
     → (let r : Result Verdict Fault = Ok v in JudgesNext has_ended part name (drop (bytes_of told) m) after r)
-    → (v ≡ verdict m part) × (after ≡ Some (drop (bytes_of (told ++ part ∷ [])) m))
+    → (v ≡ mark m part) × (after ≡ Some (drop (bytes_of (told ++ part ∷ [])) m))
 judged m told part name true after v place ended judges =
     let same : v ≡ Missing = (let e = judges.0 in cc) in
     let short : length m < bytes_of told = grind (arith, nat_tests) in
@@ -151,9 +173,13 @@ judged m told part name false after v place ended judges =
     )
 
 status-more : (m : List ℕ) (told : List PartValue) (part : PartValue)
-    → status m (told ++ part ∷ []) ≡ max (status_of (verdict m part)) (status m told)
-status-more m [] part = refl
-status-more m (first ∷ told) part = let rest = status-more m told part in omega (arith, rest)
+    → status m (told ++ part ∷ []) ≡ max (status m told) (status_of (mark m part))
+status-more m told part = on 0 told ∙ ap (max (status m told)) (status_is m part)
+  where
+    on : (s : ℕ) (told : List PartValue) → fold (λ s part. max s (verdict m part).1) s (told ++ part ∷ [])
+        ≡ max (fold (λ s part. max s (verdict m part).1) s told) (verdict m part).1
+    on s [] = refl
+    on s (first ∷ told) = on (max s (verdict m first).1) told
 
 lines_said : (m : List ℕ) (told : List PartValue) (part : PartValue)
     → flat_map (verdict_line m) (told ++ part ∷ []) ≡ flat_map (verdict_line m) told ++ verdict_line m part
@@ -329,13 +355,13 @@ module _ (parts name : Text) (text m : List ℕ) (joiner : Joiner) (front : List
       module _ (w : Verdict) (file' : Option (List ℕ))
           (judges : IfSome file (λ rest. let r : Result Verdict Fault = Ok w in
           JudgesNext has_ended part name rest file' r)) where
-        verdict_is : (w ≡ verdict m part) × (file' ≡ Some (drop (bytes_of (so.told ++ part ∷ [])) m))
+        verdict_is : (w ≡ mark m part) × (file' ≡ Some (drop (bytes_of (so.told ++ part ∷ [])) m))
         verdict_is = judged m so.told part name has_ended file' w next_part.place so.ended (rw so.file_is at judges)
 
         line_is : line_said part w ≡ verdict_line m part
         line_is = ap (line_said part) verdict_is.0
 
-        pub said_more : (new : Shown) (k : ℕ) (ends : Bool) → k ≡ max (status_of w) n → ends ≡ is_missing w
+        pub said_more : (new : Shown) (k : ℕ) (ends : Bool) → k ≡ max n (status_of w) → ends ≡ is_missing w
             → Done mid new (line_said part w) → SoFar text m next ahead after file' k ends old new
         said_more new k ends is end done =
             let np = next_part in
@@ -350,8 +376,9 @@ module _ (parts name : Text) (text m : List ℕ) (joiner : Joiner) (front : List
               tells = np.tells;
               joined = np.joined;
               file_is = verdict_is.1;
-              status_is = is ∙ ap (λ (x : Verdict). max (status_of x) n) verdict_is.0
-                  ∙ ap (max (status_of (verdict m part))) so.status_is ∙ sym (status-more m so.told part);
+              status_is = is ∙ ap (λ (x : Verdict). max n (status_of x)) verdict_is.0
+                  ∙ ap (λ (x : ℕ). max x (status_of (mark m part))) so.status_is
+                  ∙ sym (status-more m so.told part);
               ended = end ∙ ap is_missing verdict_is.0 ∙ verdict_ends m part
                   ∙ ap (nat_lt (length m)) (omega (arith, more, place));
               written = subst (Done old new) (sym (lines_said m so.told part))
@@ -478,7 +505,7 @@ module _ (parts name : Text) (lines_known file_known : Option (List ℕ)) (joine
             (λ text m s. ends_unwritten parts name text m joiner front list file n has_ended old mid i j u v s next
             ahead after part finds w file' judges new f is failed p q))
 
-        pub so_more : (k : ℕ) (ends : Bool) → k ≡ max (status_of w) n → ends ≡ is_missing w
+        pub so_more : (k : ℕ) (ends : Bool) → k ≡ max n (status_of w) → ends ≡ is_missing w
             → Done mid new (line_said part w)
             → Both lines_known file_known (λ text m. SoFar text m next ahead after file' k ends old new)
         so_more k ends is end done = both_then lines_known file_known So

@@ -1,5 +1,5 @@
 -- The run of `part --verify`: the lines of parts and the bytes of a file, side by side.
-use Rattle.std.specs.Prelude.{◌⊎◌, ◌≡◌, ℕ, ◌+◌, ◌*◌, List, [], ◌∷◌, ◌++◌, drop, length, max, take}
+use Rattle.std.specs.Prelude.{◌⊎◌, ◌≡◌, ℕ, ◌+◌, ◌*◌, List, [], ◌∷◌, ◌++◌, drop, fold, length, max, take}
 use Rattle.std.specs.Prelude.{IsSomeAnd, Some, codes, false, if◌then◌else◌, nat_lt}
 use Rattle.std.specs.Fmt.{decimal}
 use Rattle.std.specs.List.{flat_map}
@@ -18,32 +18,26 @@ use Rattle.command.specs.Joining.{line_complaint}
 use Rattle.command.specs.Lines.{content_of, is_input}
 use Rattle.command.specs.Run.{IsUnread, Run, cannot_write, of_name, prints, stops}
 
--- whether these bytes reach to the end of a part, and those at its place have its chaining value
-abbrev pub verdict : List ℕ → PartValue → Verdict
+-- whether these bytes reach to the end of a part, and those at its place have its chaining value, and the status
+abbrev pub verdict : List ℕ → PartValue → Verdict × ℕ
 verdict m part = let x = take part.len (drop (1024 * part.first_chunk) m) in
-    if nat_lt (length m) (1024 * part.first_chunk + part.len) then Missing
-    else if bytes_eq part.value (cv (tree_of hash_parameters part.first_chunk x)) then Matches else Differs
+    if nat_lt (length m) (1024 * part.first_chunk + part.len) then (Missing, 1)
+    else if bytes_eq part.value (cv (tree_of hash_parameters part.first_chunk x)) then (Matches, 0) else (Differs, 1)
 
 -- the line that says so
 abbrev pub verdict_line : List ℕ → PartValue → Text
-verdict_line m part = decimal part.first_chunk ++ 32 ∷ (decimal part.len ++ verdict_text (verdict m part))
+verdict_line m part = decimal part.first_chunk ++ 32 ∷ (decimal part.len ++ verdict_text (verdict m part).0)
 
--- the status of a verdict, and the greatest of those of parts
-abbrev pub status_of : Verdict → ℕ
-status_of Matches = 0
-status_of _ = 1
-
+-- the greatest status of parts
 abbrev pub status : List ℕ → List PartValue → ℕ
-status m [] = 0
-status m (part ∷ parts) = max (status_of (verdict m part)) (status m parts)
+status m parts = fold (λ s part. max s (verdict m part).1) 0 parts
 
 -- what a run ends with behind the lines of these parts, where others follow: there are none; the next tells no part
 -- behind those; or a read of either file failed
 abbrev pub VerifyEnds : Text → Text → (text m : List ℕ) → List PartValue → List (List ℕ) → Run → Type 0
 VerifyEnds parts name text m told after run = ((after ≡ []) × (run ≡ (if nat_lt (bytes_of told) (length m)
     then stops (of_name name (codes ": bytes behind the last part\n")) else prints [] (status m told))))
-    ⊎ ((line : List ℕ) × (rest : List (List ℕ)) × (after ≡ line ∷ rest) × (fault : PartFault)
-    × IsWrongBehind told line fault
+    ⊎ ((line : List ℕ) × (rest : List (List ℕ)) × (after ≡ line ∷ rest) × (fault : PartFault) × IsWrongBehind told line fault
     × (run ≡ stops (of_name parts (codes ": line " ++ (decimal (length told + 1) ++ line_complaint fault)))))
     ⊎ IsUnread false parts (Some text) run ⊎ IsUnread (is_input name) name (Some m) run
 

@@ -8,13 +8,13 @@ ghost use Rattle.source.specs.Written.{Writes};
 ghost use Rattle.sumlist.specs.Report.{verdict_text};
 ghost use Rattle.sumlist.specs.declared.verdict.Verdict.TheVariants.{Missing};
 ghost use Rattle.command.specs.Lines.{content_of, is_input, opens_of};
-ghost use Rattle.command.specs.Verifying.{VerifyRuns, status_of};
+ghost use Rattle.command.specs.Verifying.{VerifyRuns};
 ghost use Rattle.command.specs.inside.Reading.{failed};
 ghost use Rattle.command.specs.inside.Seen.{DoesRun, IfTold, OpensAtMost};
 ghost use Rattle.command.specs.inside.Streams.{SameStreams};
 ghost use Rattle.command.specs.inside.Troubles.{Counted};
 ghost use Rattle.command.specs.inside.Verifying.{ComparesFeeds, ComparesName, DoesBeside, EndsWith, IsRoomOf, Judges};
-ghost use Rattle.command.specs.inside.Verifying.{JudgesNext, is_missing, same_value};
+ghost use Rattle.command.specs.inside.Verifying.{JudgesNext, is_missing, same_value, status_of};
 
 use crate::cutting::{RUN, next_part};
 use crate::digests::part_buffer;
@@ -106,7 +106,7 @@ fn verify_feed<'n, P: Feed, F: Feed, W: Sink>(
         };
         let verdict = next_verdict(&told, has_ended, run, name, feed)?;
         write_told(&told, verdict, out)?;
-        status = status_of(verdict).max(status);
+        status = status.max(status_of(verdict));
         has_ended = is_missing(verdict);
     }
 }

@@ -156,9 +156,8 @@ starts g = do
 
 -- whether a file has the parts that the lines of another one tell
 abbrev pub verify : Text → Given → Result Asked Text
-verify parts g = do
-  absent (codes ": not with --verify\n") (codes "first" ∷ codes "chunks" ∷ codes "each" ∷ []) g
-  Ok (verifies parts (file_or_input g))
+verify parts g = absent (codes ": not with --verify\n") (codes "first" ∷ codes "chunks" ∷ codes "each" ∷ []) g
+    >> Ok (verifies parts (file_or_input g))
 
 -- all parts of so many chunks, a power of two, one behind the other
 abbrev pub each : Given → Result Asked Text
@@ -178,9 +177,8 @@ one_part g = do
 -- that of `part`
 abbrev pub part : Given → Result Asked Text
 part g = needed (named kinds) (codes "a") g >>= has_parts
-    >> (if has_flag (codes "list") g then starts g
-    else option_map_or (λ parts. verify parts g)
-    (text_of (codes "verify") g) (if is_some (text_of (codes "each") g) then each g else one_part g))
+    >> (if has_flag (codes "list") g then starts g else option_map_or (λ t. verify t g) (text_of (codes "verify") g)
+    (if is_some (text_of (codes "each") g) then each g else one_part g))
 
 -- which bytes of the joined output are printed or compared, and how many bytes the parts have to have
 abbrev pub join : Given → Result Asked Text

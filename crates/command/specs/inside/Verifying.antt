@@ -33,6 +33,11 @@ abbrev pub verdict_on : List ℕ → PartValue → Verdict
 verdict_on rest part = if nat_lt (length rest) part.len then Missing
     else same_value part.value (cv (tree_of hash_parameters part.first_chunk (take part.len rest)))
 
+-- the status of a verdict
+abbrev pub status_of : Verdict → ℕ
+status_of Matches = 0
+status_of _ = 1
+
 -- it says that the bytes end before the part
 abbrev pub is_missing : Verdict → Bool
 is_missing Missing = true
