@@ -33,8 +33,7 @@ unless is_wrong fault = if is_wrong then Err fault else Ok tt
 -- settings that may not be given, and what is told of the first that is
 abbrev pub absent : Text → List Text → Given → Result (Unit {0}) Text
 absent complaint [] g = Ok tt
-absent complaint (s ∷ settings) g =
-    unless (is_some (text_of s g)) (word s ++ complaint) >> absent complaint settings g
+absent complaint (s ∷ settings) g = unless (is_some (text_of s g)) (word s ++ complaint) >> absent complaint settings g
 
 -- where the algorithm does not have them
 abbrev pub not_for : Text
