@@ -1,7 +1,6 @@
 -- The files of `part --verify`: one with the lines of parts, and beside it one that is compared.
-use Rattle.std.proofs.Common.{◌≡◌, ℕ, ◌+◌, Bool, true, false, List, [], drop, Option, Some, None, IfSome, Result, Ok, Err}
+use Rattle.std.proofs.Common.{◌≡◌, ℕ, Bool, true, false, List, drop, Option, Some, None, IfSome, Result}
 use Rattle.std.proofs.Common.{refl, sym, ap, subst, arith, inl, inr, ◌∙◌, if◌then◌else◌}
-use Rattle.std.proofs.lemmas.Result.{err_from_is_err_and}
 use Rattle.std.specs.Prelude.{◌⊎◌, IsErrAnd, IsSomeAnd}
 use Rattle.request.specs.CommandLine.{Text}
 use Rattle.source.specs.Counts.{count_after}
@@ -10,8 +9,7 @@ use Rattle.sumlist.specs.Report.{Files}
 use Rattle.command.specs.Lines.{content_of, is_input}
 use Rattle.command.specs.Run.{IsUnread, Run}
 use Rattle.command.specs.Verifying.{Compares, VerifyRuns}
-use Rattle.command.specs.inside.Seen.{Does}
-use Rattle.command.specs.inside.Troubles.{Counted, Failures, MayFail, MayRefuse, Trouble, counts, failures_from}
+use Rattle.command.specs.inside.Troubles.{Counted, Failures, MayFail, MayRefuse, Trouble, failures_from}
 use Rattle.command.specs.inside.Troubles.{failures_of, plus, refusal, too_long, trouble_of}
 use Rattle.command.specs.inside.Verifying.{ComparesFeeds, ComparesName, DoesBeside}
 use Rattle.command.specs.declared.fault.Fault.{Fault}

@@ -1,5 +1,5 @@
 -- The run of `part --verify`.
-use Rattle.std.proofs.Common.{◌≡◌, ◌∙◌, ℕ, ◌+◌, ◌-◌, ◌*◌, ◌<◌, ◌≤◌, Bool, true, false, List, [], ◌∷◌, ◌++◌, length, max}
+use Rattle.std.proofs.Common.{◌≡◌, ◌∙◌, ℕ, ◌+◌, ◌*◌, ◌<◌, ◌≤◌, Bool, true, false, List, [], ◌∷◌, ◌++◌, length, max}
 use Rattle.std.proofs.Common.{take, drop, Option, Some, None, IfSome, Result, Ok, Err, refl, sym, ap, subst, arith, fold}
 use Rattle.std.proofs.Common.{inl, inr, append_assoc, append-nil, length-drop, codes, nat_lt, if◌then◌else◌}
 use Rattle.std.proofs.KnownBytes.{Appends-nil}
@@ -19,7 +19,7 @@ use Rattle.request.specs.CommandLine.{Text}
 use Rattle.partlist.proofs.Behind.{bytes_of-more}
 use Rattle.partlist.proofs.Outcomes.{place_in_row}
 use Rattle.partlist.proofs.Reading.{AllTell-more, row-is}
-use Rattle.partlist.specs.Joined.{AllTell, AreInRow, IsWrongBehind, bytes_of}
+use Rattle.partlist.specs.Joined.{AllTell, AreInRow, bytes_of}
 use Rattle.partlist.specs.declared.fault.JoinFault.{JoinFault}
 use Rattle.partlist.specs.declared.fault.JoinFault.TheVariants.{Line, Read}
 use Rattle.partlist.specs.declared.fault.PartFault.{PartFault}
@@ -102,23 +102,38 @@ pub record NextPart (text : List ℕ) (next : Joiner) (ahead : List ℕ) (after 
   pub joined : HasJoined next (told ++ part ∷ [])
   pub place : 1024 * part.first_chunk ≡ bytes_of told
 
+-- the verdict by whether the bytes end before the part, and whether they have its value
+abbrev given : Bool → Bool → Verdict × ℕ
+given short same = if short then (Missing, 1) else if same then (Matches, 0) else (Differs, 1)
+
+abbrev is_short : List ℕ → PartValue → Bool
+is_short m part = nat_lt (length m) (1024 * part.first_chunk + part.len)
+
+abbrev has_value : List ℕ → PartValue → Bool
+has_value m part = bytes_eq part.value (cv (tree_of hash_parameters part.first_chunk
+    (take part.len (drop (1024 * part.first_chunk) m))))
+
 -- the verdict without its status
 abbrev pub mark : List ℕ → PartValue → Verdict
 mark m part = (verdict m part).0
 
-has_value : List ℕ → PartValue → Bool
-has_value m part = bytes_eq part.value (cv (tree_of hash_parameters part.first_chunk
-    (take part.len (drop (1024 * part.first_chunk) m))))
+status_by : (short same : Bool) → (given short same).1 ≡ status_of (given short same).0
+status_by true same = refl
+status_by false true = refl
+status_by false false = refl
 
--- and that
+missing_by : (short same : Bool) → is_missing (given short same).0 ≡ short
+missing_by true same = refl
+missing_by false true = refl
+missing_by false false = refl
+
+mark_by : (short same : Bool) → (if short then Missing else if same then Matches else Differs) ≡ (given short same).0
+mark_by true same = refl
+mark_by false true = refl
+mark_by false false = refl
+
 status_is : (m : List ℕ) (part : PartValue) → (verdict m part).1 ≡ status_of (mark m part)
-status_is m part = on (nat_lt (length m) (1024 * part.first_chunk + part.len)) (has_value m part)
-  where
-    on : (short same : Bool) → (if short then (Missing, 1) else if same then (Matches, 0) else (Differs, 1)).1
-        ≡ status_of (if short then (Missing, 1) else if same then (Matches, 0) else (Differs, 1)).0
-    on true same = refl
-    on false true = refl
-    on false false = refl
+status_is m part = status_by (is_short m part) (has_value m part)
 
 verdict_same : (m : List ℕ) (part : PartValue) → 1024 * part.first_chunk ≤ length m
     → verdict_on (drop (1024 * part.first_chunk) m) part ≡ mark m part
@@ -126,29 +141,19 @@ verdict_same m part within =
     let size = length-drop (1024 * part.first_chunk) m in
     let test : nat_lt (length (drop (1024 * part.first_chunk) m)) part.len
     ≡ nat_lt (length m) (1024 * part.first_chunk + part.len) = grind (arith, nat_tests) in
-    rw test (marked (nat_lt (length m) (1024 * part.first_chunk + part.len)) (has_value m part))
-  where
-    marked : (short same : Bool) → (if short then Missing else if same then Matches else Differs)
-        ≡ (if short then (Missing, 1) else if same then (Matches, 0) else (Differs, 1)).0
-    marked true same = refl
-    marked false true = refl
-    marked false false = refl
+    ap (λ (b : Bool). if b then Missing else if has_value m part then Matches else Differs) test
+    ∙ mark_by (is_short m part) (has_value m part)
 
 verdict_missing : (m : List ℕ) (part : PartValue) → length m < 1024 * part.first_chunk + part.len
     → mark m part ≡ Missing
 verdict_missing m part short =
-    let test : nat_lt (length m) (1024 * part.first_chunk + part.len) ≡ true = grind (arith, nat_tests) in rw test refl
+    let test : nat_lt (length m) (1024 * part.first_chunk + part.len) ≡ true = grind (arith, nat_tests) in
+    ap (λ (b : Bool). (given b (has_value m part)).0) test
 
 -- what a verdict says of the end of the bytes
 verdict_ends : (m : List ℕ) (part : PartValue)
     → is_missing (mark m part) ≡ nat_lt (length m) (1024 * part.first_chunk + part.len)
-verdict_ends m part = on (nat_lt (length m) (1024 * part.first_chunk + part.len)) (has_value m part)
-  where
-    on : (short same : Bool)
-        → is_missing (if short then (Missing, 1) else if same then (Matches, 0) else (Differs, 1)).0 ≡ short
-    on true same = refl
-    on false true = refl
-    on false false = refl
+verdict_ends m part = missing_by (is_short m part) (has_value m part)
 
 -- the verdict on the next part, and what is left behind it
 judged : (m : List ℕ) (told : List PartValue) (part : PartValue) (name : Text) (has_ended : Bool)
