@@ -12,7 +12,7 @@ import sys
 # what options take one of, where the help does not list it word by word
 WORDS = {"--parts": " ".join(str(1 << exponent) for exponent in range(11))}
 # what the help calls a file that is the value of an option
-FILE = "<F>"
+FILES = "<F>", "<PARTS>"
 # the program over sums, and which commands it has
 PARALLEL = os.path.join(os.path.dirname(os.path.realpath(__file__)), "../scripts/sums-parallel")
 PARALLEL_COMMANDS = "hash check part"
@@ -54,7 +54,7 @@ def takes_of(long, value, text):
         return WORDS[long]
     if listed:
         return " ".join(re.split(", | or ", listed[1]))
-    return "file" if value == FILE else "-"
+    return "file" if value in FILES else "-"
 
 
 def section(text, title):

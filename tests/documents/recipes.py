@@ -243,6 +243,20 @@ def part_page(bench):
     linked(bench, "sums-part(1) list", text)
 
 
+def part_damage(bench):
+    """The parts of a file, and a copy that differs in each."""
+
+    def case():
+        folder = bench.folder()
+        disk, copy = os.path.join(folder, "disk.img"), os.path.join(folder, "copy.img")
+        fill(disk, 100000000)
+        shutil.copy(disk, copy)
+        flipped(copy)
+        ends(bench.run(bench.text("man/sums-part.1", "damage"), folder), 1, b"0 67108864: FAILED\n65536 32891136: FAILED\n")
+
+    bench.judge("sums-part(1) damage", case)
+
+
 def behind_file(bench, name):
     """A recipe of docs/SCALE.md behind the one that names the file."""
     return bench.text("docs/SCALE.md", "file") + bench.text("docs/SCALE.md", name)
@@ -1026,7 +1040,7 @@ RUNS = {
     "man/sums-kdf.1": {"lines": lambda bench: lines_of(bench, "man/sums-kdf.1")},
     "man/sums-check.1": {"lines": check_page, "faults": check_page, "one": one_of, "some": check_page,
                          "signed": signed_lists},
-    "man/sums-part.1": {"lines": lambda bench: lines_of(bench, "man/sums-part.1"), "list": part_page},
+    "man/sums-part.1": {"lines": lambda bench: lines_of(bench, "man/sums-part.1"), "list": part_page, "damage": part_damage},
     "man/sums-join.1": {"parts": join_page},
     "man/sums-parallel.1": {"lines": lambda bench: lines_of(bench, "man/sums-parallel.1")},
 }
