@@ -186,9 +186,34 @@ class Words(unittest.TestCase):
         for wrong in (-1, 2**63, 2**64, -2**70):
             with self.assertRaisesRegex(ValueError, f"^{wrong} is not from 0 to {2**63 - 1}$"):
                 sums_hash.blake3().digest(wrong)
+        for length in (4095, 4096, 4097, 70000):
+            self.assertEqual(sums_hash.blake3().digest(length)[-1:], sums_hash.blake3().digest(1, seek=length - 1))
         for length in (2**62, 2**63 - 1):
             self.assertRaises((MemoryError, OverflowError), sums_hash.blake3().digest, length)
             self.assertRaises((MemoryError, OverflowError), sums_hash.blake3().hexdigest, length)
+
+    def test_named_words(self):
+        """Each word by its name, and those that have no other place."""
+        hash_, tag = sums_hash, sums_hash.hmac_sha256(b"k", DATA)
+        self.assertEqual(hash_.hmac_sha256(key=b"k", msg=DATA, usedforsecurity=False).digest(), tag.digest())
+        self.assertEqual(hash_.hmac_sha256(b"k", None).digest(), hash_.hmac_sha256(b"k").digest())
+        self.assertEqual(tag.digest(None), tag.digest())
+        self.assertEqual((tag.digest(length=16), tag.hexdigest(length=16)), (tag.digest()[:16], tag.hexdigest()[:32]))
+        prk = hash_.hkdf_extract("sha256", b"m", salt=b"s")
+        self.assertEqual(hash_.hkdf_extract(name="sha256", material=b"m", salt=b"s"), prk)
+        key = hash_.hkdf_expand("sha256", prk, 40, info=b"i")
+        self.assertEqual(hash_.hkdf_expand(name="sha256", prk=prk, length=40, info=b"i"), key)
+        self.assertEqual(hash_.hkdf(name="sha256", material=b"m", length=40, salt=b"s", info=b"i"), key)
+        for name in ("sha256", "sha512", "blake2b", "blake2s", "blake3"):
+            pieces = getattr(hash_, f"{name}_pieces")
+            self.assertEqual(pieces(data=DATA, piece_len=100), pieces(DATA, 100))
+        self.assertEqual(hash_.blake2b_pieces(data=DATA, piece_len=100, digest_size=20),
+                         hash_.blake2b_pieces(DATA, 100, 20))
+        for call in (lambda: hash_.hkdf("sha256", b"m", 40, b"s"), lambda: hash_.hkdf_extract("sha256", b"m", b"s"),
+                     lambda: hash_.hkdf_expand("sha256", prk, 40, b"i"), lambda: hash_.blake2b(b"", 32),
+                     lambda: hash_.blake2s(b"", 16), lambda: hash_.blake3().digest(5, 3),
+                     lambda: hash_.blake3().hexdigest(5, 3), lambda: hash_.sha256(b"", True)):
+            self.assertRaises(TypeError, call)
 
     def test_trees(self):
         for name in ("fanout", "depth", "leaf_size", "node_offset", "node_depth", "inner_size"):
@@ -236,6 +261,8 @@ b'md5' is none of sha256, sha512, blake2b, blake2s
         self.assertRaises(UnicodeEncodeError, sums_hash.blake3, derive_key_context="\ud800")
         for context in ("", "ä\0ö"):
             self.assertNotEqual(sums_hash.blake3(derive_key_context=context).digest(), sums_hash.blake3().digest())
+        by_key = sums_hash.blake3(DATA, key=b"c" * 32).digest()
+        self.assertNotEqual(sums_hash.blake3(DATA, derive_key_context="c" * 32).digest(), by_key)
 
     def test_not_begun(self):
         """An object whose __init__ has not run, or has failed, is refused."""
