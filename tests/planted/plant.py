@@ -43,7 +43,7 @@ LAYERS = {
     "launcher": ("cc -std=gnu11 -O2 -Wall -Wextra -Werror -o $OUT packaging/launcher.c", "tests/packages/release $SUMS"),
     "fat": ("sh -n packaging/fat", "tests/packages/release $SUMS", "LANGUAGES=rust tests/languages/bindings $LIB"),
     "install": ("for file in tools/install tools/uninstall tools/*.sh; do sh -n $file || exit; done",
-                "tests/packages/release $SUMS", "tests/packages/installation $SUMS"),
+                "tests/packages/installation $SUMS", "tests/packages/release $SUMS"),
     "program": ("true", "cd crates/sums && rt run -- --version && cp out/sums $OUT", "tests/program/rows.py $OUT",
                 "tests/program/streams.py $OUT", "tests/program/progress $OUT", "tests/program/clock.py $OUT", "tests/program/calls.py $OUT", "tests/program/lines $OUT"),
 }
