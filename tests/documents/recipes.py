@@ -662,7 +662,7 @@ def pictures(folder):
     for number, name in enumerate(NAMES + ["one", "two"]):
         fill(os.path.join(folder, name + ".iso"), 100 + number)
     for name, size in [("backup.tar", 300000), ("seed.bin", 77), ("message", 9), ("key", 64), ("key32", 32),
-                       ("secret", 20), ("disk.img", 100000000)]:
+                       ("secret", 20), ("disk.img", 100000000), ("empty", 0)]:
         fill(os.path.join(folder, name), size)
     return folder
 
