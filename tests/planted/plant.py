@@ -44,8 +44,10 @@ LAYERS = {
     "fat": ("sh -n packaging/fat", "tests/packages/release $SUMS", "LANGUAGES=rust tests/languages/bindings $LIB"),
     "install": ("for file in tools/install tools/uninstall tools/*.sh; do sh -n $file || exit; done",
                 "tests/packages/installation $SUMS", "tests/packages/release $SUMS"),
-    "program": ("true", "cd crates/sums && rt run -- --version && cp out/sums $OUT", "tests/program/rows.py $OUT",
-                "tests/program/streams.py $OUT", "tests/program/progress $OUT", "tests/program/clock.py $OUT", "tests/program/calls.py $OUT", "tests/program/lines $OUT"),
+    # its usage has the name by which it is called
+    "program": ("true", "cd crates/sums && rt run -- --version && mkdir -p $OUT && cp out/sums $OUT",
+                *(f"tests/program/{script} $OUT/sums" for script in (
+                    "rows.py", "streams.py", "progress", "clock.py", "calls.py", "lines"))),
 }
 
 

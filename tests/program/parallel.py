@@ -201,7 +201,8 @@ def part_lists(program):
     other = lines[3].replace(lines[3].split()[4], lines[2].split()[4])
     for name, data in (("parts", good), ("parts-no-end", good[:-1]), ("parts-other", b"".join(lines[:3]) + other
                         + b"".join(lines[4:])), ("parts-few", b"".join(lines[:5])), ("parts-twice", good + good),
-                       ("parts-gap", b"".join(lines[:2] + lines[3:])), ("parts-bad", b"".join(lines[:2]) + b"x\n"),
+                       ("parts-gap", b"".join(lines[:2] + lines[3:])),
+                       ("parts-order", b"".join([lines[0], lines[2], lines[1], *lines[3:]])), ("parts-bad", b"".join(lines[:2]) + b"x\n"),
                        ("parts-crlf", good.replace(b"\n", b"\r\n")), ("parts-long", b"".join(lines[:2]) + b"1" * 70000),
                        ("parts-small", harness.run(program, ["part", "-a", "blake3", "--each", "64", "large"]).out),
                        ("-parts", good), ("parts-one", harness.run(program, ["part", "-a", "blake3", "large"]).out)):
@@ -226,7 +227,7 @@ def of_parts():
         yield f"part {words}", ["part", "-a", "blake3", *words], b"given"
     yield "part by another hash", ["part", "-a", "sha256", "--each", "8192", "large"], b""
     yield "part by no hash", ["part", "--each", "8192", "large"], b""
-    for name in ("parts", "parts-no-end", "parts-other", "parts-few", "parts-twice", "parts-gap", "parts-bad",
+    for name in ("parts", "parts-no-end", "parts-other", "parts-few", "parts-twice", "parts-gap", "parts-order", "parts-bad",
                  "parts-crlf", "parts-long", "parts-small", "parts-one", "-parts", "none", "missing", "folder", "",
                  "/dev/null", "large", "-"):
         yield f"part --verify {name}", ["part", "-a", "blake3", f"--verify={name}", "large"], content("parts")
@@ -473,6 +474,7 @@ def not_begun(program):
                                b"/nothing/there: No such file or directory"),
                               (["--by=x", "-S", "y"], 2, b"give only one of -S and --by"),
                               (["-j", "0"], 2, b"-j: out of range"),
+                              (["-j", "1" * 16], 2, b"-j: out of range"),
                               (["-jx"], 2, b"-j: out of range"), (["--block="], 2, b"--block: out of range"),
                               (["-x"], 2, b"-x: none of hash, check and part, nor an option"),
                               (["--by", "/usr/bin/ssh host"], 2, b"--by: ssh hands its words to a shell: give -S")):
