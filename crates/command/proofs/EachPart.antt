@@ -1,6 +1,8 @@
 -- The run of `part --each`.
-use Rattle.std.proofs.Common.{◌≡◌, ◌∙◌, ℕ, zero, suc, ◌+◌, ◌-◌, ◌*◌, ◌/◌, ◌^◌, ◌<◌, ◌≤◌, List, [], ◌∷◌, ◌++◌, length, min}
-use Rattle.std.proofs.Common.{take, drop, Option, Some, None, IfSome, Result, Ok, Err, Bool, true, false, refl, sym, ap, inl, inr}
+use Rattle.std.proofs.Common.{◌≡◌, ◌∙◌, ℕ, zero, suc, ◌+◌, ◌-◌, ◌*◌, ◌/◌, ◌^◌, ◌<◌, ◌≤◌, List, [], ◌∷◌, ◌++◌, length}
+use Rattle.std.proofs.Common.{min}
+use Rattle.std.proofs.Common.{take, drop, Option, Some, None, IfSome, Result, Ok, Err, Bool, true, false, refl, sym}
+use Rattle.std.proofs.Common.{ap, inl, inr}
 use Rattle.std.proofs.Common.{arith, length-drop}
 use Rattle.std.proofs.KnownBytes.{Appends-nil}
 use Rattle.std.proofs.lemmas.List.{drop-drop, length-take, nil_from_length, take_all}

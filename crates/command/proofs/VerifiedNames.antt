@@ -170,7 +170,8 @@ module _ (parts name : Text) (first : Option (List ℕ)) (tree : Option Files) (
 
   -- memory ran out before
   pub verified_unbuffered : IsErrAnd r (λ g. g ≡ OutOfMemory) → new ≡ old → v ≡ u → y ≡ w → Verified
-  verified_unbuffered stopped none same quiet = verified_unopened OutOfMemory (may tree) (counted tree) stopped none same
+  verified_unbuffered stopped none same quiet =
+      verified_unopened OutOfMemory (may tree) (counted tree) stopped none same
     where
       may : (tree : Option Files) → IfSome tree (λ files. MayFail parts (λ _. ⊥) (trouble_of OutOfMemory))
       may None = tt

@@ -1,6 +1,7 @@
 -- The run of `part --verify`.
 use Rattle.std.proofs.Common.{◌≡◌, ◌∙◌, ℕ, ◌+◌, ◌*◌, ◌<◌, ◌≤◌, Bool, true, false, List, [], ◌∷◌, ◌++◌, length, max}
-use Rattle.std.proofs.Common.{take, drop, Option, Some, None, IfSome, Result, Ok, Err, refl, sym, ap, subst, arith, fold}
+use Rattle.std.proofs.Common.{take, drop, Option, Some, None, IfSome, Result, Ok, Err, refl, sym, ap, subst, arith}
+use Rattle.std.proofs.Common.{fold}
 use Rattle.std.proofs.Common.{inl, inr, append_assoc, append-nil, length-drop, codes, nat_lt, if◌then◌else◌}
 use Rattle.std.proofs.KnownBytes.{Appends-nil}
 use Rattle.std.proofs.lemmas.Bool.Decides.{nat_tests}
@@ -304,7 +305,8 @@ module _ (parts name : Text) (text m : List ℕ) (joiner : Joiner) (front : List
       → IsStopped (lines (front ++ so.left)) so.told (Line number fault) → j ≡ i → v ≡ u
       → Compared parts name text m (Err f) old mid i j u v
   ends_wrong f number fault is (line, rest, cut, place, wrong) p q =
-      let end : Run = stops (of_name parts (codes ": line " ++ (decimal (length so.told + 1) ++ line_complaint fault))) in
+      let end : Run =
+          stops (of_name parts (codes ": line " ++ (decimal (length so.told + 1) ++ line_complaint fault))) in
       let told : Err (shown (bad_line parts (length so.told + 1) fault)) ≡ Err (shown (trouble_of f))
       = ap (λ (k : ℕ). Err (shown (bad_line parts k fault))) (sym place) ∙ ap (λ t. Err (shown t)) (sym is) in (
         record end { text = said },

@@ -37,14 +37,16 @@ status m parts = fold (λ s part. max s (verdict m part).1) 0 parts
 abbrev pub VerifyEnds : Text → Text → (text m : List ℕ) → List PartValue → List (List ℕ) → Run → Type 0
 VerifyEnds parts name text m told after run = ((after ≡ []) × (run ≡ (if nat_lt (bytes_of told) (length m)
     then stops (of_name name (codes ": bytes behind the last part\n")) else prints [] (status m told))))
-    ⊎ ((line : List ℕ) × (rest : List (List ℕ)) × (after ≡ line ∷ rest) × (fault : PartFault) × IsWrongBehind told line fault
+    ⊎ ((line : List ℕ) × (rest : List (List ℕ)) × (after ≡ line ∷ rest) × (fault : PartFault)
+    × IsWrongBehind told line fault
     × (run ≡ stops (of_name parts (codes ": line " ++ (decimal (length told + 1) ++ line_complaint fault)))))
     ⊎ IsUnread false parts (Some text) run ⊎ IsUnread (is_input name) name (Some m) run
 
 -- the lines of parts so far were printed, and the run ends; or a write of them failed
 abbrev pub Compares : Text → Text → (text m : List ℕ) → Run → Type 0
 Compares parts name text m run = (before : List (List ℕ)) × (after : List (List ℕ)) × (told : List PartValue)
-    × (lines text ≡ before ++ after) × AllTell before told × AreInRow told × let said = flat_map (verdict_line m) told in
+    × (lines text ≡ before ++ after) × AllTell before told × AreInRow told
+    × let said = flat_map (verdict_line m) told in
     ((run ≡ record (stops cannot_write) { text = said; is_whole = false })
     ⊎ ((end : Run) × VerifyEnds parts name text m told after end × (run ≡ record end { text = said })))
 

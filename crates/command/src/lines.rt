@@ -49,7 +49,8 @@ impl<'i, 't, 'o, L: Feed, T: Tree, W: Sink> Session<'i, 't, 'o, L, T, W> {
             (λ l. LinesGiven l files (map (λ n. n.now) names.entry.now) bytes))
             (λ notes. TellsAll (E.shown err.old) (E.shown err.new) notes)
             result (⟦<Self as Streams>⟧.seen self.old) (⟦<Self as Streams>⟧.seen self.new) }
-        ensures opens { OpensAtMost (key_opens (sum_shown sum.entry) + sum_by opens_of (map (λ n. n.now) names.entry.now))
+        ensures opens { OpensAtMost
+            (key_opens (sum_shown sum.entry) + sum_by opens_of (map (λ n. n.now) names.entry.now))
             (⟦<Self as Streams>⟧.seen self.old) (⟦<Self as Streams>⟧.seen self.new) }
         ensures same { SameStreams self.old self.new }
         ensures memory { IsErrOf result Fault.OutOfMemory

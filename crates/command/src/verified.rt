@@ -69,6 +69,7 @@ impl<'i, 't, 'o, L: Feed, T: Tree, W: Sink> Session<'i, 't, 'o, L, T, W> {
         ensures opens { OpensAtMost (opens_of name.entry.now) (⟦<Self as Streams>⟧.seen self.old)
             (⟦<Self as Streams>⟧.seen self.new) }
         ensures same { SameStreams self.old self.new }
+        ensures memory { IsErrOf result Fault.OutOfMemory → T.wants_memory ≡ true }
     {
         if name == "-" {
             return verify_feed(run, parts, list, name, self.input, self.out);
@@ -90,10 +91,11 @@ fn verify_feed<'n, P: Feed, F: Feed, W: Sink>(
     out: &mut W,
 ) -> Result<u8, Fault<'n>>
     requires { length run.old ≡ 1024 * RUN }
-    ensures { IfSome (P.remaining list.old) (λ text. IfSome (F.remaining feed.old) (λ m.
+    ensures compared { IfSome (P.remaining list.old) (λ text. IfSome (F.remaining feed.old) (λ m.
         ComparesFeeds parts.entry.now name.entry.now text m result (W.shown out.old) (W.shown out.new)
         (P.failure_count list.old) (P.failure_count list.new)
         (F.failure_count feed.old) (F.failure_count feed.new))) }
+    ensures memory { IsErrOf result Fault.OutOfMemory → ⊥ }
 {
     let (mut joiner, mut reader) = (Joiner::new(), PartReader::new());
     let (mut status, mut has_ended) = (0, false);

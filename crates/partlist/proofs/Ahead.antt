@@ -1,5 +1,6 @@
 -- Lines of parts that are read one by one.
-use Rattle.std.proofs.Common.{◌≡◌, ◌∙◌, ℕ, ◌+◌, ◌-◌, ◌<◌, ◌≤◌, Bool, true, false, List, [], ◌∷◌, ◌++◌, length, take, drop}
+use Rattle.std.proofs.Common.{◌≡◌, ◌∙◌, ℕ, ◌+◌, ◌-◌, ◌<◌, ◌≤◌, Bool, true, false, List, [], ◌∷◌, ◌++◌, length, take}
+use Rattle.std.proofs.Common.{drop}
 use Rattle.std.proofs.Common.{Option, Some, None, IfSome, Result, Ok, Err, MatchResult, refl, sym, ap, subst, arith}
 use Rattle.std.proofs.Common.{append_assoc, length-append, length-drop, eqb}
 use Rattle.std.proofs.Math.Seq.{drop-append-add}
@@ -126,9 +127,10 @@ module _ (known now after : Option (List ℕ)) (whole old new held items : List 
 
   -- the line is longer than any part's
   pub reads_long : (E : Type 0) (fault : E)
-      → (let r : Result Bool E = Err fault in TakesLine held old items new r) → HasNo 10 held → Reads known whole now old held
-      → (line : List ℕ) (end : List ℕ)
-      → IfSome known (λ bytes. (left : List ℕ) × (now ≡ Some left) × IsFound found.Long line (whole ++ bytes) (end ++ left))
+      → (let r : Result Bool E = Err fault in TakesLine held old items new r) → HasNo 10 held
+      → Reads known whole now old held → (line : List ℕ) (end : List ℕ)
+      → IfSome known (λ bytes. (left : List ℕ) × (now ≡ Some left)
+      × IsFound found.Long line (whole ++ bytes) (end ++ left))
   reads_long E fault (front, more, free, split, long) clean so line end = on known so
     where
       on : (known : Option (List ℕ)) → IfSome known (λ bytes. (left : List ℕ) × (now ≡ Some left)
@@ -227,8 +229,8 @@ module _ (known after : Option (List ℕ)) (old new : Joiner) (before behind lin
       on (Some bytes) (left, at, cut) =
           (left, at, λ parts joined. let added = adds parts joined in (line, cut, added.0, added.1))
 
-  pub joins_wrong : (f : JoinFault) (fault : PartFault) → f ≡ Line (joined_count new - 0 + 1) fault → new ≡ old → Finds found.Line
-      → Adds (Err fault) → Joins (Err f)
+  pub joins_wrong : (f : JoinFault) (fault : PartFault) → f ≡ Line (joined_count new - 0 + 1) fault → new ≡ old
+      → Finds found.Line → Adds (Err fault) → Joins (Err f)
   joins_wrong f fault is same finds adds = on known finds
     where
       on : (known : Option (List ℕ)) → IfSome known (λ bytes. (left : List ℕ) × (after ≡ Some left)

@@ -136,6 +136,7 @@ impl Joiner {
         ensures count { JoinCounts result (F.failure_count feed.old) (F.failure_count feed.new) }
         ensures forth { IfOk result (λ found. IfSome found
             (λ _. joined_count self.new ≡ joined_count self.old + 1)) }
+        ensures refused { OnErr result (self.new ≡ self.old) }
     {
         match reader.read_line(feed)? {
             Found::End => Ok(None),

@@ -1,5 +1,6 @@
 -- What the parts of a run that verifies parts answer.
-use Rattle.std.specs.Prelude.{◌⊎◌, ◌≡◌, ℕ, ◌*◌, ◌%◌, ◌^◌, ◌<◌, ◌≤◌, [], Bool, List, IsSomeAnd, MatchBool, MatchResult, Ok, Option, Result, Some}
+use Rattle.std.specs.Prelude.{◌⊎◌, ◌≡◌, ℕ, ◌*◌, ◌%◌, ◌^◌, ◌<◌, ◌≤◌, [], Bool, List, IsSomeAnd, MatchBool, MatchResult}
+use Rattle.std.specs.Prelude.{Ok, Option, Result, Some}
 use Rattle.std.specs.Prelude.{drop, false, true, if◌then◌else◌, length, nat_lt, take}
 use Rattle.std.specs.Str.{bytes_eq}
 use Rattle.b3.specs.Modes.{hash_parameters, tree_of}

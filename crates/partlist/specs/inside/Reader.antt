@@ -1,5 +1,6 @@
 -- What contracts see of a reader of lines, and what was found of the bytes that it reads.
-use Rattle.std.specs.Prelude.{◌≡◌, ◌<◌, ℕ, Bool, List, [], ◌∷◌, ◌++◌, MatchBool, MatchOption, MatchResult, Option, false}
+use Rattle.std.specs.Prelude.{◌≡◌, ◌<◌, ℕ, Bool, List, [], ◌∷◌, ◌++◌, MatchBool, MatchOption, MatchResult, Option}
+use Rattle.std.specs.Prelude.{false}
 use Rattle.std.specs.Prelude.{Result, Some, ⊤, drop, length, take, ◌+◌}
 use Rattle.b3.specs.declared.row.PartValue.{PartValue}
 use Rattle.sumlist.specs.Lines.{lines}

@@ -7,7 +7,8 @@ use Rattle.task.specs.declared.fault.Setting.TheVariants as setting
 use Rattle.task.specs.declared.fault.UsageFault.{UsageFault}
 use Rattle.task.specs.declared.fault.UsageFault.TheVariants.{InputOnly, Needed, NotForAlgorithm, NotForCommand}
 use Rattle.task.specs.declared.fault.UsageFault.TheVariants.{NotHexadecimal, NotWithRaw, NotWithTag, OneFile, OneKey}
-use Rattle.task.specs.declared.fault.UsageFault.TheVariants.{FileOnly, NoCommand, NotWithEach, NotWithList, NotWithVerify, OneSource}
+use Rattle.task.specs.declared.fault.UsageFault.TheVariants.{FileOnly, NoCommand, NotWithEach, NotWithList}
+use Rattle.task.specs.declared.fault.UsageFault.TheVariants.{NotWithVerify, OneSource}
 use Rattle.task.specs.declared.fault.UsageFault.TheVariants.{OutOfRange, WrongLength}
 
 -- the name of a setting, which is its id among the options and arguments of a request

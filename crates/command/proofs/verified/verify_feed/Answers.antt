@@ -12,8 +12,8 @@ parts-init g c = record {
   size = refl;
 }
 
-pub returns-in-Ok-None : goal.returns-in-Ok-None
-returns-in-Ok-None g c =
+pub returns-in-Ok-None-clause-compared : goal.returns-in-Ok-None-clause-compared
+returns-in-Ok-None-clause-compared g c =
     says_all c.args.parts.now c.args.name.now (g.P.Feed.remaining c.args.list.now)
     (g.F.Feed.remaining c.args.feed.now) c.parts.joiner (ahead c.parts.reader) (g.P.Feed.remaining c.parts.list)
     (g.F.Feed.remaining c.parts.feed) c.parts.status c.parts.has_ended (g.W.Sink.shown c.args.out.now)
@@ -22,8 +22,8 @@ returns-in-Ok-None g c =
     (rw c.in-Ok-None.field-0-is at c.in-Ok-None.ensures.joined) _ _ _ _
     (c.in-Ok-None.ensures.count ∙ c.parts.invariant.list) c.parts.invariant.file
 
-pub returns-in-Ok-None-2 : goal.returns-in-Ok-None-2
-returns-in-Ok-None-2 g c =
+pub returns-in-Ok-None-2-clause-compared : goal.returns-in-Ok-None-2-clause-compared
+returns-in-Ok-None-2-clause-compared g c =
     says_end c.args.parts.now c.args.name.now (g.P.Feed.remaining c.args.list.now)
     (g.F.Feed.remaining c.args.feed.now) c.parts.joiner (ahead c.parts.reader) (g.P.Feed.remaining c.parts.list)
     (g.F.Feed.remaining c.parts.feed) c.parts.status c.parts.has_ended (g.W.Sink.shown c.args.out.now)
@@ -33,8 +33,8 @@ returns-in-Ok-None-2 g c =
     (c.in-Ok-None.ensures.count ∙ c.parts.invariant.list)
     (rw c.parts.invariant.file at c.status_at_end.ensures.counted)
 
-pub returns-in-Err : goal.returns-in-Err
-returns-in-Err g c =
+pub returns-in-Err-clause-compared : goal.returns-in-Err-clause-compared
+returns-in-Err-clause-compared g c =
     says_fault c.args.parts.now c.args.name.now (g.P.Feed.remaining c.args.list.now)
     (g.F.Feed.remaining c.args.feed.now) c.parts.joiner (ahead c.parts.reader) (g.P.Feed.remaining c.parts.list)
     (g.F.Feed.remaining c.parts.feed) c.parts.status c.parts.has_ended (g.W.Sink.shown c.args.out.now)
@@ -42,8 +42,8 @@ returns-in-Err g c =
     (g.P.Feed.remaining c.add_next.new.feed) c.of_join.result c.in-Err.fault c.args.parts refl c.of_join.ensures
     c.in-Err.ensures.joined _ _ _ _ (rw c.parts.invariant.list at c.in-Err.ensures.count) c.parts.invariant.file
 
-pub returns-in_err-verdict : goal.returns-in_err-verdict
-returns-in_err-verdict g c =
+pub returns-in_err-verdict-clause-compared : goal.returns-in_err-verdict-clause-compared
+returns-in_err-verdict-clause-compared g c =
     says_unread c.args.parts.now c.args.name.now (g.P.Feed.remaining c.args.list.now)
     (g.F.Feed.remaining c.args.feed.now) c.parts.joiner (ahead c.parts.reader) (g.P.Feed.remaining c.parts.list)
     (g.F.Feed.remaining c.parts.feed) c.parts.status c.parts.has_ended (g.W.Sink.shown c.args.out.now)
@@ -55,8 +55,8 @@ returns-in_err-verdict g c =
     (c.in-Ok-Some.ensures.count ∙ c.parts.invariant.list)
     (rw c.parts.invariant.file at c.in_err-verdict.ensures.counted)
 
-pub returns-in_err-write_told : goal.returns-in_err-write_told
-returns-in_err-write_told g c =
+pub returns-in_err-write_told-clause-compared : goal.returns-in_err-write_told-clause-compared
+returns-in_err-write_told-clause-compared g c =
     let quiet = c.in_ok-verdict.ensures.counted in
     let before = c.parts.invariant.file in
     says_unwritten c.args.parts.now c.args.name.now (g.P.Feed.remaining c.args.list.now)

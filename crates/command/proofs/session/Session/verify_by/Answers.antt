@@ -15,5 +15,6 @@ returns-clause-run g c =
     by_file c.args.parts.now c.args.name.now (g.L.Feed.remaining c.args.self.now.input.now)
     (g.T.Tree.files c.args.self.now.tree.now) (g.P.Feed.remaining c.args.list.now) c.verify_feed-answer.result
     (g.W.Sink.shown c.args.self.now.out.now) (g.W.Sink.shown c.verify_feed-answer.new.out) _ _ _ _ _ _ _ _ _
-    (g.T.F.Feed.remaining c.in_ok-feed.feed) (sym c.if-eq.ensures) c.in_ok-feed.ensures.opened c.in_ok-feed.ensures.counted
-    c.in_ok-feed.ensures.fresh c.verify_feed-answer.ensures c.close.ensures.counted refl
+    (g.T.F.Feed.remaining c.in_ok-feed.feed) (sym c.if-eq.ensures) c.in_ok-feed.ensures.opened
+    c.in_ok-feed.ensures.counted c.in_ok-feed.ensures.fresh
+    c.verify_feed-answer.ensures.compared c.close.ensures.counted refl

@@ -15,8 +15,10 @@ returns-in-Ok-true-clause-found g c =
     (g.F.Feed.remaining c.has_more.new.feed) (ahead c.args.self.now) (ahead c.pieces.self) (ahead c.has_more.new.self)
     c.pieces.self.held.items [] _ c.pieces.invariant.progress c.in_ok-has_more.ensures.ahead in
     reads_line (g.F.Feed.remaining c.args.feed.now) (g.F.Feed.remaining c.has_more.new.feed)
-    (g.F.Feed.remaining c.has_more.new.feed) (ahead c.args.self.now) (ahead c.has_more.new.self) (ahead c.take.new.self) c.has_more.new.self.held.items
-    c.take.new.self.held.items PartFault (rw c.in-Ok-true.field-0-test at c.in-Ok-true.ensures.line) (rw c.has_more.ensures.held c.pieces.invariant.free)
+    (g.F.Feed.remaining c.has_more.new.feed) (ahead c.args.self.now) (ahead c.has_more.new.self)
+    (ahead c.take.new.self) c.has_more.new.self.held.items c.take.new.self.held.items PartFault
+    (rw c.in-Ok-true.field-0-test at c.in-Ok-true.ensures.line)
+    (rw c.has_more.ensures.held c.pieces.invariant.free)
     (rw c.has_more.ensures.held so)
 
 pub returns-in-Ok-true-clause-gave : goal.returns-in-Ok-true-clause-gave
@@ -28,8 +30,10 @@ pieces-preserved g c =
     (g.F.Feed.remaining c.has_more.new.feed) (ahead c.args.self.now) (ahead c.pieces.self) (ahead c.has_more.new.self)
     c.pieces.self.held.items [] _ c.pieces.invariant.progress c.in_ok-has_more.ensures.ahead in
     let on = reads_on (g.F.Feed.remaining c.args.feed.now) (g.F.Feed.remaining c.has_more.new.feed)
-    (g.F.Feed.remaining c.has_more.new.feed) (ahead c.args.self.now) (ahead c.has_more.new.self) (ahead c.take.new.self) c.has_more.new.self.held.items
-    c.take.new.self.held.items PartFault (rw c.in-Ok-false.field-0-test at c.in-Ok-false.ensures.line) (rw c.has_more.ensures.held c.pieces.invariant.free)
+    (g.F.Feed.remaining c.has_more.new.feed) (ahead c.args.self.now) (ahead c.has_more.new.self)
+    (ahead c.take.new.self) c.has_more.new.self.held.items c.take.new.self.held.items PartFault
+    (rw c.in-Ok-false.field-0-test at c.in-Ok-false.ensures.line)
+    (rw c.has_more.ensures.held c.pieces.invariant.free)
     (rw c.has_more.ensures.held so) in
     record {
       progress = on.0;
