@@ -2,8 +2,8 @@
 
 ghost use Rattle.std.specs.Prelude.{◌≡◌, ◌≢◌, ◌≤◌, ◌++◌, ◌&&◌, Bool, Err, IfOk, IfSome, IsSomeAnd, MatchResult, Ok};
 ghost use Rattle.std.specs.Prelude.{codes, count_ones, if◌then◌else◌, length, map, nat_le, ok_or};
-ghost use Rattle.std.specs.Prelude.{Some, option_map, replicate, unwrap_or};
-ghost use Rattle.request.specs.CommandLine.{given_of, text_of};
+ghost use Rattle.std.specs.Prelude.{MatchOption, Some, option_map, replicate, tt, unwrap_or};
+ghost use Rattle.request.specs.CommandLine.{Text, given_of, text_of};
 ghost use Rattle.source.specs.Digest.{digest_len};
 ghost use Rattle.sumlist.specs.Kinds.{kinds};
 ghost use Rattle.task.specs.Settings as spec;
@@ -94,12 +94,25 @@ fn kind_named(name: &str) -> Result<Kind, UsageFault>
 pub(crate) fn absent(request: &Request<'_>, settings: &[Setting]) -> Result<(), UsageFault>
     ensures { judged result ≡ spec.absent spec.not_for (map setting_name settings.now) (given_of request.now) }
 {
+    match first_given(request, settings) {
+        Some(setting) => Err(UsageFault::NotForAlgorithm(setting)),
+        None => Ok(()),
+    }
+}
+
+/// The first of these settings that was given.
+pub(crate) fn first_given(request: &Request<'_>, settings: &[Setting]) -> Option<Setting>
+    ensures { (complaint : Text) → MatchOption result
+        (spec.absent complaint (map setting_name settings.now) (given_of request.now) ≡ Ok tt)
+        (λ s. spec.absent complaint (map setting_name settings.now) (given_of request.now)
+        ≡ Err (word (setting_name s) ++ complaint)) }
+{
     for &setting in settings {
         if text_of(request, setting).is_some() {
-            return Err(UsageFault::NotForAlgorithm(setting));
+            return Some(setting);
         }
     }
-    Ok(())
+    None
 }
 
 /// Refuses what is wrong, by this fault.

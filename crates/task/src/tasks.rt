@@ -16,7 +16,8 @@ use crate::derivation::Derivation;
 use crate::fault::{Setting, TaskFault, UsageFault};
 use crate::hashing::{Form, Hashing, given_digest, names_several, stretch_of, wanted};
 use crate::parameters::{
-    file_count, given_bytes, given_kind, given_number, needed, number, power_in, unless,
+    file_count, first_given, given_bytes, given_kind, given_number, needed, number, power_in,
+    unless,
 };
 use crate::parting::{Joining, PartLength, Place, names_blake3};
 use crate::tagging::{Key, Mac, Tagging};
@@ -273,12 +274,10 @@ fn starts<'a>(request: &Request<'a>) -> Result<Task<'a>, UsageFault>
         MOST_CHUNKS,
         needed(request, Setting::Chunks)?,
     )?;
-    let has_first = request.text("first").is_some();
-    unless(has_first, UsageFault::NotWithList(Setting::First))?;
-    let has_each = request.text("each").is_some();
-    unless(has_each, UsageFault::NotWithList(Setting::Each))?;
-    let has_verify = request.text("verify").is_some();
-    unless(has_verify, UsageFault::NotWithList(Setting::Verify))?;
+    let others = [Setting::First, Setting::Each, Setting::Verify];
+    if let Some(setting) = first_given(request, &others) {
+        return Err(UsageFault::NotWithList(setting));
+    }
     let file = file_or_input(request);
     unless(file == "-", UsageFault::FileOnly(Setting::Starts))?;
     let parts = PartLength { chunks };
@@ -288,12 +287,10 @@ fn starts<'a>(request: &Request<'a>) -> Result<Task<'a>, UsageFault>
 fn verify<'a>(request: &Request<'a>, parts: &'a str) -> Result<Task<'a>, UsageFault>
     ensures { seen task_shown result ≡ spec.verify parts.now (given_of request.now) }
 {
-    let has_first = request.text("first").is_some();
-    unless(has_first, UsageFault::NotWithVerify(Setting::First))?;
-    let has_chunks = request.text("chunks").is_some();
-    unless(has_chunks, UsageFault::NotWithVerify(Setting::Chunks))?;
-    let has_each = request.text("each").is_some();
-    unless(has_each, UsageFault::NotWithVerify(Setting::Each))?;
+    let others = [Setting::First, Setting::Chunks, Setting::Each];
+    if let Some(setting) = first_given(request, &others) {
+        return Err(UsageFault::NotWithVerify(setting));
+    }
     let file = file_or_input(request);
     Ok(Task::Verify { parts, file })
 }
@@ -302,10 +299,9 @@ fn each<'a>(request: &Request<'a>) -> Result<Task<'a>, UsageFault>
     ensures { seen task_shown result ≡ spec.each (given_of request.now) }
 {
     let chunks = power_in(Setting::Each, MOST_CHUNKS, needed(request, Setting::Each)?)?;
-    let has_first = request.text("first").is_some();
-    unless(has_first, UsageFault::NotWithEach(Setting::First))?;
-    let has_chunks = request.text("chunks").is_some();
-    unless(has_chunks, UsageFault::NotWithEach(Setting::Chunks))?;
+    if let Some(setting) = first_given(request, &[Setting::First, Setting::Chunks]) {
+        return Err(UsageFault::NotWithEach(setting));
+    }
     let parts = PartLength { chunks };
     let file = file_or_input(request);
     Ok(Task::Parts { parts, file })
