@@ -2,7 +2,7 @@
 
 ghost use Rattle.std.specs.Prelude.{◌≡◌, ◌≢◌, ◌≤◌, ◌++◌, ◌&&◌, Bool, Err, IfOk, IfSome, IsSomeAnd, MatchResult, Ok};
 ghost use Rattle.std.specs.Prelude.{codes, count_ones, if◌then◌else◌, length, map, nat_le, ok_or};
-ghost use Rattle.std.specs.Prelude.{MatchOption, Some, option_map, replicate, tt, unwrap_or};
+ghost use Rattle.std.specs.Prelude.{MatchOption, Some, option_map, replicate, unwrap_or};
 ghost use Rattle.request.specs.CommandLine.{Text, given_of, text_of};
 ghost use Rattle.source.specs.Digest.{digest_len};
 ghost use Rattle.sumlist.specs.Kinds.{kinds};
