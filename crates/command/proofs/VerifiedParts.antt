@@ -306,7 +306,7 @@ module _ (parts name : Text) (text m : List ℕ) (joiner : Joiner) (front : List
       → Compared parts name text m (Err f) old mid i j u v
   ends_wrong f number fault is (line, rest, cut, place, wrong) p q =
       let end : Run =
-          stops (of_name parts (codes ": line " ++ (decimal (length so.told + 1) ++ line_complaint fault))) in
+      stops (of_name parts (codes ": line " ++ (decimal (length so.told + 1) ++ line_complaint fault))) in
       let told : Err (shown (bad_line parts (length so.told + 1) fault)) ≡ Err (shown (trouble_of f))
       = ap (λ (k : ℕ). Err (shown (bad_line parts k fault))) (sym place) ∙ ap (λ t. Err (shown t)) (sym is) in (
         record end { text = said },
