@@ -26,10 +26,9 @@ class Run(NamedTuple):
 
 
 def arguments(least):
-    """The script's words; where there are fewer it stops, and tells its usage, which its first text has."""
+    """The script's words; where there are fewer it stops, and tells its usage, with which its first text ends."""
     if len(sys.argv) <= least:
-        lines = sys.modules["__main__"].__doc__.splitlines()
-        print(next(line for line in lines if line.startswith("usage: ")), file=sys.stderr)
+        print(sys.modules["__main__"].__doc__[sys.modules["__main__"].__doc__.index("usage: "):].rstrip(), file=sys.stderr)
         sys.exit(2)
     return sys.argv[1:]
 

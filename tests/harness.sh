@@ -8,12 +8,15 @@ work=$(mktemp -d) || exit 1
 trap 'rm -rf "$work"' EXIT
 passed=0 failed=0 missing=
 
+# tell_usage: the script's usage, with the lines that go on with it, as a wrong call
+tell_usage() {
+    sed -n '/^# usage: /,/^[^#]/{ s/^# \(usage: .*\)/\1/p; s/^# \( .*\)/\1/p; }' "$0" >&2
+    exit 2
+}
+
 # takes_program WORD..: sets `program` to the path in the first word; without one the script stops and tells its usage
 takes_program() {
-    if [ $# = 0 ]; then
-        sed -n 's/^# usage: /usage: /p' "$0" >&2
-        exit 2
-    fi
+    [ $# -gt 0 ] || tell_usage
     program=$(realpath "$1")
     if [ ! -x "$program" ]; then
         echo "there is no $program"
