@@ -36,9 +36,10 @@ NAMES = ["plain", "a b", " a  b ", 'it\'s "so"', "$(touch PWNED)", "`touch PWNED
          "x (y) = z", "name 3: bad name"]
 FEW = [f"f{number}" for number in range(120)]
 MANY = [f"many/{number}" for number in range(20000)]
-LISTS = ("good", "tagged", "mixed", "none", "comments", "no-end", "one", "endless", "list\n\x1b[1m\\", "missing",
-         "folder",
-         "", "/dev/null")
+# the name of a list, with what standard error escapes
+ODD = "list\r\n\x1b[1m\\\x9b\u202e"
+LISTS = ("good", "tagged", "mixed", "none", "comments", "no-end", "one", "endless", ODD, "missing", "folder", "",
+         "/dev/null")
 WAYS = ([], ["-j1", "--block=3000"], ["-j", "13", "--block", "1"], ["--by", "env A=b", "--block", "50000"])
 # Lines of a shell with files that runs must not share: pipes, and files that are open already.
 SHARED = (
@@ -105,7 +106,7 @@ def lists(program):
                        ("comments", b"#\n\n"), ("commented", b"#\n" * 1000 + good + b"#\n" * 1000),
                        ("nearly", good + tagged[:tagged.index(b"\n") + 1]),
                        ("no-end", good[:-1]), ("one", good[:good.index(b"\n") + 1]), ("endless", b"y" * 300000),
-                       ("list\n\x1b[1m\\", b"".join(lines[:40])), ("all", good + tagged + b"".join(lines)),
+                       (ODD, b"".join(lines[:40])), ("all", good + tagged + b"".join(lines)),
                        ("large-list", harness.run(program, ["hash", "-a", "blake3", "just", "more"]).out),
                        ("names", b"\0".join(names) + b"\0"), ("names-no-end", b"\0".join(names)),
                        ("names-many", b"".join(os.fsencode(name) + b"\0" for name in MANY))):
@@ -179,9 +180,8 @@ def of_lists():
     for alg, path in (("blake3", "good"), ("blake3", "commented"), ("blake2b", "commented"), ("blake3", "nearly"),
                       ("blake3", "mixed"), ("sha512", "commented"), ("blake2s", "tagged")):
         yield f"check {path} by another hash, {alg}", ["check", "-a", alg, path], b""
-    yield "check several", ["check", "-a", "sha256", "--summary", "good", "missing", "list\n\x1b[1m\\", "none",
-                            "folder",
-                            "mixed", "tagged", "all"], b""
+    yield "check several", ["check", "-a", "sha256", "--summary", "good", "missing", ODD, "none", "folder", "mixed",
+                            "tagged", "all"], b""
     for name in ("mixed", "none", "good"):
         yield f"check standard input, {name}", ["check", "-a", "sha256", "--summary"], content(name)
     yield "check -", ["check", "-a", "sha256", "-"], content("mixed")
@@ -199,13 +199,17 @@ def part_lists(program):
     good = harness.run(program, ["part", "-a", "blake3", "--each", "8192", "large"]).out
     lines = good.splitlines(keepends=True)
     other = lines[3].replace(lines[3].split()[4], lines[2].split()[4])
+    halves = [harness.run(program, ["part", "-a", "blake3", "--first", first, "--chunks", "4096", "large"]).out
+              for first in ("8192", "12288")]
     for name, data in (("parts", good), ("parts-no-end", good[:-1]), ("parts-other", b"".join(lines[:3]) + other
                         + b"".join(lines[4:])), ("parts-few", b"".join(lines[:5])), ("parts-twice", good + good),
                        ("parts-gap", b"".join(lines[:2] + lines[3:])),
-                       ("parts-order", b"".join([lines[0], lines[2], lines[1], *lines[3:]])), ("parts-bad", b"".join(lines[:2]) + b"x\n"),
+                       ("parts-order", b"".join([lines[0], lines[2], lines[1], *lines[3:]])),
+                       ("parts-bad", b"".join(lines[:2]) + b"x\n"),
                        ("parts-crlf", good.replace(b"\n", b"\r\n")), ("parts-long", b"".join(lines[:2]) + b"1" * 70000),
                        ("parts-small", harness.run(program, ["part", "-a", "blake3", "--each", "64", "large"]).out),
-                       ("-parts", good), ("parts-one", harness.run(program, ["part", "-a", "blake3", "large"]).out)):
+                       ("parts-mixed", b"".join([lines[0], *halves, *lines[2:]])), ("-parts", good),
+                       ("parts-one", harness.run(program, ["part", "-a", "blake3", "large"]).out)):
         with open(name, "wb") as file:
             file.write(data)
     whole = content("large")
@@ -227,9 +231,9 @@ def of_parts():
         yield f"part {words}", ["part", "-a", "blake3", *words], b"given"
     yield "part by another hash", ["part", "-a", "sha256", "--each", "8192", "large"], b""
     yield "part by no hash", ["part", "--each", "8192", "large"], b""
-    for name in ("parts", "parts-no-end", "parts-other", "parts-few", "parts-twice", "parts-gap", "parts-order", "parts-bad",
-                 "parts-crlf", "parts-long", "parts-small", "parts-one", "-parts", "none", "missing", "folder", "",
-                 "/dev/null", "large", "-"):
+    for name in ("parts", "parts-no-end", "parts-other", "parts-few", "parts-twice", "parts-gap", "parts-order",
+                 "parts-bad", "parts-crlf", "parts-long", "parts-mixed", "parts-small", "parts-one", "-parts", "none",
+                 "missing", "folder", "", "/dev/null", "large", "-"):
         yield f"part --verify {name}", ["part", "-a", "blake3", f"--verify={name}", "large"], content("parts")
     for name in ("damaged", "short", "short-by-one", "long-by-one", "missing", "folder", "/dev/null", "-", "parts"):
         yield f"part --verify parts {name}", ["part", "-a", "blake3", "--verify", "parts", name], content("damaged")
@@ -352,12 +356,15 @@ def begun_with(program):
             ("few descriptors", limited(resource.RLIMIT_NOFILE, 99), "400"),
             ("hardly any descriptors", limited(resource.RLIMIT_NOFILE, 20), "400"),
             ("little memory", limited(resource.RLIMIT_AS, 150 * MIB), "64"))
-    for words in (["check", "-a", "sha256", "--summary", "mixed"], ["hash", "-a", "sha256", "missing", *FEW]):
+    with open("one-line", "wb") as file:
+        file.truncate(200 * MIB)
+    for words in (["check", "-a", "sha256", "--summary", "mixed"], ["hash", "-a", "sha256", "missing", *FEW],
+                  ["check", "-a", "sha256", "one-line"]):
         wanted = harness.run(program, words)
         for name, before, count in ways:
             run = harness.run(sys.executable, ["-ISXutf8", FRONT, "-j", count, "--block=1", *words], preexec_fn=before,
                               env={**os.environ, "SUMS": program})
-            same(f"{name}: {words[0]}", run, wanted)
+            same(f"{name}: {words[0]} {words[-1]}", run, wanted)
 
 
 def ignored(program):
