@@ -47,7 +47,7 @@ LAYERS = {
     # its usage has the name by which it is called
     "program": ("true", "cd crates/sums && rt run -- --version && mkdir -p $OUT && cp out/sums $OUT",
                 *(f"tests/program/{script} $OUT/sums" for script in (
-                    "rows.py", "streams.py", "progress", "clock.py", "calls.py", "lines"))),
+                    "rows.py", "streams.py", "progress", "clock.py", "calls.py", "lines", "growths.py"))),
 }
 
 

@@ -199,8 +199,10 @@ def part_lists(program):
     good = harness.run(program, ["part", "-a", "blake3", "--each", "8192", "large"]).out
     lines = good.splitlines(keepends=True)
     other = lines[3].replace(lines[3].split()[4], lines[2].split()[4])
-    halves = [harness.run(program, ["part", "-a", "blake3", "--first", first, "--chunks", "4096", "large"]).out
-              for first in ("8192", "12288")]
+
+    def line(first, chunks):
+        return harness.run(program, ["part", "-a", "blake3", "--first", first, "--chunks", chunks, "large"]).out
+
     for name, data in (("parts", good), ("parts-no-end", good[:-1]), ("parts-other", b"".join(lines[:3]) + other
                         + b"".join(lines[4:])), ("parts-few", b"".join(lines[:5])), ("parts-twice", good + good),
                        ("parts-gap", b"".join(lines[:2] + lines[3:])),
@@ -208,7 +210,8 @@ def part_lists(program):
                        ("parts-bad", b"".join(lines[:2]) + b"x\n"),
                        ("parts-crlf", good.replace(b"\n", b"\r\n")), ("parts-long", b"".join(lines[:2]) + b"1" * 70000),
                        ("parts-small", harness.run(program, ["part", "-a", "blake3", "--each", "64", "large"]).out),
-                       ("parts-mixed", b"".join([lines[0], *halves, *lines[2:]])), ("-parts", good),
+                       ("parts-mixed", b"".join([lines[0], line("8192", "4096"), line("12288", "4096"), *lines[2:]])),
+                       ("parts-double", b"".join([*lines[:2], line("16384", "16384"), *lines[4:]])), ("-parts", good),
                        ("parts-one", harness.run(program, ["part", "-a", "blake3", "large"]).out)):
         with open(name, "wb") as file:
             file.write(data)
@@ -232,8 +235,8 @@ def of_parts():
     yield "part by another hash", ["part", "-a", "sha256", "--each", "8192", "large"], b""
     yield "part by no hash", ["part", "--each", "8192", "large"], b""
     for name in ("parts", "parts-no-end", "parts-other", "parts-few", "parts-twice", "parts-gap", "parts-order",
-                 "parts-bad", "parts-crlf", "parts-long", "parts-mixed", "parts-small", "parts-one", "-parts", "none",
-                 "missing", "folder", "", "/dev/null", "large", "-"):
+                 "parts-bad", "parts-crlf", "parts-long", "parts-mixed", "parts-double", "parts-small", "parts-one",
+                 "-parts", "none", "missing", "folder", "", "/dev/null", "large", "-"):
         yield f"part --verify {name}", ["part", "-a", "blake3", f"--verify={name}", "large"], content("parts")
     for name in ("damaged", "short", "short-by-one", "long-by-one", "missing", "folder", "/dev/null", "-", "parts"):
         yield f"part --verify parts {name}", ["part", "-a", "blake3", "--verify", "parts", name], content("damaged")
