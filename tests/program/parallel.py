@@ -308,6 +308,21 @@ def own_source(program):
             b"sums: 3 OK, 0 failed, 0 missing, 1 unreadable, 0 too long, 0 malformed, 0 skipped\n"))
 
 
+def which_program():
+    """Where SUMS names none, the program beside sums-parallel is run, and where none stands there, that on the path."""
+    for place in ("beside", "path", "named"):
+        os.mkdir(place)
+        with open(f"{place}/sums", "w", opener=lambda name, flags: os.open(name, flags, 0o755)) as file:
+            file.write(f"#!/bin/sh\necho {place}\n")
+    for beside, named, wanted in ((True, True, "named"), (True, False, "beside"), (False, False, "path")):
+        shutil.copy(FRONT, "beside" if beside else ".")
+        path = os.path.abspath("beside/sums-parallel" if beside else "sums-parallel")
+        run = harness.run(sys.executable, ["-ISXutf8", path, "hash", "-a", "sha256", "f1"],
+                          env={"PATH": os.path.abspath("path") + ":" + os.environ["PATH"],
+                               **({"SUMS": os.path.abspath("named/sums")} if named else {})})
+        same(f"the program that is run is {wanted}", (run.status, run.out), (0, wanted.encode() + b"\n"))
+
+
 def answered_at_once(program):
     """A name or line is answered before the next one is there, as where one process waits for the other."""
     for words, given, wanted in ((["hash", "-a", "sha256", "--files0-from", "-"], b"f1\0", b"  f1\n"),
@@ -667,6 +682,7 @@ def main():
         streams(program)
         broken_input(program)
         early_signal()
+        which_program()
         ignored(program)
         begun_with(program)
         signals(program, ["-j", "2", "--block=1"])
