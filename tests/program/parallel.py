@@ -376,13 +376,12 @@ def begun_with(program):
             ("little memory", limited(resource.RLIMIT_AS, 150 * MIB), "64"))
     with open("one-line", "wb") as file:
         file.truncate(200 * MIB)
-    for words in (["check", "-a", "sha256", "--summary", "mixed"], ["hash", "-a", "sha256", "missing", *FEW],
-                  ["check", "-a", "sha256", "one-line"]):
-        wanted = harness.run(program, words)
-        for name, before, count in ways:
-            run = harness.run(sys.executable, ["-ISXutf8", FRONT, "-j", count, "--block=1", *words], preexec_fn=before,
-                              env={**os.environ, "SUMS": program})
-            same(f"{name}: {words[0]} {words[-1]}", run, wanted)
+    cases = [(words, way) for words in (["check", "-a", "sha256", "--summary", "mixed"],
+                                        ["hash", "-a", "sha256", "missing", *FEW]) for way in ways]
+    for words, (name, before, count) in [*cases, (["check", "-a", "sha256", "one-line"], ways[-1])]:
+        run = harness.run(sys.executable, ["-ISXutf8", FRONT, "-j", count, "--block=1", *words], preexec_fn=before,
+                          env={**os.environ, "SUMS": program})
+        same(f"{name}: {words[0]} {words[-1]}", run, harness.run(program, words))
 
 
 def ignored(program):
