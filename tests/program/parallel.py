@@ -323,6 +323,17 @@ def which_program():
         same(f"the program that is run is {wanted}", (run.status, run.out), (0, wanted.encode() + b"\n"))
 
 
+def alone(program):
+    """The interpreter that it names reads no modules of the user's."""
+    os.mkdir("modules")
+    for module in ("re", "signal", "shlex", "subprocess"):
+        with open(f"modules/{module}.py", "w") as file:
+            file.write("raise SystemExit(99)\n")
+    run = harness.run(FRONT, ["-j2", "--block=1", "hash", "-a", "sha256", "f1", "f2"],
+                      env={**os.environ, "SUMS": program, "PYTHONPATH": os.path.abspath("modules")})
+    same("modules of the user's are not read", run, harness.run(program, ["hash", "-a", "sha256", "f1", "f2"]))
+
+
 def answered_at_once(program):
     """A name or line is answered before the next one is there, as where one process waits for the other."""
     for words, given, wanted in ((["hash", "-a", "sha256", "--files0-from", "-"], b"f1\0", b"  f1\n"),
@@ -589,11 +600,12 @@ def wait_for(holds):
 
 def progress(program):
     """How many bytes are done, and nothing where it is not asked for."""
-    for words, is_shown in ((["--progress", "just", "f1"], True), (["just", "f1"], False)):
+    asked = ["--progress", "just", "f1"]
+    for words, terminal, is_shown in ((asked, "xterm", True), (asked[1:], "xterm", False), (asked, "dumb", False)):
         master, slave = pty.openpty()
         path = faulty(program, "case $1 in part) sleep 0.3 ;; esac")
         run = subprocess.Popen([sys.executable, FRONT, "-j2", "hash", "-a", "blake3", *words], stdout=subprocess.PIPE,
-                               stderr=slave, env={**os.environ, "SUMS": path, "TERM": "xterm"})
+                               stderr=slave, env={**os.environ, "SUMS": path, "TERM": terminal})
         os.close(slave)
         out = run.communicate(timeout=60)[0]
         shown = b""
@@ -604,7 +616,7 @@ def progress(program):
             pass
         same(f"progress {words}: the lines", out, harness.run(program, ["hash", "-a", "blake3", "just", "f1"]).out)
         rows = re.findall(rb"(\d+) of 33554434 bytes, (\d+) %\r\x1b\[K", shown)
-        judge(f"progress {words}: the rows", bool(rows) == is_shown and shown == b"".join(
+        judge(f"progress {words} on {terminal}: the rows", bool(rows) == is_shown and shown == b"".join(
             b"%b of 33554434 bytes, %b %%\r\x1b[K" % row for row in rows), shown)
         same(f"progress {words}: they rise", sorted(map(int, (row[0] for row in rows))), [int(row[0]) for row in rows])
 
@@ -682,6 +694,8 @@ def main():
         broken_input(program)
         early_signal()
         which_program()
+        if os.access("/usr/bin/python3", os.X_OK):
+            alone(program)
         ignored(program)
         begun_with(program)
         signals(program, ["-j", "2", "--block=1"])
