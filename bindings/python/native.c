@@ -938,8 +938,13 @@ static const struct inner *inner_of(PyObject *name)
 static int find_inner(PyObject *name, struct whole *whole)
 {
     int is_text = PyUnicode_Check(name);
-    PyObject *lower = is_text ? PyObject_CallMethod(name, "lower", NULL) : NULL;
-    if (is_text && !lower) return -1;
+    PyObject *is_ascii = is_text ? PyObject_CallMethod(name, "isascii", NULL) : NULL;
+    if (is_text && !is_ascii) return -1;
+    // some letters outside ASCII have small ones within it
+    int may_be = is_ascii == Py_True;
+    Py_XDECREF(is_ascii);
+    PyObject *lower = may_be ? PyObject_CallMethod(name, "lower", NULL) : NULL;
+    if (may_be && !lower) return -1;
     whole->hash = lower ? inner_of(lower) : NULL;
     Py_XDECREF(lower);
     if (whole->hash) return 0;

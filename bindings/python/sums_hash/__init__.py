@@ -69,15 +69,16 @@ def new(name: str, data: Buffer = b"", **settings: Any) -> Any:
     """An object of the hash of this name, as hashlib.new; of "hmac-sha256" and its like with key=."""
     if not isinstance(name, str):
         raise TypeError("name must be a string")
-    if name.lower() in _HASHES:
-        return _HASHES[name.lower()](data, **settings)
-    if name.lower() in _TAGS:
-        return _TAGS[name.lower()](msg=data, **settings)
+    lower = name.lower() if name.isascii() else name  # some other letters have small ones of ASCII
+    if lower in _HASHES:
+        return _HASHES[lower](data, **settings)
+    if lower in _TAGS:
+        return _TAGS[lower](msg=data, **settings)
     raise ValueError(f"unsupported hash type {name}")
 
 
 def file_digest(fileobj: Any, digest: str | Callable[[], Any], /, *, _bufsize: int = 2**18) -> Any:
-    """An object that has taken the rest of a file that is open for bytes, as hashlib.file_digest."""
+    """An object that has taken the rest of a file that is open for bytes, or all of a BytesIO, as hashlib.file_digest."""
     hasher = new(digest) if isinstance(digest, str) else digest()
     if hasattr(fileobj, "getbuffer"):
         hasher.update(fileobj.getbuffer())

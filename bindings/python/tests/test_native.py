@@ -467,7 +467,7 @@ for own, other in (first, second), (second, first):
             self.assertEqual(sums_hash.hkdf_extract(name, DATA, salt=None), sums_hash.hkdf_extract(name, DATA))
             self.assertEqual(sums_hash.hkdf_expand(name, DATA, 9, info=None), sums_hash.hkdf_expand(name, DATA, 9))
         self.assertRaises(TypeError, sums_hash.hkdf, "sha256", None, 9)
-        for wrong in ("blake3", "SHA-256", "", None):
+        for wrong in ("blake3", "SHA-256", "", None, "bla\u212ae2b"):
             with self.assertRaisesRegex(ValueError, f"^{wrong} is none of sha256, sha512, blake2b, blake2s$"):
                 sums_hash.hmac_digest(b"key", b"", wrong)
         self.assertRaises(TypeError, sums_hash.hmac_digest, "key", b"", "sha256")

@@ -40,7 +40,7 @@ class AsHashlib(unittest.TestCase):
             for word in ("name", "digest_size", "block_size"):
                 self.assertEqual(getattr(ours, word), getattr(theirs, word))
             self.assertEqual(ours.hexdigest(), theirs.hexdigest())
-        for name in ("md5", "sha-256", ""):
+        for name in ("md5", "sha-256", "", "bla\u212ae2b"):
             with self.assertRaisesRegex(ValueError, f"^unsupported hash type {name}$"):
                 sums_hash.new(name)
         self.assertRaises(TypeError, sums_hash.new, 1)
