@@ -573,7 +573,7 @@ def signals(program, own):
         begun = os.path.abspath("begun")
         with open(begun, "wb"), contextlib.suppress(FileExistsError):
             os.mkdir("temporary")
-        path = faulty(program, f'case " $* " in *" f9 "*) echo $$ > "{begun}"; sleep 60 ;; esac')
+        path = faulty(program, f'case " $* " in *" f9 "*) sleep 60 & echo $$ $! > "{begun}"; wait ;; esac')
         variables = {"SUMS": path, "TMPDIR": os.path.abspath("temporary"),
                      "PATH": os.path.dirname(path) + ":" + os.environ["PATH"]}
         run = subprocess.Popen([sys.executable, FRONT, *own, "hash", "-a", "sha256", *FEW[:20]], stdout=subprocess.PIPE,
@@ -583,8 +583,8 @@ def signals(program, own):
         out = run.communicate(timeout=30)[0]
         same(f"{own} signal {number}", (run.returncode, os.listdir("temporary")), (-number, []))
         judge(f"{own} signal {number}: whole lines alone", out == b"" or out.endswith(b"\n"), out)
-        left = int(content(begun))
-        judge(f"{own} signal {number}: no run is left", wait_for(lambda: not os.path.exists(f"/proc/{left}")), left)
+        left = [f"/proc/{int(process)}" for process in content(begun).split()]
+        judge(f"{own} signal {number}: no run is left", wait_for(lambda: not any(map(os.path.exists, left))), left)
 
 
 def wait_for(holds):
