@@ -334,6 +334,15 @@ def alone(program):
     same("modules of the user's are not read", run, harness.run(program, ["hash", "-a", "sha256", "f1", "f2"]))
 
 
+def at_work(program):
+    """Two runs are at work at a time, each of which waits for the other one for a while."""
+    path = faulty(program, '[ $# = 3 ] || { echo > at_work.$$; n=0; until [ "$(ls at_work.* | wc -l)" -ge 2 ]; do '
+                  'sleep 0.1; n=$((n + 1)); [ $n -lt 100 ] || { echo > alone; break; }; done; }')
+    run = front(path, ["-j2", "--block=1", "hash", "-a", "sha256", "f1", "f2"])
+    same("two runs", run, harness.run(program, ["hash", "-a", "sha256", "f1", "f2"]))
+    judge("two runs are at work at a time", not os.path.exists("alone"))
+
+
 def answered_at_once(program):
     """A name or line is answered before the next one is there, as where one process waits for the other."""
     for words, given, wanted in ((["hash", "-a", "sha256", "--files0-from", "-"], b"f1\0", b"  f1\n"),
@@ -694,6 +703,7 @@ def main():
         broken_input(program)
         early_signal()
         which_program()
+        at_work(program)
         if os.access("/usr/bin/python3", os.X_OK):
             alone(program)
         ignored(program)
