@@ -428,6 +428,23 @@ def early_signal():
     same("an early SIGINT", run, (-signal.SIGINT, b"", b""))
 
 
+def signal_meanwhile(program):
+    """A signal that comes while a run begins ends the process, and that run."""
+    begun = os.path.abspath("begun-meanwhile")
+    path = faulty(program, f'echo $$ > "{begun}"; exec sleep 20')
+    script = ("import os, runpy, signal, subprocess, sys, time\nbegin = subprocess.Popen\n"
+              "def begun_so(*words, **options):\n    process = begin(*words, **options)\n"
+              f"    while not os.path.exists({begun!r}): time.sleep(0.01)\n"
+              "    signal.raise_signal(signal.SIGTERM)\n    return process\n"
+              "subprocess.Popen = begun_so\n"
+              "sys.argv[:] = sys.argv[1:]\nrunpy.run_path(sys.argv[0], run_name='__main__')")
+    run = harness.run(sys.executable, ["-c", script, FRONT, "-j2", "--block=1", "hash", "-a", "sha256", "f1", "f2"],
+                      env={**os.environ, "SUMS": path})
+    same("a signal while a run begins", run, (-signal.SIGTERM, b"", b""))
+    left = f"/proc/{int(content(begun))}"
+    judge("a signal while a run begins: no run is left", wait_for(lambda: not os.path.exists(left)), left)
+
+
 # ---- runs that fail
 
 
@@ -702,6 +719,7 @@ def main():
         streams(program)
         broken_input(program)
         early_signal()
+        signal_meanwhile(program)
         which_program()
         at_work(program)
         if os.access("/usr/bin/python3", os.X_OK):
