@@ -6,7 +6,7 @@ to be refused. In a text `\n`, `\t` and `\\` stand for bytes. A body that does n
 layer `program` is built anew, proved, over what the libraries below have in out/; a proof may refuse it too. No part of
 tools/test.
 usage: tests/planted/plant.py LAYER BUILT [WORDS]    the bodies of a layer, or those whose meaning has these words; BUILT has the
-                                           program sums and the C library libhash_c.a
+                                           program sums and the C library libhash_c.a, for the layer `program` memory_tests
 """
 
 import os
@@ -102,8 +102,10 @@ def main():
         tree = os.path.join(work, "tree")
         left = LEFT if layer == "program" else [*LEFT, "out"]
         shutil.copytree(TOP, tree, symlinks=True, ignore=shutil.ignore_patterns(*left))
-        os.makedirs(os.path.join(tree, "crates/hash_c/out"), exist_ok=True)
-        shutil.copy(os.path.join(built, "libhash_c.a"), os.path.join(tree, "crates/hash_c/out"))
+        kept = [("libhash_c.a", "hash_c")] + [("memory_tests", "memory_tests")] * (layer == "program")
+        for name, crate in kept:
+            os.makedirs(os.path.join(tree, f"crates/{crate}/out"), exist_ok=True)
+            shutil.copy(os.path.join(built, name), os.path.join(tree, f"crates/{crate}/out"))
         settings = {"STOPS": "1", "SUMS": os.path.join(built, "sums"), "OUT": os.path.join(work, "made"),
                     "LIB": os.path.join(built, "libhash_c.a"), "PYTHONDONTWRITEBYTECODE": "1"}
         for place, meaning, path, old, new, reason in bodies(layer):

@@ -10,6 +10,7 @@ import functools
 import hashlib
 import hmac
 import os
+import pty
 import resource
 import shutil
 import subprocess
@@ -226,6 +227,18 @@ def write(name, content):
         file.write(content)
 
 
+def terminal_in_its_list():
+    """A terminal from which a list comes is no file of that list: it would take the lines that come."""
+    master, terminal = pty.openpty()
+    # each 4 is an end of the input, for a list and for a file of it
+    os.write(master, ABC + b"  /dev/stdin\n\4\4\4")
+    got = subprocess.run([program, "check", "-a", "sha256", "-"], stdin=terminal, capture_output=True, check=False,
+                         timeout=60)
+    os.close(terminal)
+    os.close(master)
+    same("a terminal in its own list", (got.returncode, got.stdout), (1, b"/dev/stdin: UNREADABLE\n"))
+
+
 def few_open_files():
     """Each file is closed before the next one is opened."""
     with open("many-names", "wb") as file:
@@ -250,5 +263,6 @@ with harness.folder():
     named_pipes()
     files_of_another_user()
     near_names()
+    terminal_in_its_list()
     few_open_files()
 harness.finish()
