@@ -428,18 +428,32 @@ def early_signal():
     same("an early SIGINT", run, (-signal.SIGINT, b"", b""))
 
 
+def begun_by(begin, words, program):
+    """What the process answers where its processes are begun by these lines of Python, which have `begin` for Popen."""
+    script = ("import errno, os, runpy, signal, subprocess, sys, time\nbegin = subprocess.Popen\n" + begin +
+              "subprocess.Popen = begun_so\nsys.argv[:] = sys.argv[1:]\n"
+              "runpy.run_path(sys.argv[0], run_name='__main__')")
+    return harness.run(sys.executable, ["-c", script, FRONT, "-j2", "--block=1", *words],
+                       env={**os.environ, "SUMS": program})
+
+
+def refused_once(program):
+    """A run that the system refuses to begin while others are at work is begun later."""
+    path = faulty(program, "[ $# = 3 ] || sleep 1")
+    run = begun_by("calls = []\ndef begun_so(*words, **options):\n    calls.append(words)\n"
+                   "    if len(calls) == 3: raise OSError(errno.EAGAIN, 'refused')\n"
+                   "    return begin(*words, **options)\n", ["hash", "-a", "sha256", *FEW[:4]], path)
+    same("a run that is refused once", run, harness.run(program, ["hash", "-a", "sha256", *FEW[:4]]))
+
+
 def signal_meanwhile(program):
     """A signal that comes while a run begins ends the process, and that run."""
     begun = os.path.abspath("begun-meanwhile")
     path = faulty(program, f'echo $$ > "{begun}"; exec sleep 20')
-    script = ("import os, runpy, signal, subprocess, sys, time\nbegin = subprocess.Popen\n"
-              "def begun_so(*words, **options):\n    process = begin(*words, **options)\n"
-              f"    while not os.path.exists({begun!r}): time.sleep(0.01)\n"
-              "    signal.raise_signal(signal.SIGTERM)\n    return process\n"
-              "subprocess.Popen = begun_so\n"
-              "sys.argv[:] = sys.argv[1:]\nrunpy.run_path(sys.argv[0], run_name='__main__')")
-    run = harness.run(sys.executable, ["-c", script, FRONT, "-j2", "--block=1", "hash", "-a", "sha256", "f1", "f2"],
-                      env={**os.environ, "SUMS": path})
+    run = begun_by("def begun_so(*words, **options):\n    process = begin(*words, **options)\n"
+                   f"    while not os.path.exists({begun!r}): time.sleep(0.01)\n"
+                   "    signal.raise_signal(signal.SIGTERM)\n    return process\n",
+                   ["hash", "-a", "sha256", "f1", "f2"], path)
     same("a signal while a run begins", run, (-signal.SIGTERM, b"", b""))
     left = f"/proc/{int(content(begun))}"
     judge("a signal while a run begins: no run is left", wait_for(lambda: not os.path.exists(left)), left)
@@ -720,6 +734,7 @@ def main():
         broken_input(program)
         early_signal()
         signal_meanwhile(program)
+        refused_once(program)
         which_program()
         at_work(program)
         if os.access("/usr/bin/python3", os.X_OK):
