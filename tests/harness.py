@@ -28,7 +28,8 @@ class Run(NamedTuple):
 def arguments(least):
     """The script's words; where there are fewer it stops, and tells its usage, with which its first text ends."""
     if len(sys.argv) <= least:
-        print(sys.modules["__main__"].__doc__[sys.modules["__main__"].__doc__.index("usage: "):].rstrip(), file=sys.stderr)
+        text = sys.modules["__main__"].__doc__
+        print(text[text.index("usage: "):].rstrip(), file=sys.stderr)
         sys.exit(2)
     return sys.argv[1:]
 

@@ -451,7 +451,7 @@ def signal_meanwhile(program):
     begun = os.path.abspath("begun-meanwhile")
     path = faulty(program, f'echo $$ > "{begun}"; exec sleep 20')
     run = begun_by("def begun_so(*words, **options):\n    process = begin(*words, **options)\n"
-                   f"    while not os.path.exists({begun!r}): time.sleep(0.01)\n"
+                   f"    while not os.path.exists({begun!r}) or not os.path.getsize({begun!r}): time.sleep(0.01)\n"
                    "    signal.raise_signal(signal.SIGTERM)\n    return process\n",
                    ["hash", "-a", "sha256", "f1", "f2"], path)
     same("a signal while a run begins", run, (-signal.SIGTERM, b"", b""))
