@@ -41,6 +41,7 @@ ODD = "list\r\n\x1b[1m\\\x9b\u202e"
 LISTS = ("good", "tagged", "mixed", "none", "comments", "no-end", "one", "endless", ODD, "missing", "folder", "",
          "/dev/null")
 WAYS = ([], ["-j1", "--block=3000"], ["-j", "13", "--block", "1"], ["--by", "env A=b", "--block", "50000"])
+THERE = ["-S", "2/:", "--block=1"]
 # Lines of a shell with files that runs must not share: pipes, and files that are open already.
 SHARED = (
     "sums hash -a blake3 /dev/stdin < more",
@@ -77,6 +78,7 @@ def files():
     for name, size in (("just", 32 * MIB), ("less", 32 * MIB - 1), ("more", 32 * MIB + 1), ("large", 70 * MIB + 12345),
                        ("large\n\\{}", 33 * MIB), ("-large", 48 * MIB)):
         fill(name, size)
+    fill("-", 5000)
     os.mkdir("folder")
     os.symlink("large", "link")
     os.symlink("nothing", "dangling")
@@ -129,6 +131,7 @@ def of_files():
     yield "many, large ones among them", ["hash", "-a", "blake3", "f1", "large", *FEW, "more", "just", "less", "f2",
                                           "link",
                                           "--", "-large", "large\n\\{}"], b""
+    yield "a large one by its path", ["hash", "-a", "blake3", "f1", "folder/../more"], b""
     yield "the same file often", ["hash", "-a", "blake3", *["more"] * 3, *["f1"] * 40], b""
     yield "large ones by another hash", ["hash", "-a", "blake2b", "just", "f1", "more"], b""
     yield "tagged", ["hash", "-a", "blake3", "--tag", "large", "f1", "--", "large\n\\{}", "a\nb"], b""
@@ -334,6 +337,14 @@ def alone(program):
     same("modules of the user's are not read", run, harness.run(program, ["hash", "-a", "sha256", "f1", "f2"]))
 
 
+def all_words(program):
+    """A command that begins the runs has all of its words."""
+    path = faulty(program, '[ "$A $B" = "b c" ] || case "$*" in *f1*) exit 1 ;; esac')
+    words = ["hash", "-a", "sha256", "f1", "f2"]
+    same("--by with several words", front(path, ["--by", "env A=b  B=c", "--block=1", *words]),
+         harness.run(program, words))
+
+
 def at_work(program):
     """Two runs are at work at a time, each of which waits for the other one for a while."""
     path = faulty(program, '[ $# = 3 ] || { echo > at_work.$$; n=0; until [ "$(ls at_work.* | wc -l)" -ge 2 ]; do '
@@ -489,7 +500,31 @@ def killed(program, own):
     judge("no numbers where one is not known", b" OK, " not in run.err, run.err)
 
 
+def refused(program):
+    """Nothing is shown behind a run that ends with status 3."""
+    path = faulty(program, 'case "$*" in *" f1") echo told >&2; exit 3 ;; esac')
+    run = front(path, ["-j1", "--block=1", "hash", "-a", "sha256", "f0", "f1", "f2"])
+    same("a run that ends with status 3", run, (3, harness.run(program, ["hash", "-a", "sha256", "f0"]).out, b"told\n"))
+    path = faulty(program, "[ ! -p /dev/stdin ] || { echo told >&2; exit 3; }")
+    same("runs that read no lines", front(path, ["-j2", "check", "-a", "sha256", "good-many"]), (3, b"", b"told\n"))
+
+
+def left_behind(program):
+    """What a run has begun and leaves when it ends, as ssh does a connection, is not ended."""
+    path = faulty(program, 'case "$*" in *" f1") sleep 60 > told 2>&1 & echo $! > begun ;; esac')
+    front(path, ["-j2", "--block=1", "hash", "-a", "sha256", *FEW[:9]])
+    process = int(content("begun"))
+    path = f"/proc/{process}/stat"
+    state = content(path).rpartition(b")")[2].split()[0] if os.path.exists(path) else b"none"
+    judge("what a run leaves when it ends is alive", state in (b"S", b"T", b"R", b"D"), state)
+    with contextlib.suppress(ProcessLookupError):
+        os.kill(process, signal.SIGKILL)
+
+
 def parts(program):
+    path = faulty(program, 'case "$*" in hash*more) exit 1 ;; esac')
+    same("a large file is hashed once, by its parts", front(path, ["hash", "-a", "blake3", "more"]),
+         harness.run(program, ["hash", "-a", "blake3", "more"]))
     wanted = harness.run(program, ["hash", "-a", "blake3", "f1", "more", "f2"])
     for how in ("exit 1", "kill -9 $$", "echo sums-part-1 blake3 0 1 x; exit 0", "exit 0"):
         path = faulty(program, f'case "$1 $*" in "part "*" 16384 "*) {how} ;; esac')
@@ -515,6 +550,9 @@ def parts(program):
     path = faulty(program, 'case "$1 $*" in "part "*"--first 16384 "*) mv another changes ;; esac')
     run = front(path, ["-j1", "--block=33554432", "hash", "-a", "blake3", "changes"])
     same("a file that is replaced meanwhile", run, harness.run(program, ["hash", "-a", "blake3", "changes"]))
+    path = faulty(program, 'case "$*" in part*"--first 16384 "*) printf x | dd of=changes conv=notrunc 2> told ;; esac')
+    run = front(path, ["-j1", "--block=33554432", "hash", "-a", "blake3", "changes"])
+    same("a file that is written to meanwhile", run, harness.run(program, ["hash", "-a", "blake3", "changes"]))
 
 
 def number_of_runs(program, own, words):
@@ -536,6 +574,10 @@ def few_runs(program):
     judge("a sparse file", len(content("begun")) < 1500, len(content("begun")))
     status, count = number_of_runs(program, [], ["hash", "-a=blake3", "-l=99", "more"])
     judge("-a= and -l= in one word are cut", status == 0 and count > 3, count)
+    status, count = number_of_runs(program, [], ["hash", "-a", "blake3", "-l", "1000", "more"])
+    judge("a digest of 1,000 bytes is one run", status == 0 and count == 1, count)
+    status, count = number_of_runs(program, ["--by", "env A=b"], ["hash", "-a", "blake3", "large"])
+    judge("a block with --by is eight times as long", status == 0 and count == 1, count)
     for words in (["--each", "8192", "large"], ["--verify", "parts", "large"]):
         status, count = number_of_runs(program, [], ["part", "-a", "blake3", *words])
         judge(f"the parts of part {words} are runs", status == 0 and count == 10, count)
@@ -550,7 +592,8 @@ def not_begun(program):
                               (["--by=x", "-S", "y"], 2, b"give only one of -S and --by"),
                               (["-j", "0"], 2, b"-j: out of range"),
                               (["-j", "1" * 16], 2, b"-j: out of range"),
-                              (["-jx"], 2, b"-j: out of range"), (["--block="], 2, b"--block: out of range"),
+                              (["-jx"], 2, b"-j: out of range"), (["-j\u0663"], 2, b"-j: out of range"),
+                              (["--block="], 2, b"--block: out of range"),
                               (["-x"], 2, b"-x: none of hash, check and part, nor an option"),
                               (["--by", "/usr/bin/ssh host"], 2, b"--by: ssh hands its words to a shell: give -S")):
         run = front(program, [*own, *many])
@@ -562,7 +605,7 @@ def not_begun(program):
     for words in (many, ["--block=1", *many]):
         same("no sums", front("/nothing/there", words),
              (127, b"", b"sums-parallel: /nothing/there: No such file or directory\n"))
-    same("no GNU parallel", front(program, ["-S", "2/:", "--block=1", *many], PATH="/nothing"),
+    same("no GNU parallel", front(program, [*THERE, *many], PATH="/nothing"),
          (3, b"", b"sums-parallel: parallel: No such file or directory\n"))
     text = front(program, ["--help"])
     judge("the help", text.status == 0 and not text.err and max(map(len, text.out.splitlines())) <= 80, text)
@@ -623,8 +666,38 @@ def signals(program, own):
         out = run.communicate(timeout=30)[0]
         same(f"{own} signal {number}", (run.returncode, os.listdir("temporary")), (-number, []))
         judge(f"{own} signal {number}: whole lines alone", out == b"" or out.endswith(b"\n"), out)
-        left = [f"/proc/{int(process)}" for process in content(begun).split()]
-        judge(f"{own} signal {number}: no run is left", wait_for(lambda: not any(map(os.path.exists, left))), left)
+        none_left(f"{own} signal {number}", begun)
+
+
+def stubborn(program):
+    """A run that passes over SIGTERM is killed."""
+    begun = os.path.abspath("begun")
+    with open(begun, "wb"):
+        path = faulty(program, f'case "$*" in *" f9") trap "" TERM; sleep 60 & echo $$ $! > "{begun}"; wait ;; esac')
+    run = subprocess.Popen([sys.executable, FRONT, "-j2", "--block=1", "hash", "-a", "sha256", *FEW[:20]],
+                           stdout=subprocess.PIPE, stderr=subprocess.DEVNULL, env={**os.environ, "SUMS": path})
+    wait_for(lambda: content(begun))
+    run.terminate()
+    run.communicate(timeout=30)
+    none_left("SIGTERM is passed over", begun)
+
+
+def unwritten(program):
+    """Where standard output takes nothing, the runs are ended."""
+    begun = os.path.abspath("begun")
+    with open(begun, "wb"), open("/dev/full", "wb") as full:
+        path = faulty(program, f'case "$*" in *" f0") until [ -s "{begun}" ]; do sleep 0.1; done ;; '
+                      f'*" f9") sleep 60 & echo $$ $! > "{begun}"; wait ;; esac')
+        run = subprocess.run([sys.executable, FRONT, "-j2", "--block=1", "hash", "-a", "sha256", "f0", "f9"],
+                             stdout=full, stderr=subprocess.PIPE, env={**os.environ, "SUMS": path})
+    same("a full device, and a run at work", (run.returncode, run.stderr), (3, b"sums: cannot write\n"))
+    none_left("a full device", begun)
+
+
+def none_left(how, begun):
+    """None of the processes is left that runs have told in a file."""
+    left = [f"/proc/{int(process)}" for process in content(begun).split()]
+    judge(f"{how}: no run is left", wait_for(lambda: not any(map(os.path.exists, left))), left)
 
 
 def wait_for(holds):
@@ -638,6 +711,29 @@ def wait_for(holds):
 # ---- a terminal
 
 
+def shown_on(terminal):
+    """What is written on a terminal until it is closed."""
+    shown = b""
+    with contextlib.suppress(OSError):
+        while piece := os.read(terminal, 65536):
+            shown += piece
+    return shown
+
+
+def stopped(program):
+    """A signal takes away what stands on the terminal."""
+    master, slave = pty.openpty()
+    path = faulty(program, "case $1 in part) sleep 60 ;; esac")
+    run = subprocess.Popen([sys.executable, FRONT, "-j2", "hash", "-a", "blake3", "--progress", "just"],
+                           stdout=subprocess.DEVNULL, stderr=slave, env={**os.environ, "SUMS": path, "TERM": "xterm"})
+    os.close(slave)
+    shown = os.read(master, 65536)
+    run.send_signal(signal.SIGINT)
+    run.wait(timeout=60)
+    shown += shown_on(master)
+    judge("a signal takes away the progress", shown.count(b"%") > 0 and shown.endswith(b"%\r\x1b[K"), shown)
+
+
 def progress(program):
     """How many bytes are done, and nothing where it is not asked for."""
     asked = ["--progress", "just", "f1"]
@@ -648,12 +744,7 @@ def progress(program):
                                stderr=slave, env={**os.environ, "SUMS": path, "TERM": terminal})
         os.close(slave)
         out = run.communicate(timeout=60)[0]
-        shown = b""
-        try:
-            while piece := os.read(master, 65536):
-                shown += piece
-        except OSError:  # the terminal was closed
-            pass
+        shown = shown_on(master)
         same(f"progress {words}: the lines", out, harness.run(program, ["hash", "-a", "blake3", "just", "f1"]).out)
         rows = re.findall(rb"(\d+) of 33554434 bytes, (\d+) %\r\x1b\[K", shown)
         judge(f"progress {words} on {terminal}: the rows", bool(rows) == is_shown and shown == b"".join(
@@ -670,11 +761,25 @@ def through_parallel(program):
     own = ["-S", "4/:", "--block", "50000"]
     for cases in (of_files(), of_names(), of_words(), of_lists(), of_few_lists()):
         compare(program, [own], cases)
-    killed(program, ["-S", "2/:", "--block=1"])
-    signals(program, ["-S", "2/:", "--block=1"])
+    killed(program, THERE)
+    signals(program, THERE)
     dead_hosts(program)
     long_names(program)
-    run = by_shell(program, ["-S", "2/:", "--block=1"], "mkdir gone; cd gone; rmdir ../gone; sums hash -a sha256 /a /b")
+    settings(program)
+
+
+def settings(program):
+    """What GNU parallel has from elsewhere: its shell, how many runs, and the folder."""
+    words = ["hash", "-a", "sha256", *FEW[:9]]
+    same("-S with another shell", front(program, [*THERE, *words], PARALLEL_SHELL="/bin/false"),
+         harness.run(program, words))
+    faulty(program, "mkdir alone || echo > together; sleep 0.1; rmdir alone")
+    front(program, ["-S", ":", "-j1", "--block=1", *words])
+    judge("-j1 with -S is one run at a time", not os.path.exists("together"))
+    faulty(program, "")
+    text = "mkdir -p '$(touch PWNED) x'; cd '$(touch PWNED) x'; echo 1 > in1; echo 2 > in2; sums hash -a sha256 in1 in2"
+    same("-S in a folder of an odd name", by_shell(program, THERE, text), by_shell(program, None, text))
+    run = by_shell(program, THERE, "mkdir gone; cd gone; rmdir ../gone; sums hash -a sha256 /a /b")
     same("-S in a folder that is gone", run, (3, b"", b"sums-parallel: .: No such file or directory\n"))
 
 
@@ -686,9 +791,12 @@ def long_names(program):
     words = ["hash", "-a", "sha256", *names]
     with open("begun", "wb"):
         path = faulty(program, f'echo >> "{os.path.abspath("begun")}"')
-    run = front(program, ["-S", "2/:", "--block=3000000", *words], PATH=os.path.dirname(path) + ":" + os.environ["PATH"])
+    run = front(program, ["-S", "2/:", "--block=3000000", *words],
+                PATH=os.path.dirname(path) + ":" + os.environ["PATH"])
     same("long names", run, harness.run(program, words))
     judge("long names there", len(content("begun")) > 2, content("begun"))
+    words = ["hash", "-a", "sha256", "f1", "\U0001f600" * 16000]
+    same("a name too long for a command", front(program, [*THERE, *words]), harness.run(program, words))
 
 
 def dead_hosts(program):
@@ -697,8 +805,8 @@ def dead_hosts(program):
     whole = harness.run(program, words)
     faulty(program, "")
     with open("ssh", "w") as file:
-        # behind the host and -- stand the words of a command
-        file.write('#!/bin/sh\nhost=$1; shift 2\ncase $host in dead) exit 255 ;; '
+        # behind the host and -- stand the words of a command, which begins in another folder
+        file.write('#!/bin/sh\nhost=$1; shift 2; cd /\ncase $host in dead) exit 255 ;; '
                    'breaks) sh -c "$*" | head -c 60; exit 255 ;; '
                    'strange) printf "\\0run 99\\0\\0\\0status 0\\0" ;; esac\nexec sh -c "$*"\n')
     os.chmod("ssh", 0o755)
@@ -730,19 +838,25 @@ def main():
         few_runs(program)
         parts(program)
         killed(program, ["-j", "2", "--block=1"])
+        refused(program)
+        left_behind(program)
         streams(program)
         broken_input(program)
         early_signal()
         signal_meanwhile(program)
         refused_once(program)
         which_program()
+        all_words(program)
         at_work(program)
         if os.access("/usr/bin/python3", os.X_OK):
             alone(program)
         ignored(program)
         begun_with(program)
         signals(program, ["-j", "2", "--block=1"])
+        stubborn(program)
+        unwritten(program)
         progress(program)
+        stopped(program)
         answered_at_once(program)
         side_by_side(program)
         for cases in (of_words(), of_few_lists(), of_parts(), of_lists(), of_names(), of_files()):
