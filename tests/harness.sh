@@ -144,6 +144,11 @@ each_tree() {
     for case_file in "$work/trees"/*; do "$@" "$case_file" || return; done
 }
 
+# page_of LANGUAGE: the lines of code on the page of its package, but for those of a file of settings
+page_of() {
+    sed -n '/^    \(require\|replace\) /d; s/^    //p' "$here/../../bindings/$1/README.md"
+}
+
 # stand_in_sha2 FOLDER: files in the place of the kit's definitions of SHA-2, as tools/installed.sh names them
 stand_in_sha2() (
     # shellcheck disable=SC2034 # sha2_files takes it
