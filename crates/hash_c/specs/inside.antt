@@ -1,3 +1,3 @@
 -- What only the code needs: the structs that cross to C, and the statuses of refused pieces.
 pub mod Macs
-pub mod Pieces
+pub mod Streams

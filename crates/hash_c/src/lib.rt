@@ -2,19 +2,19 @@
 //!
 //! A slice is a pointer and then a length in bytes. A status of `SUMS_OK` says that all was done; any
 //! other says why nothing was, and then what the caller lent is as it was.
-#![tactic(auto, unfolding(crate::specs::Statuses::parameter_status, crate::specs::inside::Pieces::fault_status))]
+#![tactic(auto, unfolding(crate::specs::Statuses::parameter_status, crate::specs::inside::Streams::fault_status))]
 
 mod blake2_once;
-mod blake2b_pieces;
-mod blake2s_pieces;
+mod blake2b_stream;
+mod blake2s_stream;
 mod blake3_once;
-mod blake3_pieces;
+mod blake3_stream;
 mod hkdf_once;
 mod hmac_once;
-mod hmac_pieces;
+mod hmac_stream;
 mod piece_digests;
-mod piecewise;
 mod sha2_once;
-mod sha2_pieces;
+mod sha2_stream;
 mod statuses;
+mod streaming;
 mod tags;

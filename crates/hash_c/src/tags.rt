@@ -2,7 +2,7 @@
 
 ghost use Rattle.std.specs.Prelude.{◌≡◌, ◌≢◌, Some, length};
 ghost use Rattle.hash_c.specs.Statuses.{length_status, parameter_status};
-ghost use Rattle.hash_c.specs.inside.Pieces.{fault_status};
+ghost use Rattle.hash_c.specs.inside.Streams.{fault_status};
 
 use crate::statuses::{
     SUMS_DIGEST_LENGTH, SUMS_INPUT_TOO_LONG, SUMS_KEY_LENGTH, SUMS_NOT_BEGUN, SUMS_OK,

@@ -5,10 +5,10 @@ use Rattle.blake2.specs.Blake2.{unsalted}
 use Rattle.blake2.specs.inside.States.{StateHolds2b, StateHolds2s}
 use Rattle.states.specs.inside.States.{StateHolds256, StateHolds512}
 use Rattle.states.specs.Macs.{IsMac}
-use Rattle.hash_c.specs.declared.hmac_pieces.HmacBlake2bState.{HmacBlake2bState}
-use Rattle.hash_c.specs.declared.hmac_pieces.HmacBlake2sState.{HmacBlake2sState}
-use Rattle.hash_c.specs.declared.hmac_pieces.HmacSha256State.{HmacSha256State}
-use Rattle.hash_c.specs.declared.hmac_pieces.HmacSha512State.{HmacSha512State}
+use Rattle.hash_c.specs.declared.hmac_stream.HmacBlake2bState.{HmacBlake2bState}
+use Rattle.hash_c.specs.declared.hmac_stream.HmacBlake2sState.{HmacBlake2sState}
+use Rattle.hash_c.specs.declared.hmac_stream.HmacSha256State.{HmacSha256State}
+use Rattle.hash_c.specs.declared.hmac_stream.HmacSha512State.{HmacSha512State}
 
 abbrev pub IsMac256 : HmacSha256State → List ℕ → List ℕ → Type 0
 IsMac256 s key text = IsMac (λ h m. StateHolds256 h m) 64 key s.inner s.outer text

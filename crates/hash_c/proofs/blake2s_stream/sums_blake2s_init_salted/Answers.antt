@@ -3,7 +3,7 @@ use Rattle.words.specs.Blake2.{blake2s}
 use Rattle.blake2.specs.Blake2.{Parameters, from_list, listed, salted}
 use Rattle.blake2.specs.inside.Listed.{read_back}
 use Rattle.blake2.specs.inside.States.{StateHolds2s}
-use Rattle.hash_c.proofs.blake2s_pieces.sums_blake2s_init_salted.Goals as goal
+use Rattle.hash_c.proofs.blake2s_stream.sums_blake2s_init_salted.Goals as goal
 
 -- the hasher's parameters are read back from their list
 pub returns-in-Ok-clause-begun : goal.returns-in-Ok-clause-begun

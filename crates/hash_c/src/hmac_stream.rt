@@ -12,8 +12,8 @@ ghost use Rattle.hash_c.specs.inside.Macs.{IsMac256, IsMac2b, IsMac2s, IsMac512}
 ghost use Rattle.hash_c.specs.Statuses.{input_status, key_status, tag_status};
 ghost use Rattle.hash_c.specs.Unkeyed.{blake2b_512, blake2s_256};
 
-use crate::piecewise::update_state;
 use crate::statuses::{SUMS_DIGEST_LENGTH, SUMS_KEY_LENGTH, SUMS_NOT_BEGUN, SUMS_OK};
+use crate::streaming::update_state;
 use blake2::{Blake2bState, Blake2sState};
 use mac::{Blake2b512, Blake2s256, BlockHash, Sha256Stream, Sha512Stream};
 use states::{Sha256State, Sha512State, StateOf, begin_hmac, finish_hmac};

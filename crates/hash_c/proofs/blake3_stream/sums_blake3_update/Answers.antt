@@ -2,7 +2,7 @@ use Rattle.std.proofs.Common.{◌++◌, ◌∙◌, ℕ, List, arith, subst}
 use Rattle.std.proofs.lemmas.Bool.Decides.{nat_tests}
 use Rattle.b3.specs.inside.Rooms.{hasher_room-holds}
 use Rattle.b3.specs.inside.States.{StateHolds}
-use Rattle.hash_c.proofs.blake3_pieces.sums_blake3_update.Goals as goal
+use Rattle.hash_c.proofs.blake3_stream.sums_blake3_update.Goals as goal
 
 -- the hasher took the piece under the state's parameters
 pub returns-in-Ok-clause-appended : goal.returns-in-Ok-clause-appended

@@ -8,7 +8,7 @@ ghost use Rattle.states.specs.inside.States.{StateHolds256, StateHolds512};
 ghost use Rattle.hash_c.specs.Statuses.{input_status};
 ghost use Rattle.hash_c.specs.declared.statuses.TheConstants.{SUMS_NOT_BEGUN, SUMS_OK};
 
-use crate::piecewise::{finish_state, update_state};
+use crate::streaming::{finish_state, update_state};
 use mac::{Sha256Stream, Sha512Stream};
 use states::{Sha256State, Sha512State};
 
