@@ -301,7 +301,7 @@ fn subtree_lanes(parameters: &Parameters, first: u64, level: u32, bytes: &[u8]) 
         return chunk_lanes(parameters, first, bytes, &mut before);
     }
     let half = bytes.len() / 2;
-    let middle = first + (half / 1024) as u64;
+    let middle = first + (half / CHUNK_LEN) as u64;
     let left = subtree_lanes(parameters, first, level - 1, &bytes[..half]);
     let right = subtree_lanes(parameters, middle, level - 1, &bytes[half..]);
     parent_lanes(parameters, left, right)
@@ -346,7 +346,7 @@ fn open_lanes(
         return chunk_lanes(parameters, first, bytes, before);
     }
     let half = bytes.len() / 2;
-    let middle = first + (half / 1024) as u64;
+    let middle = first + (half / CHUNK_LEN) as u64;
     let left = subtree_lanes(parameters, first, level - 1, &bytes[..half]);
     let right = open_lanes(parameters, middle, level - 1, &bytes[half..], lefts, before);
     lefts[(level - 1) as usize] = lane_rows(right)[6];

@@ -18,6 +18,7 @@ pub use chunk::{CHUNK_LEN, MOST_CHUNKS};
 pub use hasher::Blake3;
 pub use laws::{debug_laws, output_laws, state_laws, tree_laws};
 pub use mode::Mode;
+pub use node::{BLOCK_LEN, CHUNK_END, CHUNK_START, ROOT};
 pub use output::{EndOfOutput, Output};
 pub use part::{NotNeighbours, NotWhole, Part};
 pub use place::Misplaced;

@@ -13,17 +13,7 @@ use crate::output::Output;
 use crate::part::NotWhole;
 use crate::place::{Misplaced, is_placed, is_whole};
 use crate::stack::Stack;
-use byteorder::{ByteOrder, LittleEndian};
-
-// The bytes of eight words, each little-endian.
-fn bytes_of_words(value: &[u32; 8]) -> [u8; 32]
-    ensures written { result ≡ word_bytes 4 value.now }
-    ensures read { words 4 8 result ≡ value.now }
-{
-    let mut bytes = [0; 32];
-    LittleEndian::write_u32_into(value, &mut bytes);
-    bytes
-}
+use words::bytes32;
 
 /// A part, by its chaining value.
 #[derive(Clone, Copy, Debug)]
@@ -92,7 +82,7 @@ impl PartValue {
         ensures written { result ≡ word_bytes 4 self.now.value }
         ensures read { words 4 8 result ≡ self.now.value }
     {
-        bytes_of_words(&self.value)
+        bytes32(&self.value)
     }
 }
 

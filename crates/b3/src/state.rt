@@ -4,7 +4,7 @@ ghost use Rattle.std.specs.Prelude.{◌≡◌, ◌↔◌, ℕ, List, IsTrue, IsS
 ghost use Rattle.b3.specs.Begun.{IsBegun};
 ghost use Rattle.b3.specs.inside.States.{IsKept, StateHolds};
 
-use crate::chunk::{Chunk, MOST_CHUNKS};
+use crate::chunk::{CHUNK_LEN, Chunk, MOST_CHUNKS};
 use crate::hasher::Blake3;
 use crate::mode::Parameters;
 use crate::stack::Stack;
@@ -59,9 +59,9 @@ impl Blake3State {
     {
         0 < self.mode
             && self.mode <= 256
-            && self.len <= 1024
+            && self.len <= CHUNK_LEN as u64
             && self.closed < MOST_CHUNKS
-            && 1024 * self.closed <= u64::MAX - self.len
+            && CHUNK_LEN as u64 * self.closed <= u64::MAX - self.len
             && self.closed.count_ones() <= 54
     }
 

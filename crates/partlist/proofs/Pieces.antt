@@ -18,7 +18,7 @@ use Rattle.b3.specs.Modes.{hash_parameters, tree_of}
 use Rattle.b3.specs.Node.{Node, cv}
 use Rattle.b3.specs.Tree.{chunk_count, parent, tree, tree_within}
 use Rattle.b3.specs.declared.row.PartValue.{PartValue}
-use Rattle.b3.proofs.WordsBack.{words_back}
+use Rattle.words.proofs.WordsBack.{words_back}
 use Rattle.partlist.specs.Laws.{TellsBytes}
 
 -- each is a word of 32 bits

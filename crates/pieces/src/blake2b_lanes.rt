@@ -4,7 +4,7 @@ ghost use Rattle.std.specs.Prelude.{◌≡◌, ◌<◌, ◌≤◌, ◌+◌, [], 
 ghost use Rattle.std.specs.Prelude.{None, Some, MatchResult};
 ghost use Rattle.std.proofs.Common.{rules};
 ghost use Rattle.words.specs.Blake2.{blake2b};
-ghost use Rattle.words.specs.Words.{padded, word_bytes, words};
+ghost use Rattle.words.specs.Words.{padded, words};
 ghost use Rattle.words.specs.inside.Lanes.{lane};
 ghost use Rattle.blake2.specs.Blake2.{blake2, final_value, start, unsalted};
 ghost use Rattle.pieces.specs.Pieces.{digests};
@@ -16,9 +16,8 @@ use crate::lanes2::words64::{lane_rows, message_lanes, next_lanes, same_lanes};
 use crate::last_blocks::padded_tails;
 use crate::piece_hash::PieceHash;
 use blake2::Blake2b;
-use byteorder::{ByteOrder, LittleEndian};
 use std::simd::u64x4;
-use words::{Absorb, IV64, write_at};
+use words::{Absorb, IV64, bytes64, write_at};
 
 // The chaining value before the first block: the words of the parameter block, which has the digest length, no key,
 // fanout 1 and depth 1, xored into the initial value (RFC 7693, section 2.5).
@@ -73,15 +72,6 @@ fn final_values(first: &[u64; 8], bytes: &[u8], starts: &[usize; 4], len: usize)
     lane_rows(next_lanes(values, &message, len as u128, true))
 }
 
-// The bytes of a chaining value.
-fn value_bytes(value: &[u64; 8]) -> [u8; 64]
-    ensures { result ≡ word_bytes 8 value.now }
-{
-    let mut bytes = [0; 64];
-    LittleEndian::write_u64_into(value, &mut bytes);
-    bytes
-}
-
 // BLAKE2b with digests of one length, without a key.
 #[derive(Drop)]
 struct Lanes2b {
@@ -121,14 +111,15 @@ impl PieceHash<4, 64> for Lanes2b {
     fn side_by_side(&self, bytes: &[u8], starts: &[usize; 4], piece_len: usize) -> [[u8; 64]; 4] {
         let values = final_values(&self.first, bytes, starts, piece_len);
         [
-            value_bytes(&values[0]),
-            value_bytes(&values[1]),
-            value_bytes(&values[2]),
-            value_bytes(&values[3]),
+            bytes64(&values[0]),
+            bytes64(&values[1]),
+            bytes64(&values[2]),
+            bytes64(&values[3]),
         ]
     }
 
     fn one(&self, piece: &[u8]) -> [u8; 64] {
+        // For the proof: no slice is longer than a hasher takes.
         let _len = piece.len();
         let Ok(mut hasher) = Blake2b::new(self.digest_len) else {
             unreachable!()

@@ -11,11 +11,11 @@ ghost use Rattle.pieces.specs.Faults.{sized_fault};
 use crate::digests::write_digests;
 use crate::fault::Fault;
 use crate::lanes2::words32::next_lanes;
-use crate::last_blocks::{last_lanes, value_bytes};
+use crate::last_blocks::last_lanes;
 use crate::piece_hash::PieceHash;
 use blake2::Blake2s;
 use words::lanes::{lane_rows, message_lanes, same_lanes};
-use words::{Absorb, IV32, write_at};
+use words::{Absorb, IV32, bytes32, write_at};
 
 // The chaining value before the first block: the words of the parameter block, which has the digest length, no key,
 // fanout 1 and depth 1, xored into the initial value (RFC 7693, section 2.5).
@@ -94,18 +94,19 @@ impl PieceHash<8, 32> for Lanes2s {
     fn side_by_side(&self, bytes: &[u8], starts: &[usize; 8], piece_len: usize) -> [[u8; 32]; 8] {
         let values = final_values(&self.first, bytes, starts, piece_len);
         [
-            value_bytes(&values[0]),
-            value_bytes(&values[1]),
-            value_bytes(&values[2]),
-            value_bytes(&values[3]),
-            value_bytes(&values[4]),
-            value_bytes(&values[5]),
-            value_bytes(&values[6]),
-            value_bytes(&values[7]),
+            bytes32(&values[0]),
+            bytes32(&values[1]),
+            bytes32(&values[2]),
+            bytes32(&values[3]),
+            bytes32(&values[4]),
+            bytes32(&values[5]),
+            bytes32(&values[6]),
+            bytes32(&values[7]),
         ]
     }
 
     fn one(&self, piece: &[u8]) -> [u8; 32] {
+        // For the proof: no slice is longer than a hasher takes.
         let _len = piece.len();
         let Ok(mut hasher) = Blake2s::new(self.digest_len) else {
             unreachable!()

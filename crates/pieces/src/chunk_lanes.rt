@@ -7,26 +7,18 @@ ghost use Rattle.b3.specs.Bytes.{slice};
 ghost use Rattle.b3.specs.Chunk.{start_flag};
 ghost use Rattle.b3.specs.Modes.{hash_root};
 
-use crate::last_blocks::{last_lanes, value_bytes};
-use b3::tree_laws;
+use crate::last_blocks::last_lanes;
+use b3::{BLOCK_LEN, CHUNK_END, CHUNK_START, ROOT, tree_laws};
 use std::simd::prelude::*;
-use words::IV32;
 use words::lanes::{Turns, lane_rows, message_lanes, next_lanes, same_lanes};
-
-const BLOCK_LEN: usize = 64;
-
-const CHUNK_START: u32 = 1;
-
-const CHUNK_END: u32 = 2;
-
-const ROOT: u32 = 8;
+use words::{IV32, bytes32};
 
 // The flag of the first block of a chunk, at block `j`.
 fn flag_of_start(j: usize) -> u32
     ensures value { result ≡ start_flag j }
     ensures bound { result ≤ 1 }
 {
-    if j == 0 { CHUNK_START } else { 0 }
+    if j == 0 { u32::from(CHUNK_START) } else { 0 }
 }
 
 // The first eight words of output of the messages of `len` bytes that begin at `starts`.
@@ -48,7 +40,7 @@ fn root_lanes(bytes: &[u8], starts: &[usize; 8], len: usize) -> [u32x8; 8]
     }
     let left = len - BLOCK_LEN * last;
     let message = last_lanes(bytes, starts, BLOCK_LEN * last, left);
-    let d = flag_of_start(last) + CHUNK_END + ROOT;
+    let d = flag_of_start(last) + u32::from(CHUNK_END) + u32::from(ROOT);
     next_lanes::<3>(turns, values, message, &[0; 8], left as u32, d)
 }
 
@@ -64,7 +56,7 @@ pub(crate) fn chunk_digests(bytes: &[u8], starts: &[usize; 8], len: usize) -> [[
     let rows = lane_rows(root_lanes(bytes, starts, len));
     let mut digests = [[0; 32]; 8];
     'lanes: for i in 0..8 {
-        digests[i] = value_bytes(&rows[i]);
+        digests[i] = bytes32(&rows[i]);
     }
     digests
 }

@@ -1,10 +1,9 @@
-// What the lanes of BLAKE2 and BLAKE3 share: the last bytes of pieces, and the bytes of chaining values.
+// What the lanes of BLAKE2 and BLAKE3 share: the last bytes of pieces.
 
 ghost use Rattle.std.specs.Prelude.{◌≡◌, ◌<◌, ◌≤◌, ◌+◌, [], ℕ, length, take, drop, slice_index, slice_index_or};
-ghost use Rattle.words.specs.Words.{padded, word_bytes, words};
+ghost use Rattle.words.specs.Words.{padded, words};
 ghost use Rattle.words.specs.inside.Lanes.{lane};
 
-use byteorder::{ByteOrder, LittleEndian};
 use std::simd::prelude::*;
 use words::lanes::message_lanes;
 use words::write_at;
@@ -56,13 +55,4 @@ pub(crate) fn last_lanes(bytes: &[u8], starts: &[usize; 8], at: usize, len: usiz
     let tails = padded_tails::<64, 8>(bytes, starts, at, len);
     let places = [0, 64, 128, 192, 256, 320, 384, 448];
     message_lanes(tails.as_flattened(), &places, 0)
-}
-
-/// The bytes of a chaining value.
-pub(crate) fn value_bytes(value: &[u32; 8]) -> [u8; 32]
-    ensures { result ≡ word_bytes 4 value.now }
-{
-    let mut bytes = [0; 32];
-    LittleEndian::write_u32_into(value, &mut bytes);
-    bytes
 }

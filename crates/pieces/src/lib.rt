@@ -21,4 +21,3 @@ mod piece_hash;
 mod sha256_lanes;
 mod sha512_lanes;
 mod sha_lanes;
-mod word_bytes;

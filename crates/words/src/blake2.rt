@@ -7,13 +7,29 @@ use crate::rows::{round32, round64};
 use crate::tables::{IV32, IV64, SIGMA};
 use std::simd::{u32x4, u64x4};
 
-// The chaining value and the initial value, with the count and the last block's mark worked in.
+/// The working words before the first round: the chaining value and the initial value, with the count and the last
+/// block's mark worked in (RFC 7693, section 3.2). For words in lanes, `$splat` puts a word into each lane.
+#[macro_export]
 macro_rules! working {
-    ($h:ident, $iv:ident, $low:ident, $high:ident, $last:ident) => {{
+    ($h:ident, $iv:ident, $low:ident, $high:ident, $last:ident $(, $splat:path)?) => {{
         let marked = if $last { !$iv[6] } else { $iv[6] };
         [
-            $h[0], $h[1], $h[2], $h[3], $h[4], $h[5], $h[6], $h[7],
-            $iv[0], $iv[1], $iv[2], $iv[3], $iv[4] ^ $low, $iv[5] ^ $high, marked, $iv[7],
+            $h[0],
+            $h[1],
+            $h[2],
+            $h[3],
+            $h[4],
+            $h[5],
+            $h[6],
+            $h[7],
+            $($splat)?($iv[0]),
+            $($splat)?($iv[1]),
+            $($splat)?($iv[2]),
+            $($splat)?($iv[3]),
+            $($splat)?($iv[4] ^ $low),
+            $($splat)?($iv[5] ^ $high),
+            $($splat)?(marked),
+            $($splat)?($iv[7]),
         ]
     }};
 }

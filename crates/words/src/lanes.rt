@@ -80,17 +80,17 @@ fn rotated(x: u32x8, y: u32x8, r: u32) -> u32x8
     (z >> u32x8::splat(r)) | (z << u32x8::splat(32 - r))
 }
 
-// The bytes of eight words.
+/// The bytes of eight words.
 #[inline(always)]
-fn bytes(x: u32x8) -> u8x32
+pub fn bytes_of(x: u32x8) -> u8x32
     ensures { (i j : ℕ) → i < 8 → j < 4 → slice_index result (4 * i + j) ≡ slice_index x i / 256 ^ j % 256 }
 {
     x.to_le_bytes()
 }
 
-// The words of bytes.
+/// The words of bytes.
 #[inline(always)]
-fn words_of(x: u8x32) -> u32x8
+pub fn words_of(x: u8x32) -> u32x8
     ensures { (i : ℕ) → i < 8 → slice_index result i ≡ number_l 256 (chunk (4 * i) 4 x) }
 {
     u32x8::from_le_bytes(x)
@@ -120,7 +120,7 @@ impl WordLanes for u32x8 {
         if level() < 2 {
             return rotated(self, y, 16);
         }
-        words_of(bytes(self.xor(y)).swizzle_dyn_within::<16>(turns.by_16))
+        words_of(bytes_of(self.xor(y)).swizzle_dyn_within::<16>(turns.by_16))
     }
 
     #[inline(always)]
@@ -133,7 +133,7 @@ impl WordLanes for u32x8 {
         if level() < 2 {
             return rotated(self, y, 8);
         }
-        words_of(bytes(self.xor(y)).swizzle_dyn_within::<16>(turns.by_8))
+        words_of(bytes_of(self.xor(y)).swizzle_dyn_within::<16>(turns.by_8))
     }
 
     #[inline(always)]

@@ -5,9 +5,9 @@ ghost use Rattle.words.specs.Blake2.{blake2s, compress, working_words};
 ghost use Rattle.words.specs.inside.Lanes.{lane, lane8};
 
 use std::simd::prelude::*;
-use words::IV32;
 use words::lanes::Turns;
 use words::lanes::mixing::{folded, ten_rounds};
+use words::{IV32, working};
 
 #[inline(always)]
 #[tactic(auto, unfolding(words::specs::inside::Lanes::lane))]
@@ -16,7 +16,7 @@ fn working_lanes(h: [u32x8; 8], t: u64, last: bool) -> [u32x8; 16]
 {
     let low = (t % 0x1_0000_0000) as u32;
     let high = (t >> 32) as u32;
-    working!(u32x8, h, IV32, low, high, last)
+    working!(h, IV32, low, high, last, u32x8::splat)
 }
 
 /// F in each of eight lanes: takes the blocks `m` into the chaining values `h`, where `t` bytes have come with these

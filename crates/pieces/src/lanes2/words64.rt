@@ -8,9 +8,9 @@ ghost use Rattle.words.specs.Words.{words};
 ghost use Rattle.words.specs.inside.Lanes.{lane, lane4, lane8};
 
 use std::simd::prelude::*;
-use words::IV64;
 use words::lanes::long::words_of;
 use words::lanes::mixing::{folded, twelve_rounds};
+use words::{IV64, working};
 
 #[inline(always)]
 #[tactic(auto, unfolding(words::specs::inside::Lanes::lane))]
@@ -19,7 +19,7 @@ fn working_lanes(h: [u64x4; 8], t: u128, last: bool) -> [u64x4; 16]
 {
     let low = (t % 0x1_0000_0000_0000_0000) as u64;
     let high = (t >> 64) as u64;
-    working!(u64x4, h, IV64, low, high, last)
+    working!(h, IV64, low, high, last, u64x4::splat)
 }
 
 /// F in each of four lanes: takes the blocks `m` into the chaining values `h`, where `t` bytes have come with these

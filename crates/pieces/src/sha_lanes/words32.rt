@@ -9,12 +9,11 @@ ghost use Rattle.pieces.specs.inside.Rounds.{HasWords, IsAfterRounds};
 ghost use Rattle.pieces.specs.inside.Words.{reversed};
 
 use super::HashValues;
-use crate::word_bytes::{bytes_of, words_of};
 use sha_blocks::Value256;
 use sha_blocks::schedules::{add, keyed, next_word, rotated, xor};
 use std::simd::prelude::*;
 use words::IV32;
-use words::lanes::{message_lanes, same_lanes};
+use words::lanes::{bytes_of, message_lanes, same_lanes, words_of};
 
 // Room for the words of eight schedules: word t of block i stands at t and i.
 type Words = [u32x8; 64];

@@ -23,13 +23,15 @@ fn half(places: u8x32) -> u8x16
     places.swizzle([0, 1, 2, 3, 4, 5, 6, 7, 8, 9, 10, 11, 12, 13, 14, 15])
 }
 
+// The bytes of four words.
 #[inline(always)]
-fn bytes(x: u32x4) -> u8x16
+fn bytes_of(x: u32x4) -> u8x16
     ensures { (i j : ℕ) → i < 4 → j < 4 → slice_index result (4 * i + j) ≡ slice_index x i / 256 ^ j % 256 }
 {
     x.to_le_bytes()
 }
 
+// The words of bytes.
 #[inline(always)]
 fn words_of(x: u8x16) -> u32x4
     ensures { (i : ℕ) → i < 4 → slice_index result i ≡ number_l 256 (chunk (4 * i) 4 x) }
@@ -61,7 +63,7 @@ impl WordLanes for u32x4 {
         if level() < 2 {
             return rotated_xor32(self, y, 16);
         }
-        words_of(bytes(self.xor(y)).swizzle_dyn_within::<16>(half(turns.by_16)))
+        words_of(bytes_of(self.xor(y)).swizzle_dyn_within::<16>(half(turns.by_16)))
     }
 
     #[inline(always)]
@@ -74,7 +76,7 @@ impl WordLanes for u32x4 {
         if level() < 2 {
             return rotated_xor32(self, y, 8);
         }
-        words_of(bytes(self.xor(y)).swizzle_dyn_within::<16>(half(turns.by_8)))
+        words_of(bytes_of(self.xor(y)).swizzle_dyn_within::<16>(half(turns.by_8)))
     }
 
     #[inline(always)]

@@ -6,7 +6,7 @@ pub lanes-preserved : goal.lanes-preserved
 lanes-preserved c =
     digests_more c.args.bytes.now c.args.starts.now c.args.len c.lanes.digests c.lanes.i _ c.lanes.invariant
     (omega arith)
-    (c.value_bytes.ensures
+    (c.bytes32.ensures.written
     ∙ digest_of_words _ _ (c.lane_rows-rows.ensures c.lanes.i (omega arith)
     ∙ c.root_lanes.ensures c.lanes.i (omega arith)))
 

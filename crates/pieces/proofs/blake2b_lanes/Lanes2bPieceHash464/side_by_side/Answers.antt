@@ -7,11 +7,11 @@ use Rattle.pieces.proofs.blake2b_lanes.Lanes2bPieceHash464.side_by_side.Goals as
 pub returns-clause-value : goal.returns-clause-value
 returns-clause-value c =
     below_four _
-    (digest_of blake2b _ _ _ _ _ c.args.self.now.begun c.value_bytes.ensures
+    (digest_of blake2b _ _ _ _ _ c.args.self.now.begun c.bytes64.ensures
     (c.final_values-values.ensures 0 (omega arith)))
-    (digest_of blake2b _ _ _ _ _ c.args.self.now.begun c.value_bytes-2.ensures
+    (digest_of blake2b _ _ _ _ _ c.args.self.now.begun c.bytes64-2.ensures
     (c.final_values-values.ensures 1 (omega arith)))
-    (digest_of blake2b _ _ _ _ _ c.args.self.now.begun c.value_bytes-3.ensures
+    (digest_of blake2b _ _ _ _ _ c.args.self.now.begun c.bytes64-3.ensures
     (c.final_values-values.ensures 2 (omega arith)))
-    (digest_of blake2b _ _ _ _ _ c.args.self.now.begun c.value_bytes-4.ensures
+    (digest_of blake2b _ _ _ _ _ c.args.self.now.begun c.bytes64-4.ensures
     (c.final_values-values.ensures 3 (omega arith)))

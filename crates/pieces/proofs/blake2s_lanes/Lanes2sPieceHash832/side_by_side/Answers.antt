@@ -7,19 +7,19 @@ use Rattle.pieces.proofs.blake2s_lanes.Lanes2sPieceHash832.side_by_side.Goals as
 pub returns-clause-value : goal.returns-clause-value
 returns-clause-value c =
     below_eight _
-    (digest_of blake2s _ _ _ _ _ c.args.self.now.begun c.value_bytes.ensures
+    (digest_of blake2s _ _ _ _ _ c.args.self.now.begun c.bytes32.ensures.written
     (c.final_values-values.ensures 0 (omega arith)))
-    (digest_of blake2s _ _ _ _ _ c.args.self.now.begun c.value_bytes-2.ensures
+    (digest_of blake2s _ _ _ _ _ c.args.self.now.begun c.bytes32-2.ensures.written
     (c.final_values-values.ensures 1 (omega arith)))
-    (digest_of blake2s _ _ _ _ _ c.args.self.now.begun c.value_bytes-3.ensures
+    (digest_of blake2s _ _ _ _ _ c.args.self.now.begun c.bytes32-3.ensures.written
     (c.final_values-values.ensures 2 (omega arith)))
-    (digest_of blake2s _ _ _ _ _ c.args.self.now.begun c.value_bytes-4.ensures
+    (digest_of blake2s _ _ _ _ _ c.args.self.now.begun c.bytes32-4.ensures.written
     (c.final_values-values.ensures 3 (omega arith)))
-    (digest_of blake2s _ _ _ _ _ c.args.self.now.begun c.value_bytes-5.ensures
+    (digest_of blake2s _ _ _ _ _ c.args.self.now.begun c.bytes32-5.ensures.written
     (c.final_values-values.ensures 4 (omega arith)))
-    (digest_of blake2s _ _ _ _ _ c.args.self.now.begun c.value_bytes-6.ensures
+    (digest_of blake2s _ _ _ _ _ c.args.self.now.begun c.bytes32-6.ensures.written
     (c.final_values-values.ensures 5 (omega arith)))
-    (digest_of blake2s _ _ _ _ _ c.args.self.now.begun c.value_bytes-7.ensures
+    (digest_of blake2s _ _ _ _ _ c.args.self.now.begun c.bytes32-7.ensures.written
     (c.final_values-values.ensures 6 (omega arith)))
-    (digest_of blake2s _ _ _ _ _ c.args.self.now.begun c.value_bytes-8.ensures
+    (digest_of blake2s _ _ _ _ _ c.args.self.now.begun c.bytes32-8.ensures.written
     (c.final_values-values.ensures 7 (omega arith)))

@@ -1,5 +1,5 @@
 use Rattle.words.specs.Words.{word_bytes}
-use Rattle.pieces.proofs.blake2b_lanes.value_bytes.Goals as goal
+use Rattle.words.proofs.writing.bytes64.Goals as goal
 
 pub returns : goal.returns
 unfolding word_bytes

@@ -1,7 +1,7 @@
 use Rattle.std.proofs.Common.{ap, ◌∙◌}
 use Rattle.words.specs.Words.{words, word_bytes}
-use Rattle.b3.proofs.WordsBack.{words_back}
-use Rattle.b3.proofs.row.bytes_of_words.Goals as goal
+use Rattle.words.proofs.WordsBack.{words_back}
+use Rattle.words.proofs.writing.bytes32.Goals as goal
 
 pub returns-clause-written : goal.returns-clause-written
 unfolding word_bytes
