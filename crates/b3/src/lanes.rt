@@ -12,7 +12,7 @@ use crate::node::{BLOCK_LEN, CHUNK_END, CHUNK_START, Node, PARENT, pair};
 use std::array::from_fn;
 use std::simd::prelude::*;
 use words::lanes::{
-    Turns, four, lane_rows, message_lanes, next_lanes, pair_lanes, same_lanes, two,
+    CHUNKS, PARENTS, Turns, four, lane_rows, message_lanes, next_lanes, pair_lanes, same_lanes, two,
 };
 use words::{compress_3x8, level};
 
@@ -70,7 +70,7 @@ fn few_chunk_lanes(
     'each_block: for j in 0..16 {
         let message = four::message_lanes(bytes, &starts, BLOCK_LEN * j);
         let d = block_flags(parameters.flags, j);
-        let next = four::next_lanes::<0>(turns, values, message, &counters, 64, d);
+        let next = four::next_lanes::<CHUNKS>(turns, values, message, &counters, 64, d);
         *before = values;
         values = next;
     }
@@ -197,7 +197,7 @@ fn chunk_lanes(
     'each_block: for j in 0..16 {
         let message = message_lanes(bytes, &starts, BLOCK_LEN * j);
         let d = block_flags(parameters.flags, j);
-        let next = next_lanes::<0>(turns, values, message, &counters, 64, d);
+        let next = next_lanes::<CHUNKS>(turns, values, message, &counters, 64, d);
         *before = values;
         values = next;
     }
@@ -279,7 +279,7 @@ fn parent_lanes(parameters: &Parameters, left: [u32x8; 8], right: [u32x8; 8]) ->
         ≡ joined_cv parameters.now.key parameters.now.flags (lane8 (2 * i) right) (lane8 (2 * i + 1) right) }
 {
     let d = u32::from(parameters.flags) + u32::from(PARENT);
-    next_lanes::<1>(
+    next_lanes::<PARENTS>(
         Turns::new(),
         same_lanes(&parameters.key),
         pair_lanes(left, right),

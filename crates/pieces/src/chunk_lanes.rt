@@ -10,7 +10,7 @@ ghost use Rattle.b3.specs.Modes.{hash_root};
 use crate::last_blocks::last_lanes;
 use b3::{BLOCK_LEN, CHUNK_END, CHUNK_START, ROOT, tree_laws};
 use std::simd::prelude::*;
-use words::lanes::{Turns, lane_rows, message_lanes, next_lanes, same_lanes};
+use words::lanes::{BLOCKS, LAST_BLOCKS, Turns, lane_rows, message_lanes, next_lanes, same_lanes};
 use words::{IV32, bytes32};
 
 // The flag of the first block of a chunk, at block `j`.
@@ -35,13 +35,13 @@ fn root_lanes(bytes: &[u8], starts: &[usize; 8], len: usize) -> [u32x8; 8]
     let mut values = same_lanes(&IV32);
     'each_block: for j in 0..last {
         let message = message_lanes(bytes, starts, BLOCK_LEN * j);
-        let next = next_lanes::<2>(turns, values, message, &[0; 8], 64, flag_of_start(j));
+        let next = next_lanes::<BLOCKS>(turns, values, message, &[0; 8], 64, flag_of_start(j));
         values = next;
     }
     let left = len - BLOCK_LEN * last;
     let message = last_lanes(bytes, starts, BLOCK_LEN * last, left);
     let d = flag_of_start(last) + u32::from(CHUNK_END) + u32::from(ROOT);
-    next_lanes::<3>(turns, values, message, &[0; 8], left as u32, d)
+    next_lanes::<LAST_BLOCKS>(turns, values, message, &[0; 8], left as u32, d)
 }
 
 /// The digests of the messages of `len` bytes, at most a chunk each, that begin at `starts`.

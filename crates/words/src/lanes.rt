@@ -37,6 +37,21 @@ pub mod long;
 pub mod mixing;
 pub mod two;
 
+// What `next_lanes` is called for, here and in `four`. All uses mean the same, but each has a copy of the code: the
+// function is too large for `inline(always)`, and the compiler puts it in line where a copy has one caller.
+
+/// The use of `next_lanes` on the blocks of whole chunks.
+pub const CHUNKS: usize = 0;
+
+/// Its use on parents, and on any eight inputs.
+pub const PARENTS: usize = 1;
+
+/// Its use on the blocks of messages of one chunk, but for their last.
+pub const BLOCKS: usize = 2;
+
+/// Its use on the last blocks of such messages.
+pub const LAST_BLOCKS: usize = 3;
+
 /// Where the bytes of eight words come from when they turn by 16 and by 8.
 #[derive(Clone, Copy)]
 pub struct Turns {
@@ -388,8 +403,7 @@ fn working_lanes(h: [u32x8; 8], t: &[u64; 8], b: u32, d: u32) -> [u32x8; 16]
     ]
 }
 
-/// The first eight words of `compress_3` in each of eight lanes. Each value of `USE` is a copy of the code of its
-/// own, which is inlined where it is called; it has no other meaning.
+/// The first eight words of `compress_3` in each of eight lanes. `USE` is one of the constants above.
 #[inline(always)]
 #[tactic(auto, unfolding(crate::specs::Blake3::compress3))]
 pub fn next_lanes<const USE: usize>(
@@ -473,5 +487,5 @@ pub fn compress_3x8(
     ensures { (i : ℕ) → i < 8 → slice_index_or result i []
         ≡ take 8 (compress3 (slice_index_or h.now i []) (slice_index_or m.now i []) (slice_index t.now i) b d) }
 {
-    lane_rows(next_lanes::<1>(Turns::new(), value_lanes(h), row_lanes(m), t, b, d))
+    lane_rows(next_lanes::<PARENTS>(Turns::new(), value_lanes(h), row_lanes(m), t, b, d))
 }

@@ -9,7 +9,7 @@ ghost use Rattle.words.specs.Words.{words};
 ghost use Rattle.words.specs.inside.Lanes.{lane, lane4, lane8, word_at};
 
 use crate::lanes::mixing::{WordLanes, folded3, seven_rounds};
-use crate::lanes::{Turns, block_at, high, load, low};
+use crate::lanes::{PARENTS, Turns, block_at, high, load, low};
 use crate::levels::level;
 use crate::rows::rotated_xor32;
 use crate::tables::IV32;
@@ -111,7 +111,7 @@ fn working_lanes(h: [u32x4; 8], t: &[u64; 4], b: u32, d: u32) -> [u32x4; 16]
     ]
 }
 
-/// The first eight words of `compress_3` in each of four lanes. Each value of `USE` is a copy of the code of its own.
+/// The first eight words of `compress_3` in each of four lanes. `USE` is as for eight lanes.
 #[inline(always)]
 #[tactic(auto, unfolding(crate::specs::Blake3::compress3))]
 pub fn next_lanes<const USE: usize>(
@@ -321,7 +321,7 @@ pub(crate) fn next_fours(
     ensures { (i : ℕ) → i < 8 → lane8 i result ≡ take 8 (compress3 (lane8 i h) (lane i m) (slice_index t.now i) b d) }
 {
     let [t0, t1, t2, t3, t4, t5, t6, t7] = *t;
-    let left = next_lanes::<1>(
+    let left = next_lanes::<PARENTS>(
         turns,
         left_values(h),
         left_words(m),
@@ -329,7 +329,7 @@ pub(crate) fn next_fours(
         b,
         d,
     );
-    let right = next_lanes::<1>(
+    let right = next_lanes::<PARENTS>(
         turns,
         right_values(h),
         right_words(m),

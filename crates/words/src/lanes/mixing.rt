@@ -178,7 +178,7 @@ pub fn twelve_rounds<V: WordLanes>(turns: V::Turns, v: &[V; 16], m: &[V; 16]) ->
     round_in_turn(turns, &v, m, &SIGMA[1])
 }
 
-/// The seven rounds of BLAKE3. Each value of `USE` is a copy of the code of its own.
+/// The seven rounds of BLAKE3. `USE` is that of `next_lanes`.
 #[inline(always)]
 #[tactic(auto, unfolding(crate::specs::Blake3::rounds3, crate::specs::Blake3::permuted_words, crate::specs::Mix::round))]
 pub(crate) fn seven_rounds<V: WordLanes, const USE: usize>(
