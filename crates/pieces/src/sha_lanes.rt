@@ -1,5 +1,5 @@
 // SHA-2 of messages side by side: the blocks of each, and then its last bytes with the padding (FIPS 180-4, section
-// 5.1). The steps of the rounds stand here once, for words of either width.
+// 5.1). Eight steps of the rounds stand here once, for words of either width.
 
 ghost use Rattle.std.specs.Prelude.{◌≡◌, ◌<◌, ◌≤◌, ◌+◌, ◌-◌, ◌*◌, ◌/◌, ◌%◌, ◌++◌, ◌∷◌, [], ℕ, List, length};
 ghost use Rattle.std.specs.Prelude.{drop, replicate, slice_index, slice_index_or, take};
@@ -156,26 +156,6 @@ pub(crate) fn final_values<
     values
 }
 
-// A round, with the sum of its constant and its word.
-macro_rules! one_round {
-    ($v:ident, $keyed:ident) => {{
-        let [a, b, c, d, e, f, g, h] = $v;
-        let rest = add(add($keyed, h), choice(e, f, g));
-        let sigma = big_sigma1(e);
-        let t2 = add(big_sigma0(a), majority(a, b, c));
-        [
-            add(add(rest, sigma), t2),
-            a,
-            b,
-            c,
-            add(add(rest, d), sigma),
-            e,
-            f,
-            g,
-        ]
-    }};
-}
-
 // Eight steps, from t on.
 macro_rules! eight {
     ($step:ident, $v:ident, $words:ident, $t:ident) => {{
@@ -188,22 +168,6 @@ macro_rules! eight {
         let v = $step(v, $words, $t + 6);
         $step(v, $words, $t + 7)
     }};
-}
-
-// The sums of two hash values.
-macro_rules! sums {
-    ($h:ident, $v:ident) => {
-        [
-            add($h[0], $v[0]),
-            add($h[1], $v[1]),
-            add($h[2], $v[2]),
-            add($h[3], $v[3]),
-            add($h[4], $v[4]),
-            add($h[5], $v[5]),
-            add($h[6], $v[6]),
-            add($h[7], $v[7]),
-        ]
-    };
 }
 
 mod words32;

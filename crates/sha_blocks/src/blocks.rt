@@ -5,14 +5,17 @@
 ghost use Rattle.std.specs.Prelude.{◌≡◌, ◌<◌, ◌≤◌, ◌+◌, ◌-◌, ◌*◌, ℕ, List, [], length, slice_index, slice_index_or};
 ghost use Rattle.std.specs.Simd.Lanes.{fold_l};
 ghost use Rattle.sha2.specs.Sha256;
-ghost use Rattle.sha_blocks.specs.inside.Schedules.{AreKeyed, IsAhead, IsKeyedTo, StandIn};
+ghost use Rattle.sha_blocks.specs.inside.Schedules.{AreKeyed, IsAhead, IsKeyedTo};
 
 use crate::functions::{choice, majority, sums};
+use crate::one_round;
 use crate::ring::compress_block;
 use crate::schedules::{Schedules, Words, put_schedules, put_words};
 use std::simd::prelude::*;
 use words::level;
 
+// The two functions below have their rotations side by side, which is a shorter chain: with the schedule made before,
+// each round waits for the last.
 #[inline(always)]
 fn big_sigma0(x: u32) -> u32
     ensures { result ≡ Sha256.big_sigma0 x }
@@ -32,20 +35,7 @@ fn big_sigma1(x: u32) -> u32
 fn round(v: [u32; 8], keyed: u32) -> [u32; 8]
     ensures { (k w : ℕ) → keyed ≡ Sha256.add32 k w → result ≡ Sha256.round v k w }
 {
-    let [a, b, c, d, e, f, g, h] = v;
-    let rest = keyed.wrapping_add(h).wrapping_add(choice(e, f, g));
-    let sigma = big_sigma1(e);
-    let t2 = big_sigma0(a).wrapping_add(majority(a, b, c));
-    [
-        rest.wrapping_add(sigma).wrapping_add(t2),
-        a,
-        b,
-        c,
-        rest.wrapping_add(d).wrapping_add(sigma),
-        e,
-        f,
-        g,
-    ]
+    one_round!(u32::wrapping_add, v, keyed)
 }
 
 // Four rounds of block i.
@@ -96,7 +86,7 @@ fn all_rounds(v: &mut [u32; 8], schedules: &Schedules, i: usize)
 
 // Takes block i into a hash value.
 #[inline(always)]
-fn take_block(h: &mut [u32; 8], schedules: &Schedules, i: usize)
+fn compress_block_of_run(h: &mut [u32; 8], schedules: &Schedules, i: usize)
     requires { i < 8 }
     ensures { (b : List ℕ) → IsKeyedTo b 64 i schedules.now → h.new ≡ Sha256.compress h.old b }
 {
@@ -108,7 +98,7 @@ fn take_block(h: &mut [u32; 8], schedules: &Schedules, i: usize)
 // Takes block i into a hash value, and puts the words from 8 * i on of the schedules of another run, eight of each. A
 // word comes after each four of eight rounds, so that the processor works on both side by side.
 #[inline(always)]
-fn take_block_ahead(
+fn compress_block_making_next(
     h: &mut [u32; 8],
     schedules: &Schedules,
     i: usize,
@@ -134,12 +124,12 @@ fn take_block_ahead(
 
 // Takes a run of eight blocks into a hash value.
 #[inline(never)]
-fn take_run(h: &mut [u32; 8], schedules: &Schedules)
+fn compress_run(h: &mut [u32; 8], schedules: &Schedules)
     ensures { (run : List (List ℕ)) → AreKeyed run schedules.now → h.new ≡ fold_l Sha256.compress h.old run }
 {
     let mut value = *h;
     'blocks: for i in 0..8 {
-        take_block(&mut value, schedules, i);
+        compress_block_of_run(&mut value, schedules, i);
     }
     *h = value;
 }
@@ -148,7 +138,7 @@ fn take_run(h: &mut [u32; 8], schedules: &Schedules)
 // words of a schedule are those of its block: they come beside the first two blocks, in a loop of their own, so that
 // neither loop asks where a word comes from.
 #[inline(never)]
-fn take_run_ahead(
+fn compress_run_making_next(
     h: &mut [u32; 8],
     schedules: &Schedules,
     other: &[[u8; 64]; 8],
@@ -163,78 +153,43 @@ fn take_run_ahead(
 {
     let mut value = *h;
     'first: for i in 0..2 {
-        take_block_ahead(&mut value, schedules, i, other, words, next);
+        compress_block_making_next(&mut value, schedules, i, other, words, next);
     }
     'others: for i in 2..8 {
-        take_block_ahead(&mut value, schedules, i, other, words, next);
+        compress_block_making_next(&mut value, schedules, i, other, words, next);
     }
     *h = value;
 }
 
-// Takes the run before `run`, and puts the schedules of this one where those of a run k stand.
-#[inline(always)]
-fn take_next(
-    h: &mut [u32; 8],
-    run: &[[u8; 64]; 8],
-    k: usize,
-    words: &mut Words,
-    even: &mut Schedules,
-    odd: &mut Schedules,
-)
-    requires { 0 < k }
-    ensures value { (before : List (List ℕ)) → StandIn even.old odd.old (k - 1) before
-        → h.new ≡ fold_l Sha256.compress h.old before }
-    ensures next { StandIn even.new odd.new k run.now }
-    ensures words { length words.new ≡ 64 }
-    ensures even { length even.new ≡ 64 }
-    ensures odd { length odd.new ≡ 64 }
-{
-    if k % 2 == 0 {
-        take_run_ahead(h, odd, run, words, even);
-    } else {
-        take_run_ahead(h, even, run, words, odd);
-    }
-}
-
-// Takes run k.
-#[inline(always)]
-fn take_last(h: &mut [u32; 8], k: usize, even: &Schedules, odd: &Schedules)
-    ensures { (run : List (List ℕ)) → StandIn even.now odd.now k run → h.new ≡ fold_l Sha256.compress h.old run }
-{
-    if k % 2 == 0 {
-        take_run(h, even);
-    } else {
-        take_run(h, odd);
-    }
-}
-
 // Takes runs of eight blocks into a hash value, the schedules of each made before its rounds.
 #[inline(never)]
-fn take_apart(h: &mut [u32; 8], runs: &[[[u8; 64]; 8]])
+fn compress_runs_one_by_one(h: &mut [u32; 8], runs: &[[[u8; 64]; 8]])
     ensures { h.new ≡ fold_l (λ v run. fold_l Sha256.compress v run) h.old runs.now }
 {
     let mut schedules = [[0; 8]; 64];
     'runs: for run in runs {
         put_schedules(run, &mut schedules);
-        take_run(h, &schedules);
+        compress_run(h, &schedules);
     }
 }
 
-// The same, the schedules of each made beside the rounds of the run before it. They stand in `even` where its number is
-// even.
+// The same, the schedules of each run made beside the rounds of the run before it: two rooms for schedules take turns.
 #[inline(never)]
-fn take_ahead(h: &mut [u32; 8], runs: &[[[u8; 64]; 8]])
+fn compress_runs_interleaved(h: &mut [u32; 8], runs: &[[[u8; 64]; 8]])
     requires { 0 < length runs.now }
     ensures { h.new ≡ fold_l (λ v run. fold_l Sha256.compress v run) h.old runs.now }
 {
     let mut words = [u32x8::splat(0); 64];
-    let mut even = [[0; 8]; 64];
-    let mut odd = [[0; 8]; 64];
-    put_schedules(&runs[0], &mut even);
+    let mut first = [[0; 8]; 64];
+    let mut second = [[0; 8]; 64];
+    let mut made = &mut first;
+    let mut room = &mut second;
+    put_schedules(&runs[0], made);
     'runs: for k in 1..runs.len() {
-        take_next(h, &runs[k], k, &mut words, &mut even, &mut odd);
+        compress_run_making_next(h, made, &runs[k], &mut words, room);
+        (made, room) = (room, made);
     }
-    take_last(h, runs.len() - 1, &even, &odd);
+    compress_run(h, made);
 }
 
 // From how many runs on their schedules are made ahead: one alone would pay for rooms that it does not need, and
@@ -248,18 +203,18 @@ fn fewest() -> usize
 
 // Takes runs of eight blocks into a hash value.
 #[inline(always)]
-fn take_runs(h: &mut [u32; 8], runs: &[[[u8; 64]; 8]])
+fn compress_runs(h: &mut [u32; 8], runs: &[[[u8; 64]; 8]])
     ensures { h.new ≡ fold_l (λ v run. fold_l Sha256.compress v run) h.old runs.now }
 {
     if runs.len() < fewest() {
-        take_apart(h, runs);
+        compress_runs_one_by_one(h, runs);
     } else {
-        take_ahead(h, runs);
+        compress_runs_interleaved(h, runs);
     }
 }
 
 // Takes blocks into a hash value, one by one.
-fn take_each(h: &mut [u32; 8], blocks: &[[u8; 64]])
+fn compress_each(h: &mut [u32; 8], blocks: &[[u8; 64]])
     ensures { h.new ≡ fold_l Sha256.compress h.old blocks.now }
 {
     'blocks: for block in blocks {
@@ -270,12 +225,12 @@ fn take_each(h: &mut [u32; 8], blocks: &[[u8; 64]])
 // Takes blocks into a hash value by runs of eight. A call, as are the two ways to take runs, so that none pays for the
 // rooms of another.
 #[inline(never)]
-fn take_by_runs(h: &mut [u32; 8], blocks: &[[u8; 64]])
+fn compress_by_runs(h: &mut [u32; 8], blocks: &[[u8; 64]])
     ensures { h.new ≡ fold_l Sha256.compress h.old blocks.now }
 {
     let (runs, rest) = blocks.as_chunks::<8>();
-    take_runs(h, runs);
-    take_each(h, rest);
+    compress_runs(h, runs);
+    compress_each(h, rest);
 }
 
 /// Takes blocks into the hash value of SHA-256, one after the other (FIPS 180-4, section 6.2.2).
@@ -283,8 +238,8 @@ pub fn compress_blocks256(h: &mut [u32; 8], blocks: &[[u8; 64]])
     ensures { h.new ≡ fold_l Sha256.compress h.old blocks.now }
 {
     if blocks.len() < 8 {
-        take_each(h, blocks);
+        compress_each(h, blocks);
     } else {
-        take_by_runs(h, blocks);
+        compress_by_runs(h, blocks);
     }
 }

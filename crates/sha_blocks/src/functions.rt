@@ -3,6 +3,45 @@
 ghost use Rattle.std.specs.Prelude.{◌≡◌, ◌<◌, ◌*◌};
 ghost use Rattle.sha2.specs.Sha256;
 
+/// A round, with the sum of its constant and its word (FIPS 180-4, sections 6.2.2 and 6.4.2). `$add` adds two words of
+/// either width, or those in lanes; `choice`, `majority`, `big_sigma0` and `big_sigma1` are the caller's.
+#[macro_export]
+macro_rules! one_round {
+    ($add:path, $v:ident, $keyed:ident) => {{
+        let [a, b, c, d, e, f, g, h] = $v;
+        let rest = $add($add($keyed, h), choice(e, f, g));
+        let sigma = big_sigma1(e);
+        let t2 = $add(big_sigma0(a), majority(a, b, c));
+        [
+            $add($add(rest, sigma), t2),
+            a,
+            b,
+            c,
+            $add($add(rest, d), sigma),
+            e,
+            f,
+            g,
+        ]
+    }};
+}
+
+/// The sums of eight words and eight others, each by `$add`.
+#[macro_export]
+macro_rules! added {
+    ($add:path, $h:ident, $v:ident) => {
+        [
+            $add($h[0], $v[0]),
+            $add($h[1], $v[1]),
+            $add($h[2], $v[2]),
+            $add($h[3], $v[3]),
+            $add($h[4], $v[4]),
+            $add($h[5], $v[5]),
+            $add($h[6], $v[6]),
+            $add($h[7], $v[7]),
+        ]
+    };
+}
+
 /// Ch: one operation fewer.
 #[inline(always)]
 pub(crate) fn choice(x: u32, y: u32, z: u32) -> u32
@@ -24,16 +63,7 @@ pub(crate) fn majority(x: u32, y: u32, z: u32) -> u32
 pub(crate) fn sums(h: [u32; 8], v: [u32; 8]) -> [u32; 8]
     ensures { result ≡ Sha256.add_state h v }
 {
-    [
-        h[0].wrapping_add(v[0]),
-        h[1].wrapping_add(v[1]),
-        h[2].wrapping_add(v[2]),
-        h[3].wrapping_add(v[3]),
-        h[4].wrapping_add(v[4]),
-        h[5].wrapping_add(v[5]),
-        h[6].wrapping_add(v[6]),
-        h[7].wrapping_add(v[7]),
-    ]
+    added!(u32::wrapping_add, h, v)
 }
 
 /// A word of a block.

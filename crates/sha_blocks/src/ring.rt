@@ -5,6 +5,7 @@ ghost use Rattle.std.specs.Prelude.{◌≡◌, ◌<◌, ◌≤◌, ◌+◌, ◌*
 ghost use Rattle.sha2.specs.Sha256;
 
 use crate::functions::{choice, majority, sums, word};
+use crate::one_round;
 use crate::table::K;
 
 // The four functions below nest their rotations. That takes fewer copies of `x`, where a rotation overwrites what it
@@ -52,18 +53,12 @@ fn next_word(ring: &mut [u32; 16], place: usize) -> u32
     word
 }
 
+// One round, with the sum of its constant and its word.
 #[inline(always)]
-fn round(v: [u32; 8], k: u32, word: u32) -> [u32; 8]
-    ensures { result ≡ Sha256.round v k word }
+fn round(v: [u32; 8], keyed: u32) -> [u32; 8]
+    ensures { (k w : ℕ) → keyed ≡ Sha256.add32 k w → result ≡ Sha256.round v k w }
 {
-    let [a, b, c, d, e, f, g, h] = v;
-    let t1 = h
-        .wrapping_add(big_sigma1(e))
-        .wrapping_add(choice(e, f, g))
-        .wrapping_add(k)
-        .wrapping_add(word);
-    let t2 = big_sigma0(a).wrapping_add(majority(a, b, c));
-    [t1.wrapping_add(t2), a, b, c, d.wrapping_add(t1), e, f, g]
+    one_round!(u32::wrapping_add, v, keyed)
 }
 
 // One of the first sixteen rounds, whose words are the block's.
@@ -73,7 +68,7 @@ fn first_step(ring: &[u32; 16], v: [u32; 8], t: usize) -> [u32; 8]
     ensures { (b h : List ℕ) → Sha256.IsWindow ring.now (Sha256.schedule b 48) 16
         → v ≡ Sha256.rounds h (Sha256.schedule b 48) t → result ≡ Sha256.rounds h (Sha256.schedule b 48) (t + 1) }
 {
-    round(v, K[t], ring[t])
+    round(v, K[t].wrapping_add(ring[t]))
 }
 
 #[inline(always)]
@@ -98,7 +93,7 @@ fn step(ring: &mut [u32; 16], v: [u32; 8], turn: usize, place: usize) -> [u32; 8
         → Sha256.IsRoundsAt b h ring.new result (16 * turn + (place + 1)) }
 {
     let word = next_word(ring, place);
-    round(v, K[16 * turn + place], word)
+    round(v, K[16 * turn + place].wrapping_add(word))
 }
 
 #[inline(always)]

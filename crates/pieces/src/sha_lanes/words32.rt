@@ -9,8 +9,8 @@ ghost use Rattle.pieces.specs.inside.Rounds.{HasWords, IsAfterRounds};
 ghost use Rattle.pieces.specs.inside.Words.{reversed};
 
 use super::HashValues;
-use sha_blocks::Value256;
 use sha_blocks::schedules::{add, keyed, next_word, rotated, xor};
+use sha_blocks::{Value256, added, one_round};
 use std::simd::prelude::*;
 use words::IV32;
 use words::lanes::{bytes_of, message_lanes, same_lanes, words_of};
@@ -56,7 +56,7 @@ fn round(v: [u32x8; 8], keyed: u32x8) -> [u32x8; 8]
     ensures { (i : ℕ) → i < 8 → (k w : ℕ) → slice_index keyed i ≡ Sha256.add32 k w
         → lane8 i result ≡ Sha256.round (lane8 i v) k w }
 {
-    one_round!(v, keyed)
+    one_round!(add, v, keyed)
 }
 
 // Round t.
@@ -192,7 +192,7 @@ impl HashValues<Value256, 8, 64> for [u32x8; 8] {
         let h = *self;
         let mut v = h;
         all_steps(&mut v, words);
-        *self = sums!(h, v);
+        *self = added!(add, h, v);
     }
 
     ghost some_lanes = { Prim.search rules };

@@ -10,8 +10,8 @@ ghost use Rattle.pieces.specs.inside.Words.{reversed_long};
 
 use super::HashValues;
 use crate::lanes2::words64::{message_lanes, same_lanes};
-use sha_blocks::Value512;
 use sha_blocks::sha512::schedules::{Words, add, extend, keyed, rotated, xor};
+use sha_blocks::{Value512, added, one_round};
 use std::simd::prelude::*;
 use words::IV64;
 use words::lanes::long::{bytes_of, words_of};
@@ -54,7 +54,7 @@ fn round(v: [u64x4; 8], keyed: u64x4) -> [u64x4; 8]
     ensures { (i : ℕ) → i < 4 → (k w : ℕ) → slice_index keyed i ≡ Sha512.add64 k w
         → lane8 i result ≡ Sha512.round (lane8 i v) k w }
 {
-    one_round!(v, keyed)
+    one_round!(add, v, keyed)
 }
 
 // Round t.
@@ -179,7 +179,7 @@ impl HashValues<Value512, 4, 128> for [u64x4; 8] {
         let h = *self;
         let mut v = h;
         all_steps(&mut v, words);
-        *self = sums!(h, v);
+        *self = added!(add, h, v);
     }
 
     ghost some_lanes = { Prim.search rules };

@@ -1,5 +1,5 @@
 -- The schedules of eight blocks of SHA-256 side by side: word t of block i stands in lane i of a vector.
-use Rattle.std.specs.Prelude.{◌≡◌, ℕ, ◌<◌, ◌+◌, ◌%◌, List, [], length, slice_index, slice_index_or}
+use Rattle.std.specs.Prelude.{◌≡◌, ℕ, ◌<◌, ◌+◌, List, [], length, slice_index, slice_index_or}
 use Rattle.sha2.specs.Sha256.{add32, round_constants, schedule}
 use Rattle.words.specs.inside.Lanes.{lane_at}
 
@@ -23,7 +23,3 @@ IsAhead b n i w out = IsWrittenTo b n i w × IsKeyedTo b n i out
 -- these are the schedules of a run of eight blocks
 abbrev pub AreKeyed : List (List ℕ) → List (List ℕ) → Type 0
 AreKeyed run out = (length run ≡ 8) × ((i : ℕ) → i < 8 → IsKeyedTo (slice_index_or run i []) 64 i out)
-
--- the schedules of run k stand in the first where k is even, and else in the second
-abbrev pub StandIn : List (List ℕ) → List (List ℕ) → ℕ → List (List ℕ) → Type 0
-StandIn even odd k run = (k % 2 ≡ 0 → AreKeyed run even) × (k % 2 ≡ 1 → AreKeyed run odd)

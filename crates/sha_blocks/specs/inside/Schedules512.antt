@@ -1,5 +1,5 @@
 -- The schedules of four blocks of SHA-512 side by side: word t of block i stands in lane i of vector t.
-use Rattle.std.specs.Prelude.{◌≡◌, ℕ, ◌<◌, ◌%◌, List, [], length, slice_index, slice_index_or}
+use Rattle.std.specs.Prelude.{◌≡◌, ℕ, ◌<◌, List, [], length, slice_index, slice_index_or}
 use Rattle.sha2.specs.Sha512.{add64, round_constants, schedule}
 use Rattle.words.specs.inside.Lanes.{lane_at}
 
@@ -19,7 +19,3 @@ IsAhead b n i w out = IsWrittenTo b n i w × IsKeyedTo b n i out
 -- these are the schedules of a run of four blocks
 abbrev pub AreKeyed : List (List ℕ) → List (List ℕ) → Type 0
 AreKeyed run out = (length run ≡ 4) × ((i : ℕ) → i < 4 → IsKeyedTo (slice_index_or run i []) 80 i out)
-
--- the schedules of run k stand in the first where k is even, and else in the second
-abbrev pub StandIn : List (List ℕ) → List (List ℕ) → ℕ → List (List ℕ) → Type 0
-StandIn even odd k run = (k % 2 ≡ 0 → AreKeyed run even) × (k % 2 ≡ 1 → AreKeyed run odd)

@@ -1,21 +1,22 @@
 // What both ways of taking a block share (FIPS 180-4, sections 4.1.3, 5.2.2 and 6.4.2).
 
-ghost use Rattle.std.specs.Prelude.{◌≡◌, ◌<◌, ◌*◌};
+ghost use Rattle.std.specs.Prelude.{◌≡◌, ◌<◌, ◌*◌, ℕ};
 ghost use Rattle.sha2.specs.Sha512;
 
+use crate::{added, one_round};
 use words::level;
 
-/// Ch: one operation fewer.
+// Ch: one operation fewer.
 #[inline(always)]
-pub(crate) fn choice(x: u64, y: u64, z: u64) -> u64
+fn choice(x: u64, y: u64, z: u64) -> u64
     ensures { result ≡ Sha512.ch x y z }
 {
     z ^ (x & (y ^ z))
 }
 
-/// Maj: the `x ^ y` of a round is the `y ^ z` of the next, so it is computed once.
+// Maj: the `x ^ y` of a round is the `y ^ z` of the next, so it is computed once.
 #[inline(always)]
-pub(crate) fn majority(x: u64, y: u64, z: u64) -> u64
+fn majority(x: u64, y: u64, z: u64) -> u64
     ensures { result ≡ Sha512.maj x y z }
 {
     y ^ ((x ^ y) & (y ^ z))
@@ -24,7 +25,7 @@ pub(crate) fn majority(x: u64, y: u64, z: u64) -> u64
 // The two functions below nest their rotations below x86-64-v3, where a rotation overwrites what it rotates: that takes
 // fewer copies of `x`.
 #[inline(always)]
-pub(crate) fn big_sigma0(x: u64) -> u64
+fn big_sigma0(x: u64) -> u64
     ensures { result ≡ Sha512.big_sigma0 x }
 {
     if level() < 3 {
@@ -34,7 +35,7 @@ pub(crate) fn big_sigma0(x: u64) -> u64
 }
 
 #[inline(always)]
-pub(crate) fn big_sigma1(x: u64) -> u64
+fn big_sigma1(x: u64) -> u64
     ensures { result ≡ Sha512.big_sigma1 x }
 {
     if level() < 3 {
@@ -43,21 +44,20 @@ pub(crate) fn big_sigma1(x: u64) -> u64
     x.rotate_right(14) ^ x.rotate_right(18) ^ x.rotate_right(41)
 }
 
+/// One round, with the sum of its constant and its word.
+#[inline(always)]
+pub(crate) fn round(v: [u64; 8], keyed: u64) -> [u64; 8]
+    ensures { (k w : ℕ) → keyed ≡ Sha512.add64 k w → result ≡ Sha512.round v k w }
+{
+    one_round!(u64::wrapping_add, v, keyed)
+}
+
 /// The sums of eight words and eight others.
 #[inline(always)]
 pub(crate) fn sums(h: [u64; 8], v: [u64; 8]) -> [u64; 8]
     ensures { result ≡ Sha512.add_state h v }
 {
-    [
-        h[0].wrapping_add(v[0]),
-        h[1].wrapping_add(v[1]),
-        h[2].wrapping_add(v[2]),
-        h[3].wrapping_add(v[3]),
-        h[4].wrapping_add(v[4]),
-        h[5].wrapping_add(v[5]),
-        h[6].wrapping_add(v[6]),
-        h[7].wrapping_add(v[7]),
-    ]
+    added!(u64::wrapping_add, h, v)
 }
 
 /// A word of a block.

@@ -7,13 +7,13 @@ pub returns : goal.returns
 unfolding compress
 returns c i lt =
     rw (
-      c.add.ensures i lt,
-      c.add-2.ensures i lt,
-      c.add-3.ensures i lt,
-      c.add-4.ensures i lt,
-      c.add-5.ensures i lt,
-      c.add-6.ensures i lt,
-      c.add-7.ensures i lt,
-      c.add-8.ensures i lt,
+      c.added-add.ensures i lt,
+      c.added-add-2.ensures i lt,
+      c.added-add-3.ensures i lt,
+      c.added-add-4.ensures i lt,
+      c.added-add-5.ensures i lt,
+      c.added-add-6.ensures i lt,
+      c.added-add-7.ensures i lt,
+      c.added-add-8.ensures i lt,
     )
     (ap (add_state (lane8 i c.args.self.now)) (c.all_steps.ensures.value i lt _ (c.load.ensures.written i lt)))

@@ -1,0 +1,14 @@
+use Rattle.std.proofs.Common.{◌≡◌, ◌-◌, [], length, slice_index_or, take}
+use Rattle.std.specs.Simd.Lanes.{fold_l}
+use Rattle.sha2.specs.Sha512.{compress}
+use Rattle.sha_blocks.specs.inside.Schedules512.{AreKeyed}
+use Rattle.sha_blocks.proofs.sha512.blocks.compress_runs_interleaved.Given as goal
+
+abbrev pub invariant-runs : goal.invariant-runs
+invariant-runs l = record {
+  words : length l.words ≡ 80;
+  made : length l.made ≡ 80;
+  room : length l.room ≡ 80;
+  value : l.h ≡ fold_l (λ v run. fold_l compress v run) l.fn.h (take (l.k - 1) l.runs);
+  keyed : AreKeyed (slice_index_or l.runs (l.k - 1) []) l.made;
+}
