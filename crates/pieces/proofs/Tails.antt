@@ -1,7 +1,7 @@
 -- The last bytes of a piece with the padding of SHA-2 after them, and the blocks before. `words_after p k` is the hash
 -- value after the first k blocks of p, and a block has n bytes.
 use Rattle.std.proofs.Common.{◌≡◌, ℕ, suc, ◌+◌, ◌-◌, ◌*◌, ◌/◌, ◌%◌, ◌<◌, ◌≤◌, List, ◌∷◌, ◌++◌, length, take, drop}
-use Rattle.std.proofs.Common.{[], add-one, replicate, slice_index_or, slice_set, refl, sym, ap, ◌∙◌, arith, length-append, length-drop}
+use Rattle.std.proofs.Common.{[], add-one, replicate, slice_index_or, slice_set, refl, sym, ap, ◌∙◌, arith, length-append}
 use Rattle.std.specs.List.{flat_map}
 use Rattle.std.proofs.lemmas.List.{append-nil, drop_all, length-replicate, length-take, length-take-le, set-append_right, take-append-drop, take-replicate}
 use Rattle.std.proofs.lemmas.List.{take-take, take_all}

@@ -1,9 +1,7 @@
-use Rattle.std.proofs.Common.{◌≡◌, ◌≢◌, ◌⊎◌, ◌<◌, ◌+◌, [], inl, inr, ℕ, List, arith, length, slice_index_or}
-use Rattle.std.proofs.Common.{slice_set, take, drop}
+use Rattle.std.proofs.Common.{◌≡◌, ◌+◌, arith, length}
+use Rattle.std.proofs.Common.{take, drop}
 use Rattle.std.proofs.Common.{slice_index, ◌∙◌, length-set}
 use Rattle.std.proofs.lemmas.Bool.{cases_eq}
-use Rattle.std.proofs.lemmas.Grind.{get_or-set_at}
-use Rattle.std.proofs.lemmas.List.{get_or-set_other}
 use Rattle.words.specs.Words.{padded}
 use Rattle.pieces.proofs.PieceLemmas.{row_more}
 use Rattle.pieces.proofs.last_blocks.padded_tails.Goals as goal

@@ -1,4 +1,4 @@
-use Rattle.std.proofs.Common.{◌∙◌, refl}
+use Rattle.std.proofs.Common.{refl}
 use Rattle.blake2.proofs.Starting.{padded_from}
 use Rattle.pieces.proofs.Tails.{marked_from}
 use Rattle.pieces.proofs.sha_lanes.put_marked.Goals as goal

@@ -1,6 +1,6 @@
-use Rattle.std.proofs.Common.{◌≡◌, ◌≢◌, ◌+◌, ◌-◌, ◌++◌, ◌∙◌, [], ap, arith, length, length-set, slice_index_or, sym, take}
+use Rattle.std.proofs.Common.{◌≡◌, ◌-◌, ◌++◌, ◌∙◌, [], ap, arith, length, length-set, slice_index_or, take}
 use Rattle.std.proofs.lemmas.Bool.{cases_eq}
-use Rattle.std.proofs.lemmas.List.{get_or-set_other, take_all}
+use Rattle.std.proofs.lemmas.List.{get_or-set_other}
 use Rattle.pieces.proofs.PieceLemmas.{row_more, rows_small}
 use Rattle.pieces.proofs.Tails.{ended_from, length-ended}
 use Rattle.pieces.proofs.sha_lanes.take_ended.Goals as goal

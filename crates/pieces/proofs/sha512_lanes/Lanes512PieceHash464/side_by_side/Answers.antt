@@ -1,6 +1,6 @@
-use Rattle.std.proofs.Common.{◌≡◌, ◌<◌, ◌^◌, ◌%◌, ◌*◌, ℕ, List, [], arith, ap, refl, ◌∙◌, take, drop, length}
+use Rattle.std.proofs.Common.{◌≡◌, ◌<◌, ◌^◌, ℕ, List, [], arith, ap, refl, ◌∙◌, take, drop, length}
 use Rattle.std.proofs.Common.{slice_index, slice_index_or}
-use Rattle.std.specs.Int.{to_be_bytes, w128}
+use Rattle.std.specs.Int.{w128}
 use Rattle.std.proofs.lemmas.List.{take_all}
 use Rattle.sha2.specs.Sha512.{digest_bytes, padded_message, sha512}
 use Rattle.sha2.proofs.Facts512.{length-sha512}
