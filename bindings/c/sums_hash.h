@@ -33,7 +33,10 @@ enum {
     SUMS_NOT_BEGUN = 4,      /* the state was never begun, or holds numbers that no call leaves */
     SUMS_END_OF_OUTPUT = 5,  /* the output has no such bytes */
     SUMS_PIECE_LENGTH = 6,   /* the function takes no pieces of that length */
-    SUMS_OUTPUT_LENGTH = 7   /* the output is not as long as the digests of all pieces */
+    SUMS_OUTPUT_LENGTH = 7,  /* the output is not as long as the digests of all pieces, or as the line */
+    SUMS_NO_HASH = 8,        /* no hash has that number */
+    SUMS_NO_LINE = 9,        /* no line has that name */
+    SUMS_NO_VERDICT = 10     /* no verdict has that number */
 };
 
 /* ---- BLAKE2, whole messages
@@ -230,6 +233,79 @@ uint32_t sums_hmac_blake2b_finish(const sums_hmac_blake2b_state *state, uint8_t 
 uint32_t sums_hmac_blake2s_init(sums_hmac_blake2s_state *state, const uint8_t *key, size_t key_len);
 uint32_t sums_hmac_blake2s_update(sums_hmac_blake2s_state *state, const uint8_t *piece, size_t piece_len);
 uint32_t sums_hmac_blake2s_finish(const sums_hmac_blake2s_state *state, uint8_t *out, size_t out_len);
+
+/* ---- Lists of digests, as sha256sum, b2sum and b3sum write them, tagged or not
+ *
+ * sums_list_read takes a list in pieces of any size and returns one line at a time. Untagged lines have digests of the
+ * hash that the list was begun for, and with SUMS_ANY they are malformed; a tagged line names its hash.
+ * docs/FORMAT.md has the grammar. */
+enum {
+    SUMS_ANY = 0,
+    SUMS_SHA256 = 1,  /* digests of 32 bytes */
+    SUMS_SHA512 = 2,  /* 64 */
+    SUMS_BLAKE2B = 3, /* 1 to 64 */
+    SUMS_BLAKE2S = 4, /* 1 to 32 */
+    SUMS_BLAKE3 = 5   /* 32 */
+};
+
+/* What a line is. */
+enum {
+    SUMS_LINE_NONE = 0,      /* no line has ended */
+    SUMS_LINE_SKIPPED = 1,   /* empty, or a comment */
+    SUMS_LINE_MALFORMED = 2, /* neither skipped nor an entry */
+    SUMS_LINE_UNTAGGED = 3,  /* malformed here, and an entry in a list for another hash */
+    SUMS_LINE_ENTRY = 4      /* the digest of the file of a name */
+};
+
+/* What became of an entry. */
+enum {
+    SUMS_VERDICT_OK = 1,
+    SUMS_VERDICT_FAILED = 2,
+    SUMS_VERDICT_MISSING = 3,
+    SUMS_VERDICT_UNREADABLE = 4,
+    SUMS_VERDICT_TOO_LONG = 5
+};
+
+typedef struct {
+    uint64_t number;   /* of the line, from 1 */
+    uint64_t taken;    /* how many bytes of the piece were read */
+    uint32_t kind;     /* SUMS_LINE_..; only an entry changes what follows */
+    uint32_t hash;     /* SUMS_SHA256 to SUMS_BLAKE3 */
+    uint32_t digest_len;
+    uint32_t name_len; /* 1 to 65,532 */
+    uint8_t digest[64];
+    uint8_t name[65536]; /* without escapes: UTF-8 without NUL, and no NUL after it */
+} sums_list_entry; /* 65,632 bytes */
+
+typedef struct {
+    uint64_t lines, held, mark;
+    uint8_t line[65536];
+} sums_list_state; /* 65,560 bytes */
+
+/* Begins a list. Answers SUMS_OK or SUMS_NO_HASH. */
+uint32_t sums_list_init(sums_list_state *state, uint32_t hash);
+/* Reads the piece up to its first LF, and what the line means that ends there. If the piece has no LF, all of it is read
+ * and no line has ended. Call it again with what follows entry->taken, until nothing is left. A line of more than
+ * 65,536 bytes is malformed. Answers SUMS_OK, SUMS_NOT_BEGUN, or SUMS_INPUT_TOO_LONG after 2^64 - 1 lines. */
+uint32_t sums_list_read(sums_list_state *state, sums_list_entry *entry, const uint8_t *piece, size_t piece_len);
+/* At the end of the list, reads the last line, if no LF ended it. The same answers. */
+uint32_t sums_list_end(sums_list_state *state, sums_list_entry *entry);
+
+/* The length in bytes of the line of an entry with its LF, untagged if is_tagged is 0. It is 0 if there is no such hash,
+ * the hash has no digests of that length, or the name has no line: it is empty, not UTF-8, holds NUL, or its line would
+ * have more than 65,536 bytes before the LF. */
+size_t sums_list_line_length(uint32_t hash, uint32_t is_tagged, size_t digest_len, const uint8_t *name, size_t name_len);
+/* Writes that line with its LF, exactly out_len bytes. A name with a backslash, LF or CR is written with escapes.
+ * Answers SUMS_OK, SUMS_NO_HASH, SUMS_DIGEST_LENGTH, SUMS_NO_LINE, or else SUMS_OUTPUT_LENGTH. */
+uint32_t sums_list_line(uint8_t *out, size_t out_len, uint32_t hash, uint32_t is_tagged,
+                        const uint8_t *digest, size_t digest_len, const uint8_t *name, size_t name_len);
+
+/* The length of the line of a report, such as "name: OK", with its LF. It is 0 if no verdict has the number, or the name
+ * is not UTF-8 or has more than 65,536 bytes. */
+size_t sums_list_report_length(uint32_t verdict, const uint8_t *name, size_t name_len);
+/* Writes that line with its LF, exactly out_len bytes.
+ * Answers SUMS_OK, SUMS_NO_VERDICT, SUMS_NO_LINE, or else SUMS_OUTPUT_LENGTH. */
+uint32_t sums_list_report(uint8_t *out, size_t out_len, uint32_t verdict, const uint8_t *name, size_t name_len);
 
 #ifdef __cplusplus
 }

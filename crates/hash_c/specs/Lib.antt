@@ -1,3 +1,4 @@
 pub mod inside
 pub mod Statuses
 pub mod Unkeyed
+pub mod Lists

@@ -12,6 +12,8 @@ mod blake3_stream;
 mod hkdf_once;
 mod hmac_once;
 mod hmac_stream;
+mod list_lines;
+mod lists;
 mod piece_digests;
 mod sha2_once;
 mod sha2_stream;

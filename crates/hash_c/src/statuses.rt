@@ -23,8 +23,17 @@ pub const SUMS_END_OF_OUTPUT: u32 = 5;
 /// A piece has 0 bytes.
 pub const SUMS_PIECE_LENGTH: u32 = 6;
 
-/// The output has another length than the digests of the pieces together.
+/// The output has another length than the digests of the pieces together, or than the line.
 pub const SUMS_OUTPUT_LENGTH: u32 = 7;
+
+/// No hash has that number.
+pub const SUMS_NO_HASH: u32 = 8;
+
+/// No line has that name.
+pub const SUMS_NO_LINE: u32 = 9;
+
+/// No verdict has that number.
+pub const SUMS_NO_VERDICT: u32 = 10;
 
 // Does nothing. Its contract says the number of each status, by which a caller in C knows it.
 fn status_laws()
@@ -36,4 +45,7 @@ fn status_laws()
     ensures end_of_output { SUMS_END_OF_OUTPUT ≡ 5 }
     ensures piece_length { SUMS_PIECE_LENGTH ≡ 6 }
     ensures output_length { SUMS_OUTPUT_LENGTH ≡ 7 }
+    ensures no_hash { SUMS_NO_HASH ≡ 8 }
+    ensures no_line { SUMS_NO_LINE ≡ 9 }
+    ensures no_verdict { SUMS_NO_VERDICT ≡ 10 }
 {}

@@ -5,6 +5,7 @@ pub mod Tagged
 pub mod TaggedFaults
 pub mod Line
 pub mod Parsed
+pub mod Filled
 pub mod Meanings
 pub mod Opening
 pub mod Named

@@ -14,3 +14,5 @@ pub mod MemoryTree
 pub mod Marks
 pub mod Stepped
 pub mod Moved
+pub mod Said
+pub mod Filling

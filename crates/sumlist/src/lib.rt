@@ -12,13 +12,15 @@
 //! ```
 #![tactic(auto)]
 
+pub use body::{NameText, fill_name};
 pub use checking::{CheckFault, ListRules, check, check_list};
 pub use entry::{Entry, EntryFault};
 pub use files::FileTree;
+pub use filling::{FillFault, entry_len, fill_entry, fill_verdict, verdict_len};
 pub use fitting::{LINE_LIMIT, fits, tagged_fits};
 pub use kind::Kind;
 pub use laws::{line_laws, report_laws};
-pub use line::{Line, LineFault, parse_line};
+pub use line::{Line, LineFault, Said, parse_line, split_line};
 pub use lines::split_at_byte;
 pub use map::map_laws;
 pub use memory::MemoryTree;
@@ -35,6 +37,7 @@ mod checking;
 mod entry;
 mod escaping;
 mod files;
+mod filling;
 mod fitting;
 mod kind;
 mod labels;

@@ -6,6 +6,7 @@ ghost use Rattle.sumlist.specs.inside.Body.{name_of};
 ghost use Rattle.sumlist.specs.inside.Reading.{IsBlank, IsStated, is_slashed, unslashed};
 ghost use Rattle.sumlist.specs.Line.{IsLine, IsMalformed, IsUntagged, core as core_of};
 ghost use Rattle.sumlist.specs.Parsed.{Answers};
+ghost use Rattle.sumlist.specs.inside.Said.{IsSaid};
 ghost use Rattle.sumlist.specs.declared.line.LineFault.TheVariants.{OutOfMemory};
 
 use crate::body::{NameText, build_name, name_text};
@@ -24,6 +25,19 @@ pub enum Line {
     Skipped,
     /// That a file has a digest.
     Entry(Entry),
+}
+
+/// What a line says, with the name as it stands there.
+#[derive(Drop)]
+pub enum Said<'a> {
+    /// Nothing: the line is empty or a comment.
+    Skipped,
+    /// The line is neither skipped nor spells an entry.
+    Malformed,
+    /// The line is malformed only because its kind is missing: with some other kind it would spell an entry.
+    Untagged,
+    /// That the file of a name has a digest.
+    Entry(Alg, Tag, NameText<'a>),
 }
 
 /// Why a line gives nothing.
@@ -58,6 +72,36 @@ pub fn parse_line(alloc: Global, line: &[u8], kind: Kind) -> Result<Line, LineFa
     ensures { Answers line.now (Some kind) result }
 {
     read_line(alloc, line, Some(kind))
+}
+
+/// Reads one line as `parse_line` does, but builds no name, so that it takes no memory. Without a kind untagged
+/// lines are malformed.
+pub fn split_line(line: &[u8], kind: Option<Kind>) -> Said<'_>
+    ensures { IsSaid line.now kind result }
+{
+    if !is_line(line) {
+        return Said::Malformed;
+    }
+    let core = without_cr(line);
+    if is_blank(core) {
+        return Said::Skipped;
+    }
+    match read_core(core, kind) {
+        Some((alg, tag, name)) => Said::Entry(alg, tag, name),
+        None => malformed_said(line, kind),
+    }
+}
+
+// Whether a malformed line lacks its kind alone.
+fn malformed_said<'a>(line: &[u8], kind: Option<Kind>) -> Said<'a>
+    requires { IsMalformed line.now kind }
+    ensures { IsSaid line.now kind result }
+{
+    if needs_kind(line, kind) {
+        Said::Untagged
+    } else {
+        Said::Malformed
+    }
 }
 
 /// The same of a list whose untagged lines have this kind; without one they are malformed.

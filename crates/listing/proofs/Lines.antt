@@ -1,0 +1,55 @@
+-- What lines mean that are too long, which hash a number names, and texts without LF.
+use Rattle.std.proofs.Common.{◌≡◌, ◌<◌, ◌≤◌, ◌∙◌, List, take, false, None, Option, Some, ap, arith, length, refl, sym, ℕ}
+use Rattle.std.specs.Prelude.{if◌then◌else◌, ◌==◌, Contains}
+use Rattle.std.proofs.lemmas.Bool.{ne_eqb, eqb-false}
+use Rattle.std.proofs.lemmas.List.Elements.{All-contains, All-contains_itself, All-weaker}
+use Rattle.std.proofs.lemmas.Bool.Decides.{nat_tests}
+use Rattle.sumlist.specs.Line.{IsMalformed, IsUntagged}
+use Rattle.sumlist.specs.Lines.{IsKept}
+use Rattle.sumlist.specs.inside.Cut.{HasNo}
+use Rattle.sumlist.specs.declared.kind.Kind.{Kind}
+use Rattle.sumlist.specs.declared.kind.Kind.TheVariants.{Sha256, Sha512, Blake2b, Blake2s, Blake3}
+use Rattle.listing.specs.Numbers.{number_of}
+use Rattle.listing.specs.declared.state.ListState.{ListState}
+use Rattle.listing.specs.inside.State.{held}
+
+-- a line that is too long is malformed, whatever the hash
+pub overlong : (text : List ℕ) (kind : Option Kind) → 65536 < length text
+    → IsMalformed text kind × (IsUntagged text kind → ⊥)
+overlong text kind long = (
+  (λ s. let l = s.0.1 in absurd (omega (arith, l, long)), λ e s. let l = s.is_line.1 in absurd (omega (arith, l, long))),
+  λ u. let l = u.3.is_line.1 in absurd (omega (arith, l, long)),
+)
+
+abbrev kind_at : ℕ → Option Kind
+kind_at n =
+    if n == 1 then Some Sha256
+    else if n == 2 then Some Sha512
+    else if n == 3 then Some Blake2b
+    else if n == 4 then Some Blake2s
+    else if n == 5 then Some Blake3
+    else None
+
+kind_back : (k : Option Kind) → kind_at (number_of k) ≡ k
+kind_back None = refl
+kind_back (Some Sha256) = refl
+kind_back (Some Sha512) = refl
+kind_back (Some Blake2b) = refl
+kind_back (Some Blake2s) = refl
+kind_back (Some Blake3) = refl
+
+-- no two hashes have one number
+pub number_one : (k l : Option Kind) → number_of k ≡ number_of l → k ≡ l
+number_one k l e = sym (kind_back k) ∙ ap kind_at e ∙ kind_back l
+
+-- a text without a byte has no such byte anywhere, and the reverse
+pub none_from_no : (c : ℕ) (text : List ℕ) → HasNo c text → Contains text c → ⊥
+none_from_no c text without some = eqb-false c c (All-contains (λ x. (x == c) ≡ false) text c without some) refl
+
+pub no_from_none : (c : ℕ) (text : List ℕ) → (Contains text c → ⊥) → HasNo c text
+no_from_none c text none = All-weaker (Contains text) _ (λ x some. ne_eqb x c (λ same. none (rw same at some))) text
+    (All-contains_itself text)
+
+-- what is held of a line that is not too long
+pub held_bytes : (s : ListState) (b : List ℕ) → s.held ≤ 65536 → IsKept (held s) b → b ≡ take s.held s.line
+held_bytes s b small kept = grind (arith, nat_tests)

@@ -1,0 +1,5 @@
+pub mod Numbers
+pub mod Line
+pub mod Read
+pub mod Cut
+pub mod inside

@@ -1,0 +1,2 @@
+-- What a list as plain numbers holds: views of its state, which help the proofs.
+pub mod State

@@ -1,0 +1,195 @@
+// A list that is read in pieces, as plain numbers.
+
+ghost use Rattle.std.specs.Prelude.{◌≡◌, ◌≢◌, ◌<◌, ◌≤◌, ◌+◌, ◌-◌, ◌^◌, ◌++◌, ◌↔◌, [], ℕ, List, Option, length};
+ghost use Rattle.std.specs.Prelude.{IsTrue, IsErrOf, OnOk, OnErr, MatchResult};
+ghost use Rattle.sumlist.specs.Lines.{IsKept};
+ghost use Rattle.sumlist.specs.inside.Held.{held_after};
+ghost use Rattle.listing.specs.Numbers.{number_of};
+ghost use Rattle.listing.specs.Line.{Means};
+ghost use Rattle.listing.specs.Read.{EndsLine, IsBegun, ReadsPiece};
+ghost use Rattle.listing.specs.inside.State.{ListHolds, held};
+ghost use Rattle.sumlist.specs.declared.kind.Kind.{Kind};
+
+use crate::line::{LINE_MALFORMED, LINE_NONE, ListLine, read_line};
+use crate::numbers::{kind_number, kind_numbered};
+use sumlist::{Kind, LINE_LIMIT, split_at_byte};
+
+// As many bytes as a line may have.
+const MOST: u64 = 65_536;
+
+/// Why a piece of a list was not read.
+#[derive(Clone, Copy, Debug, PartialEq, Eq, Drop)]
+pub enum ListFault {
+    /// These are the numbers of no list.
+    NotBegun,
+    /// The list has more than 2^64 - 1 lines.
+    TooLong,
+}
+
+/// A list that is read in pieces, as plain numbers of a fixed layout. Whatever this memory holds, a call refuses it or
+/// takes it for some list, and reads nothing outside it. It holds no pointer and may be copied. It is for the memory of
+/// one process, and no format: its fields can change.
+#[repr(C)]
+#[derive(Clone, Copy)]
+pub struct ListState {
+    // how many lines have ended
+    lines: u64,
+    // how many bytes of the next one are held, or more than a line may have
+    held: u64,
+    // one more than the number of the hash of untagged lines, and 0 if the list was never begun
+    mark: u64,
+    line: [u8; 65536],
+}
+
+impl ListState {
+    /// Zeros, which are no list's.
+    pub fn zeros() -> ListState
+        ensures { result.mark ≡ 0 }
+    {
+        ListState {
+            lines: 0,
+            held: 0,
+            mark: 0,
+            line: [0; 65536],
+        }
+    }
+
+    /// Begins a list whose untagged lines have this kind. Without one they are malformed.
+    pub fn begin(&mut self, kind: Option<Kind>)
+        ensures { ListHolds self.new kind 0 [] }
+    {
+        self.lines = 0;
+        self.held = 0;
+        self.mark = 1 + u64::from(kind_number(kind));
+    }
+
+    /// Whether these can be the numbers of a list.
+    pub fn is_begun(&self) -> bool
+        ensures { IsTrue result ↔ IsBegun self.now }
+    {
+        1 <= self.mark && self.mark <= 6
+    }
+
+    /// Reads the piece up to its first LF, with it, and what the line means that ends there; or all of the piece, if it
+    /// has no LF, and then no line has ended.
+    pub fn read(&mut self, piece: &[u8], line: &mut ListLine) -> Result<(), ListFault>
+        ensures read { OnOk result ((k : Option Kind) (n : ℕ) (b : List ℕ) → ListHolds self.old k n b
+            → ReadsPiece k n b piece.now self.new line.new) }
+        ensures not_begun { IsErrOf result ListFault.NotBegun ↔ (IsBegun self.old → ⊥) }
+        ensures too_long { IsErrOf result ListFault.TooLong
+            ↔ (IsBegun self.old × (self.old.lines ≡ 2 ^ 64 - 1)) }
+        ensures refused { OnErr result ((self.new ≡ self.old) × (line.new ≡ line.old)) }
+    {
+        if !self.is_begun() {
+            return Err(ListFault::NotBegun);
+        }
+        if self.lines == u64::MAX {
+            return Err(ListFault::TooLong);
+        }
+        let Some((front, _)) = split_at_byte(piece, b'\n') else {
+            self.keep(piece);
+            line.kind = LINE_NONE;
+            line.taken = piece.len() as u64;
+            return Ok(());
+        };
+        line.taken = front.len() as u64 + 1;
+        self.end_line(front, line);
+        Ok(())
+    }
+
+    /// Means what the last line says, where no LF ended it, or that there is none. A list that goes on then begins with
+    /// a line of its own.
+    pub fn end(&mut self, line: &mut ListLine) -> Result<(), ListFault>
+        ensures none { OnOk result ((k : Option Kind) (n : ℕ) → ListHolds self.old k n []
+            → (line.new.kind ≡ LINE_NONE) × ListHolds self.new k n []) }
+        ensures line { OnOk result ((k : Option Kind) (n : ℕ) (b : List ℕ) → ListHolds self.old k n b → b ≢ []
+            → EndsLine k n b self.new line.new) }
+        ensures not_begun { IsErrOf result ListFault.NotBegun ↔ (IsBegun self.old → ⊥) }
+        ensures too_long { IsErrOf result ListFault.TooLong
+            ↔ (IsBegun self.old × (self.old.lines ≡ 2 ^ 64 - 1)) }
+        ensures refused { OnErr result ((self.new ≡ self.old) × (line.new ≡ line.old)) }
+    {
+        if !self.is_begun() {
+            return Err(ListFault::NotBegun);
+        }
+        if self.lines == u64::MAX {
+            return Err(ListFault::TooLong);
+        }
+        line.taken = 0;
+        if self.held == 0 {
+            line.kind = LINE_NONE;
+            return Ok(());
+        }
+        self.end_line(&[], line);
+        Ok(())
+    }
+
+    // Means what the line says that ends behind these bytes.
+    fn end_line(&mut self, front: &[u8], line: &mut ListLine)
+        requires begun { IsBegun self.old }
+        requires few { self.old.lines < 2 ^ 64 - 1 }
+        ensures ended { (k : Option Kind) (n : ℕ) (b : List ℕ) → ListHolds self.old k n b
+            → EndsLine k n (b ++ front.now) self.new line.new }
+        ensures taken { line.new.taken ≡ line.old.taken }
+    {
+        self.read_with(front, line);
+        self.held = 0;
+        self.lines += 1;
+        line.number = self.lines;
+    }
+
+    // Means what the line says that these bytes end.
+    fn read_with(&mut self, front: &[u8], line: &mut ListLine)
+        requires { IsBegun self.old }
+        ensures means { (k : Option Kind) (b : List ℕ) → self.old.mark ≡ 1 + number_of k → IsKept (held self.old) b
+            → Means (b ++ front.now) k line.new }
+        ensures same { (self.new.mark ≡ self.old.mark) × (self.new.lines ≡ self.old.lines) }
+        ensures taken { line.new.taken ≡ line.old.taken }
+    {
+        if self.held == 0 {
+            read_line(front, self.kind(), line);
+        } else {
+            self.keep(front);
+            self.read_held(line);
+        }
+    }
+
+    // Means what the line says whose bytes are kept.
+    fn read_held(&self, line: &mut ListLine)
+        requires { IsBegun self.now }
+        ensures means { (k : Option Kind) (b : List ℕ) → self.now.mark ≡ 1 + number_of k → IsKept (held self.now) b
+            → Means b k line.new }
+        ensures taken { line.new.taken ≡ line.old.taken }
+    {
+        if self.held > MOST {
+            line.kind = LINE_MALFORMED;
+        } else {
+            read_line(&self.line[..self.held as usize], self.kind(), line);
+        }
+    }
+
+    // The hash of its untagged lines.
+    fn kind(&self) -> Option<Kind>
+        requires { IsBegun self.now }
+        ensures { self.now.mark ≡ 1 + number_of result }
+    {
+        kind_numbered((self.mark - 1) as u32).unwrap()
+    }
+
+    // Holds a piece more of the line.
+    fn keep(&mut self, piece: &[u8])
+        ensures held { held self.new ≡ held_after (held self.old) piece.now }
+        ensures same { (self.new.mark ≡ self.old.mark) × (self.new.lines ≡ self.old.lines) }
+    {
+        if self.held > MOST {
+            return;
+        }
+        let held = self.held as usize;
+        if piece.len() > LINE_LIMIT - held {
+            self.held = MOST + 1;
+            return;
+        }
+        self.line[held..held + piece.len()].copy_from_slice(piece);
+        self.held = (held + piece.len()) as u64;
+    }
+}
