@@ -108,18 +108,14 @@ fn malformed_said<'a>(line: &[u8], kind: Option<Kind>) -> Said<'a>
 pub(crate) fn read_line(alloc: Global, line: &[u8], kind: Option<Kind>) -> Result<Line, LineFault>
     ensures { Answers line.now kind result }
 {
-    if !is_line(line) {
-        return Err(LineFault::Malformed);
+    match split_line(line, kind) {
+        Said::Skipped => Ok(Line::Skipped),
+        Said::Malformed | Said::Untagged => Err(LineFault::Malformed),
+        Said::Entry(alg, tag, given) => {
+            let name = build_name(alloc, given)?;
+            Ok(Line::Entry(Entry::from_parts(name, alg, tag)))
+        }
     }
-    let core = without_cr(line);
-    if is_blank(core) {
-        return Ok(Line::Skipped);
-    }
-    let Some((alg, tag, given)) = read_core(core, kind) else {
-        return Err(LineFault::Malformed);
-    };
-    let name = build_name(alloc, given)?;
-    Ok(Line::Entry(Entry::from_parts(name, alg, tag)))
 }
 
 /// Whether a malformed line is so only for want of its kind: of some other kind it would spell an entry.

@@ -1,4 +1,4 @@
-use Rattle.sumlist.proofs.Common.{◌≡◌, ◌≤◌, ◌++◌, length, name_of, take, true, Option, Some}
+use Rattle.sumlist.proofs.Common.{◌≡◌, ◌≤◌, ◌++◌, length, name_of, take, true}
 use Rattle.std.specs.Prelude.{option_map}
 use Rattle.sumlist.proofs.body.fill_unescaped.Given as goal
 
