@@ -20,7 +20,12 @@ use sumlist::{FillFault, entry_len, fill_entry, fill_verdict, verdict_len};
 /// How many bytes the line of an entry has, with its LF: with a digest of so many bytes of the hash of this number,
 /// tagged unless that is 0, and of this name. 0 if there is no such hash, digest or line.
 #[unsafe(no_mangle)]
-pub extern "C" fn sums_list_line_length(hash: u32, is_tagged: u32, digest_len: usize, name: &[u8]) -> usize
+pub extern "C" fn sums_list_line_length(
+    hash: u32,
+    is_tagged: u32,
+    digest_len: usize,
+    name: &[u8],
+) -> usize
     ensures line { (alg : Alg) (digest : List ℕ) → IsAlg hash (length digest) alg → length digest ≡ digest_len
         → HasLine (not (nat_eq is_tagged 0)) alg name.now
         → result ≡ length (line_text (not (nat_eq is_tagged 0)) (record { name = name.now; alg = alg; tag = digest })) }
