@@ -8,7 +8,8 @@
 // Nothing of libcrypto is called but what it hands in. So one file is for each OpenSSL from 3.0 on, whether a program
 // takes it as a shared library or has it linked in.
 //
-// Lengths: what C is told is the length of memory that OpenSSL hands in with that length, or which a row here sizes.
+// Lengths: what C is told is the length of memory that OpenSSL hands in with that length, or which a row here sizes; of
+// BLAKE3 it may be the length that a caller has set by xoflen (see digest_final).
 //
 // Threads: a context is one thread's at a time, as OpenSSL asks of its users. All else is constant, or written once
 // before anything is offered.
@@ -27,8 +28,9 @@
 _Static_assert(__BYTE_ORDER__ == __ORDER_LITTLE_ENDIAN__, "a number of a parameter is read from its lowest byte on");
 
 enum {
-    MOST_KEY = 64,  // the bytes of the longest key
-    MOST_SALT = 16, // those of the longest salt, and of the longest personalization
+    MOST_KEY = 64,    // the bytes of the longest key
+    MOST_SALT = 16,   // those of the longest salt, and of the longest personalization
+    MOST_DIGEST = 64, // those of the longest digest of BLAKE2
 };
 
 // functions of later OpenSSLs, by the numbers of their headers; an earlier one passes them over
@@ -227,7 +229,8 @@ static const struct hash hashes[] = {
 struct message {
     const struct provider *provider;
     const struct hash *hash;
-    struct start start;
+    struct start start; // of this message, and where it is a MAC's of the next one
+    size_t begun;       // the length of the digest that this message began with
     // A digest may be written again; behind bytes that were squeezed out only more of them can follow.
     enum { UNBEGUN, BEGUN, FED, ENDED, SQUEEZED } stage;
     uint64_t position; // of the output that is squeezed out next
@@ -278,6 +281,7 @@ static int message_begin(struct message *message)
 {
     message->stage = UNBEGUN;
     message->position = 0;
+    message->begun = message->start.length;
     if (!JUDGED(message->provider, message->hash->begin(message->state, &message->start))) return 0;
     message->stage = BEGUN;
     return 1;
@@ -293,25 +297,36 @@ static int message_update(void *context, const unsigned char *piece, size_t leng
     return JUDGED(message->provider, message->hash->update(message->state, piece, length));
 }
 
-static int write_output(const struct message *message, unsigned char *out, size_t *written, size_t length)
+static int write_output(const struct message *message, unsigned char *out, size_t length)
 {
     if (length) memset(out, 0, length); // the library writes into initialised memory
-    if (!JUDGED(message->provider, message->hash->write(message->state, message->position, out, length))) return 0;
-    *written = length;
-    return 1;
+    return JUDGED(message->provider, message->hash->write(message->state, message->position, out, length));
 }
 
-static int message_final(void *context, unsigned char *out, size_t *written, size_t room)
+// Writes a digest. BLAKE2 has the one that its message began with, and a shorter one is the beginning of it.
+static int write_digest(const struct message *message, unsigned char *out, size_t length)
 {
-    struct message *message = context;
-    size_t length = message->start.is_open ? room : message->start.length;
+    uint8_t whole[MOST_DIGEST];
+    if (message->hash->lengths == ANY || length == message->begun) return write_output(message, out, length);
+    int done = write_output(message, whole, message->begun);
+    if (done) memcpy(out, whole, length);
+    explicit_bzero(whole, sizeof whole);
+    return done;
+}
+
+static int message_final(struct message *message, unsigned char *out, size_t *written, size_t length, size_t room)
+{
     *written = 0;
     if (message->stage == UNBEGUN || message->stage == SQUEEZED)
         return REFUSE(message->provider, PROV_R_INVALID_STATE, "sums: no message is begun, or its output was squeezed");
     if (room < length)
         return REFUSE(message->provider, PROV_R_OUTPUT_BUFFER_TOO_SMALL, "sums: %zu bytes, and room for %zu", length,
                       room);
-    if (!write_output(message, out, written, length)) return 0;
+    if (message->hash->lengths != ANY && length > message->begun)
+        return REFUSE(message->provider, PROV_R_INVALID_STATE, "sums: the message began with a size of %zu, not %zu",
+                      message->begun, length);
+    if (!write_digest(message, out, length)) return 0;
+    *written = length;
     message->stage = ENDED;
     return 1;
 }
@@ -322,35 +337,23 @@ static int message_squeeze(void *context, unsigned char *out, size_t *written, s
     *written = 0;
     if (message->stage == UNBEGUN || message->stage == ENDED)
         return REFUSE(message->provider, PROV_R_INVALID_STATE, "sums: no message is begun, or its digest was written");
-    if (!write_output(message, out, written, room)) return 0;
+    if (!write_output(message, out, room)) return 0;
+    *written = room;
     message->stage = SQUEEZED;
     message->position += room;
     return 1;
 }
 
-// Reads the length of a digest that a parameter sets, where there is one.
-static int read_length(const struct message *message, const OSSL_PARAM *param, size_t *to)
+// Reads the length of a digest that a parameter sets, where there is one; `reason` is that of one that BLAKE2 has not.
+static int read_length(const struct message *message, const OSSL_PARAM *param, uint32_t reason, size_t *to)
 {
     size_t length;
     if (!param) return 1;
     if (!read_number(message->provider, param, &length)) return 0;
     if (message->hash->lengths == UP_TO_DIGEST && (length < 1 || length > message->hash->digest_size))
-        return REFUSE(message->provider, PROV_R_INVALID_DIGEST_SIZE, "sums: a digest has 1 to %zu bytes, not %zu",
+        return REFUSE(message->provider, reason, "sums: a digest has 1 to %zu bytes, not %zu",
                       message->hash->digest_size, length);
-    // BLAKE2 begins with its length, and BLAKE3 ends with it
-    if (message->hash->lengths == UP_TO_DIGEST && message->stage == FED && length != message->start.length)
-        return REFUSE(message->provider, PROV_R_INVALID_STATE, "sums: %s is set before the message", param->key);
     *to = length;
-    return 1;
-}
-
-// Has a message that has no bytes yet begin with what is set now. One that has ended stays at its end only where its
-// digest is as long as before.
-static int settle(struct message *message, size_t length_before)
-{
-    if (message->stage == BEGUN) return message_begin(message);
-    if (message->stage == ENDED && message->hash->lengths == UP_TO_DIGEST && message->start.length != length_before)
-        message->stage = UNBEGUN;
     return 1;
 }
 
@@ -362,17 +365,32 @@ static int tell_number(const struct message *message, OSSL_PARAM params[], const
 
 // ---- digests
 
+// Has a message that has no bytes yet begin with this length. One that has ended stays at its end only where its
+// digest is as long as before.
+static int settle(struct message *message, size_t length)
+{
+    int changes = length != message->start.length;
+    // BLAKE2 begins with its length, and BLAKE3 ends with it
+    if (changes && message->hash->lengths == UP_TO_DIGEST && message->stage == FED)
+        return REFUSE(message->provider, PROV_R_INVALID_STATE, "sums: %s is set before the message",
+                      OSSL_DIGEST_PARAM_SIZE);
+    message->start.length = length;
+    if (message->stage == BEGUN) return message_begin(message);
+    if (changes && message->hash->lengths == UP_TO_DIGEST) message->stage = UNBEGUN;
+    return 1;
+}
+
 static int digest_set(void *context, const OSSL_PARAM params[])
 {
     struct message *message = context;
     const OSSL_PARAM *param = find(params, OSSL_DIGEST_PARAM_XOFLEN);
-    size_t before = message->start.length;
+    size_t length = message->start.length;
     if (message->hash->lengths == FIXED) return 1;
     if (param && message->hash->lengths != ANY)
         return REFUSE(message->provider, PROV_R_NOT_XOF_OR_INVALID_LENGTH, "sums: BLAKE2 takes %s",
                       OSSL_DIGEST_PARAM_SIZE);
     if (!param) param = find(params, OSSL_DIGEST_PARAM_SIZE);
-    return read_length(message, param, &message->start.length) && settle(message, before);
+    return read_length(message, param, PROV_R_INVALID_DIGEST_SIZE, &length) && settle(message, length);
 }
 
 static int digest_init(void *context, const OSSL_PARAM params[])
@@ -382,6 +400,16 @@ static int digest_init(void *context, const OSSL_PARAM params[])
     // that of the message before may have been set by EVP_DigestFinalXOF
     if (message->hash->lengths == ANY) message->start.length = message->hash->digest_size;
     return digest_set(message, params) && message_begin(message);
+}
+
+// EVP_DigestFinal_ex of OpenSSL 3.0 hands in the size of the hash as the room, whatever length was set by xoflen. A
+// caller who has set a greater one has room for that, as with SHAKE256 of OpenSSL's own.
+static int digest_final(void *context, unsigned char *out, size_t *written, size_t room)
+{
+    struct message *message = context;
+    size_t length = message->start.length;
+    int is_of_hash = message->hash->lengths == ANY && room == message->hash->digest_size;
+    return message_final(message, out, written, length, is_of_hash && room < length ? length : room);
 }
 
 static int digest_get(void *context, OSSL_PARAM params[])
@@ -444,7 +472,7 @@ static const OSSL_PARAM *blake2_lengths(void *context, void *provider)
     {OSSL_FUNC_DIGEST_NEWCTX, (call)new_##name}, {OSSL_FUNC_DIGEST_GET_PARAMS, (call)facts_##name}, \
     {OSSL_FUNC_DIGEST_FREECTX, (call)message_free}, {OSSL_FUNC_DIGEST_DUPCTX, (call)message_dup}, \
     {DIGEST_COPYCTX, (call)message_copy}, {OSSL_FUNC_DIGEST_INIT, (call)digest_init}, \
-    {OSSL_FUNC_DIGEST_UPDATE, (call)message_update}, {OSSL_FUNC_DIGEST_FINAL, (call)message_final}, \
+    {OSSL_FUNC_DIGEST_UPDATE, (call)message_update}, {OSSL_FUNC_DIGEST_FINAL, (call)digest_final}, \
     {OSSL_FUNC_DIGEST_GETTABLE_PARAMS, (call)digest_gettable}
 
 #define LENGTHS(list) \
@@ -510,13 +538,15 @@ static int read_openness(const struct message *message, const OSSL_PARAM *param,
 
 static int read_start(const struct message *message, const OSSL_PARAM params[], struct start *start)
 {
-    if (!read_length(message, find(params, OSSL_MAC_PARAM_SIZE), &start->length)) return 0;
+    if (!read_length(message, find(params, OSSL_MAC_PARAM_SIZE), PROV_R_NOT_XOF_OR_INVALID_LENGTH, &start->length))
+        return 0;
     if (!start->length)
         return REFUSE(message->provider, PROV_R_INVALID_OUTPUT_LENGTH, "sums: a MAC has 1 byte or more");
-    return read_salt(message, find(params, OSSL_MAC_PARAM_SALT), PROV_R_INVALID_SALT_LENGTH, start->salt)
+    // where several are refused, OpenSSL's own tells the first in this order
+    return read_key(message, find(params, OSSL_MAC_PARAM_KEY), start)
         && read_salt(message, find(params, OSSL_MAC_PARAM_CUSTOM), PROV_R_INVALID_CUSTOM_LENGTH, start->personal)
-        && read_openness(message, find(params, OSSL_MAC_PARAM_XOF), &start->is_open)
-        && read_key(message, find(params, OSSL_MAC_PARAM_KEY), start);
+        && read_salt(message, find(params, OSSL_MAC_PARAM_SALT), PROV_R_INVALID_SALT_LENGTH, start->salt)
+        && read_openness(message, find(params, OSSL_MAC_PARAM_XOF), &start->is_open);
 }
 
 // Takes all parameters, and a key that is none of them where there is one. Where one is refused, none counts.
@@ -529,12 +559,10 @@ static int take_start(struct message *message, const OSSL_PARAM params[], const 
     return done;
 }
 
-// What a message begins with counts for the next one where this one has bytes.
+// A message goes on with the key, the salt and the personalization that it began with, as in OpenSSL's own.
 static int mac_set(void *context, const OSSL_PARAM params[])
 {
-    struct message *message = context;
-    size_t before = message->start.length;
-    return take_start(message, params, NULL, 0) && settle(message, before);
+    return take_start(context, params, NULL, 0);
 }
 
 static int mac_init(void *context, const unsigned char *key, size_t length, const OSSL_PARAM params[])
@@ -545,6 +573,13 @@ static int mac_init(void *context, const unsigned char *key, size_t length, cons
     if (!take_start(message, params, key, length)) return 0;
     if (!message->start.key_length) return REFUSE(message->provider, PROV_R_NO_KEY_SET, "sums: a MAC has a key");
     return message_begin(message);
+}
+
+// The size is the one that is set now, as in OpenSSL's own.
+static int mac_final(void *context, unsigned char *out, size_t *written, size_t room)
+{
+    struct message *message = context;
+    return message_final(message, out, written, message->start.is_open ? room : message->start.length, room);
 }
 
 static int mac_get(void *context, OSSL_PARAM params[])
@@ -589,7 +624,7 @@ static const OSSL_PARAM *blake3_settable(void *context, void *provider)
 #define MAC(name, settable) \
     {OSSL_FUNC_MAC_NEWCTX, (call)new_##name}, {OSSL_FUNC_MAC_FREECTX, (call)message_free}, \
     {OSSL_FUNC_MAC_DUPCTX, (call)message_dup}, {OSSL_FUNC_MAC_INIT, (call)mac_init}, \
-    {OSSL_FUNC_MAC_UPDATE, (call)message_update}, {OSSL_FUNC_MAC_FINAL, (call)message_final}, \
+    {OSSL_FUNC_MAC_UPDATE, (call)message_update}, {OSSL_FUNC_MAC_FINAL, (call)mac_final}, \
     {OSSL_FUNC_MAC_SET_CTX_PARAMS, (call)mac_set}, {OSSL_FUNC_MAC_SETTABLE_CTX_PARAMS, (call)settable}, \
     {OSSL_FUNC_MAC_GET_CTX_PARAMS, (call)mac_get}, {OSSL_FUNC_MAC_GETTABLE_CTX_PARAMS, (call)mac_gettable}, \
     {0, NULL}

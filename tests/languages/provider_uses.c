@@ -1,7 +1,8 @@
 // Uses of the provider through OpenSSL's interface that are right and wrong: beside OpenSSL's own provider and the
 // library itself, with refused parameters, after failed calls, of copies, in threads, after a fork and after the
 // provider was given up. See tests/languages/provider.
-// usage: provider_uses MODULES    the folder of the module
+// usage: provider_uses MODULES [ROUNDS [SEED]]    the folder of the module, and how many random calls of one kind are
+//                                                 compared with those of OpenSSL's own provider
 
 #include "provider.h"
 #include <pthread.h>
@@ -11,9 +12,10 @@
 enum { LONGEST = 300000 };
 
 static uint8_t data[LONGEST];
+static uint64_t seed = 88172645463325252u;
+static long rounds = 10000;
 
 static uint32_t below(uint32_t bound) {
-    static uint64_t seed = 88172645463325252u;
     seed ^= seed << 13;
     seed ^= seed >> 7;
     seed ^= seed << 17;
@@ -240,6 +242,31 @@ static void outputs(void) {
     EVP_MD_free(function);
 }
 
+// EVP_DigestFinal_ex after a length that was set, at the beginning or later: as many bytes as OpenSSL's own SHAKE256 has.
+static void set_lengths(const char *name, const char *provider) {
+    static const size_t lengths[] = {1, 16, 32, 33, 64, 1000};
+    EVP_MD *function = digest(name, provider);
+    EVP_MD_CTX *hasher = EVP_MD_CTX_new();
+    for (size_t i = 0; i < sizeof lengths / sizeof *lengths; i++)
+        for (int when = 0; when < 3; when++) {
+            uint8_t got[1100], want[1100];
+            unsigned count = 0;
+            memset(got, 1, sizeof got);
+            memset(want, 1, sizeof want);
+            DONE(EVP_DigestInit_ex2(hasher, function, when == 0 ? NUMBER("xoflen", lengths[i]) : NULL));
+            if (when == 1) DONE(EVP_MD_CTX_set_params(hasher, NUMBER("xoflen", lengths[i])));
+            DONE(EVP_DigestUpdate(hasher, data, 100));
+            if (when == 2) DONE(EVP_MD_CTX_set_params(hasher, NUMBER("xoflen", lengths[i])));
+            DONE(EVP_DigestFinal_ex(hasher, got, &count));
+            judged(name, lengths[i], count == lengths[i]);
+            if (strcmp(name, "BLAKE3") != 0) continue;
+            sums_blake3(want, lengths[i], 0, data, 100);
+            same(name, lengths[i], got, want, sizeof want);
+        }
+    EVP_MD_CTX_free(hasher);
+    EVP_MD_free(function);
+}
+
 #if OPENSSL_VERSION_NUMBER >= 0x30300000L
 static void squeezes(void) {
     static uint8_t got[5000], want[5000];
@@ -311,7 +338,8 @@ static void blake2_refusals(int i) {
     REFUSED("invalid key length", EVP_MAC_init(tag, NULL, 0, OCTETS("key", most + 1)))
     REFUSED("invalid salt length: sums: salt has up to", EVP_MAC_init(tag, data, 1, OCTETS("salt", salt + 1)))
     REFUSED("invalid custom length", EVP_MAC_init(tag, data, 1, OCTETS("custom", salt + 1)))
-    REFUSED("invalid digest size", EVP_MAC_init(tag, data, 1, NUMBER("size", most + 1)))
+    REFUSED("not xof or invalid length: sums: a digest has 1 to", EVP_MAC_init(tag, data, 1, NUMBER("size", most + 1)))
+    REFUSED("not xof or invalid length", EVP_MAC_init(tag, data, 1, NUMBER("size", 0)))
     REFUSED("not xof or invalid length", EVP_MAC_init(tag, data, 1, NUMBER("xof", 1)))
     REFUSED("salt is no octet string", EVP_MAC_init(tag, data, 1, NUMBER("salt", 1)))
     // refused parameters leave those that stand beside them as they were
@@ -323,17 +351,62 @@ static void blake2_refusals(int i) {
     judged("the size after a refusal", count, count == most);
     blake2[i].of(want, most, NULL, 0, data, 1);
     same("the tag after a refusal", 0, got, want, most);
-    // a message is one of the parameters that it began with; those of a later size are for the next
-    DONE(EVP_MAC_init(tag, data, 1, NULL));
+    EVP_MAC_CTX_free(tag);
+}
+
+// What is set behind the beginning: the message goes on with what it began with, but for the bytes of its tag.
+static void set_later(int i, const OSSL_PARAM *params, size_t want_size, size_t before) {
+    EVP_MAC_CTX *pair[] = {mac(blake2[i].mac, OURS), mac(blake2[i].mac, THEIRS)};
+    for (int message = 0; message < 2; message++) {
+        uint8_t tags[2][EVP_MAX_MD_SIZE] = {{0}};
+        size_t counts[2];
+        for (int k = 0; k < 2; k++) {
+            DONE(EVP_MAC_init(pair[k], message ? NULL : data, message ? 0 : 9, NULL));
+            DONE(EVP_MAC_update(pair[k], data, before));
+            if (!message) DONE(EVP_MAC_CTX_set_params(pair[k], params));
+            DONE(EVP_MAC_update(pair[k], data, 200));
+            DONE(EVP_MAC_final(pair[k], tags[k], &counts[k], EVP_MAX_MD_SIZE));
+        }
+        judged(params->key, before, counts[0] == want_size && counts[1] == want_size);
+        same(params->key, before, tags[0], tags[1], want_size);
+        for (size_t k = want_size; k < EVP_MAX_MD_SIZE; k++) judged("behind a tag", k, tags[0][k] == 0);
+    }
+    EVP_MAC_CTX_free(pair[0]);
+    EVP_MAC_CTX_free(pair[1]);
+}
+
+// A greater size than a message began with is refused at its end; OpenSSL's own counts bytes that it has not written.
+static void greater_size(int i) {
+    EVP_MAC_CTX *tag = mac(blake2[i].mac, OURS);
+    uint8_t got[EVP_MAX_MD_SIZE], want[EVP_MAX_MD_SIZE];
+    size_t most = blake2[i].size, count = 0;
+    DONE(EVP_MAC_init(tag, data, 1, NUMBER("size", 20)));
+    DONE(EVP_MAC_CTX_set_params(tag, NUMBER("size", 21)));
     DONE(EVP_MAC_update(tag, data, 5));
-    REFUSED("is set before the message", EVP_MAC_CTX_set_params(tag, NUMBER("size", 9)))
+    REFUSED("invalid state: sums: the message began with a size of 20, not 21",
+            EVP_MAC_final(tag, got, &count, sizeof got))
+    DONE(EVP_MAC_CTX_set_params(tag, NUMBER("size", 19)));
     DONE(EVP_MAC_final(tag, got, &count, sizeof got));
-    DONE(EVP_MAC_CTX_set_params(tag, NUMBER("size", 9)));
-    REFUSED("no message is begun", EVP_MAC_final(tag, got, &count, sizeof got))
+    blake2[i].of(want, 20, data, 5, data, 1);
+    judged("a smaller size", count, count == 19 && memcmp(got, want, 19) == 0);
+    DONE(EVP_MAC_CTX_set_params(tag, NUMBER("size", most)));
     DONE(EVP_MAC_init(tag, NULL, 0, NULL));
     DONE(EVP_MAC_final(tag, got, &count, sizeof got));
-    judged("the size of the next message", count, count == 9);
+    blake2[i].of(want, most, data, 0, data, 1);
+    judged("the size of the next message", count, count == most && memcmp(got, want, most) == 0);
     EVP_MAC_CTX_free(tag);
+}
+
+static void all_set_later(int i) {
+    size_t most = blake2[i].size;
+    static const size_t befores[] = {0, 1, 500};
+    for (int k = 0; k < 3; k++) {
+        set_later(i, OCTETS("custom", 4), most, befores[k]);
+        set_later(i, OCTETS("salt", 3), most, befores[k]);
+        set_later(i, OCTETS("key", 12), most, befores[k]);
+        set_later(i, NUMBER("size", 20), 20, befores[k]);
+    }
+    greater_size(i);
 }
 
 static void blake3_macs(void) {
@@ -360,11 +433,149 @@ static void blake3_macs(void) {
     DONE(EVP_MAC_init(tag, NULL, 0, NULL));
     DONE(EVP_MAC_final(tag, got, &count, sizeof got));
     judged("the size after EVP_MAC_finalXOF", count, count == 32);
+    // what is set behind the beginning: a size counts for this message, and a key for the next one
+    OSSL_PARAM later[] = {OSSL_PARAM_construct_size_t("size", &(size_t){100}),
+                          OSSL_PARAM_construct_octet_string("key", data + 50, 32), OSSL_PARAM_END};
+    DONE(EVP_MAC_init(tag, NULL, 0, NULL));
+    DONE(EVP_MAC_CTX_set_params(tag, later));
+    for (int message = 0; message < 2; message++) {
+        if (message) DONE(EVP_MAC_init(tag, NULL, 0, NULL));
+        DONE(EVP_MAC_update(tag, data, 10));
+        DONE(EVP_MAC_final(tag, got, &count, sizeof got));
+        sums_blake3_keyed(want, 100, 0, data, 10, data + 50 * message);
+        judged("what is set later", message, count == 100 && memcmp(got, want, 100) == 0);
+    }
     REFUSED("invalid key length: sums: a key has 32 to 32 bytes, not 31", EVP_MAC_init(tag, data, 31, NULL))
     REFUSED("invalid key length", EVP_MAC_init(tag, data, 33, NULL))
     REFUSED("invalid output length", EVP_MAC_init(tag, data, 32, NUMBER("size", 0)))
     REFUSED("invalid custom length", EVP_MAC_init(tag, data, 32, OCTETS("custom", 1)))
     EVP_MAC_CTX_free(tag);
+}
+
+// ---- random calls, in the same order to OpenSSL's own provider
+
+// A context of each provider with the same calls behind it. Once a message has ended, a new one is begun first, since
+// OpenSSL's own says nothing of other calls.
+struct pair {
+    EVP_MAC_CTX *mine, *own;
+    size_t begun; // the size that its message began with, or 0 where there is none
+};
+
+static void make_pair(struct pair *pair, int i) {
+    EVP_MAC_CTX_free(pair->mine);
+    EVP_MAC_CTX_free(pair->own);
+    *pair = (struct pair){mac(blake2[i].mac, OURS), mac(blake2[i].mac, THEIRS), 0};
+}
+
+// Both providers do it, or both refuse it with the same reason. Then the pair is made anew, since OpenSSL's own has
+// taken what stood before the refused parameter.
+static int both(struct pair *pair, int i, int mine, int own, unsigned long fault) {
+    int reason = ERR_GET_REASON(fault), wanted = own ? 0 : ERR_GET_REASON(ERR_peek_last_error());
+    judged("the answer of a random call", reason, mine == own && (mine || reason == wanted));
+    ERR_clear_error();
+    if (!mine || !own) make_pair(pair, i);
+    return mine && own;
+}
+
+#define BOTH(call_of_mine, call_of_own)                                                        \
+    ({                                                                                         \
+        ERR_clear_error();                                                                     \
+        int mine_done = call_of_mine > 0;                                                      \
+        unsigned long fault = ERR_peek_last_error();                                           \
+        ERR_clear_error();                                                                     \
+        int own_done = call_of_own > 0;                                                        \
+        both(pair, i, mine_done, own_done, fault);                                             \
+    })
+
+enum { MOST_PARAMS = 5 };
+
+// Some parameters, of which one in twenty or so is refused.
+static void some_params(OSSL_PARAM params[MOST_PARAMS], size_t *size, int i) {
+    OSSL_PARAM *next = params;
+    size_t wrong = below(20), salt = blake2[i].salt_size + (wrong < 2), most = blake2[i].size + (wrong == 2);
+    *size = 1 - (wrong == 3) + below(most);
+    if (below(2)) *next++ = OSSL_PARAM_construct_size_t("size", size);
+    if (below(3) == 0) *next++ = OSSL_PARAM_construct_octet_string("key", data + below(1000), below(most + 1));
+    if (below(3) == 0) *next++ = OSSL_PARAM_construct_octet_string("custom", data + below(1000), below(salt + 1));
+    if (below(3) == 0) *next++ = OSSL_PARAM_construct_octet_string("salt", data + below(1000), below(salt + 1));
+    *next = OSSL_PARAM_construct_end();
+}
+
+static void begin_both(struct pair *pair, int i, const OSSL_PARAM params[]) {
+    const uint8_t *key = below(3) ? data + below(1000) : NULL;
+    size_t length = key ? below(blake2[i].size + 2) : 0;
+    if (BOTH(EVP_MAC_init(pair->mine, key, length, params), EVP_MAC_init(pair->own, key, length, params)))
+        pair->begun = EVP_MAC_CTX_get_mac_size(pair->own);
+}
+
+static void end_both(struct pair *pair, int i) {
+    uint8_t got[EVP_MAX_MD_SIZE] = {0}, want[EVP_MAX_MD_SIZE] = {0};
+    size_t got_size = 0, want_size = 0, size = EVP_MAC_CTX_get_mac_size(pair->own);
+    judged("the size that is told", size, EVP_MAC_CTX_get_mac_size(pair->mine) == size);
+    if (size > pair->begun) {
+        REFUSED("the message began with a size of", EVP_MAC_final(pair->mine, got, &got_size, sizeof got))
+        make_pair(pair, i);
+        return;
+    }
+    DONE(EVP_MAC_final(pair->mine, got, &got_size, size));
+    DONE(EVP_MAC_final(pair->own, want, &want_size, sizeof want));
+    judged("the size of a tag", size, got_size == size && want_size == size);
+    same("a tag of random calls", size, got, want, size);
+    pair->begun = 0;
+}
+
+static void copy_both(struct pair *to, const struct pair *from) {
+    EVP_MAC_CTX *mine = EVP_MAC_CTX_dup(from->mine), *own = EVP_MAC_CTX_dup(from->own);
+    judged("copies", 0, mine && own);
+    EVP_MAC_CTX_free(to->mine);
+    EVP_MAC_CTX_free(to->own);
+    *to = (struct pair){mine, own, from->begun};
+}
+
+static void mac_calls(int i) {
+    enum { PAIRS = 3 };
+    struct pair pairs[PAIRS] = {{NULL, NULL, 0}};
+    for (int k = 0; k < PAIRS; k++) make_pair(&pairs[k], i);
+    for (long round = 0; round < rounds; round++) {
+        struct pair *pair = &pairs[below(PAIRS)];
+        OSSL_PARAM params[MOST_PARAMS];
+        size_t size, length = below(8) ? below(300) : below(3000), chosen = below(pair->begun ? 8 : 3);
+        some_params(params, &size, i);
+        if (chosen == 0 || (chosen == 1 && !pair->begun)) begin_both(pair, i, below(2) ? params : NULL);
+        else if (chosen == 1) end_both(pair, i);
+        else if (chosen < 4) BOTH(EVP_MAC_CTX_set_params(pair->mine, params), EVP_MAC_CTX_set_params(pair->own, params));
+        else if (chosen == 4) copy_both(&pairs[below(PAIRS)], &(struct pair){pair->mine, pair->own, pair->begun});
+        else BOTH(EVP_MAC_update(pair->mine, data, length), EVP_MAC_update(pair->own, data, length));
+    }
+    for (int k = 0; k < PAIRS; k++) EVP_MAC_CTX_free(pairs[k].mine), EVP_MAC_CTX_free(pairs[k].own);
+}
+
+// The same of digests, whose contexts are copied onto each other.
+static void digest_calls(void) {
+    static const char *const all[] = {"SHA2-256", "SHA2-512", "BLAKE2B-512", "BLAKE2S-256"};
+    enum { PAIRS = 4 };
+    EVP_MD *functions[4][2];
+    EVP_MD_CTX *pairs[PAIRS][2];
+    int is_begun[PAIRS] = {0};
+    for (int i = 0; i < 4; i++) functions[i][0] = digest(all[i], OURS), functions[i][1] = digest(all[i], THEIRS);
+    for (int k = 0; k < PAIRS; k++) pairs[k][0] = EVP_MD_CTX_new(), pairs[k][1] = EVP_MD_CTX_new();
+    for (long round = 0; round < rounds; round++) {
+        uint8_t got[2][EVP_MAX_MD_SIZE] = {{0}};
+        unsigned counts[2] = {0, 0};
+        int to = below(PAIRS), from = below(PAIRS), hash = below(4), chosen = is_begun[to] ? below(8) : 0;
+        size_t length = below(8) ? below(300) : below(3000), at = below(1000);
+        for (int k = 0; k < 2; k++) {
+            if (chosen < 2) DONE(EVP_DigestInit_ex2(pairs[to][k], functions[hash][k], NULL));
+            else if (chosen == 2 && is_begun[from] && from != to) DONE(EVP_MD_CTX_copy_ex(pairs[to][k], pairs[from][k]));
+            else if (chosen == 3) DONE(EVP_DigestFinal_ex(pairs[to][k], got[k], &counts[k]));
+            else DONE(EVP_DigestUpdate(pairs[to][k], data + at, length));
+        }
+        is_begun[to] = chosen != 3;
+        judged("the size of a digest of random calls", counts[0], counts[0] == counts[1]);
+        same("a digest of random calls", round, got[0], got[1], EVP_MAX_MD_SIZE);
+    }
+    for (int k = 0; k < PAIRS; k++) EVP_MD_CTX_free(pairs[k][0]), EVP_MD_CTX_free(pairs[k][1]);
+    for (int i = 0; i < 4; i++) EVP_MD_free(functions[i][0]), EVP_MD_free(functions[i][1]);
 }
 
 // ---- contexts that fail, are copied and are freed
@@ -567,8 +778,10 @@ static void given_up(void) {
 }
 
 int main(int count, char **words) {
-    if (count != 2) return 2;
+    if (count < 2) return 2;
     modules = words[1];
+    if (count > 2) rounds = atol(words[2]);
+    if (count > 3) seed += strtoull(words[3], NULL, 10);
     for (size_t i = 0; i < sizeof data; i++) data[i] = below(256);
     load(modules);
     names();
@@ -577,11 +790,16 @@ int main(int count, char **words) {
     numbers();
     outputs();
     squeezes();
+    set_lengths("SHAKE256", THEIRS);
+    set_lengths("BLAKE3", OURS);
     for (int i = 0; i < 2; i++) {
         blake2_sizes(i);
         same_macs(i);
         blake2_refusals(i);
+        all_set_later(i);
+        mac_calls(i);
     }
+    digest_calls();
     blake3_macs();
     after_failures();
     copies();
