@@ -51,13 +51,13 @@ is_folder() {
     [ -d "$1" ] && [ ! -L "$1" ]
 }
 
-# pkgconfig PREFIX LIBDIR INCLUDEDIR LIBS: the text of the library's pkg-config file, where a blank of a path has a
-# backslash before it
+# pkgconfig PREFIX LIBDIR INCLUDEDIR LIBS: the text of the library's pkg-config file, where each blank, quote,
+# backslash and # of a path has a backslash before it
 pkgconfig() {
     cat <<END
-prefix=$(blanks_escaped "$1")
-libdir=$(blanks_escaped "$2")
-includedir=$(blanks_escaped "$3")
+prefix=$(escaped "$1")
+libdir=$(escaped "$2")
+includedir=$(escaped "$3")
 
 Name: sums_hash
 Description: BLAKE2, BLAKE3, SHA-2, HMAC and HKDF, proved against their definitions
@@ -67,8 +67,8 @@ Libs: $4
 END
 }
 
-blanks_escaped() {
-    printf '%s\n' "$1" | sed 's/[[:blank:]]/\\&/g'
+escaped() {
+    printf '%s\n' "$1" | sed 's/[[:blank:]"'\''\\#]/\\&/g'
 }
 
 # cmake_config LIBDIR: the text by which CMake finds the library, which stands in LIBDIR/cmake/sums_hash
