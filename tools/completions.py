@@ -5,91 +5,22 @@ usage: tools/completions.py PROGRAM FOLDER     writes them into FOLDER; PROGRAM 
 """
 
 import os
-import re
-import subprocess
 import sys
+
+from command_help import PARALLEL_COMMANDS, read_parallel, read_program
 
 # what options take one of, where the help does not list it word by word
 WORDS = {"--parts": " ".join(str(1 << exponent) for exponent in range(11))}
 # what the help calls a file that is the value of an option
-FILES = "<F>", "<PARTS>"
-# the program over sums, and which commands it has
-PARALLEL = os.path.join(os.path.dirname(os.path.realpath(__file__)), "../scripts/sums-parallel")
-PARALLEL_COMMANDS = "hash check part"
+FILES = "F", "PARTS"
 
 
-class Command:
-    """A command; its other words are `files`, one `file`, `commands`, or none."""
-
-    def __init__(self, name, text, options, takes):
-        self.name, self.text, self.options, self.takes = name, text, options, takes
-
-
-class Option:
-    """An option by its names; it takes a `file`, one of words, what nobody can guess (`-`), or nothing."""
-
-    def __init__(self, short, long, value, text):
-        self.names = [name for name in (short, long) if name]
-        self.text = about(text)
-        self.takes = takes_of(long, value, text)
-
-
-# ---- the help
-
-
-def help_of(program, *words):
-    return subprocess.run([program, *words, "--help"], stdout=subprocess.PIPE, check=True).stdout.decode()
-
-
-def about(text):
-    """the beginning of a text, which tells what an option is"""
-    return re.split(r"\. |; | \[|: (?=[a-z0-9])", text)[0]
-
-
-def takes_of(long, value, text):
-    listed = re.search(r": ([a-z0-9-]+(?:(?:, | or )[a-z0-9-]+)*)(?:\. |$)", text)
-    if not value:
+def taken(option):
+    """What an option takes: a `file`, one of words, what nobody can guess (`-`), or nothing."""
+    if not option.value:
         return ""
-    if long in WORDS:
-        return WORDS[long]
-    if listed:
-        return " ".join(re.split(", | or ", listed[1]))
-    return "file" if value in FILES else "-"
-
-
-def section(text, title):
-    """the entries of a section of a help: the lines of each as one"""
-    lines = re.search(rf"^{title}:\n((?: .*\n)*)", text, re.M)
-    return [" ".join(entry.split()) for entry in re.split(r"\n(?= {2,6}\S)", lines[1])] if lines else []
-
-
-def options(text):
-    for entry in section(text, "Options"):
-        short, long, value, told = re.match(r"(-\w)?(?:, )?(--\S+)?(?: (<\S+>))? ?(.*)", entry).groups()
-        yield Option(short, long, value, told)
-
-
-def takes(text):
-    """what the other words of a command are, by its usage"""
-    if re.search(r"^Usage: .* \[[A-Z]+\]\.\.\.$", text, re.M):
-        return "files"
-    return "file" if re.search(r"^Usage: .* \[[A-Z]+\]$", text, re.M) else ""
-
-
-def read_command(name, text, told):
-    return Command(name, told, list(options(text)), takes(text))
-
-
-def read_program(program):
-    """the program as a command, and its commands"""
-    whole, commands = help_of(program), []
-    for entry in section(whole, "Commands"):
-        name, _, told = entry.partition(" ")
-        if name == "help":
-            commands.append(Command(name, told, [], "commands"))
-        else:
-            commands.append(read_command(name, help_of(program, name), told))
-    return read_command("sums", whole, ""), commands
+    words = WORDS.get(option.names[-1]) or " ".join(option.words())
+    return words or ("file" if option.value in FILES else "-")
 
 
 def quoted(text):
@@ -146,8 +77,8 @@ _sums() {{
 
 def bash_values(command):
     """the lines that tell what stands behind each option of a command"""
-    for takes in dict.fromkeys(option.takes for option in command.options if option.takes):
-        found = " | ".join(f"{command.name}:{name}" for option in command.options if option.takes == takes
+    for takes in dict.fromkeys(filter(None, map(taken, command.options))):
+        found = " | ".join(f"{command.name}:{name}" for option in command.options if taken(option) == takes
             for name in option.names)
         words = f"_sums_words {quoted(takes)} \"$word\"; "
         does = {"file": "_sums_files; ", "-": ""}.get(takes, words)
@@ -203,12 +134,12 @@ def zsh_text(text):
 
 def zsh_option(option):
     """the specs of an option, one for each of its names; nothing stands beside help and the version"""
-    text = zsh_text(option.text)
-    value = {"": "", "file": ":file:_files", "-": f":{text}:"}.get(option.takes, f":value:({option.takes})")
+    text, takes = zsh_text(option.about()), taken(option)
+    value = {"": "", "file": ":file:_files", "-": f":{text}:"}.get(takes, f":value:({takes})")
     ends = "(- *)" if option.names[-1] in ("--help", "--version") else ""
     for name in option.names:
         # the value stands behind it, or in the same word
-        joint = ("=" if name.startswith("--") else "+") if option.takes else ""
+        joint = ("=" if name.startswith("--") else "+") if takes else ""
         yield quoted(f"{ends}{name}{joint}[{text}]{value}")
 
 
@@ -225,7 +156,7 @@ def zsh_command(command):
 
 
 def zsh(program, commands):
-    about_each = "\n".join("        " + quoted(f"{command.name}:{command.text}") for command in commands)
+    about_each = "\n".join("        " + quoted(f"{command.name}:{command.about}") for command in commands)
     text = ZSH_HEAD.format(commands=about_each, options=" ".join(zsh_options(program)))
     for command in commands:
         text += zsh_command(command)
@@ -259,8 +190,9 @@ complete -c sums -f
 
 def fish_option(begin, option):
     said = " ".join("-l " + name[2:] if name.startswith("--") else "-s " + name[1:] for name in option.names)
-    takes = {"": "", "-": " -x", "file": " -r -F"}.get(option.takes, f" -x -a {quoted(option.takes)}")
-    return f"{begin} {said}{takes} -d {quoted(option.text)}\n"
+    takes = taken(option)
+    value = {"": "", "-": " -x", "file": " -r -F"}.get(takes, f" -x -a {quoted(takes)}")
+    return f"{begin} {said}{value} -d {quoted(option.about())}\n"
 
 
 def fish_command(begin, command):
@@ -273,7 +205,7 @@ def fish(program, commands):
     begin = "complete -c sums -n __sums_is_first"
     text = FISH_HEAD + "".join(fish_option(begin, option) for option in program.options)
     for command in commands:
-        text += f"{begin} -a {command.name} -d {quoted(command.text)}\n"
+        text += f"{begin} -a {command.name} -d {quoted(command.about)}\n"
     for command in commands:
         if command.takes == "commands":
             text += f"complete -c sums -n '__sums_is_behind {command.name}' -a {quoted(names(commands))}\n"
@@ -354,7 +286,7 @@ complete -c sums-parallel -f
 
 
 def bash_parallel(front, commands):
-    valued = " | ".join(name for option in front.options for name in option.names if option.takes)
+    valued = " | ".join(name for option in front.options for name in option.names if option.value)
     return BASH_PARALLEL.format(valued=valued, words=f"{PARALLEL_COMMANDS} {option_names(front)}")
 
 
@@ -363,7 +295,7 @@ def zsh_parallel(front, commands):
 
 
 def fish_parallel(front, commands):
-    valued = " ".join(name for option in front.options for name in option.names if option.takes)
+    valued = " ".join(name for option in front.options for name in option.names if option.value)
     text = FISH_PARALLEL.format(valued=valued)
     begin = "complete -c sums-parallel -n __sums_parallel_command_is"
     text += "".join(fish_option(begin, option) for option in front.options)
@@ -378,7 +310,7 @@ def main(words):
     if len(words) != 2:
         sys.exit(__doc__.splitlines()[2])
     program, commands = read_program(words[0])
-    front = read_command("sums-parallel", help_of(PARALLEL), "")
+    front = read_parallel()
     texts = {
         "sums.bash": bash(program, commands), "_sums": zsh(program, commands), "sums.fish": fish(program, commands),
         "sums-parallel.bash": bash_parallel(front, commands), "_sums-parallel": zsh_parallel(front, commands),
