@@ -2,7 +2,7 @@
 """Checks the documents: each link leads somewhere, here and where they are installed, sentences are short, nothing is
 dated, quoted code is there, pictures show what they are made of, README is short, begins with what its readers ask
 first, among it two commands for those with the kit, and has the options and statuses of the program's help and manual
-pages.
+pages, which have from the help what tools/pages writes.
 usage: tests/documents/documents.py PROGRAM
 """
 
@@ -117,9 +117,10 @@ def statuses(told):
 def page_statuses(page):
     """The same of a manual page."""
     section = read(page).split(".SH EXIT STATUS\n")[1].split("\n.SH")[0]
-    section = section.split("\n.PP")[0].replace("\\-", "-")
+    section = re.sub(r'\n\.\\".*', "", section).split("\n.PP")[0].replace("\\-", "-")
     told = re.findall(r"^\.TP\n\.B (\d+)\n((?:(?!\.TP).*\n?)*)", section, re.M)
-    return {number: " ".join(re.sub(r"^\.[BI]\S* |\"| (?=,$)", "", text, flags=re.M).split()) for number, text in told}
+    marks = r"^\.[BI]\S* |\"| (?=,$)|\\f[BIR]"
+    return {number: " ".join(re.sub(marks, "", text, flags=re.M).split()) for number, text in told}
 
 
 def check_commands():
@@ -140,6 +141,12 @@ def check_statuses():
     for number, text in statuses(help_of()).items():
         harness.same(f"status {number} in README.md", told.get(number), text)
         harness.same(f"status {number} in sums(1)", of_page.get(number), text)
+
+
+def check_pages():
+    """The manual pages and FORMAT have from the help what tools/pages writes."""
+    done = harness.run(os.path.join(ROOT, "tools/pages"), ["check", PROGRAM])
+    harness.judge("what tools/pages writes stands in the pages", done.status == 0, *(done.out + done.err).decode().splitlines())
 
 
 def check_first_screen():
@@ -200,6 +207,7 @@ def main():
     check_first_screen()
     check_commands()
     check_statuses()
+    check_pages()
     check_quotes()
     check_pictures()
     harness.finish()
