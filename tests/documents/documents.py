@@ -2,7 +2,7 @@
 """Checks the documents: each link leads somewhere, here and where they are installed, sentences are short, nothing is
 dated, quoted code is there, pictures show what they are made of, README is short, begins with what its readers ask
 first, among it two commands for those with the kit, and has the options and statuses of the program's help and manual
-pages, which have from the help what tools/pages writes.
+pages; the pages have from the help what tools/pages writes, and a list that stands in several files is the same in all.
 usage: tests/documents/documents.py PROGRAM
 """
 
@@ -26,6 +26,16 @@ SENTENCE_WORDS = 40
 DIARY = re.compile(r"20[0-9]{2}-|November|was seen|beside other")
 # the one line that tells when and on what was measured
 DATED = re.compile(r"Machine: ")
+# the kinds of terminal that show no progress; the place of each list of them, and how a kind stands there
+KINDS = ["dumb", "unknown", "ansi", "vt52"]
+TERMINALS = {
+    "crates/sums/specs/Progress.antt": (r"^is_simple kind = .*?\n\n", r'codes "(\w+)"'),
+    "crates/sums/src/progress.rt": (r'None \| Some\("" [^)]*\) => false', r'"(\w+)"'),
+    "docs/FORMAT.md": (r"If `TERM` is unset, empty, [^.]*, nothing is shown", r"(?<!If )`(\w+)`"),
+    "man/sums-hash.1": (r"^\.B TERM\nis unset, empty,\n.*?^nothing is shown", r"^\.BR? (?!TERM$)(\w+)"),
+    "scripts/sums-parallel": (r'kinds = \("", [^)]*\)', r'"(\w+)"'),
+    "tests/program/progress": (r"for kind in TERM=dumb [^;]*", r"TERM=(\w+)"),
+}
 COMMANDS = ["hash", "mac", "kdf", "check", "part", "join"]
 PROGRAM = harness.program()
 
@@ -149,6 +159,13 @@ def check_pages():
     harness.judge("what tools/pages writes stands in the pages", done.status == 0, *(done.out + done.err).decode().splitlines())
 
 
+def check_terminals():
+    """The kinds of terminal that show no progress are the same wherever they stand."""
+    for path, (place, kind) in TERMINALS.items():
+        found = re.search(place, read(path), re.M | re.S)
+        harness.same(f"terminals in {path}", found and re.findall(kind, found[0], re.M), KINDS)
+
+
 def check_first_screen():
     """The first lines show what is printed, how to get it, the two commands for those with the kit, where a review begins,
     and the other tools. Python comes next, and no other command needs the kit."""
@@ -208,6 +225,7 @@ def main():
     check_commands()
     check_statuses()
     check_pages()
+    check_terminals()
     check_quotes()
     check_pictures()
     harness.finish()
