@@ -2,12 +2,12 @@
 r"""Reads the tables of tests/tables: rows/*.tsv (runs of the program and what they answer), usages.tsv (calls for help and a
 line of what they print), failed.tsv (runs where a call fails), places.tsv (each place of a file in the words and in a
 list), runs.tsv (runs whose calls and allocations are failed), files.tsv (the files that all find), hashes.tsv (the
-hashes) and values.tsv (texts with names).
+hashes), messages.tsv (what is said of a list) and values.tsv (texts with names).
 
 A table has a line of headings, and then a row a line, with a tab between two cells. Lines that begin with # are
 comments. In a cell `-` alone stands for nothing, `\n`, `\t`, `\\` and `\xHH` for bytes, and braces for
 
-    {NAME}          a text of values.tsv, or the digest of "abc" of hashes.tsv
+    {NAME}          a text of values.tsv or of messages.tsv, or the digest of "abc" of hashes.tsv
     {algorithms}    the names of the hashes, with commas between them
     {hash}          in rows/, where the words have it: each hash, in a row of its own; {{hash}} is then its digest
     {other}         the same of each hash but BLAKE3, which alone has parts
@@ -108,6 +108,7 @@ OTHERS = [name for name in HASHES if name != "blake3"]
 
 VALUES = {name: each["abc"].encode() for name, each in HASHES.items()}
 VALUES["algorithms"] = ", ".join(HASHES).encode()
+VALUES.update((cells["name"], cells["text"].encode()) for _, cells in table("messages.tsv"))
 for _, cells in table("values.tsv"):
     VALUES[cells["name"]] = text(cells["value"])
 

@@ -34,8 +34,7 @@ def sized(name):
 # The numbers of a summary, in its order.
 OUTCOMES = ("OK", "failed", "missing", "unreadable", "too long", "malformed", "skipped")
 # What is told of a list beside its report.
-EMPTY, OTHER = b"no entries", b"digests of another length than those of -a"
-FAILED = b"all FAILED, untagged lines may need another -a"
+EMPTY, OTHER, FAILED = map(tables.text, ("{no entries}", "{other -a}", "{all failed}"))
 
 
 def check(name, alg, given, report, numbers=None, hint=b""):

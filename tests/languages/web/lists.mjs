@@ -2,7 +2,7 @@
 // lines at the limits.
 // usage: node tests/languages/web/lists.mjs PROGRAM PACKAGE [ROUNDS]    PACKAGE is the folder of the package, with its module
 import { spawnSync } from 'node:child_process';
-import { mkdirSync, mkdtempSync, rmSync, writeFileSync } from 'node:fs';
+import { mkdirSync, mkdtempSync, readFileSync, rmSync, writeFileSync } from 'node:fs';
 import { tmpdir } from 'node:os';
 import { join, posix, resolve } from 'node:path';
 import { pathToFileURL } from 'node:url';
@@ -13,6 +13,9 @@ const [program, folder, rounds = '400'] = process.argv.slice(2);
 const { hash } = await import(pathToFileURL(resolve(folder, 'node.js')));
 const KINDS = [null, 'sha256', 'sha512', 'blake2b', 'blake2s', 'blake3'];
 const AT_ONCE = 100; // lists in a run of the program
+/** What the program says of a list, by its name in the table. */
+const MESSAGES = Object.fromEntries(readFileSync(new URL('../../tables/messages.tsv', import.meta.url), 'utf8')
+  .split('\n').filter((line) => line && !line.startsWith('#')).map((line) => line.split('\t')));
 
 // ---- what is drawn
 
@@ -149,9 +152,9 @@ function ofProgram(kind, names) {
   const run = spawnSync(program, ['check', ...(kind ? ['-a', kind] : []), ...names], { cwd: work, maxBuffer: 2 ** 30 });
   const report = run.stdout.toString().split('\n').slice(0, -1).map(shownLine);
   // the page, which may be told the hash of each list, does not say that lists may be of another one
-  const isOfAnother = /: (digests of another length than those of|all FAILED, untagged lines may need another) -a$/;
+  const isOfAnother = (it) => it.endsWith(`: ${MESSAGES['other -a']}`) || it.endsWith(`: ${MESSAGES['all failed']}`);
   const remarks = run.stderr.toString().split('\n').slice(0, -1).map((it) => it.replace(/^sums: /, ''))
-    .filter((it) => !isOfAnother.test(it));
+    .filter((it) => !isOfAnother(it));
   return { report, remarks };
 }
 
@@ -167,7 +170,8 @@ function ofPage(kind, lists) {
     for (const row of job.rows) settle(row, { digests });
   }
   const report = rows.filter((it) => it.result !== 'NOT LISTED').map((it) => `${it.label}: ${it.result}`);
-  const remark = (note) => note.replace(/(: no entries)\.$/, '$1').replace(/: its lines.*/, ': untagged lines need -a');
+  const remark = (note) =>
+    note.replace(/: no entries\.$/, `: ${MESSAGES['no entries']}`).replace(/: its lines.*/, `: ${MESSAGES['need -a']}`);
   const remarks = notes.map(remark);
   return { report, remarks };
 }
