@@ -158,10 +158,29 @@ def places():
         yield text(cells["this"]), Row(place, cells["name"], words_of(cells["words"]), text(cells["input"]), answer)
 
 
+def options_of(command, *words):
+    """The options among the words of a run, each with the command."""
+    words = words[:words.index(b"--")] if b"--" in words else words
+    for word in words:
+        if word.startswith(b"--"):
+            yield command, word.partition(b"=")[0]
+        elif len(word) > 1 and word.startswith(b"-"):
+            yield command, word[:2]
+
+
 def runs():
-    """The runs whose calls and allocations are failed: name, words and input."""
+    """The runs whose calls and allocations are failed: name, words and input. They are those of runs.tsv, and for an
+    option that none of them has the first row of rows/ that has it and ends with status 0."""
+    tried = set()
     for _, cells in table("runs.tsv"):
-        yield cells["name"], words_of(cells["words"]), text(cells["input"])
+        words = words_of(cells["words"])
+        tried.update(options_of(*words))
+        yield cells["name"], words, text(cells["input"])
+    for row in rows():
+        options = set(options_of(*row.words)) if row.words and row.answer.status == 0 else set()
+        if options - tried:
+            tried |= options
+            yield row.name, row.words, row.given
 
 
 def make_files():

@@ -154,9 +154,9 @@ def check_statuses():
 
 
 def check_pages():
-    """The manual pages and FORMAT have from the help what tools/pages writes."""
+    """What tools/pages writes stands in the manual pages and in FORMAT."""
     done = harness.run(os.path.join(ROOT, "tools/pages"), ["check", PROGRAM])
-    harness.judge("what tools/pages writes stands in the pages", done.status == 0, *(done.out + done.err).decode().splitlines())
+    harness.judge("what tools/pages writes", done.status == 0, *(done.out + done.err).decode().splitlines())
 
 
 def check_terminals():

@@ -2,8 +2,8 @@
 """Runs the program with each of its calls of read, write, open, lseek and close failed in turn, under several
 errors, and with reads and writes of one byte, of 7, of 4,096 and about a block. A digest or an OK that is wrong, a line
 that the usual run does not print, a status that is not documented, or a fault that is not told is a failure. The runs
-are those of runs.tsv; the rows of failed.tsv say the very answer where one call fails, and those of rows/ answer as
-they say with short reads and writes too.
+are those of runs.tsv, and one with each other option; the rows of failed.tsv say the very answer where one call fails,
+and those of rows/ answer as they say with short reads and writes too.
 usage: tests/program/calls.py PROGRAM
 """
 

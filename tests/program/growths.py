@@ -3,7 +3,7 @@
 none that is refused. A run has to end as out of memory, with a beginning of its usual output and faults; where one
 allocation alone is refused, it may also end just as it does with ample memory. A call that takes no memory ends so
 where each allocation is refused. Where strace is installed, the system's calls for memory, brk and mmap, are failed
-in the same way. The program's runs are those of runs.tsv.
+in the same way. The program's runs are those of runs.tsv, and one with each other option.
 usage: tests/program/growths.py PROGRAM [CALLS]
 """
 
