@@ -2,7 +2,7 @@
 """Checks the documents: each link leads somewhere, here and where they are installed, sentences are short, nothing is
 dated, quoted code is there, pictures show what they are made of, README is short, begins with what its readers ask
 first, among it two commands for those with the kit, and has the options and statuses of the program's help and manual
-pages; the pages have from the help what tools/pages writes, and a list that stands in several files is the same in all.
+pages; those have what tools/pages writes, name the same faults, and list the same terminals as code and tests do.
 usage: tests/documents/documents.py PROGRAM
 """
 
@@ -159,6 +159,23 @@ def check_pages():
     harness.judge("what tools/pages writes", done.status == 0, *(done.out + done.err).decode().splitlines())
 
 
+def faults(page):
+    """What a manual page says of faults, each without what is at fault, where that is more than a word."""
+    section = read(page).split(".SH DIAGNOSTICS\n")[1].split("\n.SH")[0].replace("\\-", "-")
+    bold = re.findall(r'^\.(?:B|BR|IB) (.*?)"?(?:\\fR.?)?(?: [,;.:])?$', section, re.M)
+    return {text for text in (re.split(r': |"', line)[-1] for line in bold) if re.match(r"[a-z]+ [a-z-]", text)}
+
+
+def check_faults():
+    """A fault in the page of a command stands in sums(1), with its meaning."""
+    told = faults("man/sums.1")
+    harness.judge("there are faults in sums(1)", len(told) > 20, sorted(told))
+    for command in COMMANDS:
+        page = f"man/sums-{command}.1"
+        harness.judge(f"there are faults in sums-{command}(1)", len(faults(page)) > 3)
+        none(f"faults of sums-{command}(1) that sums(1) has not", sorted(faults(page) - told))
+
+
 def check_terminals():
     """The kinds of terminal that show no progress are the same wherever they stand."""
     for path, (place, kind) in TERMINALS.items():
@@ -225,6 +242,7 @@ def main():
     check_commands()
     check_statuses()
     check_pages()
+    check_faults()
     check_terminals()
     check_quotes()
     check_pictures()
