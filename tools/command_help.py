@@ -57,7 +57,7 @@ def options(text):
 
 
 def statuses(text):
-    return [re.match(r"(\S+(?:, \d+)*) (.*)", entry).groups() for entry in entries(text, "Status")]
+    return [re.match(r"(\d+(?:, \d+)*) (.*)", entry).groups() for entry in entries(text, "Status")]
 
 
 def takes(text):
