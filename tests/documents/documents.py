@@ -140,6 +140,7 @@ def check_commands():
         harness.judge(f"README.md has sums {command}", uses)
         named = {option for use in uses for option in re.findall(r"(?:^|\s)(--?[a-z][a-z0-9-]*)", use)}
         none(f"README.md: options that sums {command} has not", sorted(named - set(options(command))))
+        check_synopsis(command)
         of_page = page_statuses(f"man/sums-{command}.1")
         harness.same(f"statuses of sums-{command}(1)", of_page, statuses(help_of(command)))
 
@@ -151,6 +152,13 @@ def check_statuses():
     for number, text in statuses(help_of()).items():
         harness.same(f"status {number} in README.md", told.get(number), text)
         harness.same(f"status {number} in sums(1)", of_page.get(number), text)
+
+
+def check_synopsis(command):
+    """The synopsis of a command's page has each option of its help."""
+    synopsis = read(f"man/sums-{command}.1").split(".SH SYNOPSIS\n")[1].split("\n.SH")[0].replace("\\-", "-")
+    named = set(re.findall(r"\\fB(--?[a-z][a-z0-9-]*)", synopsis))
+    harness.same(f"options in the synopsis of sums-{command}(1)", named, set(options(command)) - {"-h", "--help"})
 
 
 def check_pages():
