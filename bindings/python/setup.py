@@ -2,6 +2,7 @@
 """The extension is linked with libsums_hash.a of the folder SUMS_HASH_LIB_DIR, which has sums_hash.h too, or else with
 the library that pkg-config finds, of this version or a later one. One wheel is for each CPython from 3.11 on."""
 
+import glob
 import os
 import platform
 import re
@@ -71,7 +72,8 @@ check_python()
 told = library()
 plat_name = platform_tag(told.get("extra_objects", []) + told.get("extra_link_args", []))
 native = Extension(
-    "sums_hash._native", ["native.c"], py_limited_api=True,
+    "sums_hash._native", sorted(glob.glob("native/*.c")), py_limited_api=True,
+    depends=["native/native.h", *told.pop("depends", [])],
     extra_compile_args=FLAGS + told.pop("extra_compile_args", []),
     extra_link_args=LINKED + told.pop("extra_link_args", []), **told,
 )

@@ -24,11 +24,11 @@ import tables
 TOP = os.path.dirname(harness.HERE)
 LEFT = [".git", "bin", "lib", "target", "__pycache__"]
 PYTHON = "cc -std=gnu11 -O2 -Wall -Wextra -Wno-missing-field-initializers -Werror -fsyntax-only -Ibindings/c " \
-    "-I$(python3 -c 'import sysconfig; print(sysconfig.get_path(\"include\"))') bindings/python/native.c && " \
+    "-I$(python3 -c 'import sysconfig; print(sysconfig.get_path(\"include\"))') bindings/python/native/*.c && " \
     "python3 -m py_compile bindings/python/sums_hash/*.py"
 # the tests of the package alone, over an extension that is made where it stands
 PACKAGE = ". tools/installed.sh && rm -rf $OUT && library $LIB $OUT && cd bindings/python && cc -std=gnu11 -O2 -fPIC " \
-    "-fvisibility=hidden -I$OUT -I$(python3 -c 'import sysconfig; print(sysconfig.get_path(\"include\"))') -shared native.c " \
+    "-fvisibility=hidden -I$OUT -I$(python3 -c 'import sysconfig; print(sysconfig.get_path(\"include\"))') -shared native/*.c " \
     "$OUT/libsums_hash.a -Wl,--exclude-libs,ALL -o sums_hash/_native.abi3.so && " \
     "PYTHONPATH=. python3 -m unittest discover -f tests; done=$?; rm -f sums_hash/_native.abi3.so; exit $done"
 # of each layer a command that compiles it, and those that test it, the quickest first

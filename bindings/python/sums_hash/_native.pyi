@@ -1,5 +1,5 @@
 # SPDX-License-Identifier: MIT OR Apache-2.0
-# The types of native.c, for checkers of types.
+# The types of native/, for checkers of types.
 import sys
 from typing import Any, ClassVar, Self
 
