@@ -1,11 +1,9 @@
 #!/usr/bin/env python3
 """Asks of the definitions in crates/*/specs, those of inside/ apart, that each public one has a comment directly above
-it, that docs/PROOFS.md links each file and says how many lines of them a crate has, and that a file says at its head
-what it is to be compared with: those of the hashes the section of a standard, and those of lists a heading of
-docs/FORMAT.md.
+it, that docs/PROOFS.md links each file, and that a file says at its head what it is to be compared with: those of the
+hashes the section of a standard, and those of lists a heading of docs/FORMAT.md.
 usage: tests/documents/definitions_listed.py            asks all that
        tests/documents/definitions_listed.py --table    prints each definition with its comment, file by file
-       tests/documents/definitions_listed.py --lines    prints the lines of each crate, as rows for docs/PROOFS.md
 """
 
 import glob
@@ -56,47 +54,6 @@ def definitions(lines):
             yield found[1], comment_above(lines, at)
 
 
-# ---- how many lines there are to believe
-
-
-def defining(lines):
-    """The lines of a file that define something: no import, which is one line, no name of a module, no comment, and not
-    empty."""
-    return [line for line in lines if not re.match(r"(pub )?(use|mod) |\s*(--|$)", line)]
-
-
-def used():
-    """The crates that each crate uses, as crates.txt has them."""
-    rows = [line.partition(":") for line in lines_of("crates.txt") if re.match(r"\w", line)]
-    return {name.split()[0]: libraries.split() for name, _, libraries in rows}
-
-
-def below(crate, libraries):
-    """A crate and all that it stands on."""
-    return {crate}.union(*(below(library, libraries) for library in libraries.get(crate, [])))
-
-
-def rows_of_lines():
-    """A row of docs/PROOFS.md for each crate with definitions: its lines, and whether the program and the C library stand
-    on them; then the sums."""
-    libraries = used()
-    tops = [below("sums", libraries), below("hash_c", libraries)]
-    sums = [0, 0]
-    for crate in libraries:
-        paths = glob.glob(f"crates/{crate}/specs/*.antt", root_dir=ROOT)
-        count = sum(len(defining(lines_of(path))) for path in paths)
-        if count:
-            yield f"| `{crate}` | " + " | ".join(str(count) if crate in top else "" for top in tops) + " |"
-            sums = [total + count * (crate in top) for total, top in zip(sums, tops)]
-    yield "| together | " + " | ".join(f"{total:,}" for total in sums) + " |"
-
-
-def check_lines():
-    told = lines_of("docs/PROOFS.md")
-    for row in rows_of_lines():
-        harness.judge("docs/PROOFS.md has the lines of a crate", row in told, row)
-
-
 def check_standard(path, about, defined):
     """A file names a standard and its section, or each definition that section."""
     harness.judge(f"{path}: a standard", STANDARD.search(about), about)
@@ -123,7 +80,6 @@ def check(files):
             check_standard(path, about, defined)
         elif crate in OF_LISTS:
             check_format(path, about, headings)
-    check_lines()
     harness.finish()
 
 
@@ -138,9 +94,7 @@ def main():
     paths = sorted(os.path.relpath(path, ROOT) for path in glob.glob(f"{ROOT}/crates/*/specs/*.antt"))
     files = [(path, head(lines_of(path)), list(definitions(lines_of(path)))) for path in paths]
     files = [file for file in files if file[2]]
-    if sys.argv[1:] == ["--lines"]:
-        print(*rows_of_lines(), sep="\n")
-    elif sys.argv[1:] == ["--table"]:
+    if sys.argv[1:] == ["--table"]:
         show(files)
     else:
         check(files)
