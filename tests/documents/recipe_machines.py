@@ -1,0 +1,299 @@
+"""The recipes of docs/SCALE.md for other machines, each of which is this one: over ssh, with Slurm, and with Spark."""
+
+import os
+import pwd
+import re
+import shlex
+import shutil
+import socket
+import subprocess
+import sys
+import tempfile
+import time
+
+from recipe_runner import CHUNK, NAMES, Wrong, behind_file, ends, fill, named, same, write
+
+
+# ---- Services, and runs over ssh
+
+
+def started(words, ready, **options):
+    """A service, when it is ready; None where it is not within ten seconds."""
+    child = subprocess.Popen(words, stdin=subprocess.DEVNULL, **options)
+    for _ in range(100):
+        if child.poll() is not None:
+            return None
+        if ready():
+            return child
+        time.sleep(0.1)
+    ended([child])
+    return None
+
+
+def ended(children):
+    for child in reversed(children):
+        child.terminate()
+        try:
+            child.wait(20)
+        except subprocess.TimeoutExpired:
+            child.kill()
+            child.wait()
+
+
+def free_port():
+    with socket.socket() as listener:
+        listener.bind(("127.0.0.1", 0))
+        return listener.getsockname()[1]
+
+
+def answers(port):
+    with socket.socket() as caller:
+        return caller.connect_ex(("127.0.0.1", port)) == 0
+
+
+def scale_hosts(bench):
+    """GNU parallel over ssh to a server of our own on this machine, which the recipe's three hosts are."""
+    if not all(bench.there(command, "no run was begun over ssh") for command in ["parallel", "sshd", "ssh"]):
+        return
+    folder, port = bench.folder(), free_port()
+    for key in ["host", "user"]:
+        subprocess.run(["ssh-keygen", "-q", "-t", "ed25519", "-N", "", "-f", os.path.join(folder, key)], check=True)
+    write(folder, "server", f"""Port {port}
+ListenAddress 127.0.0.1
+HostKey {folder}/host
+AuthorizedKeysFile {folder}/user.pub
+PidFile none
+StrictModes no
+UsePAM no
+PasswordAuthentication no
+PermitRootLogin prohibit-password
+MaxStartups 100
+SetEnv PATH={bench.environment["PATH"]}
+""")
+    write(folder, "client", f"""Host host1 host2 host3
+HostName 127.0.0.1
+Port {port}
+User {pwd.getpwuid(os.getuid()).pw_name}
+IdentityFile {folder}/user
+IdentitiesOnly yes
+StrictHostKeyChecking no
+UserKnownHostsFile /dev/null
+LogLevel ERROR
+""")
+    if os.getuid() == 0:
+        os.makedirs("/run/sshd", mode=0o755, exist_ok=True)
+    log = open(os.path.join(folder, "log"), "wb")
+    sshd = shutil.which("sshd", path=bench.environment["PATH"])
+    server = started([sshd, "-D", "-e", "-f", os.path.join(folder, "server")], lambda: answers(port), stderr=log)
+    if server is None:
+        bench.missing("sshd did not start: no run was begun over ssh")
+        return
+    try:
+        over_ssh(bench, f"ssh -F {folder}/client")
+    finally:
+        ended([server])
+
+
+def over_ssh(bench, ssh):
+    folder, names = large_files(bench)
+    text = bench.text("docs/SCALE.md", "hosts")
+    for name in names:
+        wanted = bench.sums(folder, "hash", "-a", "blake3", "--", name)
+        bench.judge(f"docs/SCALE.md hosts, {name!r}",
+                    lambda: ends(bench.run(text, folder, f=name, PARALLEL_SSH=ssh), 0, wanted))
+
+
+def large_files(bench):
+    """A folder with a file that is cut on other machines too, under each name."""
+    folder = bench.folder()
+    fill(os.path.join(folder, NAMES[0]), 300000001)
+    for name in NAMES[1:]:
+        os.link(os.path.join(folder, NAMES[0]), os.path.join(folder, name))
+    return folder, NAMES
+
+
+# ---- Slurm
+
+
+def scale_slurm(bench):
+    """One node, this machine, with a munged, a slurmctld and a slurmd of our own."""
+    needed = ["munged", "mungekey", "slurmctld", "slurmd", "sbatch", "scontrol", "sinfo", "squeue"]
+    if not all(bench.there(command, "the recipe for Slurm was not run") for command in needed):
+        return
+    children = []
+    try:
+        if cluster(bench, children):
+            arrays(bench)
+            steps(bench)
+        else:
+            bench.missing("Slurm did not start: its recipe was not run")
+    finally:
+        ended(children)
+
+
+def cluster(bench, children):
+    """Starts the three, and tells whether there is a node to run jobs."""
+    folder = tempfile.mkdtemp(dir=bench.work)
+    os.chmod(folder, 0o755)
+    host = socket.gethostname().split(".")[0]
+    names = pwd.getpwuid(os.getuid()).pw_name
+    for place in ["state", "spool"]:
+        os.mkdir(os.path.join(folder, place))
+    bench.environment["SLURM_CONF"] = write(folder, "slurm.conf", f"""ClusterName=recipes
+SlurmctldHost={host}(127.0.0.1)
+SlurmctldPort={free_port()}
+SlurmdPort={free_port()}
+SlurmUser={names}
+SlurmdUser={names}
+AuthType=auth/munge
+AuthInfo=socket={folder}/munge.socket
+CredType=cred/munge
+StateSaveLocation={folder}/state
+SlurmdSpoolDir={folder}/spool
+SlurmctldPidFile={folder}/slurmctld.pid
+SlurmdPidFile={folder}/slurmd.pid
+ProctrackType=proctrack/linuxproc
+TaskPlugin=task/none
+SwitchType=switch/none
+MpiDefault=none
+SelectType=select/cons_tres
+SelectTypeParameters=CR_Core
+SchedulerType=sched/builtin
+SchedulerParameters=sched_interval=1,batch_sched_delay=0
+ReturnToService=2
+NodeName={host} NodeAddr=127.0.0.1 CPUs=4 State=UNKNOWN
+PartitionName=all Nodes=ALL Default=YES MaxTime=INFINITE State=UP
+""")
+    log = open(os.path.join(folder, "log"), "wb")
+    options = {"stdout": log, "stderr": log, "env": bench.environment, "cwd": folder}
+    run = lambda text: bench.run(text, folder)
+    run(f"mungekey --create --keyfile={folder}/munge.key")
+    services = [
+        (["munged", "--foreground", f"--key-file={folder}/munge.key", f"--socket={folder}/munge.socket",
+          f"--pid-file={folder}/munged.pid", f"--seed-file={folder}/munged.seed", f"--log-file={folder}/munged.log",
+          "--force"], lambda: os.path.exists(f"{folder}/munge.socket")),
+        (["slurmctld", "-D", "-i"], lambda: run("scontrol ping")[0] == 0),
+        (["slurmd", "-D", "-N", host], lambda: run("sinfo -h -o %t")[1].strip() == b"idle"),
+    ]
+    for words, ready in services:
+        child = started(words, ready, **options)
+        if child is None:
+            print(open(os.path.join(folder, "log")).read()[-3000:])
+            return False
+        children.append(child)
+    return True
+
+
+def arrays(bench):
+    """The recipe with each name, all at once; then the jobs' outputs, when all are done."""
+    text = behind_file(bench, "slurm")
+    cases = []
+    for name, size, chunks in [("big", 200000001, None), *((name, 4321, 1) for name in NAMES), ("many", 1002 * CHUNK, 1)]:
+        folder = bench.folder()
+        fill(os.path.join(folder, name), size)
+        for script in ["job.sh", "join.sh"]:
+            write(folder, script, bench.text("docs/SCALE.md", script))
+        got = bench.run(text if chunks is None else named(text, name, chunks), folder)
+        cases.append((name, folder, got))
+    waited(bench, 900)
+    for name, folder, got in cases:
+        def case():
+            same((got[0], got[2]), (0, b""), "status and standard error")
+            job = re.fullmatch(rb"Submitted batch job (\d+)\n", got[1])
+            if not job:
+                raise Wrong(f"sbatch says {got[1]!r}")
+            with open(os.path.join(folder, f"slurm-{job.group(1).decode()}.out"), "rb") as file:
+                same(file.read(), bench.sums(folder, "hash", "-a", "blake3", "--", name), "the output of the job")
+        bench.judge(f"docs/SCALE.md slurm, {name!r}", case)
+    bench.judge("docs/SCALE.md slurm, a task that fails", lambda: failing(bench, text))
+
+
+def steps(bench):
+    """The runs of sums-parallel that srun begins, for a file of each name."""
+    text = bench.text("docs/SCALE.md", "srun")
+    folder, names = large_files(bench)
+    jobs = [(name, bench.run(text, folder, f=name)) for name in names]
+    waited(bench, 900)
+    for name, got in jobs:
+        def case():
+            same((got[0], got[2]), (0, b""), "status and standard error")
+            with open(os.path.join(folder, f"slurm-{got[1].split()[-1].decode()}.out"), "rb") as file:
+                same(file.read(), bench.sums(folder, "hash", "-a", "blake3", "--", name), "the output of the job")
+        bench.judge(f"docs/SCALE.md srun, {name!r}", case)
+
+
+def waited(bench, seconds):
+    until = time.monotonic() + seconds
+    while bench.run("squeue -h", bench.work)[1].strip() and time.monotonic() < until:
+        time.sleep(0.5)
+
+
+def failing(bench, text):
+    """A file that is not there when the tasks run: the job behind them is ended, and prints nothing."""
+    folder = bench.folder()
+    fill(os.path.join(folder, "x"), 4321)
+    write(folder, "job.sh", "#!/bin/sh\nexit 1\n")
+    write(folder, "join.sh", bench.text("docs/SCALE.md", "join.sh"))
+    got = bench.run(named(text, "x", 1), folder)
+    same(got[0], 0, "status")
+    waited(bench, 120)
+    same(bench.run("squeue -h", folder)[1], b"", "jobs that wait")
+    job = got[1].split()[-1].decode()
+    same(os.path.exists(os.path.join(folder, f"slurm-{job}.out")), False, "whether the lines were joined")
+
+
+# ---- Spark
+
+
+class Numbers:
+    """What the recipe uses of Spark: numbers in partitions, and what a command prints of them."""
+
+    def __init__(self, environment, folder):
+        self.environment, self.folder = environment, folder
+
+    def parallelize(self, numbers, count):
+        edges = [len(numbers) * i // count for i in range(count + 1)]
+        self.partitions = [numbers[a:b] for a, b in zip(edges, edges[1:])]
+        return self
+
+    def pipe(self, command, checkCode=False):
+        self.command, self.checks = shlex.split(command), checkCode
+        return self
+
+    def collect(self):
+        lines = []
+        for partition in self.partitions:
+            text = "".join(f"{number}\n" for number in partition)
+            done = subprocess.run(self.command, input=text.encode(), stdout=subprocess.PIPE, env=self.environment,
+                                  cwd=self.folder)
+            if self.checks and done.returncode:
+                raise Wrong(f"status {done.returncode} of the command")
+            lines += [line.decode() for line in done.stdout.split(b"\n") if line]
+        return lines
+
+
+def scale_spark(bench):
+    """The recipe in a Python of its own, where Spark is installed; else over a stand-in of its `pipe`."""
+    text = bench.text("docs/SCALE.md", "spark")
+    found = bench.run(f"{shlex.quote(sys.executable)} -c 'import pyspark' && java -version", bench.work)[0] == 0
+    if not found:
+        bench.missing("Spark is not installed: its recipe was run over a stand-in of `pipe`")
+    start = "from pyspark import SparkContext\ncontext = SparkContext('local[4]')\ncontext.setLogLevel('OFF')\n" \
+        if found else f"import sys\nsys.path.insert(0, {bench.work!r})\nfrom stand_in import context\n"
+    if not found:
+        here = os.path.dirname(os.path.abspath(__file__))
+        write(bench.work, "stand_in.py", f"import os\nimport sys\nsys.path.insert(0, {here!r})\n"
+              "from recipe_machines import Numbers\ncontext = Numbers(os.environ, '.')\n")
+
+    def case(name, size, chunks):
+        folder = bench.folder()
+        path = os.path.join(folder, name)
+        fill(path, size)
+        script = write(folder, "script.py", f"{start}f, n = {path!r}, {chunks}\n{text}")
+        got = bench.run(f"{shlex.quote(sys.executable)} {script} 2>&3", folder) if found else \
+            bench.run(f"{shlex.quote(sys.executable)} {script}", folder)
+        same((got[0], got[1]), (0, bench.sums(folder, "hash", "-a", "blake3", "--", path)), "status and output")
+
+    bench.judge("docs/SCALE.md spark", lambda: case("big", 200000001, 65536))
+    for name in NAMES:
+        bench.judge(f"docs/SCALE.md spark, {name!r}", lambda: case(name, 4321, 1))
