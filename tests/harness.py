@@ -54,9 +54,14 @@ def folder():
             os.chdir("/")
 
 
+def called(path):
+    """What a program is called by, which its usage repeats: `sums`, too, if tools/try has left it."""
+    return path.removesuffix("-unproved") if os.path.basename(path) == "sums-unproved" else path
+
+
 def run(path, words, given=b"", **options):
     """One run of a program. The options are those of subprocess.run."""
-    done = subprocess.run([path, *words], input=given, capture_output=True, **options)
+    done = subprocess.run([called(path), *words], executable=path, input=given, capture_output=True, **options)
     return Run(done.returncode, done.stdout, done.stderr)
 
 

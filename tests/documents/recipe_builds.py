@@ -95,7 +95,7 @@ def second_builder(bench):
 LONG = {
     "README.md": {"try": readme_try, "package": readme_package, "python": readme_package},
     "docs/CONTRIBUTING.md": {"build": source_build, "languages": languages,
-                             "crate": in_clone("docs/CONTRIBUTING.md", "crate")},
+                             **{name: in_clone("docs/CONTRIBUTING.md", name) for name in ["minute", "crate"]}},
     "docs/RELEASING.md": {"staged": source_build, "second": second_builder},
     "docs/BENCHMARKS.md": {name: in_clone("docs/BENCHMARKS.md", name)
                            for name in ["speed", "speed-parts", "speed-hashers", "speed-library", "speed-provider",
