@@ -19,8 +19,23 @@ function viewed(view) {
   return new Uint8Array(...(isArray ? ARRAY_PLACE : VIEW_PLACE).map((it) => it.call(view)));
 }
 
-const isOne = (data, kind) => typeof kind === 'function' && data instanceof kind;
-const isBuffer = (data) => isOne(data, ArrayBuffer) || isOne(data, globalThis.SharedArrayBuffer);
+const BUFFER_LENGTHS = [ArrayBuffer, globalThis.SharedArrayBuffer]
+  .flatMap((kind) => (kind ? [getter(kind.prototype, 'byteLength')] : []));
+
+// A buffer of another realm, as of a frame, is no instance of the kinds of this one. What only looks like a buffer has
+// no length to give.
+function hasLength(data, lengthOf) {
+  try {
+    lengthOf.call(data);
+    return true;
+  } catch (error) {
+    // the error too may be of another realm, and is another one where the stack runs out
+    if (error.name === 'TypeError') return false;
+    throw error;
+  }
+}
+
+const isBuffer = (data) => BUFFER_LENGTHS.some((lengthOf) => hasLength(data, lengthOf));
 
 export const isBytes = (data) => typeof data === 'string' || ArrayBuffer.isView(data) || isBuffer(data);
 
@@ -53,16 +68,32 @@ function toBase64(data) {
   return btoa(text);
 }
 
-const ENCODINGS = {
-  buffer: (data) => data,
+const TEXTS = {
   hex: toHex,
   base64: toBase64,
   base64url: (data) => toBase64(data).replace(/\+/g, '-').replace(/\//g, '_').replace(/=/g, ''),
 };
 
-/** What makes the text of bytes, by the name of an encoding; nothing named, or `buffer`, leaves the bytes. */
-export function encoderOf(encoding = 'buffer') {
-  const isThere = typeof encoding === 'string' && Object.hasOwn(ENCODINGS, encoding);
-  if (!isThere) throw new TypeError(`there is no encoding ${String(encoding)}`);
-  return ENCODINGS[encoding];
+function encoderIn(encodings, encoding) {
+  const isThere = typeof encoding === 'string' && Object.hasOwn(encodings, encoding);
+  if (isThere) return encodings[encoding];
+  const names = Object.keys(encodings).join(', ');
+  throw new TypeError(`there is no encoding ${String(encoding)}: the encodings are ${names}`);
 }
+
+const plainText = ARRAY.toString;
+const TO_STRING = {
+  value: function toString(encoding) {
+    return encoding === undefined ? plainText.call(this) : encoderIn(TEXTS, encoding)(this);
+  },
+  configurable: true,
+  writable: true,
+};
+
+/** Bytes that a caller gets: their `toString` takes an encoding, as that of a Buffer does. */
+export const withText = (data) => Object.defineProperty(data, 'toString', TO_STRING);
+
+const ENCODINGS = { ...TEXTS, buffer: withText };
+
+/** What makes the text of bytes, by the name of an encoding; nothing named, or `buffer`, leaves the bytes. */
+export const encoderOf = (encoding = 'buffer') => encoderIn(ENCODINGS, encoding);

@@ -12,16 +12,21 @@ export const HASHES = {
   blake3: { digest: 32, least: 32, key: 32, salt: 0, state: 1880, hmac: 0 },
 };
 
-/** What `node:crypto` calls them, where that is another name. */
-const ALIASES = { blake2b512: 'blake2b', blake2s256: 'blake2s' };
-
-/** The name in `HASHES` of a hash that a caller names. */
-export function hashName(name) {
-  if (typeof name === 'string') {
-    if (Object.hasOwn(HASHES, name)) return name;
-    if (Object.hasOwn(ALIASES, name)) return ALIASES[name];
-  }
-  throw new TypeError(`there is no hash ${String(name)}`);
-}
+/** What `node:crypto` and the web call them, where that is another name. */
+const ALIASES = {
+  'sha-256': 'sha256', 'sha2-256': 'sha256', 'sha-512': 'sha512', 'sha2-512': 'sha512',
+  blake2b512: 'blake2b', 'blake2b-512': 'blake2b', blake2s256: 'blake2s', 'blake2s-256': 'blake2s',
+};
 
 export const getHashes = () => Object.keys(HASHES);
+
+/** The name in `HASHES` of a hash that a caller names, in small letters or in large ones. */
+export function hashName(name) {
+  if (typeof name === 'string') {
+    // a letter outside ASCII stands for none within it, as the sign of kelvin would for k
+    const small = name.replace(/[A-Z]/g, (letter) => letter.toLowerCase());
+    if (Object.hasOwn(HASHES, small)) return small;
+    if (Object.hasOwn(ALIASES, small)) return ALIASES[small];
+  }
+  throw new TypeError(`there is no hash ${String(name)}: the hashes are ${getHashes().join(', ')}`);
+}

@@ -19,6 +19,6 @@ export class Refused extends RangeError {
   readonly status: number;
 }
 
-export type { BufferOptions, Bytes, Encoding, HashName, HashOptions, HmacName, Message } from './library.js';
-export type { Source, TextEncoding, TextOptions } from './library.js';
+export type { AnyOptions, BufferOptions, Bytes, Digest, Encoding, HashName, HashOptions } from './library.js';
+export type { HashSpelling, HmacName, HmacSpelling, Message, Source, TextEncoding, TextOptions } from './library.js';
 import type { HashName } from './library.js';

@@ -1,30 +1,14 @@
 // SPDX-License-Identifier: MIT OR Apache-2.0
-import { bytesOf, encoderOf, whole } from './bytes.js';
+import { bytesOf, encoderOf, whole, withText } from './bytes.js';
 import { HASHES, hashName } from './hashes.js';
-import { CHUNK, DIGEST_LENGTH, KEY_LENGTH, Machine, Refused, ROOM } from './machine.js';
-import { beginMessage, LONGEST } from './message.js';
+import { CHUNK, DIGEST_LENGTH, KEY_LENGTH, Machine, ROOM, within } from './machine.js';
+import { beginMessage, LONGEST, optionsOf, outputLengthOf } from './message.js';
 import { piecesOf } from './sources.js';
 
 const OF_BYTES = ['key', 'salt', 'personal', 'context'];
 const HASH_OPTIONS = ['outputLength', ...OF_BYTES];
 // So many pieces at once fill the lanes in which they are hashed.
 const LANES = 8;
-
-/** The options that are given, each read once. One that is not known is refused: without it the digest is another. */
-function optionsOf(options, known) {
-  if (options === undefined || options === null) return {};
-  if (typeof options !== 'object') throw new TypeError('options must be an object');
-  for (const name of Object.keys(options)) if (!known.includes(name)) throw new TypeError(`there is no option ${name}`);
-  return Object.fromEntries(known.filter((name) => name in options).map((name) => [name, options[name]]));
-}
-
-/** The option `outputLength`: a number of bytes that the function has as an output. */
-function outputLengthOf({ outputLength }, { byDefault, least, most }) {
-  if (outputLength === undefined) return byDefault;
-  whole(outputLength, 'outputLength', 0, Number.MAX_SAFE_INTEGER);
-  if (outputLength < least || outputLength > most) throw new Refused(DIGEST_LENGTH);
-  return outputLength;
-}
 
 /** The lengths of digests of a hash. */
 function lengthsOf(name) {
@@ -49,9 +33,10 @@ function refuseOthers(its, { name, key, salt, personal, context }) {
   if ((salt || personal) && !its.salt) throw new TypeError(`${name} takes no salt and no personal`);
   if (context && !isBlake3) throw new TypeError(`${name} takes no context`);
   if (context && key) throw new TypeError('a key and a context exclude each other');
-  const least = isBlake3 ? its.key : 1;
-  if (key && (key.length < least || key.length > its.key)) throw new Refused(KEY_LENGTH);
-  if ([salt, personal].some((it) => it && it.length !== its.salt)) throw new Refused(KEY_LENGTH);
+  if (key) within(key.length, 'key', { least: isBlake3 ? its.key : 1, most: its.key }, KEY_LENGTH);
+  for (const [what, given] of Object.entries({ salt, personal })) {
+    if (given) within(given.length, what, { least: its.salt, most: its.salt }, KEY_LENGTH);
+  }
 }
 
 const NO_BYTES = new Uint8Array(0);
@@ -88,7 +73,10 @@ export function bind(module, instance) {
   function createHash(algorithm, options) {
     const name = hashName(algorithm);
     const parameters = parametersOf(name, options);
-    const form = { kind: name, length: parameters.length, size: HASHES[name].state };
+    const { length } = parameters;
+    // that of BLAKE2 is among what the message begins with, and a copy of it has no other
+    const copied = HASHES[name].salt ? { least: length, most: length } : lengthsOf(name);
+    const form = { kind: name, lengths: { ...copied, byDefault: length }, size: HASHES[name].state };
     return beginMessage(machine, form, () => BEGIN[name](machine, parameters));
   }
 
@@ -96,8 +84,8 @@ export function bind(module, instance) {
     const name = hmacName(algorithm);
     const { digest, hmac } = HASHES[name];
     const lengths = { byDefault: digest, least: digest / 2, most: digest };
-    const length = outputLengthOf(optionsOf(options, ['outputLength']), lengths);
-    const form = { kind: `hmac_${name}`, length, size: hmac };
+    const byDefault = outputLengthOf(optionsOf(options, ['outputLength']), lengths);
+    const form = { kind: `hmac_${name}`, lengths: { ...lengths, byDefault }, size: hmac };
     const secret = bytesOf(key, 'the key');
     return beginMessage(machine, form, () => machine.call(`${form.kind}_init`, machine.slot, ...machine.put(secret)));
   }
@@ -128,7 +116,7 @@ export function bind(module, instance) {
   function hkdfSync(algorithm, material, salt, info, length) {
     const name = hmacName(algorithm);
     const given = [bytesOf(material, 'the material'), bytesOf(salt, 'the salt'), bytesOf(info, 'the info')];
-    whole(length, 'length', 0, ROOM);
+    within(whole(length, 'length', 0, LONGEST), 'length', { least: 0, most: 255 * HASHES[name].digest }, DIGEST_LENGTH);
     return machine.output(length, given, (...words) => machine.call(`hkdf_${name}`, ...words)).buffer;
   }
 
@@ -145,7 +133,7 @@ export function bind(module, instance) {
     const length = outputLengthOf(optionsOf(options, ['outputLength']), { byDefault: digest, least, most: digest });
     const piece = whole(pieceLength, 'pieceLength', 1, Number.MAX_SAFE_INTEGER);
     const all = bytesOf(data);
-    const result = new Uint8Array(Math.ceil(all.length / piece) * length);
+    const result = withText(new Uint8Array(Math.ceil(all.length / piece) * length));
     const count = Math.max(LANES, Math.floor(CHUNK / Math.max(piece, length)));
     // pieces that are too long to be there together are messages
     const isShort = count * piece <= ROOM / 2;

@@ -24,11 +24,17 @@ export const END_OF_OUTPUT = 5;
 
 /** What cannot be done. `status` is its number in `sums_hash.h`. */
 export class Refused extends RangeError {
-  constructor(status) {
-    super(REFUSALS[status] ?? `status ${status}`);
+  constructor(status, text = REFUSALS[status] ?? `status ${status}`) {
+    super(text);
     this.name = 'Refused';
     this.status = status;
   }
+}
+
+/** A length in bytes that the function has. */
+export function within(length, what, { least, most }, status) {
+  if (length >= least && length <= most) return length;
+  throw new Refused(status, `${what} must be ${least === most ? most : `between ${least} and ${most}`} bytes`);
 }
 
 const lengthOfAll = (all) => all.reduce((sum, it) => sum + it.length, 0);

@@ -1,6 +1,6 @@
 // SPDX-License-Identifier: MIT OR Apache-2.0
-import { bytesOf, encoderOf, whole } from './bytes.js';
-import { CHUNK, END_OF_OUTPUT, Refused } from './machine.js';
+import { bytesOf, encoderOf, whole, withText } from './bytes.js';
+import { CHUNK, DIGEST_LENGTH, END_OF_OUTPUT, Refused, within } from './machine.js';
 
 const TAKEN = 'the digest was taken: begin anew, or take a copy() before it';
 const LOST = 'a call on this message did not end: begin anew';
@@ -8,21 +8,36 @@ const LOST = 'a call on this message did not end: begin anew';
 export const LONGEST = 2 ** 32 - 1;
 const LAST = 2n ** 64n - 1n; // the end of an output
 
+/** The options that are given, each read once. One that is not known is refused: without it the digest is another. */
+export function optionsOf(options, known) {
+  if (options === undefined || options === null) return {};
+  if (typeof options !== 'object') throw new TypeError('options must be an object');
+  for (const name of Object.keys(options)) if (!known.includes(name)) throw new TypeError(`there is no option ${name}`);
+  return Object.fromEntries(known.filter((name) => name in options).map((name) => [name, options[name]]));
+}
+
+/** The option `outputLength`: a number of bytes that the function has as an output. */
+export function outputLengthOf({ outputLength }, { byDefault, least, most }) {
+  if (outputLength === undefined) return byDefault;
+  if (!Number.isSafeInteger(outputLength)) return whole(outputLength, 'outputLength', least, most);
+  return within(outputLength, 'outputLength', { least, most }, DIGEST_LENGTH);
+}
+
 const maker = Symbol('what makes messages');
 
 /** A message in pieces. Its state is an array of its own, so that it can be dropped at any time. */
 class Message {
   #machine;
   #kind;
-  #length;
+  #lengths;
   #state;
   #over = '';
 
-  constructor(made, machine, { kind, length }, state) {
+  constructor(made, machine, { kind, lengths }, state) {
     if (made !== maker) throw new TypeError('createHash and createHmac make messages');
     this.#machine = machine;
     this.#kind = kind;
-    this.#length = length;
+    this.#lengths = lengths;
     this.#state = state;
   }
 
@@ -62,19 +77,20 @@ class Message {
   /** The digest, with which the message ends. */
   digest(encoding) {
     const encode = encoderOf(encoding);
+    const length = this.#lengths.byDefault;
     const isBlake3 = this.#kind === 'blake3';
-    const result = encode(isBlake3 ? this.output(this.#length) : this.#whole((machine) => this.#finished(machine)));
+    const result = encode(isBlake3 ? this.output(length) : this.#whole((machine) => this.#finished(machine, length)));
     this.#over = TAKEN;
     this.#machine.forget(this.#state);
     this.#state = null;
     return result;
   }
 
-  #finished(machine) {
+  #finished(machine, length) {
     // SHA-2 has one length
-    const length = this.#kind.startsWith('sha') ? [] : [BigInt(this.#length)];
-    machine.call(`${this.#kind}_finish`, machine.slot, machine.input(), ...length);
-    return machine.read(this.#length);
+    const lengths = this.#kind.startsWith('sha') ? [] : [BigInt(length)];
+    machine.call(`${this.#kind}_finish`, machine.slot, machine.input(), ...lengths);
+    return machine.read(length);
   }
 
   /** BLAKE3: so many bytes of the output, from a position on. The message can go on. */
@@ -83,8 +99,10 @@ class Message {
     if (this.#kind !== 'blake3') throw new TypeError('only BLAKE3 has an output of any length');
     whole(length, 'length', 0, LONGEST);
     const from = typeof seek === 'bigint' ? seek : BigInt(whole(seek, 'seek', 0, Number.MAX_SAFE_INTEGER));
-    if (from < 0n || from + BigInt(length) > LAST) throw new Refused(END_OF_OUTPUT);
-    const result = new Uint8Array(length);
+    if (from < 0n || from + BigInt(length) > LAST) {
+      throw new Refused(END_OF_OUTPUT, `the output begins at byte 0 and ends after ${LAST} bytes`);
+    }
+    const result = withText(new Uint8Array(length));
     return this.#whole((machine) => {
       for (let at = 0; at < length; at += CHUNK) {
         result.set(outputOf(machine, from + BigInt(at), Math.min(CHUNK, length - at)), at);
@@ -93,11 +111,13 @@ class Message {
     });
   }
 
-  /** Another message that goes on from here. */
-  copy() {
+  /** Another message that goes on from here. Its digest may have another length, if the function has both in one. */
+  copy(options) {
+    const byDefault = outputLengthOf(optionsOf(options, ['outputLength']), this.#lengths);
     this.#going();
     this.#machine.empty();
-    return new Message(maker, this.#machine, { kind: this.#kind, length: this.#length }, this.#state.slice());
+    const form = { kind: this.#kind, lengths: { ...this.#lengths, byDefault } };
+    return new Message(maker, this.#machine, form, this.#state.slice());
   }
 }
 
@@ -108,11 +128,12 @@ function outputOf(machine, from, length) {
 
 /**
  * A message that `begin` has begun, by a call on the state in the slot. `kind` is what stands between `sums_` and the
- * names of its calls, `length` that of its digest, and `size` that of its state.
+ * names of its calls, `size` is the length of its state, and `lengths` has those of a digest: `byDefault` its own, and
+ * `least` and `most` of what a copy can have.
  */
-export function beginMessage(machine, { kind, length, size }, begin) {
+export function beginMessage(machine, { kind, lengths, size }, begin) {
   const state = new Uint8Array(size);
   machine.enter(state);
   begin();
-  return new Message(maker, machine, { kind, length }, state);
+  return new Message(maker, machine, { kind, lengths }, state);
 }

@@ -31,6 +31,9 @@ export async function* piecesOfBlob(blob) {
   await next;
 }
 
+// Nobody knows which bytes the text was decoded from.
+const TEXT_OF_WEB = 'a stream of the web gives bytes, and no text: pipe it through a TextEncoderStream';
+
 async function* piecesOfStream(stream) {
   const reader = stream.getReader();
   let isAtEnd = false;
@@ -39,19 +42,52 @@ async function* piecesOfStream(stream) {
       const { done, value } = await reader.read();
       isAtEnd = done;
       if (done) return;
+      if (typeof value === 'string') throw new TypeError(TEXT_OF_WEB);
       yield value;
     }
   } finally {
-    if (!isAtEnd) await reader.cancel();
+    if (!isAtEnd) giveUp(reader);
     reader.releaseLock();
   }
 }
 
+/** Gives a stream up. Nobody waits for its end, which may never come. */
+async function giveUp(reader) {
+  try {
+    await reader.cancel();
+  } catch {
+    // the fault for which it is given up is the one that is reported
+  }
+}
+
+/** The encoding by which a stream of Node makes text of its bytes. */
+const decodes = (stream) => stream.readableEncoding ?? stream._readableState?.encoding;
+
+// A decoder of UTF-8 gives this character for bytes that are no UTF-8.
+const REPLACEMENT = '\ufffd';
+
+/** Refuses text whose bytes as UTF-8 may differ from those that it was decoded from. */
+function refuseDecoded(text, encoding) {
+  if (!encoding || (/^utf-?8$/i.test(encoding) && !text.includes(REPLACEMENT))) return;
+  throw new TypeError(`the stream gives text, decoded as ${encoding}, and not its bytes: open it without an encoding`);
+}
+
+async function* piecesOfMany(source) {
+  for await (const piece of source) {
+    if (typeof piece === 'string') refuseDecoded(piece, decodes(source));
+    yield piece;
+  }
+}
+
+/** Whether it is a Blob or a File, of this realm or of another. */
+const isBlob = (source) =>
+  ['slice', 'arrayBuffer'].every((name) => typeof source?.[name] === 'function') && source.size >= 0;
+
 /** The pieces of a Blob, of a stream of the web or of Node, or of anything else that gives pieces one by one. */
 export function piecesOf(source) {
   if (isBytes(source)) return [source];
-  if (typeof Blob === 'function' && source instanceof Blob) return piecesOfBlob(source);
+  if (isBlob(source)) return piecesOfBlob(source);
   if (typeof source?.getReader === 'function') return piecesOfStream(source);
-  if (source?.[Symbol.asyncIterator] || source?.[Symbol.iterator]) return source;
+  if (source?.[Symbol.asyncIterator] || source?.[Symbol.iterator]) return piecesOfMany(source);
   throw new TypeError('the source must be bytes, a Blob, a stream or something that gives pieces');
 }

@@ -3,7 +3,9 @@
 import assert from 'node:assert/strict';
 import crypto from 'node:crypto';
 import { readFileSync } from 'node:fs';
+import { Readable } from 'node:stream';
 import test from 'node:test';
+import vm from 'node:vm';
 import { Worker } from 'node:worker_threads';
 import { createHash, createHmac, deriveKey, getHashes, hash, hashOf, hashPieces, hkdfSync, Refused } from '../node.js';
 import { bind } from '../library.js';
@@ -11,7 +13,10 @@ import { bind } from '../library.js';
 const refuses = (kind, call) => assert.throws(call, kind, call.toString());
 const of = (length) => new Uint8Array(length);
 
-const NO_HASHES = ['md5', '', 'SHA256', 'toString', '__proto__', undefined, null, 3, {}, ['sha256'], Symbol('sha256')];
+const NO_HASHES = [
+  'md5', '', 'sha_256', 'sha256 ', 'sha-512/256', 'SHA512-256', 'sha3-256', 'blake2s-512', 'bla\u212ae2b',
+  '\u017fha256', 'toString', '__proto__', undefined, null, 3, {}, ['sha256'], Symbol('sha256'),
+];
 const OF_BYTES = ['key', 'salt', 'personal', 'context'];
 
 test('words that no call takes', () => {
@@ -79,6 +84,47 @@ test('outputs of BLAKE3 at their ends', () => {
   assert.equal(message.digest('hex'), hash('blake3', 'abc'));
 });
 
+test('a refusal has the bounds in its text', () => {
+  const says = (call, message, status) => assert.throws(call, { message, ...(status && { name: 'Refused', status }) });
+  const output = (outputLength) => ({ outputLength });
+  const [blake2b, blake3] = [createHash('blake2b', output(20)), createHash('blake3')];
+  for (const length of [0, -1, 65]) {
+    says(() => hash('blake2b', '', output(length)), 'outputLength must be between 1 and 64 bytes', 1);
+  }
+  says(() => hash('blake2s', '', output(33)), 'outputLength must be between 1 and 32 bytes', 1);
+  says(() => hash('blake3', '', output(2 ** 32)), 'outputLength must be between 1 and 4294967295 bytes', 1);
+  says(() => hash('sha256', '', output(20)), 'outputLength must be 32 bytes', 1);
+  says(() => hash('sha512', '', output(1.5)), 'outputLength must be a whole number from 64 to 64');
+  says(() => createHmac('sha512', 'k', output(31)), 'outputLength must be between 32 and 64 bytes', 1);
+  says(() => hashPieces('blake3', 'abc', 1, output(33)), 'outputLength must be 32 bytes', 1);
+  says(() => blake2b.copy(output(21)), 'outputLength must be 20 bytes', 1);
+  says(() => hkdfSync('sha256', '', '', '', 8161), 'length must be between 0 and 8160 bytes', 1);
+  says(() => hkdfSync('blake2b', '', '', '', 2 ** 30), 'length must be between 0 and 16320 bytes', 1);
+  says(() => createHash('blake2b', { key: of(65) }), 'key must be between 1 and 64 bytes', 2);
+  says(() => createHash('blake2s', { key: '' }), 'key must be between 1 and 32 bytes', 2);
+  says(() => createHash('blake3', { key: of(31) }), 'key must be 32 bytes', 2);
+  says(() => createHash('blake2b', { salt: of(17) }), 'salt must be 16 bytes', 2);
+  says(() => createHash('blake2s', { personal: of(7) }), 'personal must be 8 bytes', 2);
+  const ends = 'the output begins at byte 0 and ends after 18446744073709551615 bytes';
+  for (const seek of [-1n, 2n ** 64n - 1n]) says(() => blake3.output(1, seek), ends, 5);
+  says(() => hash('md5', ''), 'there is no hash md5: the hashes are sha256, sha512, blake2b, blake2s, blake3');
+  says(() => blake3.digest('x'), 'there is no encoding x: the encodings are hex, base64, base64url, buffer');
+  says(() => blake3.digest().toString('x'), 'there is no encoding x: the encodings are hex, base64, base64url');
+});
+
+test('copies of another length', () => {
+  const other = { get outputLength() { message.digest(); return 32; } };
+  const message = createHash('blake3').update('abc');
+  for (const outputLength of [0, -1, 1.5, NaN, '32', null, 2 ** 32]) {
+    refuses(RangeError, () => message.copy({ outputLength }));
+  }
+  for (const options of ['x', 3, () => 1]) refuses(TypeError, () => message.copy(options));
+  refuses(TypeError, () => message.copy({ length: 32 }));
+  assert.throws(() => message.copy(other), /digest was taken/);
+  const tag = createHmac('sha256', 'k');
+  for (const outputLength of [15, 33]) refuses(Refused, () => tag.copy({ outputLength }));
+});
+
 test('a message ends with its digest, and only it', () => {
   const other = createHash('blake3').update('other');
   const message = createHash('sha512').update('a');
@@ -136,6 +182,31 @@ test('views that lie, and buffers that are gone or short by now', () => {
   const views = [new Uint8Array(shrinking, 4, 4), new DataView(shrinking, 4, 4)];
   shrinking.resize(2);
   for (const view of views) refuses(TypeError, () => hash('sha256', view));
+});
+
+test('buffers and views of another realm, and what only looks like a buffer', async () => {
+  const foreign = (code) => vm.runInNewContext(`const bytes = Uint8Array.of(97, 98, 99); ${code}`);
+  const shared = 'const all = new SharedArrayBuffer(3); new Uint8Array(all).set(bytes); all';
+  const views = ['bytes', 'bytes.buffer', shared, 'new DataView(bytes.buffer)', 'new Uint8Array(bytes)'];
+  const key = { key: 'abc' };
+  for (const data of views.map(foreign)) {
+    assert.ok(!(data instanceof Uint8Array || data instanceof ArrayBuffer || data instanceof SharedArrayBuffer));
+    assert.equal(hash('sha256', data), hash('sha256', 'abc'));
+    assert.equal(await hashOf('sha256', data), hash('sha256', 'abc'));
+    assert.equal(await hashOf('sha256', [data, data]), hash('sha256', 'abcabc'));
+    assert.equal(hash('blake2b', '', { key: data }), hash('blake2b', '', key));
+    assert.deepEqual(deriveKey(data, data), deriveKey('abc', 'abc'));
+    assert.deepEqual(hkdfSync('sha256', data, data, data, 50), crypto.hkdfSync('sha256', data, data, data, 50));
+    assert.equal(createHmac('sha256', data).digest('hex'), crypto.createHmac('sha256', data).digest('hex'));
+  }
+  const gone = foreign('bytes.buffer');
+  structuredClone(gone, { transfer: [gone] });
+  refuses(TypeError, () => hash('sha256', gone));
+  const likes = [
+    new Proxy(new ArrayBuffer(3), {}), Object.create(ArrayBuffer.prototype), { byteLength: 3, slice() {} },
+    foreign('Object.create(SharedArrayBuffer.prototype)'), foreign('[97]'),
+  ];
+  for (const like of likes) refuses(TypeError, () => hash('sha256', like));
 });
 
 test('code that runs in the middle', () => {
@@ -265,6 +336,62 @@ test('a source that fails, and one that gives no bytes', async () => {
     await assert.rejects(hashOf('sha256', source), TypeError);
   }
   await assert.rejects(hashOf('md5', 'abc'), TypeError);
+});
+
+/** A stream of Node with this encoding, of bytes in two pieces. */
+function decoding(encoding, ...bytes) {
+  const stream = Readable.from([Buffer.from(bytes.slice(0, 2)), Buffer.from(bytes.slice(2))], { objectMode: false });
+  return encoding ? stream.setEncoding(encoding) : stream;
+}
+
+test('a stream that decodes its bytes gives their digest, or it is refused', async () => {
+  const euro = [0x61, 0xe2, 0x82, 0xac, 0xf0, 0x9f, 0x98, 0x80];
+  const wanted = hash('sha256', Uint8Array.from(euro));
+  for (const encoding of [undefined, 'utf8', 'UTF-8']) {
+    assert.equal(await hashOf('sha256', decoding(encoding, ...euro)), wanted);
+  }
+  for (const encoding of ['latin1', 'binary', 'ascii', 'utf16le', 'ucs2', 'hex', 'base64']) {
+    const stream = decoding(encoding, ...euro);
+    await assert.rejects(hashOf('sha256', stream), { name: 'TypeError', message: /decoded as .*without an encoding/ });
+    assert.ok(stream.destroyed);
+  }
+  for (const bytes of [[0x61, 0xff, 0x61], [0x61, 0x61, 0xe2, 0x82], [0xef, 0xbf, 0xbd], [0xed, 0xa0, 0x80]]) {
+    await assert.rejects(hashOf('sha256', decoding('utf8', ...bytes)), /decoded as utf8/);
+  }
+  // as streams of older packages keep it
+  const older = { _readableState: { encoding: 'latin1' }, [Symbol.asyncIterator]: async function* () { yield 'ä'; } };
+  await assert.rejects(hashOf('sha256', older), /decoded as latin1/);
+  assert.equal(await hashOf('sha256', Readable.from(['ä', '\ufffd'])), hash('sha256', 'ä\ufffd'));
+  assert.equal(await hashOf('sha256', new Blob(['\ufeffä']).stream()), hash('sha256', '\ufeffä'));
+  const text = () => new Blob(['\ufeffä']).stream().pipeThrough(new TextDecoderStream());
+  await assert.rejects(hashOf('sha256', text()), { name: 'TypeError', message: /TextEncoderStream/ });
+  const encoded = text().pipeThrough(new TextEncoderStream());
+  assert.equal(await hashOf('sha256', encoded), hash('sha256', 'ä'));
+});
+
+const SOON = { timeout: 20000 };
+test('a stream whose end never comes does not hold up a refusal', SOON, async () => {
+  const never = () => new Promise(() => {});
+  const fails = () => Promise.reject(new Error('at the end'));
+  for (const cancel of [never, fails, () => { throw new Error('at the end'); }]) {
+    let isGiven = false;
+    const bad = new ReadableStream({
+      pull(controller) { controller.enqueue(3); },
+      cancel() { isGiven = true; return cancel(); },
+    });
+    await assert.rejects(hashOf('sha256', bad), { name: 'TypeError', message: /^the data must be/ });
+    assert.ok(isGiven && !bad.locked);
+  }
+  const faulty = new ReadableStream({ pull() { throw new Error('in the middle'); } });
+  await assert.rejects(hashOf('sha256', faulty), /in the middle/);
+});
+
+test('Blobs of another realm, and what only looks like one', async () => {
+  const blob = new Blob(['abc']);
+  const foreign = { size: 3, slice: (from, to) => blob.slice(from, to), arrayBuffer: () => blob.arrayBuffer() };
+  assert.equal(await hashOf('sha256', foreign), hash('sha256', 'abc'));
+  await assert.rejects(hashOf('sha256', { ...foreign, size: 4 }), /has changed/);
+  for (const size of [undefined, NaN, -1, 'x']) await assert.rejects(hashOf('sha256', { ...foreign, size }), TypeError);
 });
 
 test('a module of its own, in a worker too', async () => {

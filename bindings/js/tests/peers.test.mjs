@@ -4,7 +4,7 @@ import assert from 'node:assert/strict';
 import crypto from 'node:crypto';
 import { Readable } from 'node:stream';
 import test from 'node:test';
-import { createHash, createHmac, getHashes, hash, hashOf, hashPieces, hkdfSync, toHex } from '../node.js';
+import { createHash, createHmac, deriveKey, getHashes, hash, hashOf, hashPieces, hkdfSync, toHex } from '../node.js';
 
 const THEIRS = { sha256: 'sha256', sha512: 'sha512', blake2b: 'blake2b512', blake2s: 'blake2s256' };
 const theirs = (name, data) => crypto.createHash(THEIRS[name]).update(data).digest('hex');
@@ -57,6 +57,69 @@ test('HKDF', () => {
     const ours = hkdfSync(name, ...words);
     assert.ok(ours instanceof ArrayBuffer);
     assert.deepEqual(Buffer.from(ours), Buffer.from(crypto.hkdfSync(THEIRS[name], ...words)));
+  }
+});
+
+/** Names that node:crypto takes, beside those of getHashes. */
+const SPELLINGS = [
+  'SHA256', 'Sha256', 'SHA-256', 'sha-256', 'SHA2-256', 'sha2-256', 'SHA512', 'SHA-512', 'sha2-512',
+  'BLAKE2b512', 'BLAKE2B-512', 'blake2b-512', 'BLAKE2s256', 'BLAKE2S-256', 'blake2s-256',
+];
+
+test('names in the spellings that node:crypto takes', () => {
+  for (const name of SPELLINGS) {
+    assert.equal(hash(name, 'abc'), crypto.createHash(name).update('abc').digest('hex'));
+    assert.equal(createHmac(name, 'k').digest('hex'), crypto.createHmac(name, 'k').digest('hex'));
+    assert.deepEqual(hkdfSync(name, 'm', 's', 'i', 40), crypto.hkdfSync(name, 'm', 's', 'i', 40));
+  }
+  for (const name of ['BLAKE2b', 'BLAKE2s', 'BLAKE3']) assert.equal(hash(name, 'x'), hash(name.toLowerCase(), 'x'));
+  assert.equal(toHex(hashPieces('SHA-256', 'abc', 2)), toHex(hashPieces('sha256', 'abc', 2)));
+  assert.deepEqual(getHashes(), ['sha256', 'sha512', 'blake2b', 'blake2s', 'blake3']);
+});
+
+test('copies, with the length of a digest', () => {
+  const message = createHash('blake3').update('abc');
+  const long = message.copy({ outputLength: 64 });
+  assert.equal(long.digest('hex'), hash('blake3', 'abc', { outputLength: 64 }));
+  const short = message.copy({ outputLength: 5 });
+  for (const options of [undefined, null, {}, { outputLength: undefined }]) {
+    assert.equal(short.copy(options).digest('hex'), hash('blake3', 'abc', { outputLength: 5 }));
+  }
+  assert.equal(message.digest('hex'), hash('blake3', 'abc'));
+  for (const [name, length] of [['sha256', 32], ['sha512', 64], ['blake2b512', 64], ['blake2s256', 32]]) {
+    for (const outputLength of [length, length - 1, length + 1, 0]) {
+      const [ours, other] = [createHash(name), crypto.createHash(name)].map((it) => it.update('abc'));
+      if (outputLength === length) {
+        assert.equal(ours.copy({ outputLength }).digest('hex'), other.copy({ outputLength }).digest('hex'));
+      } else {
+        assert.throws(() => other.copy({ outputLength }));
+        assert.throws(() => ours.copy({ outputLength }), RangeError);
+      }
+    }
+  }
+  const shorter = createHash('blake2b', { outputLength: 20 }).update('a');
+  assert.equal(shorter.copy({ outputLength: 20 }).digest('hex'), shorter.digest('hex'));
+  const tag = createHmac('sha256', 'k', { outputLength: 16 }).update('abc');
+  const whole = crypto.createHmac('sha256', 'k').update('abc').digest('hex');
+  assert.equal(tag.copy({ outputLength: 32 }).digest('hex'), whole);
+  assert.equal(tag.copy().digest('hex'), whole.slice(0, 32));
+});
+
+test('bytes that print as text, as a Buffer does', () => {
+  const all = [
+    createHash('sha256').digest(), createHmac('sha512', 'k').digest('buffer'), hash('blake2b', 'x', 'buffer'),
+    createHash('blake3').output(100, 7), deriveKey('c', 'm'), hashPieces('sha256', 'abc', 2),
+  ];
+  for (const bytes of all) {
+    const buffer = Buffer.from(bytes);
+    for (const encoding of ['hex', 'base64', 'base64url']) {
+      assert.equal(bytes.toString(encoding), buffer.toString(encoding));
+    }
+    assert.equal(Object.getPrototypeOf(bytes), Uint8Array.prototype);
+    assert.deepEqual(Object.keys(bytes), Object.keys(Uint8Array.from(bytes)));
+    assert.deepStrictEqual(bytes, Uint8Array.from(bytes));
+    assert.equal(`${bytes}`, [...bytes].join(','));
+    for (const encoding of ['buffer', 'latin1', null, 3]) assert.throws(() => bytes.toString(encoding), TypeError);
   }
 });
 
