@@ -32,7 +32,8 @@ export async function* piecesOfBlob(blob) {
 }
 
 // Nobody knows which bytes the text was decoded from.
-const TEXT_OF_WEB = 'a stream of the web gives bytes, and no text: pipe it through a TextEncoderStream';
+const TEXT_OF_WEB = 'the stream gives text, and not its bytes: take it before it is decoded, and text of your own ' +
+  'through a TextEncoderStream';
 
 async function* piecesOfStream(stream) {
   const reader = stream.getReader();
