@@ -1,5 +1,5 @@
 -- How long the lines of lists are, and which algorithm a number and a length name.
-use Rattle.sumlist.proofs.Common.{◌≡◌, ◌+◌, ◌∙◌, Bool, None, Option, Some, ap, arith, digest_len, false, length}
+use Rattle.sumlist.proofs.Common.{◌≡◌, ◌∙◌, Bool, ap, arith, digest_len, false, length}
 use Rattle.sumlist.proofs.Common.{length-append, length-encode_with, lower_digits, refl, sym, true, ℕ}
 use Rattle.std.specs.Prelude.{◌==◌, if◌then◌else◌}
 use Rattle.source.specs.declared.alg.Alg.{Alg}

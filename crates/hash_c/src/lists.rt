@@ -1,10 +1,10 @@
 // Lists of digests as they are read, in pieces of any size. The state lies in the caller's memory.
 
-ghost use Rattle.std.specs.Prelude.{◌≡◌, ◌≢◌, ◌-◌, ◌<◌, ◌^◌, ◌↔◌, [], ℕ, List, Option};
+ghost use Rattle.std.specs.Prelude.{◌≡◌, ◌≢◌, ◌+◌, ◌-◌, ◌<◌, ◌^◌, ◌↔◌, [], ℕ, List, Option};
 ghost use Rattle.sumlist.specs.declared.kind.Kind.{Kind};
 ghost use Rattle.listing.specs.Numbers.{number_of};
 ghost use Rattle.listing.specs.Read.{EndsLine, IsBegun, ReadsPiece};
-ghost use Rattle.listing.specs.inside.State.{ListHolds};
+ghost use Rattle.listing.specs.inside.State.{HoldsAfter, ListHolds};
 ghost use Rattle.listing.specs.declared.line.TheConstants.{LINE_NONE};
 ghost use Rattle.hash_c.specs.declared.statuses.TheConstants.{SUMS_INPUT_TOO_LONG, SUMS_NOT_BEGUN};
 ghost use Rattle.hash_c.specs.declared.statuses.TheConstants.{SUMS_NO_HASH, SUMS_OK};
@@ -34,7 +34,9 @@ pub extern "C" fn sums_list_init(state: &mut ListState, hash: u32) -> u32
 #[unsafe(no_mangle)]
 pub extern "C" fn sums_list_read(state: &mut ListState, line: &mut ListLine, piece: &[u8]) -> u32
     ensures read { (kind : Option Kind) (n : ℕ) (begun : List ℕ) → ListHolds state.old kind n begun
-        → result ≡ SUMS_OK → ReadsPiece kind n begun piece.now state.new line.new }
+        → result ≡ SUMS_OK → ReadsPiece kind n begun piece.now line.new }
+    ensures held { (kind : Option Kind) (n : ℕ) (begun : List ℕ) → ListHolds state.old kind n begun
+        → result ≡ SUMS_OK → HoldsAfter state.new kind n begun piece.now line.new }
     ensures not_begun { (result ≡ SUMS_NOT_BEGUN) ↔ (IsBegun state.old → ⊥) }
     ensures too_long { (result ≡ SUMS_INPUT_TOO_LONG) ↔ (IsBegun state.old × (state.old.lines ≡ 2 ^ 64 - 1)) }
     ensures kept { result ≢ SUMS_OK → (state.new ≡ state.old) × (line.new ≡ line.old) }
@@ -52,7 +54,7 @@ pub extern "C" fn sums_list_end(state: &mut ListState, line: &mut ListLine) -> u
     ensures none { (kind : Option Kind) (n : ℕ) → ListHolds state.old kind n [] → result ≡ SUMS_OK
         → (line.new.kind ≡ LINE_NONE) × ListHolds state.new kind n [] }
     ensures last { (kind : Option Kind) (n : ℕ) (begun : List ℕ) → ListHolds state.old kind n begun
-        → begun ≢ [] → result ≡ SUMS_OK → EndsLine kind n begun state.new line.new }
+        → begun ≢ [] → result ≡ SUMS_OK → EndsLine kind n begun line.new × ListHolds state.new kind (n + 1) [] }
     ensures not_begun { (result ≡ SUMS_NOT_BEGUN) ↔ (IsBegun state.old → ⊥) }
     ensures too_long { (result ≡ SUMS_INPUT_TOO_LONG) ↔ (IsBegun state.old × (state.old.lines ≡ 2 ^ 64 - 1)) }
     ensures kept { result ≢ SUMS_OK → (state.new ≡ state.old) × (line.new ≡ line.old) }

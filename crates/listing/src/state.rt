@@ -7,7 +7,7 @@ ghost use Rattle.sumlist.specs.inside.Held.{held_after};
 ghost use Rattle.listing.specs.Numbers.{number_of};
 ghost use Rattle.listing.specs.Line.{Means};
 ghost use Rattle.listing.specs.Read.{EndsLine, IsBegun, ReadsPiece};
-ghost use Rattle.listing.specs.inside.State.{ListHolds, held};
+ghost use Rattle.listing.specs.inside.State.{HoldsAfter, ListHolds, held};
 ghost use Rattle.sumlist.specs.declared.kind.Kind.{Kind};
 
 use crate::line::{LINE_MALFORMED, LINE_NONE, ListLine, read_line};
@@ -74,7 +74,9 @@ impl ListState {
     /// has no LF, and then no line has ended.
     pub fn read(&mut self, piece: &[u8], line: &mut ListLine) -> Result<(), ListFault>
         ensures read { OnOk result ((k : Option Kind) (n : ℕ) (b : List ℕ) → ListHolds self.old k n b
-            → ReadsPiece k n b piece.now self.new line.new) }
+            → ReadsPiece k n b piece.now line.new) }
+        ensures held { OnOk result ((k : Option Kind) (n : ℕ) (b : List ℕ) → ListHolds self.old k n b
+            → HoldsAfter self.new k n b piece.now line.new) }
         ensures not_begun { IsErrOf result ListFault.NotBegun ↔ (IsBegun self.old → ⊥) }
         ensures too_long { IsErrOf result ListFault.TooLong
             ↔ (IsBegun self.old × (self.old.lines ≡ 2 ^ 64 - 1)) }
@@ -97,13 +99,15 @@ impl ListState {
         Ok(())
     }
 
-    /// Means what the last line says, where no LF ended it, or that there is none. A list that goes on then begins with
-    /// a line of its own.
+    /// Ends the list: reads the last line, if no LF ended it. A list that goes on after that begins with a line of its
+    /// own.
     pub fn end(&mut self, line: &mut ListLine) -> Result<(), ListFault>
         ensures none { OnOk result ((k : Option Kind) (n : ℕ) → ListHolds self.old k n []
             → (line.new.kind ≡ LINE_NONE) × ListHolds self.new k n []) }
         ensures line { OnOk result ((k : Option Kind) (n : ℕ) (b : List ℕ) → ListHolds self.old k n b → b ≢ []
-            → EndsLine k n b self.new line.new) }
+            → EndsLine k n b line.new) }
+        ensures next { OnOk result ((k : Option Kind) (n : ℕ) (b : List ℕ) → ListHolds self.old k n b → b ≢ []
+            → ListHolds self.new k (n + 1) []) }
         ensures not_begun { IsErrOf result ListFault.NotBegun ↔ (IsBegun self.old → ⊥) }
         ensures too_long { IsErrOf result ListFault.TooLong
             ↔ (IsBegun self.old × (self.old.lines ≡ 2 ^ 64 - 1)) }
@@ -124,12 +128,14 @@ impl ListState {
         Ok(())
     }
 
-    // Means what the line says that ends behind these bytes.
+    // Ends the line that has begun with these bytes, and reads it.
     fn end_line(&mut self, front: &[u8], line: &mut ListLine)
         requires begun { IsBegun self.old }
         requires few { self.old.lines < 2 ^ 64 - 1 }
         ensures ended { (k : Option Kind) (n : ℕ) (b : List ℕ) → ListHolds self.old k n b
-            → EndsLine k n (b ++ front.now) self.new line.new }
+            → EndsLine k n (b ++ front.now) line.new }
+        ensures next { (k : Option Kind) (n : ℕ) (b : List ℕ) → ListHolds self.old k n b
+            → ListHolds self.new k (n + 1) [] }
         ensures taken { line.new.taken ≡ line.old.taken }
     {
         self.read_with(front, line);
@@ -138,7 +144,7 @@ impl ListState {
         line.number = self.lines;
     }
 
-    // Means what the line says that these bytes end.
+    // Reads the line that these bytes end.
     fn read_with(&mut self, front: &[u8], line: &mut ListLine)
         requires { IsBegun self.old }
         ensures means { (k : Option Kind) (b : List ℕ) → self.old.mark ≡ 1 + number_of k → IsKept (held self.old) b
@@ -154,7 +160,7 @@ impl ListState {
         }
     }
 
-    // Means what the line says whose bytes are kept.
+    // Reads the line whose bytes are held.
     fn read_held(&self, line: &mut ListLine)
         requires { IsBegun self.now }
         ensures means { (k : Option Kind) (b : List ℕ) → self.now.mark ≡ 1 + number_of k → IsKept (held self.now) b

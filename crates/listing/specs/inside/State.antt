@@ -1,8 +1,10 @@
 -- What the numbers of a list hold of what was read.
-use Rattle.std.specs.Prelude.{◌≡◌, ℕ, ◌+◌, List, Contains, take, Option, Some, None, nat_le, if◌then◌else◌}
+use Rattle.std.specs.Prelude.{◌≡◌, ◌≢◌, ◌++◌, ℕ, ◌+◌, [], List, Contains, take, Option, Some, None, nat_le, if◌then◌else◌}
 use Rattle.sumlist.specs.Lines.{IsKept}
 use Rattle.sumlist.specs.declared.kind.Kind.{Kind}
 use Rattle.listing.specs.Numbers.{number_of}
+use Rattle.listing.specs.declared.line.ListLine.{ListLine}
+use Rattle.listing.specs.declared.line.TheConstants.{LINE_NONE}
 use Rattle.listing.specs.declared.state.ListState.{ListState}
 
 -- what is held of the line that has begun, unless it is longer than a line may be
@@ -15,3 +17,8 @@ pub record ListHolds (s : ListState) (kind : Option Kind) (n : ℕ) (begun : Lis
   pub lines : s.lines ≡ n
   pub held : IsKept (held s) begun
   pub free : Contains begun 10 → ⊥
+
+-- what a list holds after a piece of it: the piece too if no line has ended, and else nothing after one line more
+pub record HoldsAfter (s : ListState) (kind : Option Kind) (n : ℕ) (begun piece : List ℕ) (l : ListLine) : Type 0 where
+  pub none : l.kind ≡ LINE_NONE → ListHolds s kind n (begun ++ piece)
+  pub line : l.kind ≢ LINE_NONE → ListHolds s kind (n + 1) []

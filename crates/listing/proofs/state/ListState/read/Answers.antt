@@ -18,3 +18,12 @@ returns-clause-read c = λ k n b holds.
         ended,
       );
     }
+
+pub returns-clause-held : goal.returns-clause-held
+returns-clause-held c = λ k n b holds.
+    let ended = c.end_line.ensures.ended k n b holds in
+    let least = ended.means.some.0 in
+    record {
+      none = λ is. absurd (omega (arith, least, is));
+      line = λ _. c.end_line.ensures.next k n b holds;
+    }
