@@ -1,12 +1,14 @@
 -- Lines of parts that are read one by one.
 use Rattle.std.proofs.Common.{◌≡◌, ◌∙◌, ℕ, ◌+◌, ◌-◌, ◌<◌, ◌≤◌, Bool, true, false, List, [], ◌∷◌, ◌++◌, length, take}
 use Rattle.std.proofs.Common.{drop}
-use Rattle.std.proofs.Common.{Option, Some, None, IfSome, Result, Ok, Err, MatchResult, refl, sym, ap, subst, arith}
-use Rattle.std.proofs.Common.{append_assoc, length-append, length-drop, eqb}
+use Rattle.std.proofs.Common.{Option, Some, None, IfSome, Result, Ok, Err, MatchResult, inl, inr, refl, sym, ap}
+use Rattle.std.proofs.Common.{subst, arith, append_assoc, length-append, length-drop, eqb}
 use Rattle.std.proofs.Math.Seq.{drop-append-add}
 use Rattle.std.proofs.lemmas.List.{drop-drop, length-take, nil_from_length}
 use Rattle.std.proofs.lemmas.List.Elements.{All-append}
+use Rattle.std.proofs.lemmas.Option.{IfSome_then}
 use Rattle.std.specs.Io.KnownBytes.{Consumes, IsAtEnd}
+use Rattle.std.specs.Prelude.{OnErr}
 use Rattle.b3.specs.declared.row.PartValue.{PartValue}
 use Rattle.sumlist.specs.Lines.{lines}
 use Rattle.sumlist.specs.inside.Cut.{HasNo}
@@ -20,7 +22,7 @@ use Rattle.partlist.specs.declared.joining.Joiner.{Joiner}
 use Rattle.partlist.specs.declared.reader.Found.{Found}
 use Rattle.partlist.specs.declared.reader.Found.TheVariants as found
 use Rattle.partlist.specs.inside.Joiner.{HasJoined, joined_count}
-use Rattle.partlist.specs.inside.Reader.{IsAhead, IsFound, JoinsNext, TakesLine}
+use Rattle.partlist.specs.inside.Reader.{IsAhead, IsBegun, IsFound, JoinsNext, Leaves, TakesLine}
 use Rattle.partlist.proofs.Reading.{first_line, line-length}
 
 -- what is ahead behind a line
@@ -128,15 +130,15 @@ module _ (known now after : Option (List ℕ)) (whole old new held items : List 
   -- the line is longer than any part's
   pub reads_long : (E : Type 0) (fault : E)
       → (let r : Result Bool E = Err fault in TakesLine held old items new r) → HasNo 10 held
-      → Reads known whole now old held → (line : List ℕ) (end : List ℕ)
+      → Reads known whole now old held → (line : List ℕ)
       → IfSome known (λ bytes. (left : List ℕ) × (now ≡ Some left)
-      × IsFound found.Long line (whole ++ bytes) (end ++ left))
-  reads_long E fault (front, more, free, split, long) clean so line end = on known so
+      × IsFound found.Long line (whole ++ bytes) (old ++ left))
+  reads_long E fault (front, more, free, split, long) clean so line = on known so
     where
       on : (known : Option (List ℕ)) → IfSome known (λ bytes. (left : List ℕ) × (now ≡ Some left)
           × (whole ++ bytes ≡ held ++ (old ++ left)))
-          → IfSome known (λ bytes. (left : List ℕ) × (now ≡ Some left) × ((l : List ℕ) × (rest : List (List ℕ))
-          × (lines (whole ++ bytes) ≡ l ∷ rest) × (256 < length l)))
+          → IfSome known (λ bytes. (left : List ℕ) × (now ≡ Some left)
+          × IsFound found.Long line (whole ++ bytes) (old ++ left))
       on None so = tt
       on (Some bytes) so =
           let left = so.0 in
@@ -150,8 +152,23 @@ module _ (known now after : Option (List ℕ)) (whole old new held items : List 
           let more_size = length-append (held ++ front) first.0 in (
             left,
             so.1,
-            ((held ++ front) ++ first.0, first.1, ap lines all ∙ first.2, omega (arith, size, long, more_size)),
+            (
+              ((held ++ front) ++ first.0, first.1, ap lines all ∙ first.2, omega (arith, size, long, more_size)),
+              (held, clean, so.2),
+            ),
           )
+
+pub on_err : {T E P : Type 0} (r : Result T E) → P → OnErr r P
+on_err (Ok value) p = tt
+on_err (Err fault) p = p
+
+-- a read failed, where nothing was ahead
+pub reads_failed : (known now after : Option (List ℕ)) (whole old held : List ℕ) → Reads known whole now old held
+    → HasNo 10 held → old ≡ [] → after ≡ now
+    → IfSome known (λ bytes. (left : List ℕ) × (after ≡ Some left) × IsBegun (whole ++ bytes) left)
+reads_failed None now after whole old held so clean none same = tt
+reads_failed (Some bytes) now after whole old held so clean none same =
+    (so.0, same ∙ so.1, (held, clean, so.2 ∙ ap (λ (l : List ℕ). held ++ (l ++ so.0)) none))
 
 -- the line that was held at the end
 pub last_line : (line : List ℕ) → 0 < length line → HasNo 10 line → lines line ≡ line ∷ lines []
@@ -161,7 +178,7 @@ last_line line some free = lines-last line some free
 
 -- the number of the next line is that of the parts before it, and one
 next_number : (joiner : Joiner) (parts : List PartValue) (number : ℕ) → HasJoined joiner parts
-    → number ≡ joined_count joiner - 0 + 1 → number ≡ length parts + 1
+    → number ≡ joined_count joiner + 1 → number ≡ length parts + 1
 next_number joiner parts number joined is = let size = joined.size in omega (arith, size, is)
 
 module _ (known after : Option (List ℕ)) (old new : Joiner) (before behind line : List ℕ) where
@@ -189,17 +206,17 @@ module _ (known after : Option (List ℕ)) (old new : Joiner) (before behind lin
         λ parts joined. (finds.2.0, subst (λ (j : Joiner). HasJoined j parts) (sym same) joined),
       )
 
-  pub joins_long : (f : JoinFault) → f ≡ Line (joined_count old - 0 + 1) NotAPart → Finds found.Long → Joins (Err f)
+  pub joins_long : (f : JoinFault) → f ≡ Line (joined_count old + 1) NotAPart → Finds found.Long → Joins (Err f)
   joins_long f is finds = on known finds
     where
       on : (known : Option (List ℕ)) → IfSome known (λ bytes. (left : List ℕ) × (after ≡ Some left)
-          × ((l : List ℕ) × (rest : List (List ℕ)) × (lines (before ++ bytes) ≡ l ∷ rest) × (256 < length l)))
+          × IsFound found.Long line (before ++ bytes) (behind ++ left))
           → IfSome known (λ bytes. (left : List ℕ) × (after ≡ Some left) × ((parts : List PartValue)
           → HasJoined old parts
           → (let r : Result (Option PartValue) JoinFault = Err f in
           JoinsNext (before ++ bytes) parts new (behind ++ left) r)))
       on None finds = tt
-      on (Some bytes) (left, at, (l, rest, cut, long)) = (
+      on (Some bytes) (left, at, ((l, rest, cut, long), begun)) = (
         left,
         at,
         λ parts joined. rw is (
@@ -229,7 +246,7 @@ module _ (known after : Option (List ℕ)) (old new : Joiner) (before behind lin
       on (Some bytes) (left, at, cut) =
           (left, at, λ parts joined. let added = adds parts joined in (line, cut, added.0, added.1))
 
-  pub joins_wrong : (f : JoinFault) (fault : PartFault) → f ≡ Line (joined_count new - 0 + 1) fault → new ≡ old
+  pub joins_wrong : (f : JoinFault) (fault : PartFault) → f ≡ Line (joined_count new + 1) fault → new ≡ old
       → Finds found.Line → Adds (Err fault) → Joins (Err f)
   joins_wrong f fault is same finds adds = on known finds
     where
@@ -251,3 +268,19 @@ module _ (known after : Option (List ℕ)) (old new : Joiner) (before behind lin
           adds parts joined,
         ),
       )
+
+  -- what is left behind it
+  abbrev pub LeftBy : Result (Option PartValue) JoinFault → Type 0
+  LeftBy r = IfSome known (λ bytes. (left : List ℕ) × (after ≡ Some left) × Leaves (before ++ bytes) behind left r)
+
+  pub left_end : Finds found.End → LeftBy (Ok None)
+  left_end finds = IfSome_then known finds (λ bytes f. (f.0, f.1, f.2.1))
+
+  pub left_line : (part : PartValue) → Finds found.Line → LeftBy (Ok (Some part))
+  left_line part finds = IfSome_then known finds (λ bytes f. (f.0, f.1, tt))
+
+  pub left_wrong : (number : ℕ) (fault : PartFault) → Finds found.Line → LeftBy (Err (Line number fault))
+  left_wrong number fault finds = IfSome_then known finds (λ bytes f. (f.0, f.1, inl (line, f.2)))
+
+  pub left_long : (number : ℕ) (fault : PartFault) → Finds found.Long → LeftBy (Err (Line number fault))
+  left_long number fault finds = IfSome_then known finds (λ bytes f. (f.0, f.1, inr f.2.1))

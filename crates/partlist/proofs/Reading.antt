@@ -2,16 +2,15 @@
 use Rattle.std.proofs.Common.{◌≡◌, ◌≢◌, ℕ, ◌+◌, ◌-◌, ◌<◌, ◌≤◌, ◌^◌, false, List, [], ◌∷◌, ◌++◌, length, refl, sym}
 use Rattle.std.proofs.Common.{ap, ◌∙◌, subst}
 use Rattle.std.proofs.Common.{arith, inl, inr, append_assoc, append-nil, length-append, codes, eqb, Option, None}
-use Rattle.std.proofs.Common.{Some, Result, Ok, Err, MatchResult, OnErr, OnOk, IfSome}
+use Rattle.std.proofs.Common.{Some, Result, Ok, Err, IfSome}
 use Rattle.std.proofs.lemmas.Bool.{cases_eq}
 use Rattle.std.proofs.lemmas.Bool.Decides.{nat_tests}
 use Rattle.std.proofs.lemmas.Fmt.{length-decimal-le}
-use Rattle.std.proofs.lemmas.List.Elements.{All-append, All-nil, All-push}
+use Rattle.std.proofs.lemmas.List.Elements.{All-push}
 use Rattle.std.proofs.lemmas.Option.{IfSome_then}
-use Rattle.std.proofs.lemmas.Result.{MatchResult-weaker}
 use Rattle.std.proofs.KnownBytes.{Consumes-trans}
 use Rattle.std.specs.Fmt.{decimal}
-use Rattle.std.specs.Io.KnownBytes.{Consumes, IsAtEnd}
+use Rattle.std.specs.Io.KnownBytes.{Consumes}
 use Rattle.hex.specs.Hex.{encode_lower, lower_digits}
 use Rattle.hex.proofs.HexLemmas.{length-encode_with}
 use Rattle.b3.specs.declared.row.PartValue.{PartValue}
@@ -20,12 +19,14 @@ use Rattle.source.specs.Pumped.{Gives}
 use Rattle.sumlist.specs.Lines.{lines}
 use Rattle.sumlist.specs.inside.Cut.{HasNo}
 use Rattle.sumlist.proofs.Cutting.{lines-ended, lines-last}
-use Rattle.partlist.specs.Joined.{AllTell, AreInRow, IsWrongBehind, StopsAt, TellsPart}
+use Rattle.partlist.specs.Joined.{AllTell, AreInRow, StopsAt, TellsPart}
 use Rattle.partlist.specs.declared.fault.PartFault.{PartFault}
-use Rattle.partlist.specs.declared.fault.PartFault.TheVariants.{NotAPart}
+use Rattle.partlist.specs.declared.fault.JoinFault.{JoinFault}
+use Rattle.partlist.specs.declared.fault.JoinFault.TheVariants.{Line, Read}
 use Rattle.partlist.specs.declared.joining.Joiner.{Joiner}
 use Rattle.partlist.specs.inside.Few.{most_parts}
-use Rattle.partlist.specs.inside.Joiner.{Halts, HasJoined, JoinedBefore, MayBeRowOf, Partway, joined_count}
+use Rattle.partlist.specs.inside.Joiner.{HasJoined, LeavesJoined, MayBeRowOf, Partway, joined_count}
+use Rattle.partlist.specs.inside.Reader.{JoinsNext, Leaves}
 use Rattle.partlist.proofs.Parsing.{first_fits, len_fits}
 
 -- ---- lines
@@ -93,145 +94,7 @@ pub row-is : (row : Option Row) (parts : List PartValue) → MayBeRowOf row part
 row-is None parts none = subst AreInRow (sym none) tt
 row-is (Some row) parts is = is.in_row
 
--- ---- from one moment to the next
-
-pub Partway-start : (whole : List ℕ) (parts : List PartValue) (joiner : Joiner) → HasJoined joiner parts
-    → Partway whole parts joiner [] whole
-Partway-start whole parts joiner joined = record {
-  before = [];
-  told = [];
-  split = refl;
-  tells = tt;
-  joined = subst (HasJoined joiner) (sym (append-nil parts)) joined;
-  no_end = All-nil (λ x. eqb x 10 ≡ false);
-}
-
--- more bytes of the line came
-pub Partway-more : (whole xs more : List ℕ) (parts : List PartValue) (joiner : Joiner) (front : List ℕ)
-    → HasNo 10 xs → Partway whole parts joiner front (xs ++ more) → Partway whole parts joiner (front ++ xs) more
-Partway-more whole xs more parts joiner front free p = record {
-  before = p.before;
-  told = p.told;
-  split = p.split ∙ ap (λ l. p.before ++ lines l) (sym (append_assoc front xs more));
-  tells = p.tells;
-  joined = p.joined;
-  no_end = All-append (λ x. eqb x 10 ≡ false) front xs p.no_end free;
-}
-
--- a line that is longer than any part's
-Partway-long : (whole more : List ℕ) (parts : List PartValue) (joiner : Joiner) (front : List ℕ)
-    → 256 < length front → Partway whole parts joiner front more → Halts whole parts joiner NotAPart
-Partway-long whole more parts joiner front long p =
-    let first = first_line front more p.no_end (omega (arith, long)) in
-    let all = length-append front first.0 in
-    record {
-      before = p.before;
-      line = front ++ first.0;
-      after = first.1;
-      told = p.told;
-      split = p.split ∙ ap (λ ls. p.before ++ ls) first.2;
-      tells = p.tells;
-      joined = p.joined;
-      wrong = λ part tells. let short = line-length (front ++ first.0) part tells in
-          absurd (omega (arith, short, all, long));
-    }
-
--- bytes of the line were held too, or it is too long
-pub Partway-held : (r : Result (Unit {0}) PartFault) (whole xs more : List ℕ) (parts : List PartValue) (joiner : Joiner)
-    (front items : List ℕ) → HasNo 10 xs → OnOk r ((items ≡ front ++ xs) × (length items ≡ length front + length xs))
-    → MatchResult r (λ _. length front + length xs ≤ 256)
-    (λ fault. (fault ≡ NotAPart) × (256 < length front + length xs))
-    → Partway whole parts joiner front (xs ++ more)
-    → MatchResult r (λ _. Partway whole parts joiner items more) (λ fault. Halts whole parts joiner fault)
-Partway-held (Ok x) whole xs more parts joiner front items free held fits p =
-    rw held.0 (Partway-more whole xs more parts joiner front free p)
-Partway-held (Err fault) whole xs more parts joiner front items free held far p =
-    let size = length-append front xs in
-    rw far.0 (Partway-long whole more parts joiner (front ++ xs) (omega (arith, size, far.1))
-    (Partway-more whole xs more parts joiner front free p))
-
--- the line that is held ends: its part is joined, or it is wrong
-pub Partway-line : (r : Result (Unit {0}) PartFault) (whole rest : List ℕ) (parts : List PartValue) (old new : Joiner)
-    (front more : List ℕ) → Partway whole parts old front rest → lines (front ++ rest) ≡ front ∷ lines more
-    → ((all : List PartValue) → HasJoined old all → MatchResult r
-    (λ _. (part : PartValue) × TellsPart front part × HasJoined new (all ++ part ∷ []))
-    (λ fault. IsWrongBehind all front fault))
-    → OnErr r (new ≡ old)
-    → MatchResult r (λ _. Partway whole parts new [] more) (λ fault. Halts whole parts new fault)
-Partway-line (Ok x) whole rest parts old new front more p cut joins kept =
-    let part = joins (parts ++ p.told) p.joined in
-    record {
-      before = p.before ++ front ∷ [];
-      told = p.told ++ part.0 ∷ [];
-      split = p.split ∙ ap (λ ls. p.before ++ ls) cut ∙ sym (append_assoc p.before (front ∷ []) (lines more));
-      tells = AllTell-more p.before p.told front part.0 p.tells part.1;
-      joined = subst (HasJoined new) (append_assoc parts p.told (part.0 ∷ [])) part.2;
-      no_end = All-nil (λ x. eqb x 10 ≡ false);
-    }
-Partway-line (Err fault) whole rest parts old new front more p cut wrong kept = record {
-  before = p.before;
-  line = front;
-  after = lines more;
-  told = p.told;
-  split = p.split ∙ ap (λ ls. p.before ++ ls) cut;
-  tells = p.tells;
-  joined = subst (λ j. HasJoined j (parts ++ p.told)) (sym kept) p.joined;
-  wrong = wrong (parts ++ p.told) p.joined;
-}
-
--- at the end of the text nothing is held
-pub Partway-end : (whole : List ℕ) (parts : List PartValue) (joiner : Joiner) → Partway whole parts joiner [] []
-    → (more : List PartValue) × AllTell (lines whole) more × HasJoined joiner (parts ++ more)
-Partway-end whole parts joiner p =
-    (p.told, subst (λ ls. AllTell ls p.told) (sym (p.split ∙ append-nil p.before)) p.tells, p.joined)
-
--- so it is where a last line without LF was held
-pub Partway-last : (r : Result (Unit {0}) PartFault) (whole : List ℕ) (parts : List PartValue) (old new : Joiner)
-    (front : List ℕ) → 0 < length front → Partway whole parts old front []
-    → ((all : List PartValue) → HasJoined old all → MatchResult r
-    (λ _. (part : PartValue) × TellsPart front part × HasJoined new (all ++ part ∷ []))
-    (λ fault. IsWrongBehind all front fault))
-    → OnErr r (new ≡ old)
-    → MatchResult r (λ _. (more : List PartValue) × AllTell (lines whole) more × HasJoined new (parts ++ more))
-    (λ fault. Halts whole parts new fault)
-Partway-last r whole parts old new front some p joins kept =
-    let cut = ap lines (append-nil front) ∙ lines-last front some p.no_end in
-    MatchResult-weaker r (Partway-line r whole [] parts old new front [] p cut joins kept)
-    (λ _ h. Partway-end whole parts new h) (λ _ h. h)
-
--- the line of this number can't be joined
-module _ (text : List ℕ) (parts : List PartValue) (old joiner : Joiner) (fault : PartFault) (number : ℕ)
-    (joined : HasJoined old parts) (halts : Halts text parts joiner fault)
-    (is : number ≡ joined_count joiner - joined_count old + 1) where
-  halts-place : number ≡ length halts.before + 1
-  halts-place =
-      let told = length-append parts halts.told in
-      let same = AllTell-length halts.before halts.told halts.tells in
-      omega (arith, is, told, same, joined.size, halts.joined.size)
-
-  pub Halts-at : StopsAt text parts number fault
-  Halts-at = (
-    halts.before,
-    halts.line,
-    halts.after,
-    halts.told,
-    halts.split,
-    halts-place,
-    halts.tells,
-    row-is joiner.row (parts ++ halts.told) halts.joined.row,
-    halts.wrong,
-  )
-
-  pub Halts-before : JoinedBefore text parts joiner number
-  Halts-before = record {
-    before = halts.before;
-    after = halts.line ∷ halts.after;
-    told = halts.told;
-    split = halts.split;
-    place = halts-place;
-    tells = halts.tells;
-    joined = halts.joined;
-  }
+-- ---- from one line to the next
 
 -- some of the bytes to come were given, and then more
 pub Gives-more : (a b c : Option (List ℕ)) (piece : List ℕ) → Gives a b → Consumes b c piece → Gives a c
@@ -239,49 +102,99 @@ Gives-more a b c piece gave given = (gave.0 ++ piece, Consumes-trans a b c gave.
 
 -- what was read of a text was joined, and the rest is to come
 abbrev pub Coming : Option (List ℕ) → Option (List ℕ) → Joiner → Joiner → List ℕ → Type 0
-Coming whole rest old new front = IfSome whole (λ text. (more : List ℕ) × (rest ≡ Some more)
-    × ((parts : List PartValue) → HasJoined old parts → Partway text parts new front more))
+Coming known now start joiner ahead = IfSome known (λ text. (left : List ℕ) × (now ≡ Some left)
+    × ((parts : List PartValue) → HasJoined start parts → Partway text parts joiner (ahead ++ left)))
 
-pub Coming-start : (whole : Option (List ℕ)) (joiner : Joiner) → Coming whole whole joiner joiner []
+pub Coming-start : (known : Option (List ℕ)) (joiner : Joiner) → Coming known known joiner joiner []
 Coming-start None joiner = tt
-Coming-start (Some text) joiner = (text, refl, λ parts joined. Partway-start text parts joiner joined)
+Coming-start (Some text) joiner = (
+  text,
+  refl,
+  λ parts joined. record {
+    before = [];
+    told = [];
+    split = refl;
+    tells = tt;
+    joined = subst (HasJoined joiner) (sym (append-nil parts)) joined;
+  },
+)
 
--- a line of the text can't be joined
-abbrev pub Halting : Option (List ℕ) → Joiner → Joiner → PartFault → Type 0
-Halting whole old now fault =
-    IfSome whole (λ text. (parts : List PartValue) → HasJoined old parts → Halts text parts now fault)
+module _ (known now after : Option (List ℕ)) (start old new : Joiner) (before behind : List ℕ)
+    (coming : Coming known now start old before) where
+  -- what came of the next line
+  abbrev pub Next : Result (Option PartValue) JoinFault → Type 0
+  Next r = IfSome now (λ bytes. (left : List ℕ) × (after ≡ Some left) × ((parts : List PartValue)
+      → HasJoined old parts → JoinsNext (before ++ bytes) parts new (behind ++ left) r))
 
-pub Halting-at : (whole : Option (List ℕ)) (old now : Joiner) (fault : PartFault) → Halting whole old now fault
-    → IfSome whole (λ text. (parts : List PartValue) → HasJoined old parts
-    → StopsAt text parts (joined_count now - joined_count old + 1) fault)
-Halting-at whole old now fault halting = IfSome_then whole halting (λ text h parts joined.
-    Halts-at text parts old now fault _ joined (h parts joined) refl)
+  pub Coming-joined : (part : PartValue) → Next (Ok (Some part)) → Coming known after start new behind
+  Coming-joined part next = IfSome_then known coming (λ text h.
+      let n = rw h.1 at next in (
+        n.0,
+        n.1,
+        λ parts joined.
+            let p = h.2 parts joined in
+            let j = n.2 (parts ++ p.told) p.joined in
+            record {
+              before = p.before ++ j.0 ∷ [];
+              told = p.told ++ part ∷ [];
+              split = p.split ∙ ap (λ ls. p.before ++ ls) j.1
+                  ∙ sym (append_assoc p.before (j.0 ∷ []) (lines (behind ++ n.0)));
+              tells = AllTell-more p.before p.told j.0 part p.tells j.2;
+              joined = subst (HasJoined new) (append_assoc parts p.told (part ∷ [])) j.3;
+            },
+      ))
 
-pub Halting-before : (whole : Option (List ℕ)) (old now : Joiner) (fault : PartFault) → Halting whole old now fault
-    → IfSome whole (λ text. (parts : List PartValue) → HasJoined old parts
-    → JoinedBefore text parts now (joined_count now - joined_count old + 1))
-Halting-before whole old now fault halting = IfSome_then whole halting (λ text h parts joined.
-    Halts-before text parts old now fault _ joined (h parts joined) refl)
+  pub Coming-end : Next (Ok None) → IfSome known (λ text. (parts : List PartValue) → HasJoined start parts
+      → (more : List PartValue) × AllTell (lines text) more × HasJoined new (parts ++ more))
+  Coming-end next = IfSome_then known coming (λ text h parts joined.
+      let n = rw h.1 at next in
+      let p = h.2 parts joined in
+      let j = n.2 (parts ++ p.told) p.joined in
+      let all : lines text ≡ p.before = p.split ∙ ap (λ l. p.before ++ lines l) j.0 ∙ append-nil p.before in
+      (p.told, subst (λ ls. AllTell ls p.told) (sym all) p.tells, j.1))
 
--- what is yet to come of a text is the piece that is read, and then the rest
-coming_read : (rest after : Option (List ℕ)) (more piece : List ℕ) → rest ≡ Some more → Consumes rest after piece
-    → (left : List ℕ) × (after ≡ Some left) × (more ≡ piece ++ left)
-coming_read rest after more piece is given = grind arith
+  pub Coming-wrong : (number : ℕ) (fault : PartFault) → Next (Err (Line number fault))
+      → IfSome known (λ text. (parts : List PartValue) → HasJoined start parts
+      → StopsAt text parts (number - joined_count start) fault)
+  Coming-wrong number fault next = IfSome_then known coming (λ text h parts joined.
+      let n = rw h.1 at next in
+      let p = h.2 parts joined in
+      let j = n.2 (parts ++ p.told) p.joined in
+      let told = length-append parts p.told in
+      let same = AllTell-length p.before p.told p.tells in
+      let size = joined.size in
+      let place = j.3 in (
+        p.before,
+        j.0,
+        j.1,
+        p.told,
+        p.split ∙ ap (λ ls. p.before ++ ls) j.2,
+        omega (arith, told, same, size, place),
+        p.tells,
+        row-is old.row (parts ++ p.told) p.joined.row,
+        j.4,
+      ))
 
-module _ (whole rest after : Option (List ℕ)) (old new now : Joiner) (front piece : List ℕ) (fault : PartFault)
-    (coming : Coming whole rest old new front) (given : Consumes rest after piece) where
-  -- a line of the piece that was read is wrong
-  pub Coming-wrong : ((text more : List ℕ) (parts : List PartValue) → Partway text parts new front (piece ++ more)
-      → Halts text parts now fault) → Halting whole old now fault
-  Coming-wrong wrong = IfSome_then whole coming (λ text h parts joined.
-      let read = coming_read rest after h.0 piece h.1 given in
-      wrong text read.0 parts (subst (Partway text parts new front) read.2 (h.2 parts joined)))
+  -- a read failed: what was joined stays
+  pub Coming-failed : new ≡ old
+      → IfSome now (λ bytes. (left : List ℕ) × (after ≡ Some left)
+      × (let r : Result (Option PartValue) JoinFault = Err Read in Leaves (before ++ bytes) behind left r))
+      → IfSome known (λ text. (parts : List PartValue) → HasJoined start parts
+      → LeavesJoined text parts new after Read)
+  Coming-failed same leaves = IfSome_then known coming (λ text h parts joined.
+      let n = rw h.1 at leaves in
+      let begun = n.2.1 in
+      let p : Partway text parts old (begun.0 ++ n.0) = subst (Partway text parts old) begun.2 (h.2 parts joined) in
+      rw same (n.0, n.1, begun.0, begun.1, p))
 
-  -- nothing was left, and the last line is wrong
-  pub Coming-ended : piece ≡ [] → IsAtEnd after
-      → ((text : List ℕ) (parts : List PartValue) → Partway text parts new front [] → Halts text parts now fault)
-      → Halting whole old now fault
-  Coming-ended none end wrong = IfSome_then whole coming (λ text h parts joined.
-      let read = coming_read rest after h.0 piece h.1 given in
-      let over : h.0 ≡ [] = read.2 ∙ ap (λ (l : List ℕ). l ++ read.0) none ∙ subst IsAtEnd read.1 end in
-      wrong text parts (subst (Partway text parts new front) over (h.2 parts joined)))
+  -- and where a line is wrong
+  pub Coming-halts : (number : ℕ) (fault : PartFault) → new ≡ old → number ≡ joined_count old + 1
+      → IfSome known (λ text. (parts : List PartValue) → HasJoined start parts
+      → LeavesJoined text parts new after (Line (number - joined_count start) fault))
+  Coming-halts number fault same is = IfSome_then known coming (λ text h parts joined.
+      let p = h.2 parts joined in
+      let told = length-append parts p.told in
+      let size = joined.size in
+      let all = p.joined.size in
+      let lines_told = AllTell-length p.before p.told p.tells in
+      rw same (before ++ h.0, p, omega (arith, is, told, size, all, lines_told)))

@@ -1,7 +1,7 @@
 // Parts that lines tell, joined in the order in which they come.
 
 ghost use Rattle.std.specs.Prelude.{◌≡◌, ℕ, ◌+◌, ◌-◌, ◌*◌, ◌<◌, ◌≤◌, List, [], ◌∷◌, ◌++◌, length, MatchResult};
-ghost use Rattle.std.specs.Prelude.{MatchOption, Some};
+ghost use Rattle.std.specs.Prelude.{MatchOption, None, Some};
 ghost use Rattle.std.specs.Prelude.{OnOk, OnErr, IfErr, IfOk, IfSome};
 ghost use Rattle.std.specs.Io.KnownBytes.{IsAtEnd};
 ghost use Rattle.arrayvec.specs.ArrayVec.{array_vec_len};
@@ -11,7 +11,6 @@ ghost use Rattle.b3.specs.inside.Output.{output_position, output_root};
 ghost use Rattle.source.specs.Pumped.{Gives};
 ghost use Rattle.partlist.specs.Joined.{AllTell, AreValuesOf, EndsWrong, IsAsked, IsWrongBehind, TellsPart, bytes_of};
 ghost use Rattle.sumlist.specs.Lines.{lines};
-ghost use Rattle.sumlist.specs.inside.Cut.{HasNo};
 ghost use Rattle.partlist.specs.declared.fault.JoinFault.TheVariants.{Line};
 ghost use Rattle.partlist.specs.declared.fault.PartFault.TheVariants.{NotAPart};
 ghost use Rattle.partlist.specs.inside.Few.{most_parts};
@@ -21,7 +20,6 @@ use crate::{EndFault, JoinFault, PartFault, parse_part};
 use arrayvec::ArrayVec;
 use b3::{CHUNK_LEN, Mode, NotNext, Output, PartValue, Row};
 use source::Feed;
-use sumlist::split_at_byte;
 
 // No line of a part is longer.
 pub(crate) const PART_LINE_LIMIT: usize = 256;
@@ -37,9 +35,9 @@ pub struct Joiner {
 }
 
 impl Joiner {
-    ghost use Rattle.partlist.specs.inside.Joiner.{Halts, HasJoined, JoinCounts, LeavesJoined, Partway, StopsSo};
+    ghost use Rattle.partlist.specs.inside.Joiner.{HasJoined, IsOfLine, JoinCounts, LeavesJoined, StopsSo};
     ghost use Rattle.partlist.specs.inside.Joiner.{joined_count};
-    ghost use Rattle.partlist.specs.inside.Reader.{JoinsNext, ahead};
+    ghost use Rattle.partlist.specs.inside.Reader.{JoinsNext, Leaves, ahead};
 
     /// No part yet.
     pub fn new() -> Joiner
@@ -105,25 +103,23 @@ impl Joiner {
         ensures count { JoinCounts result (F.failure_count feed.old) (F.failure_count feed.new) }
     {
         let start = self.parts;
-        let mut held = ArrayVec::new();
-        let mut buffer = [0; 4096];
-        'reads: loop {
-            let count = feed.read(&mut buffer)?;
-            if count == 0 {
-                return match self.add_last(held.as_slice()) {
-                    Ok(()) => Ok(()),
-                    Err(fault) => Err(self.fault_of_line(start, fault)),
-                };
-            }
-            if let Err(fault) = self.add_piece(&buffer[..count], &mut held) {
-                return Err(self.fault_of_line(start, fault));
+        let mut reader = PartReader::new();
+        'lines: loop {
+            match self.add_next(&mut reader, feed) {
+                Ok(Some(_)) => {}
+                Ok(None) => return Ok(()),
+                Err(JoinFault::Read) => return Err(JoinFault::Read),
+                Err(JoinFault::Line(number, fault)) => {
+                    return Err(JoinFault::Line(number - start, fault));
+                }
             }
         }
     }
 
     /// Joins the part that the next line of a feed tells behind those that were joined before, and answers
     /// it, or `None` where no line is left. A line that can't be joined is refused by its number, where each
-    /// part before it had a line, and then nothing changes but the reader.
+    /// part before it had a line, and then nothing changes but the reader, which goes on behind that line, or
+    /// in it where it is longer than any part's. After a failed read what was read of a line is lost.
     pub fn add_next<F: Feed>(
         &mut self,
         reader: &mut PartReader,
@@ -132,92 +128,31 @@ impl Joiner {
         ensures joined { IfSome (F.remaining feed.old) (λ bytes. (left : List ℕ) × (F.remaining feed.new ≡ Some left)
             × ((parts : List PartValue) → HasJoined self.old parts
             → JoinsNext (ahead reader.old ++ bytes) parts self.new (ahead reader.new ++ left) result)) }
+        ensures left { IfSome (F.remaining feed.old) (λ bytes. (left : List ℕ) × (F.remaining feed.new ≡ Some left)
+            × Leaves (ahead reader.old ++ bytes) (ahead reader.new) left result) }
         ensures gave { Gives (F.remaining feed.old) (F.remaining feed.new) }
         ensures count { JoinCounts result (F.failure_count feed.old) (F.failure_count feed.new) }
         ensures forth { IfOk result (λ found. IfSome found
             (λ _. joined_count self.new ≡ joined_count self.old + 1)) }
         ensures refused { OnErr result (self.new ≡ self.old) }
+        ensures place { IfErr result (IsOfLine (joined_count self.old + 1)) }
+        ensures end { IfOk result (λ found. found ≡ None → IsAtEnd (F.remaining feed.new)) }
     {
         match reader.read_line(feed)? {
             Found::End => Ok(None),
-            Found::Long => Err(self.fault_of_line(0, PartFault::NotAPart)),
+            Found::Long => Err(self.fault_of_next(PartFault::NotAPart)),
             Found::Line => match self.add_told(reader.line()) {
                 Ok(part) => Ok(Some(part)),
-                Err(fault) => Err(self.fault_of_line(0, fault)),
+                Err(fault) => Err(self.fault_of_next(fault)),
             },
         }
     }
 
-    // What is wrong with the next line of a feed before which so many parts were joined.
-    fn fault_of_line(&self, start: u64, fault: PartFault) -> JoinFault
-        requires { start ≤ joined_count self.now }
-        ensures { result ≡ Line (joined_count self.now - start + 1) fault }
+    // What is wrong with the line behind those that were joined.
+    fn fault_of_next(&self, fault: PartFault) -> JoinFault
+        ensures { result ≡ Line (joined_count self.now + 1) fault }
     {
-        JoinFault::Line(self.parts - start + 1, fault)
-    }
-
-    // Joins the part of each line that ends in the piece, and holds the beginning of the next one.
-    fn add_piece(
-        &mut self,
-        piece: &[u8],
-        held: &mut ArrayVec<u8, PART_LINE_LIMIT>,
-    ) -> Result<(), PartFault>
-        requires { array_vec_len held.old ≤ 256 }
-        ensures bound { OnOk result (array_vec_len held.new ≤ 256) }
-        ensures goes { (whole more : List ℕ) (parts : List PartValue)
-            → Partway whole parts self.old held.old.items (piece.now ++ more)
-            → MatchResult result (λ _. Partway whole parts self.new held.new.items more)
-            (λ fault. Halts whole parts self.new fault) }
-        ensures forth { joined_count self.old ≤ joined_count self.new }
-        ensures weight { OnOk result (257 * joined_count self.old + array_vec_len held.old + length piece.now
-            ≤ 257 * joined_count self.new + array_vec_len held.new) }
-    {
-        let mut rest = piece;
-        while let Some((front, after)) = split_at_byte(rest, b'\n') {
-            self.add_ended(front, held)?;
-            rest = after;
-        }
-        hold(rest, held)
-    }
-
-    // Joins the part of the line that ends with these bytes, behind those that are held.
-    fn add_ended(
-        &mut self,
-        end: &[u8],
-        held: &mut ArrayVec<u8, PART_LINE_LIMIT>,
-    ) -> Result<(), PartFault>
-        requires bound { array_vec_len held.old ≤ 256 }
-        requires free { HasNo 10 end.now }
-        ensures bound { OnOk result (array_vec_len held.new ≤ 256) }
-        ensures goes { (whole more : List ℕ) (parts : List PartValue)
-            → Partway whole parts self.old held.old.items (end.now ++ 10 ∷ more)
-            → MatchResult result (λ _. Partway whole parts self.new held.new.items more)
-            (λ fault. Halts whole parts self.new fault) }
-        ensures forth { joined_count self.old ≤ joined_count self.new }
-        ensures weight { OnOk result (257 * joined_count self.old + array_vec_len held.old + length end.now + 1
-            ≤ 257 * joined_count self.new + array_vec_len held.new) }
-    {
-        if held.is_empty() {
-            return self.add_line(end);
-        }
-        hold(end, held)?;
-        let joined = self.add_line(held.as_slice());
-        held.clear();
-        joined
-    }
-
-    // Joins the part of a last line that has no LF, if there is one.
-    fn add_last(&mut self, line: &[u8]) -> Result<(), PartFault>
-        ensures goes { (whole : List ℕ) (parts : List PartValue) → Partway whole parts self.old line.now []
-            → MatchResult result
-            (λ _. (more : List PartValue) × AllTell (lines whole) more × HasJoined self.new (parts ++ more))
-            (λ fault. Halts whole parts self.new fault) }
-        ensures forth { joined_count self.old ≤ joined_count self.new }
-    {
-        if line.is_empty() {
-            return Ok(());
-        }
-        self.add_line(line)
+        JoinFault::Line(self.parts + 1, fault)
     }
 
     // Joins the part that the line tells, and answers it.
@@ -234,19 +169,6 @@ impl Joiner {
         };
         self.add(part)?;
         Ok(part)
-    }
-
-    // Joins the part that the line tells.
-    fn add_line(&mut self, line: &[u8]) -> Result<(), PartFault>
-        ensures added { (parts : List PartValue) → HasJoined self.old parts → MatchResult result
-            (λ _. (part : PartValue) × TellsPart line.now part × HasJoined self.new (parts ++ part ∷ []))
-            (λ fault. IsWrongBehind parts line.now fault) }
-        ensures short { OnOk result (length line.now ≤ 256) }
-        ensures count { OnOk result (joined_count self.new ≡ joined_count self.old + 1) }
-        ensures refused { OnErr result (self.new ≡ self.old) }
-    {
-        self.add_told(line)?;
-        Ok(())
     }
 
     /// The output of the message that the parts are all of, at position 0. It is refused exactly where
@@ -278,6 +200,7 @@ pub(crate) fn hold(bytes: &[u8], held: &mut ArrayVec<u8, PART_LINE_LIMIT>) -> Re
         × (array_vec_len held.new ≡ array_vec_len held.old + length bytes.now)) }
     ensures fits { MatchResult result (λ _. array_vec_len held.old + length bytes.now ≤ 256)
         (λ fault. (fault ≡ NotAPart) × (256 < array_vec_len held.old + length bytes.now)) }
+    ensures refused { OnErr result (held.new ≡ held.old) }
 {
     match held.try_extend_from_slice(bytes) {
         Ok(()) => Ok(()),

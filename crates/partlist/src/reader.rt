@@ -1,10 +1,12 @@
 // The lines of parts that a feed gives, one by one.
 
-ghost use Rattle.std.specs.Prelude.{◌≡◌, ◌+◌, ◌<◌, ◌≤◌, ◌++◌, [], ℕ, List, Some, false, true, IfOk, IfSome, OnOk};
+ghost use Rattle.std.specs.Prelude.{◌≡◌, ◌+◌, ◌<◌, ◌≤◌, ◌++◌, [], ℕ, List, Some, false, true, IfOk, IfSome, OnErr, OnOk};
 ghost use Rattle.std.specs.Prelude.{length};
 ghost use Rattle.arrayvec.specs.ArrayVec.{array_vec_len};
 ghost use Rattle.source.specs.Counts.{CountsFailure};
+ghost use Rattle.std.specs.Io.KnownBytes.{IsAtEnd};
 ghost use Rattle.source.specs.Pumped.{Gives};
+ghost use Rattle.partlist.specs.declared.reader.Found.TheVariants.{End};
 ghost use Rattle.sumlist.specs.inside.Cut.{HasNo};
 
 use crate::PartFault;
@@ -37,7 +39,7 @@ pub(crate) enum Found {
 }
 
 impl PartReader {
-    ghost use Rattle.partlist.specs.inside.Reader.{IsAhead, IsFound, TakesLine, ahead};
+    ghost use Rattle.partlist.specs.inside.Reader.{IsAhead, IsBegun, IsFound, TakesLine, ahead};
 
     /// No line yet, and nothing read.
     pub fn new() -> PartReader
@@ -63,8 +65,11 @@ impl PartReader {
         ensures found { IfOk result (λ found. IfSome (F.remaining feed.old) (λ bytes. (left : List ℕ)
             × (F.remaining feed.new ≡ Some left)
             × IsFound found self.new.held.items (ahead self.old ++ bytes) (ahead self.new ++ left))) }
+        ensures failed { OnErr result ((ahead self.new ≡ []) × IfSome (F.remaining feed.old) (λ bytes. (left : List ℕ)
+            × (F.remaining feed.new ≡ Some left) × IsBegun (ahead self.old ++ bytes) left)) }
         ensures gave { Gives (F.remaining feed.old) (F.remaining feed.new) }
         ensures count { CountsFailure result (F.failure_count feed.old) (F.failure_count feed.new) }
+        ensures end { IfOk result (λ found. found ≡ End → IsAtEnd (F.remaining feed.new)) }
     {
         self.held.clear();
         'pieces: loop {
@@ -87,6 +92,9 @@ impl PartReader {
         ensures held { self.new.held ≡ self.old.held }
         ensures gave { Gives (F.remaining feed.old) (F.remaining feed.new) }
         ensures count { CountsFailure result (F.failure_count feed.old) (F.failure_count feed.new) }
+        ensures refused { OnErr result ((ahead self.old ≡ []) × (ahead self.new ≡ [])
+            × (F.remaining feed.new ≡ F.remaining feed.old)) }
+        ensures end { IfOk result (λ has. has ≡ false → IsAtEnd (F.remaining feed.new)) }
     {
         if self.start < self.end {
             return Ok(true);
@@ -116,6 +124,7 @@ impl PartReader {
         ensures bound { OnOk result (array_vec_len self.new.held ≤ 256) }
         ensures forth { IfOk result (λ ended. ended ≡ false → array_vec_len self.new.held
             ≡ array_vec_len self.old.held + length (ahead self.old)) }
+        ensures refused { OnErr result (self.new ≡ self.old) }
     {
         let (_, ahead) = self.buffer[..self.end].split_at(self.start);
         let Some((front, _)) = split_at_byte(ahead, b'\n') else {

@@ -1,5 +1,6 @@
 -- What contracts see of the parts that were joined.
 use Rattle.std.specs.Prelude.{◌≡◌, ℕ, ◌+◌, ◌<◌, ◌↔◌, List, [], ◌++◌, ◌∷◌, length, Option, None, Some, Result, Ok, Err}
+use Rattle.std.specs.Prelude.{⊤}
 use Rattle.b3.specs.Modes.{hash_parameters}
 use Rattle.b3.specs.declared.row.PartValue.{PartValue}
 use Rattle.b3.specs.declared.row.Row.{Row}
@@ -37,46 +38,30 @@ pub record HasJoined (joiner : Joiner) (parts : List PartValue) : Type 0 where
   pub size : joined_count joiner ≡ length parts
   pub row : MayBeRowOf joiner.row parts
 
--- of a text's lines so many were joined behind parts, and of the next one these bytes came; more come then
-pub record Partway (whole : List ℕ) (parts : List PartValue) (joiner : Joiner) (front more : List ℕ) : Type 0 where
+-- of a text's lines so many were joined behind parts, and these bytes of it come then
+pub record Partway (whole : List ℕ) (parts : List PartValue) (joiner : Joiner) (rest : List ℕ) : Type 0 where
   pub before : List (List ℕ)
   pub told : List PartValue
-  pub split : lines whole ≡ before ++ lines (front ++ more)
+  pub split : lines whole ≡ before ++ lines rest
   pub tells : AllTell before told
   pub joined : HasJoined joiner (parts ++ told)
-  pub no_end : HasNo 10 front
-
--- the next line of the text can't be joined
-pub record Halts (whole : List ℕ) (parts : List PartValue) (joiner : Joiner) (fault : PartFault) : Type 0 where
-  pub before : List (List ℕ)
-  pub line : List ℕ
-  pub after : List (List ℕ)
-  pub told : List PartValue
-  pub split : lines whole ≡ before ++ line ∷ after
-  pub tells : AllTell before told
-  pub joined : HasJoined joiner (parts ++ told)
-  pub wrong : IsWrongBehind (parts ++ told) line fault
 
 -- why lines were not joined: a read failed, or a line can't be
 abbrev pub StopsSo : List ℕ → List PartValue → JoinFault → Type 0
 StopsSo text parts Read = Unit {0}
 StopsSo text parts (Line number fault) = StopsAt text parts number fault
 
--- the lines before the one of this number tell parts, and were joined behind these
-pub record JoinedBefore (text : List ℕ) (parts : List PartValue) (joiner : Joiner) (number : ℕ) : Type 0 where
-  pub before : List (List ℕ)
-  pub after : List (List ℕ)
-  pub told : List PartValue
-  pub split : lines text ≡ before ++ after
-  pub place : number ≡ length before + 1
-  pub tells : AllTell before told
-  pub joined : HasJoined joiner (parts ++ told)
-
 -- what was joined before a fault: the lines before the wrong one, or those that had ended when a read failed
 abbrev pub LeavesJoined : List ℕ → List PartValue → Joiner → Option (List ℕ) → JoinFault → Type 0
-LeavesJoined text parts joiner rest Read =
-    (more : List ℕ) × (rest ≡ Some more) × (front : List ℕ) × Partway text parts joiner front more
-LeavesJoined text parts joiner rest (Line number fault) = JoinedBefore text parts joiner number
+LeavesJoined text parts joiner rest Read = (more : List ℕ) × (rest ≡ Some more) × (front : List ℕ) × HasNo 10 front
+    × Partway text parts joiner (front ++ more)
+LeavesJoined text parts joiner rest (Line number fault) =
+    (more : List ℕ) × (p : Partway text parts joiner more) × (number ≡ length p.before + 1)
+
+-- the fault of a line is that of this one
+abbrev pub IsOfLine : ℕ → JoinFault → Type 0
+IsOfLine n Read = ⊤
+IsOfLine n (Line number fault) = number ≡ n
 
 -- `Read` is one more failure of the feed
 abbrev pub JoinCounts : {T : Type 0} → Result T JoinFault → ℕ → ℕ → Type 0

@@ -1,7 +1,7 @@
 -- What contracts see of a reader of lines, and what was found of the bytes that it reads.
-use Rattle.std.specs.Prelude.{◌≡◌, ◌<◌, ℕ, Bool, List, [], ◌∷◌, ◌++◌, MatchBool, MatchOption, MatchResult, Option}
+use Rattle.std.specs.Prelude.{◌⊎◌, ◌≡◌, ◌<◌, ℕ, Bool, List, [], ◌∷◌, ◌++◌, MatchBool, MatchOption, MatchResult, Option}
 use Rattle.std.specs.Prelude.{false}
-use Rattle.std.specs.Prelude.{Result, Some, ⊤, drop, length, take, ◌+◌}
+use Rattle.std.specs.Prelude.{None, Ok, Err, Result, Some, ⊤, drop, length, take, ◌+◌}
 use Rattle.b3.specs.declared.row.PartValue.{PartValue}
 use Rattle.sumlist.specs.Lines.{lines}
 use Rattle.sumlist.specs.inside.Cut.{HasNo}
@@ -31,13 +31,26 @@ TakesLine held old items new r = MatchResult r
     (λ _. (front : List ℕ) × (more : List ℕ) × HasNo 10 front × (old ≡ front ++ more)
     × (256 < length held + length front))
 
+-- the beginning of a line was read of some bytes, and these are left
+abbrev pub IsBegun : (whole left : List ℕ) → Type 0
+IsBegun whole left = (front : List ℕ) × HasNo 10 front × (whole ≡ front ++ left)
+
 -- what was found at the beginning of some bytes, of which some are left: this line, one that is too long for that of a
 -- part, or nothing
 abbrev pub IsFound : Found → (line whole left : List ℕ) → Type 0
 IsFound found.Line line whole left = lines whole ≡ line ∷ lines left
-IsFound found.Long line whole left = (long : List ℕ) × (rest : List (List ℕ)) × (lines whole ≡ long ∷ rest)
-    × (256 < length long)
+IsFound found.Long line whole left = ((long : List ℕ) × (rest : List (List ℕ)) × (lines whole ≡ long ∷ rest)
+    × (256 < length long)) × IsBegun whole left
 IsFound found.End line whole left = (whole ≡ []) × (left ≡ [])
+
+-- what an answer leaves of some bytes, these ahead and these yet to be read: nothing at the end, the lines behind one
+-- that is wrong or what was not read of it, and what was not read of a line in which a read failed
+abbrev pub Leaves : (whole ahead left : List ℕ) → Result (Option PartValue) JoinFault → Type 0
+Leaves whole ahead left (Ok None) = ahead ++ left ≡ []
+Leaves whole ahead left (Ok (Some part)) = ⊤
+Leaves whole ahead left (Err join.Read) = (ahead ≡ []) × IsBegun whole left
+Leaves whole ahead left (Err (join.Line number fault)) =
+    ((line : List ℕ) × (lines whole ≡ line ∷ lines (ahead ++ left))) ⊎ IsBegun whole (ahead ++ left)
 
 -- why the next of these lines was not joined: a read failed, or it can't be
 abbrev pub IsStopped : List (List ℕ) → List PartValue → JoinFault → Type 0

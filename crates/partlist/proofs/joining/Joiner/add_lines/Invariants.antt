@@ -1,21 +1,18 @@
-use Rattle.std.proofs.Common.{◌≡◌, ℕ, ◌+◌, ◌-◌, ◌*◌, ◌≤◌, ◌^◌, List, length, IfSome, Some}
-use Rattle.arrayvec.specs.ArrayVec.{array_vec_len}
-use Rattle.b3.specs.declared.row.PartValue.{PartValue}
+use Rattle.std.proofs.Common.{◌≡◌, ℕ, ◌-◌, ◌≤◌, ◌^◌}
 use Rattle.source.specs.Pumped.{Gives}
-use Rattle.partlist.specs.inside.Joiner.{HasJoined, Partway, joined_count}
+use Rattle.partlist.specs.inside.Joiner.{joined_count}
+use Rattle.partlist.specs.inside.Reader.{ahead}
+use Rattle.partlist.proofs.Reading.{Coming}
 use Rattle.partlist.proofs.joining.Joiner.add_lines.Given as goal
 
-abbrev pub invariant-reads : goal.invariant-reads
-invariant-reads g l = record {
-  progress : IfSome (g.F.Feed.remaining l.initial.feed) (λ text. (more : List ℕ)
-      × (g.F.Feed.remaining l.feed ≡ Some more) × ((parts : List PartValue) → HasJoined l.initial.self parts
-      → Partway text parts l.self l.held.items more));
+abbrev pub invariant-lines : goal.invariant-lines
+invariant-lines g l = record {
+  progress : Coming (g.F.Feed.remaining l.initial.feed) (g.F.Feed.remaining l.feed) l.initial.self l.self
+      (ahead l.reader);
   gave : Gives (g.F.Feed.remaining l.initial.feed) (g.F.Feed.remaining l.feed);
   count : g.F.Feed.failure_count l.feed ≡ g.F.Feed.failure_count l.initial.feed;
-  bound : array_vec_len l.held ≤ 256;
   forth : joined_count l.initial.self ≤ joined_count l.self;
-  size : length l.buffer ≡ 4096;
 }
 
-abbrev pub decreases-reads : goal.decreases-reads
-decreases-reads g l = 2 ^ 64 - (257 * joined_count l.self + array_vec_len l.held)
+abbrev pub decreases-lines : goal.decreases-lines
+decreases-lines g l = 2 ^ 64 - joined_count l.self
