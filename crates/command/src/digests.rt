@@ -21,7 +21,7 @@ use b3::{Blake3, CHUNK_LEN, Mode, Output};
 use blake2::{Blake2b, Blake2s};
 use source::{Alg, AnyHash, Feed, Sink, WriteFailed, digest_of, output_in_parts};
 use std::alloc::{AllocError, Global};
-use sumlist::{WriteFault, fits, tagged_fits, write_tagged_line};
+use sumlist::{fits, tagged_fits, write_tagged_line};
 use task::{Form, Hash, Requested};
 
 /// Room for a part of so many chunks.
@@ -144,7 +144,7 @@ pub(crate) fn write_digest<W: Sink>(
     made: Made,
     name: &str,
     out: &mut W,
-) -> Result<(), WriteFault>
+) -> Result<(), WriteFailed>
     requires digest { HasDigest requested }
     requires has { HasBytes made }
     requires sized { made_len made ≡ requested.stretch.length }
@@ -154,9 +154,6 @@ pub(crate) fn write_digest<W: Sink>(
     match requested.form {
         Form::Plain => write_made(made, false, name, out),
         Form::Raw => write_made(made, true, name, out),
-        Form::Tagged => match write_tagged_line(requested.alg(), name, &made.into_tag(), out) {
-            Ok(()) => Ok(()),
-            Err(WriteFailed) => Err(WriteFault::Write),
-        },
+        Form::Tagged => write_tagged_line(requested.alg(), name, &made.into_tag(), out),
     }
 }

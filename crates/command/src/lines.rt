@@ -29,9 +29,9 @@ use crate::rule::Rule;
 use crate::session::{Session, Streams, open_file};
 use crate::tags::{tag_digits, tag_of_feed};
 use crate::verifying::{print_verdict, slice_of};
-use source::{Feed, Sink};
+use source::{Feed, Sink, WriteFailed};
 use std::alloc::{AllocError, Global};
-use sumlist::{Tree, WriteFault};
+use sumlist::Tree;
 use task::Sum;
 
 impl<'i, 't, 'o, L: Feed, T: Tree, W: Sink> Session<'i, 't, 'o, L, T, W> {
@@ -284,7 +284,7 @@ fn made_of_feed<'n, F: Feed>(
 }
 
 // Writes a digest or tag as it is, or its line with a name.
-fn write_sum<W: Sink>(rule: &Rule, made: Made, name: &str, out: &mut W) -> Result<(), WriteFault>
+fn write_sum<W: Sink>(rule: &Rule, made: Made, name: &str, out: &mut W) -> Result<(), WriteFailed>
     requires has { HasBytes made }
     requires sized { IsSized rule.now made }
     ensures { Writes result (W.shown out.old) (W.shown out.new)

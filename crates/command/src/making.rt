@@ -10,8 +10,7 @@ ghost use Rattle.command.specs.inside.Printing.{printed_beside};
 
 use crate::output::{PIECE, write_beside, write_output_beside};
 use b3::Output;
-use source::Sink;
-use sumlist::WriteFault;
+use source::{Sink, WriteFailed};
 use words::Tag;
 
 /// Bytes of a digest or tag.
@@ -49,7 +48,7 @@ pub(crate) fn write_made<W: Sink>(
     is_raw: bool,
     name: &str,
     out: &mut W,
-) -> Result<(), WriteFault>
+) -> Result<(), WriteFailed>
     requires { HasBytes made }
     ensures { Writes result (W.shown out.old) (W.shown out.new) (printed_beside is_raw name.now (made_bytes made)) }
 {

@@ -5,7 +5,7 @@ use source::{ReadFailed, SourceFault, WriteFailed};
 use std::alloc::Global;
 use std::fmt::Display;
 use std::test::Fail;
-use sumlist::{CheckFault, EntryFault, LineFault, OpenFault, TaggedFault, WriteFault};
+use sumlist::{CheckFault, EntryFault, LineFault, OpenFault, TaggedFault};
 
 fn say<F: Display>(alloc: Global, faults: &[(F, &str)]) -> Result<(), Fail> {
     for (fault, text) in faults {
@@ -67,7 +67,6 @@ fn faults_of_lines_say_what_is_wrong(rt: HostRuntime) -> Result<(), Fail> {
             (EntryFault::BadTag, "bad tag"),
         ],
     )?;
-    say(rt.alloc(), &[(WriteFault::Write, "cannot write")])?;
     say(
         rt.alloc(),
         &[

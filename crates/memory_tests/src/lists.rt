@@ -4,17 +4,15 @@ use crate::calls::Lack;
 use crate::files::files;
 use source::{Bytes, Sink, VecSink, write_all};
 use std::alloc::Global;
-use sumlist::{
-    CheckFault, Kind, Line, LineFault, MemoryTree, WriteFault, check, parse_line, write_entry,
-};
+use sumlist::{CheckFault, Kind, Line, LineFault, MemoryTree, check, parse_line, write_entry};
 
 /// Writes what the line means: the entry's own line, or the line's kind.
 pub(crate) fn parse<W: Sink>(alloc: Global, line: &[u8], out: &mut W) -> Result<u8, Lack> {
     match parse_line(alloc, line, Kind::Sha256) {
-        Ok(Line::Entry(entry)) => match write_entry(&entry, out) {
-            Ok(()) => Ok(0),
-            Err(WriteFault::Write) => Err(Lack::Output),
-        },
+        Ok(Line::Entry(entry)) => {
+            write_entry(&entry, out)?;
+            Ok(0)
+        }
         Ok(Line::Skipped) => write_word(b"skipped\n", out),
         Err(LineFault::Malformed) => write_word(b"malformed\n", out),
         Err(LineFault::OutOfMemory) => Err(Lack::Memory),

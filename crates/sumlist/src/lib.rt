@@ -26,11 +26,13 @@ pub use map::map_laws;
 pub use memory::MemoryTree;
 pub use name_reader::NameReader;
 pub use report::{write_summary, write_verdict};
+/// Why a text was not written whole. What was written is a beginning of it.
+pub use source::WriteFailed as WriteFault;
 pub use summary::Summary;
 pub use tagging::{TaggedFault, write_tagged, write_tagged_line};
 pub use tree::{OpenFault, Tree};
 pub use verdict::Verdict;
-pub use writing::{WriteFault, write_end, write_entry, write_lead};
+pub use writing::{write_end, write_entry, write_lead};
 
 mod body;
 mod checking;

@@ -104,7 +104,7 @@ fn a_full_sink_holds_a_beginning_of_the_line(rt: HostRuntime) -> Result<(), Fail
     let mut storage = [0; 32];
     for room in 0..=line.len() {
         let answer = if room < line.len() {
-            Err(WriteFault::Write)
+            Err(WriteFault)
         } else {
             Ok(())
         };
