@@ -67,13 +67,12 @@ impl<'i, 't, 'o, L: Feed, T: Tree, W: Sink> Session<'i, 't, 'o, L, T, W> {
     {
         let room = room_from(place.first, place.chunks);
         let mut run = room_for_run(self.alloc, room)?;
-        if name == "-" {
-            return part_of_feed(place, room, run.as_mut_slice(), name, self.input);
-        }
-        let mut feed = open_file(name, CHUNK_LEN as u64 * place.first, self.tree)?;
-        let answer = part_of_feed(place, room, run.as_mut_slice(), name, &mut feed);
-        self.tree.close(feed);
-        answer
+        read_named!(
+            self,
+            name,
+            CHUNK_LEN as u64 * place.first,
+            part_of_feed(place, room, run.as_mut_slice(), name)
+        )
     }
 }
 

@@ -50,13 +50,12 @@ impl<'i, 't, 'o, L: Feed, T: Tree, W: Sink> Session<'i, 't, 'o, L, T, W> {
         ensures same { SameStreams self.old self.new }
     {
         let mut run = room_for_run(self.alloc, chunks)?;
-        if name == "-" {
-            return write_parts(chunks, run.as_mut_slice(), name, self.input, self.out);
-        }
-        let mut feed = open_file(name, 0, self.tree)?;
-        let answer = write_parts(chunks, run.as_mut_slice(), name, &mut feed, self.out);
-        self.tree.close(feed);
-        answer
+        read_named!(
+            self,
+            name,
+            0,
+            write_parts(chunks, run.as_mut_slice(), name, self.out)
+        )
     }
 }
 
@@ -65,8 +64,8 @@ fn write_parts<'n, F: Feed, W: Sink>(
     chunks: u64,
     run: &mut [u8],
     name: &'n str,
-    feed: &mut F,
     out: &mut W,
+    feed: &mut F,
 ) -> Result<u8, Fault<'n>>
     requires chunks { IsPartLength chunks }
     requires run { (e : ℕ) × (length run.old ≡ 1024 * 2 ^ e) }

@@ -6,6 +6,20 @@ pub use laws::{join_laws, visible_laws};
 pub use session::{Session, Streams, session_laws};
 pub use visible::write_visible;
 
+// A call on the feed of a name, which it is handed last: standard input for `-`, and else the file of the name
+// from a position on, which is opened before and closed after.
+macro_rules! read_named {
+    ($session:ident, $name:expr, $position:expr, $function:ident($($argument:expr),*)) => {{
+        if $name == "-" {
+            return $function($($argument,)* $session.input);
+        }
+        let mut feed = open_file($name, $position, $session.tree)?;
+        let answer = $function($($argument,)* &mut feed);
+        $session.tree.close(feed);
+        answer
+    }};
+}
+
 mod cutting;
 mod digests;
 mod each;

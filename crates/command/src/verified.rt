@@ -71,13 +71,7 @@ impl<'i, 't, 'o, L: Feed, T: Tree, W: Sink> Session<'i, 't, 'o, L, T, W> {
         ensures same { SameStreams self.old self.new }
         ensures memory { IsErrOf result Fault.OutOfMemory → T.wants_memory ≡ true }
     {
-        if name == "-" {
-            return verify_feed(run, parts, list, name, self.input, self.out);
-        }
-        let mut feed = open_file(name, 0, self.tree)?;
-        let answer = verify_feed(run, parts, list, name, &mut feed, self.out);
-        self.tree.close(feed);
-        answer
+        read_named!(self, name, 0, verify_feed(run, parts, list, name, self.out))
     }
 }
 
@@ -87,8 +81,8 @@ fn verify_feed<'n, P: Feed, F: Feed, W: Sink>(
     parts: &'n str,
     list: &mut P,
     name: &'n str,
-    feed: &mut F,
     out: &mut W,
+    feed: &mut F,
 ) -> Result<u8, Fault<'n>>
     requires { length run.old ≡ 1024 * RUN }
     ensures compared { IfSome (P.remaining list.old) (λ text. IfSome (F.remaining feed.old) (λ m.
