@@ -1,7 +1,8 @@
 #!/usr/bin/env python3
 """Runs the program where its streams and files are more than a text: devices that take nothing, inputs and outputs
 that are longer than a buffer, a pipe that comes in two pieces, the names that `find` prints, files that are pipes,
-files of another user, files with names that are nearly another's, and many files of which few may be open at a time.
+files of another user, files with names that are nearly another's, streams that are closed, and many files of which few
+may be open at a time.
 usage: tests/program/streams.py PROGRAM
 """
 
@@ -73,11 +74,34 @@ FEW = [
     ("each part of a file", 4, "part -a blake3 --each 1 zeros"),
     ("lists of parts", 4, "join -a blake3 --name zeros part.1 part.2 part.3"),
 ]
+# What is answered where standard input is closed: the words, the status, standard output, and what is told behind
+# `sums: `. self-names and self-list name /dev/stdin.
+UNREAD = [
+    ("hash -a sha256", 1, b"", b"-: cannot read\n"),
+    ("hash -a sha256 abc.txt -", 1, ABC + b"  abc.txt\n", b"-: cannot read\n"),
+    ("hash -a sha256 /dev/stdin", 1, b"", b"/dev/stdin: cannot read\n"),
+    ("hash -a sha256 --files0-from -", 1, b"", b"-: cannot read\n"),
+    ("hash -a sha256 --files0-from self-names", 1, b"", b"/dev/stdin: cannot read\n"),
+    ("mac -a blake2s --key 00", 1, b"", b"-: cannot read\n"),
+    ("mac -a blake3 --key-file key32 --name n", 1, b"", b"-: cannot read\n"),
+    ("mac -a blake2s --key-file key20 --files0-from self-names", 1, b"", b"/dev/stdin: cannot read\n"),
+    ("kdf -a sha256 -l 1 --ikm-file /dev/stdin", 1, b"", b"/dev/stdin: cannot read\n"),
+    ("check -a sha256", 1, b"", b"-: cannot read\n"),
+    ("check -a sha256 good-list -", 1, b"abc.txt: OK\n", b"-: cannot read\n"),
+    ("check -a sha256 self-list", 1, b"/dev/stdin: UNREADABLE\n", b""),
+    ("part -a blake3", 1, b"", b"-: cannot read\n"),
+    ("part -a blake3 --each 1", 1, b"", b"-: cannot read\n"),
+    ("part -a blake3 --verify parts", 1, b"", b"-: cannot read\n"),
+    ("part -a blake3 --verify empty", 1, b"", b"-: cannot read\n"),
+    ("join -a blake3", 1, b"", b"-: cannot read\n"),
+    ("join -a blake3 chunk.0 -", 1, b"", b"-: cannot read\n"),
+]
 LONG = b"x" * 300_000
 # How many seconds a run has whose files are pipes, and the number of the user that has no files.
 PATIENCE = 60
 NOBODY = 65534
 CANNOT_READ = b"sums: this: cannot read\n"
+CANNOT_WRITE = b"sums: cannot write\n"
 
 
 def run(words, given=b""):
@@ -239,6 +263,38 @@ def terminal_in_its_list():
     same("a terminal in its own list", (got.returncode, got.stdout), (1, b"/dev/stdin: UNREADABLE\n"))
 
 
+def closed_streams():
+    """What is closed stays closed, whatever is opened: no file is taken for standard input or for an output."""
+    write("self-names", b"/dev/stdin\0")
+    write("self-list", ABC + b"  /dev/stdin\n")
+    for words, status, out, told in UNREAD:
+        wanted = (status, out, b"sums: " + told if told else b"")
+        same(f"{words}, standard input closed", without((0,), words), wanted)
+        same(f"{words}, 0 and 2 closed", without((0, 2), words), (status, out, b""))
+        unwritten = (3, b"", CANNOT_WRITE) if out else wanted
+        same(f"{words}, 0 and 1 closed", without((0, 1), words), unwritten)
+    for name, words in FULL:
+        same(f"{name}, standard output closed", without((1,), words), (3, b"", CANNOT_WRITE))
+        same(f"{name}, 1 and 2 closed", without((1, 2), words), (3, b"", b""))
+    for name, words, status, out in UNTOLD:
+        same(f"{name}, closed", without((2,), words), (status, out, b""))
+
+
+def without(streams, words):
+    """A run that is begun with these streams closed."""
+    return harness.run(program, words.split(), b"abc", preexec_fn=lambda: [os.close(stream) for stream in streams])
+
+
+def own_names():
+    """A list in a file, which gives its bytes as often as they are read, may name itself."""
+    write("own-names", b"own-names\0/dev/stdin\0")
+    digest = hashlib.sha256(b"own-names\0/dev/stdin\0").hexdigest().encode()
+    with open("own-names", "rb") as given:
+        got = subprocess.run([program, "hash", "-a", "sha256", "--files0-from", "-"], stdin=given, capture_output=True)
+    wanted = digest + b"  own-names\n" + digest + b"  /dev/stdin\n"
+    same("a list of names in a file that names itself", (got.returncode, got.stdout, got.stderr), (0, wanted, b""))
+
+
 def few_open_files():
     """Each file is closed before the next one is opened."""
     with open("many-names", "wb") as file:
@@ -264,5 +320,7 @@ with harness.folder():
     files_of_another_user()
     near_names()
     terminal_in_its_list()
+    closed_streams()
+    own_names()
     few_open_files()
 harness.finish()

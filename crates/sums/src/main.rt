@@ -1,11 +1,12 @@
 //! Hashes files, makes tags and keys, and checks lists of digests.
 #![tactic(auto)]
 
-ghost use Rattle.std.specs.Prelude.{◌≡◌, ◌≢◌, Err, IfOk, List, map};
+ghost use Rattle.std.specs.Prelude.{◌≡◌, ◌≢◌, Err, IfOk, List, codes, false, map, true};
 ghost use Rattle.std.specs.String.{string_bytes};
 ghost use Rattle.request.specs.CommandLine.{Text};
 ghost use Rattle.request.specs.inside.Reading.{IsRead};
 ghost use Rattle.request.specs.declared.request.WordsFault.TheVariants.{OutOfMemory};
+ghost use Rattle.command.specs.Run.{Tells};
 ghost use Rattle.sums.specs.Asking.{IsAsked};
 
 mod progress;
@@ -19,8 +20,10 @@ use progress::{Erasing, Progress};
 use request::{Request, WordsFault, line};
 use source::{Device, FixedSink, Sink, write_all};
 use std::alloc::{AllocError, Global};
+use std::fs::File;
 use std::io;
 use std::io::{ErrorKind, LineWriter, Write};
+use std::os::fd::AsRawFd;
 use std::process::ExitCode;
 use sumlist::FileTree;
 use watched::{Watched, WatchedTree};
@@ -42,6 +45,7 @@ fn main(rt: HostRuntime) -> ExitCode {
 // Runs with a buffer of a line before each of the two streams: whole lines go out, each in one
 // write. Both are made before anything is read. Each erases the line that shows what is read.
 fn run_lines(rt: &HostRuntime) -> io::Result<u8> {
+    let _held = closed_streams(rt)?;
     let progress = Progress::new(*rt);
     let out = Erasing::new(&progress, rt.stdout());
     let err = Erasing::new(&progress, rt.stderr());
@@ -49,12 +53,37 @@ fn run_lines(rt: &HostRuntime) -> io::Result<u8> {
     let mut err = Device::new(LineWriter::with_capacity(rt.alloc(), FAULT_ROOM, err)?);
     let status = run_words(rt, &progress, &mut out, &mut err);
     progress.erase();
-    let status = match out.into_inner().flush() {
-        Err(_) if status != 3 => tell(&mut err, Fault::CannotWrite),
-        _ => status,
-    };
+    let is_flushed = out.into_inner().flush().is_ok();
+    let status = end_of(status, is_flushed, &mut err);
     let _ = err.into_inner().flush();
     Ok(status)
+}
+
+// Opens a folder in place of each of the three streams that is closed: it can be neither read nor written, as the
+// stream, and no file that is opened later is taken for it.
+fn closed_streams(rt: &HostRuntime) -> io::Result<Vec<File>> {
+    let mut held = Vec::new(rt.alloc());
+    for _ in 0..3 {
+        match File::open(rt, "/") {
+            Ok(folder) if folder.as_raw_fd() <= 2 => held.push(folder)?,
+            _ => break,
+        }
+    }
+    Ok(held)
+}
+
+// The status of a run, by whether standard output took the rest of what was printed. A run of status 3 has told why.
+fn end_of<E: Sink>(status: u8, is_flushed: bool, err: &mut E) -> u8
+    ensures taken { is_flushed ≡ true → (result ≡ status) × (E.shown err.new ≡ E.shown err.old) }
+    ensures told { status ≡ 3 → (result ≡ 3) × (E.shown err.new ≡ E.shown err.old) }
+    ensures lost { is_flushed ≡ false → status ≢ 3
+        → (result ≡ 3) × Tells (E.shown err.old) (E.shown err.new) (codes "sums: cannot write\n") }
+{
+    if is_flushed || status == 3 {
+        status
+    } else {
+        tell(err, Fault::CannotWrite)
+    }
 }
 
 // Tells that memory ran out, in one write too, and answers the status.
@@ -76,14 +105,7 @@ fn run_words<W: Sink, E: Sink>(
     let alloc = rt.alloc();
     let words = match words_of(rt) {
         Ok(words) => words,
-        Err(error) if error.kind() == ErrorKind::OutOfMemory => return tell(
-            err,
-            Fault::OutOfMemory,
-        ),
-        Err(_) => {
-            let _ = write_all(err, b"sums: a word is not UTF-8\n");
-            return 2;
-        }
+        Err(error) => return tell_words(error.kind(), err),
     };
     match texts_of(alloc, words.as_slice()) {
         Ok(texts) => {
@@ -112,6 +134,20 @@ fn asks_for_progress(read: &Result<Request<'_>, WordsFault>) -> bool
         Ok(request) => request.has("progress"),
         Err(_) => false,
     }
+}
+
+// Tells why the process's words are not to be had, by the kind of the system's error. Answers the status.
+fn tell_words<E: Sink>(kind: ErrorKind, err: &mut E) -> u8
+    ensures memory { kind ≡ ErrorKind.OutOfMemory
+        → (result ≡ 3) × Tells (E.shown err.old) (E.shown err.new) (codes "sums: out of memory\n") }
+    ensures text { kind ≢ ErrorKind.OutOfMemory
+        → (result ≡ 2) × Tells (E.shown err.old) (E.shown err.new) (codes "sums: a word is not UTF-8\n") }
+{
+    if kind == ErrorKind::OutOfMemory {
+        return tell(err, Fault::OutOfMemory);
+    }
+    let _ = write_all(err, b"sums: a word is not UTF-8\n");
+    2
 }
 
 // Whether standard input is a list of names or of digests.
