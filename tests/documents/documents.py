@@ -18,10 +18,10 @@ import harness
 import links
 
 ROOT = os.path.dirname(harness.HERE)
-README_LINES = 170
-FIRST_LINES = 45
-FIRST_TEXTS = ["sums check -a ", "sums hash -a ", " --verify ", ": OK\n", "gpg --verify SHA256SUMS.asc SHA256SUMS",
-               "apt install", "tar -xf", "pip install", "(#what-is-proved)", "(docs/READING.md)", "| `b3sum` "]
+README_WORDS = 1500
+FIRST_LINES = 40
+FIRST_TEXTS = ["sums check -a ", "sums hash -a ", " --verify ", ": OK\n", "apt install", "tar -xf", "pip install",
+               "(docs/INSTALL.md)", "(#what-is-proved)", "**proved**"]
 SENTENCE_WORDS = 40
 DIARY = re.compile(r"20[0-9]{2}-|November|was seen|beside other")
 # the one line that tells when and on what was measured
@@ -148,7 +148,7 @@ def check_commands():
 def check_statuses():
     told = dict(re.findall(r"^\| (\d+) \| (.*) \|$", read("README.md"), re.M))
     of_page = page_statuses("man/sums.1")
-    harness.same("statuses of README.md and sums(1)", sorted(told), sorted(of_page))
+    harness.same("statuses of README.md", sorted(told), sorted(statuses(help_of())))
     for number, text in statuses(help_of()).items():
         harness.same(f"status {number} in README.md", told.get(number), text)
         harness.same(f"status {number} in sums(1)", of_page.get(number), text)
@@ -192,8 +192,8 @@ def check_terminals():
 
 
 def check_first_screen():
-    """The first lines show what is printed, how to get it, the two commands for those with the kit, where a review begins,
-    and the other tools. Python comes next, and no other command needs the kit."""
+    """The first lines show what is printed, how to get it, and the two commands for those with the kit; no other command
+    needs the kit. What is proved comes next."""
     readme = read("README.md")
     first = "".join(readme.splitlines(keepends=True)[:FIRST_LINES])
     for text in FIRST_TEXTS:
@@ -202,7 +202,7 @@ def check_first_screen():
         commands = re.findall(r"^(?:\$ .*\brt |tools/|make).*", text, re.M)
         harness.judge(f"{whole}: two commands for those with the kit", len(commands) == 2, *commands)
     headings = re.findall(r"^## (.*)$", readme, re.M)
-    harness.same("the first heading of README.md", headings[0], "From Python")
+    harness.same("the first heading of README.md", headings[0], "What is proved")
 
 
 def one_line(text):
@@ -244,8 +244,8 @@ def main():
     check_installed()
     for page in PAGES:
         check_diary(page)
-    count = len(read("README.md").splitlines())
-    harness.judge(f"README.md has {count} lines", count <= README_LINES)
+    count = len(read("README.md").split())
+    harness.judge(f"README.md has {count} words", count <= README_WORDS)
     check_first_screen()
     check_commands()
     check_statuses()

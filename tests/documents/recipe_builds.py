@@ -72,7 +72,7 @@ def readme_package(bench):
         bench.missing("there is no folder dist: no package was installed")
         return
     works(bench, "README.md", "package", packages())
-    script = write(bench.folder(), "script.py", bench.text("README.md", "python"))
+    script = os.path.join(HERE, "bindings/python/examples/digests.py")
     works(bench, "README.md", "package, used", bench.folder(),
           f"printf abc | /usr/bin/sums hash -a blake2s - && {packages()}/env/bin/python {script}")
     works(bench, "README.md", "package, taken away", packages(), "sudo apt-get remove -qq -y sums && rm -r env sums-*-x86_64")
@@ -93,7 +93,7 @@ def second_builder(bench):
 
 
 LONG = {
-    "README.md": {"try": readme_try, "package": readme_package, "python": readme_package},
+    "README.md": {"try": readme_try, "package": readme_package},
     "docs/CONTRIBUTING.md": {"build": source_build, "languages": languages,
                              **{name: in_clone("docs/CONTRIBUTING.md", name) for name in ["minute", "crate"]}},
     "docs/RELEASING.md": {"staged": source_build, "second": second_builder},

@@ -293,6 +293,20 @@ def readme_folder(bench):
         got = bench.run(check, folder)
         same((got[0], sorted(got[1].splitlines()), got[2]), (0, sorted(report), b""), "what is not OK")
 
+    def new(names):
+        """What is new in a folder: these names, none of them on the list."""
+        folder = bench.folder()
+        os.mkdir(os.path.join(folder, "backup"))
+        for name in ["old", "a b"]:
+            fill(os.path.join(folder, "backup", name), 1)
+        ends(bench.run(make, folder), 0, b"")
+        for name in names:
+            fill(os.path.join(folder, "backup", name), 2)
+        os.remove(os.path.join(folder, "backup/old"))
+        ends(bench.run(bench.text("README.md", "new"), folder), 0, "".join(f"backup/{name}\n" for name in names).encode())
+
+    bench.judge("README.md new, nothing", lambda: new([]))
+    bench.judge("README.md new", lambda: new(["a c", "new", "with  two blanks"]))
     bench.judge("README.md folder", lambda: case([], []))
     bench.judge("README.md folder, changed", lambda: case(["a b", "a\nb"], [
         b"backup/a b: FAILED", b"backup/sub dir/a b: MISSING", b"backup/a\\nb: FAILED",
@@ -466,8 +480,8 @@ def scale_cores(bench):
 
 # each recipe of each page, and what runs it
 RUNS = {
-    "README.md": {"first": readme_first, "download": readme_download, "folder": readme_folder, "use": readme_use,
-                  "checks": readme_checks},
+    "README.md": {"first": readme_first, "download": readme_download, "folder": readme_folder, "new": readme_folder,
+                  "use": readme_use, "checks": readme_checks},
     "docs/SCALE.md": {"cores": scale_cores, "hosts": scale_hosts, "srun": scale_slurm, "file": scale_parts,
                       "device": scale_parts, "parts": scale_parts, "own": scale_own, "lines": scale_own,
                       "damage-list": scale_damage, "damage-trust": scale_damage, "damage-find": scale_damage,
