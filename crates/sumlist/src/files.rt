@@ -2,7 +2,7 @@
 
 ghost use Rattle.std.specs.IoError.{error_kind};
 ghost use Rattle.std.specs.Io.Seek.{MovesTo};
-ghost use Rattle.std.specs.Prelude.{◌≡◌, ◌<◌, Err, None, Ok, IfErr, IfOk, IsOk, OnOk};
+ghost use Rattle.std.specs.Prelude.{◌≡◌, ◌↔◌, ◌⊎◌, ◌<◌, Err, IsTrue, None, Ok, IfErr, IfOk, IsOk, OnOk};
 ghost use Rattle.sumlist.specs.Opening.{OpenCounts, fault_of};
 ghost use Rattle.sumlist.specs.inside.Moved.{IsMoved, refused_seek};
 ghost use Rattle.either.specs.declared.Either.TheVariants.{Left};
@@ -60,7 +60,7 @@ impl<'r, R: Files> FileTree<'r, R> {
             return false;
         };
         match self.rt.metadata(name) {
-            Ok(file) => file.dev() == taken.dev() && file.ino() == taken.ino(),
+            Ok(file) => is_same((file.dev(), file.ino()), (taken.dev(), taken.ino())),
             Err(_) => false,
         }
     }
@@ -101,10 +101,24 @@ impl<'r, R: Files> Tree for FileTree<'r, R> {
     }
 }
 
+// Whether two names are those of one file, by the numbers of their devices and those of the files there.
+fn is_same(one: (u64, u64), other: (u64, u64)) -> bool
+    ensures { IsTrue result ↔ (one ≡ other) }
+{
+    one.0 == other.0 && one.1 == other.1
+}
+
 // Whether each byte of a file can be read but once.
 fn gives_once(file: &Metadata) -> bool {
     let kind = file.file_type();
-    kind.is_fifo() || kind.is_char_device()
+    is_once(kind.is_fifo(), kind.is_char_device())
+}
+
+// The same by what kind of file it is.
+fn is_once(is_fifo: bool, is_char_device: bool) -> bool
+    ensures { IsTrue result ↔ (IsTrue is_fifo ⊎ IsTrue is_char_device) }
+{
+    is_fifo || is_char_device
 }
 
 // What the system's open came to: the file from a position on, or what its failure means.
