@@ -1,6 +1,7 @@
 #!/usr/bin/env python3
 """Makes the page that checks downloads, one file: web/ with the package of npm in it, and the module.
-usage: tools/page.py MODULE VERSION OUT
+usage: tools/page.py [--list LIST] MODULE VERSION OUT
+       tools/page.py --list LIST --into PAGE OUT           LIST is put into the page, which then asks for files alone
 """
 
 import base64
@@ -17,8 +18,12 @@ NOTICES = ("1. ", "2. ", "==== MIT ", "==== UNICODE ")
 ONLY_IN_PROGRAM = re.compile(r"^   \w+ +program {3,}.*\n(?: {10,}Copyright.*\n)*", re.M)
 # What a script has in it, each file behind those that it imports.
 PACKAGE = ["hashes", "bytes", "machine", "message", "sources", "library"]
-WORKER = [*(f"bindings/js/{name}.js" for name in PACKAGE), "web/worker.js"]
-SCRIPT = ["bindings/js/hashes.js", *(f"web/{name}.js" for name in ("list", "names", "plan", "page"))]
+READING = ["functions", "list", "listnames", "texts", "lists", "pasted", "names", "places", "plan", "reading"]
+ENGINE = ["verdict", "added", "view", "written", "engine", "worker"]
+WORKER = [*(f"bindings/js/{name}.js" for name in PACKAGE), *(f"web/{name}.js" for name in READING + ENGINE)]
+SHOWING = ["functions", "names", "gather", "given", "table", "page"]
+SCRIPT = ["bindings/js/hashes.js", *(f"web/{name}.js" for name in SHOWING)]
+LIST = re.compile(r'(<script type="text/plain" id="list")[^>]*>[^<]*<')
 IMPORT = re.compile(r"^import \{([^}]*)\} from '(?:[^']*/)?([a-z]+)\.js';\n", re.M)
 
 
@@ -55,7 +60,7 @@ def source_of_policy(text):
 
 
 def policy(script, style):
-    """What the browser lets the page do: its own script and style, the module, a worker, and no request at all."""
+    """What the browser lets the page do: its own script and style, the module, a worker, and no request."""
     return "; ".join([
         "default-src 'none'",
         f"script-src {source_of_policy(script)} 'wasm-unsafe-eval'",
@@ -75,6 +80,15 @@ def notices():
     return html.escape(ONLY_IN_PROGRAM.sub("", text), quote=False)
 
 
+def with_list(text, path):
+    """The page with a list in it, which it knows by the name of its file."""
+    with open(path, "rb") as file:
+        data = base64.b64encode(file.read()).decode()
+    name = html.escape(os.path.basename(path))
+    assert LIST.search(text), "no page that takes a list"
+    return LIST.sub(lambda it: f'{it[1]} data-name="{name}">{data}<', text, count=1)
+
+
 def page(module, version):
     script, style, worker = script_of(SCRIPT), read("web/page.css"), script_of(WORKER)
     for text in (script, style, worker):
@@ -82,19 +96,28 @@ def page(module, version):
     parts = {
         "POLICY": policy(script, style), "STYLE": style, "SCRIPT": script, "WORKER": worker,
         "VERSION": html.escape(version), "NOTICES": notices(),
-        "MODULE": base64.b64encode(zlib.compress(module, 9)).decode(),
+        "MODULE": base64.b64encode(zlib.compress(module, 9)).decode(), "LISTNAME": "", "LIST": "",
     }
     return re.sub(r"@([A-Z]+)@", lambda it: parts[it[1]], read("web/page.html"))
 
 
+def made(words):
+    """The page that the words ask for."""
+    if len(words) == 2 and words[0] == "--into":
+        with open(words[1], encoding="utf-8") as file:
+            return file.read()
+    with open(words[0], "rb") as file:
+        return page(file.read(), words[1])
+
+
 def main(words):
-    if len(words) != 3:
-        sys.exit(__doc__.splitlines()[1])
-    module, version, out = words
-    with open(module, "rb") as file:
-        text = page(file.read(), version)
-    with open(out, "w", encoding="utf-8", newline="\n") as file:
-        file.write(text)
+    given = words[1] if words[:1] == ["--list"] and len(words) > 1 else None
+    rest = words[2:] if given else words
+    if len(rest) != 3 or rest[0].startswith("--") and not (given and rest[0] == "--into"):
+        sys.exit("\n".join(__doc__.splitlines()[1:3]))
+    text = made(rest[:2])
+    with open(rest[2], "w", encoding="utf-8", newline="\n") as file:
+        file.write(with_list(text, given) if given else text)
 
 
 if __name__ == "__main__":

@@ -1,16 +1,8 @@
 // SPDX-License-Identifier: MIT OR Apache-2.0
 // What is to be checked, and what came out: the rows of the page, without the page.
-import { HASHES } from '../bindings/js/hashes.js';
-import { hashOfList, MALFORMED, parseDigest, parseList } from './list.js';
+import { keyOf, titleOf, wholeOf } from './functions.js';
+import { MALFORMED } from './list.js';
 import { lastPart, shown } from './names.js';
-
-// A list with more lines is for `sums check`, which keeps one at a time.
-const MOST_LINES = 500000;
-const TOO_MANY_LINES = `it has more than ${MOST_LINES} lines: use sums check`;
-const NO_DIGEST =
-  'it is too short, or no hash here has digests of its length; one of another length needs its hash, chosen above';
-// Of what failed, the names that are told beside the verdict.
-const MOST_NAMES = 3;
 
 /** The results of a row, as `sums check` names them, and two more: a file that no list names, and a digest alone. */
 export const RESULT = {
@@ -22,36 +14,18 @@ export const RESULT = {
   unlisted: 'NOT LISTED',
   digest: 'DIGEST',
 };
-const IN_ORDER = Object.values(RESULT);
-const WRONG = [RESULT.failed, RESULT.unreadable, RESULT.malformed];
-
-export const TITLES = {
-  sha256: 'SHA-256',
-  sha512: 'SHA-512',
-  blake2b: 'BLAKE2b',
-  blake2s: 'BLAKE2s',
-  blake3: 'BLAKE3',
-};
-export const titleOf = ({ hash, length }) => TITLES[hash] + (length === HASHES[hash].digest ? '' : `-${8 * length}`);
-export const keyOf = ({ hash, length }) => `${hash} ${length}`;
+const code = (text) => ({ code: text });
 
 // ---- rows: a label, what they are of, and a result as soon as there is one
 
 const settled = (label, result, detail = []) => ({ label, result, detail });
 
 /** A row that waits for the digests of a file by these functions, one of which has to be `digest` if there is one. */
-const waiting = (label, file, of, digest, remark = '') => ({ label, file, of, digest, remark, result: '', detail: [] });
+const waiting = (label, item, of, digest) => ({ label, item, of, digest, remark: '', result: '', detail: [] });
 
-/** The row of an entry. A file that was added by itself may be named with a folder, if no other name ends like it. */
-function entryRow(entry, list, files, endings) {
-  const isEnding = endings.get(lastPart(entry.name)) === entry.name;
-  const named = files.named(list.path, entry.name);
-  const found = named ?? (isEnding ? files.alone(entry.name) : null);
-  const label = shown(entry.name);
-  if (!found) return settled(label, RESULT.missing);
-  if (!found.file) return settled(label, RESULT.unreadable, ['it is no file']);
-  const remark = named ? '' : `, of the file ${shown(found.path)}`;
-  return waiting(label, found.file, [{ hash: entry.hash, length: entry.length }], entry.digest, remark);
+/** A row that waits for an item, or says what is wrong with it. */
+function rowOf(label, item, of, digest) {
+  return item.fault ? { ...settled(label, RESULT.unreadable, [item.fault]), item } : waiting(label, item, of, digest);
 }
 
 /** Of the last part of each name of a list, the name, or null where several names end with it. */
@@ -65,65 +39,101 @@ function endingsOf(lines) {
   return endings;
 }
 
-/** The rows and the notes of a list. */
-function listRows(list, { files, chosen }, before) {
-  const name = shown(list.name);
-  if (list.fault) return { rows: [settled(name, RESULT.unreadable, [list.fault])], notes: [] };
-  const parsed = parseList(list.bytes, chosen ?? hashOfList(list.name), MOST_LINES);
-  if (!parsed) return { rows: [settled(name, RESULT.unreadable, [TOO_MANY_LINES])], notes: [] };
-  const { lines, needsHash } = parsed;
-  const notes = [];
-  if (!lines.length) notes.push(`${name}: no entries.`);
-  if (needsHash) notes.push(`${name}: its lines do not say which hash they are of. Choose it above.`);
-  const endings = endingsOf(lines);
-  const rows = lines.map(({ number, entry }) =>
-    entry === MALFORMED ? settled(`${before}line ${number}`, RESULT.malformed) : entryRow(entry, list, files, endings));
-  return { rows, notes };
-}
-
-/** The rows of a digest that was pasted alone: each file is compared with it. */
-function digestRows({ digest, of }, { files }) {
-  if (!of.length) return { rows: [settled('the pasted digest', RESULT.malformed, [NO_DIGEST])], notes: [] };
-  const rows = files.entries().map(([path, file]) => waiting(shown(path), file, of, digest));
-  const notes = files.count > 1 ? ['A digest is of one file. Each file was compared with it.'] : [];
-  return { rows, notes };
-}
-
-/** A row for each file that no row so far is of; lists are for reading, and count only where a list names them. */
-function otherRows(rows, { files, lists }, row) {
-  const had = new Set([...rows.map((it) => it.file), ...lists.map((it) => it.file)]);
-  return files.entries().filter(([, file]) => !had.has(file)).map(([path, file]) => row(shown(path), file));
+/**
+ * What finds the file of a name in a list. All of its names count from one folder: that of the list, or else, where
+ * none of them is there, from the top of a folder that was added.
+ */
+function finderOf(list, places, lines) {
+  const { item, selection } = list;
+  const isThere = (find) => lines.some(({ entry }) => entry !== MALFORMED && find(entry.name));
+  const from = (start) => (name) => places.named(start, name);
+  if (item?.place.isFolder) {
+    const folder = item.path.slice(0, item.path.lastIndexOf('/') + 1);
+    const own = from({ place: item.place, folder });
+    const top = from({ place: item.place, folder: '' });
+    return folder === '' || isThere(own) || !isThere(top) ? { find: own } : { find: top, isElsewhere: true };
+  }
+  const own = from({ selection });
+  if (isThere(own)) return { find: own };
+  const tops = places.folders().filter((place) => isThere(from({ place, folder: '' })));
+  return tops.length ? { find: (name) => places.amongTops(tops, name), isElsewhere: true } : { find: own };
 }
 
 /**
- * The rows and the notes of what was added: `files`, `lists` of `{ name, path, file, bytes }`, or with a `fault` in
- * place of bytes, the pasted text, and the hash that was chosen, or null.
+ * The rows of the entries of a list. A file that was added by itself may be named with a folder, if no other name ends
+ * like it.
  */
-export function rowsOf(added) {
-  const pasted = added.text.trim() && parseDigest(added.text, added.chosen);
-  const text = { name: 'the pasted text', path: '', bytes: new TextEncoder().encode(added.text) };
-  const lists = added.text.trim() && !pasted ? [...added.lists, text] : added.lists;
-  const parts = lists.map((list) => listRows(list, added, lists.length > 1 ? `${shown(list.name)}: ` : ''));
-  if (pasted) parts.push(digestRows(pasted, added));
+function entryRows(list, places) {
+  const { lines } = list.read;
+  const { find, isElsewhere } = finderOf(list, places, lines);
+  const isLoose = !list.item?.place.isFolder;
+  const endings = isLoose ? endingsOf(lines) : null;
+  return lines.map(({ number, entry, isOpen }) => {
+    if (entry === MALFORMED) return settled(`line ${number}`, RESULT.malformed);
+    const isEnding = isLoose && endings.get(lastPart(entry.name)) === entry.name;
+    const named = find(entry.name);
+    const found = named ?? (isEnding ? places.alone(entry.name) : null);
+    const label = shown(entry.name);
+    if (!found) return { ...settled(label, RESULT.missing), isOfFolder: !isLoose };
+    if (found.fault) return { ...settled(label, RESULT.unreadable, [found.fault]), item: found.about };
+    const row = waiting(label, found.item, entry.of, entry.digest);
+    const isOther = !named || isElsewhere || found.item.isRenamed;
+    return Object.assign(row, { remark: isOther ? `, of the file ${shown(found.item.name)}` : '', isOpen });
+  });
+}
+
+/** The rows and the notes of a list. */
+function listRows(list, places) {
+  const name = shown(list.name);
+  const notes = list.read.notes.map((it) => `${name}: ${it}`);
+  const { fault } = list.read;
+  const rows = fault ? [settled(name, RESULT.unreadable, [fault])] : entryRows(list, places);
+  return { rows: rows.map((row) => Object.assign(row, { list })), notes };
+}
+
+/** The rows of a digest alone: each file is compared with it. */
+function digestRows({ title, digest, of, fault, name }, items) {
+  if (fault) return { rows: [settled(title, RESULT.malformed, [fault])], notes: [] };
+  const rows = items.map((item) => {
+    const row = rowOf(shown(item.name), item, of, digest);
+    const isOther = name !== undefined && lastPart(item.path) !== name;
+    return isOther ? Object.assign(row, { remark: `, of the file that is called ${shown(name)} there` }) : row;
+  });
+  const notes = items.length > 1 ? ['A digest is of one file. Each file was compared with it.'] : [];
+  return { rows, notes };
+}
+
+/**
+ * The rows and the notes of what was added: `places`, `lists` of `{ name, item, selection, read }`, where `read` is
+ * what readList gives, `digests` that stand alone, and the hash that was chosen, or null.
+ */
+export function rowsOf({ places, lists, digests, chosen }) {
+  const isList = new Set(lists.map((it) => it.item));
+  const files = places.items.filter((it) => !isList.has(it));
+  const parts = lists.map((list) => listRows(list, places));
+  parts.push(...digests.map((it) => digestRows(it, files)));
   const rows = parts.flatMap((it) => it.rows);
-  const notes = parts.flatMap((it) => it.notes);
-  const hash = added.chosen ?? 'sha256';
-  const other = parts.length
-    ? (label) => settled(label, RESULT.unlisted)
-    : (label, file) => waiting(label, file, [{ hash, length: HASHES[hash].digest }]);
-  return { rows: [...rows, ...otherRows(rows, added, other)], notes };
+  const had = new Set(rows.map((it) => it.item));
+  const others = files.filter((it) => !had.has(it));
+  const isJudged = lists.length > 0 || digests.some((it) => !it.fault);
+  const other = (item) => isJudged && !item.fault
+    ? { ...settled(shown(item.name), RESULT.unlisted), item }
+    : rowOf(shown(item.name), item, [wholeOf(chosen ?? 'sha256')]);
+  const all = [...rows, ...others.map(other)];
+  for (const row of all) row.from = lists.length > 1 && row.list ? shown(row.list.name) : '';
+  return { rows: all, notes: parts.flatMap((it) => it.notes) };
 }
 
 // ---- files: which digests are needed of each, and what they say
 
-/** Of each file that rows wait for, these rows, and the functions of its digests. */
+/** Of each item that rows wait for, these rows, and the functions of its digests. */
 export function jobsOf(rows) {
   const jobs = new Map();
   for (const row of rows.filter((it) => !it.result)) {
-    const job = jobs.get(row.file) ?? { file: row.file, rows: [], functions: new Map() };
+    const job = jobs.get(row.item) ?? { item: row.item, rows: [], functions: new Map() };
     job.rows.push(row);
     for (const it of row.of) job.functions.set(keyOf(it), it);
-    jobs.set(row.file, job);
+    jobs.set(row.item, job);
   }
   return [...jobs.values()].map((job) => ({ ...job, functions: [...job.functions.values()] }));
 }
@@ -131,53 +141,38 @@ export function jobsOf(rows) {
 /** Sets the result of a row, by its file's digests under their keys, or by the fault with which it was read. */
 export function settle(row, { digests, fault }) {
   if (fault !== undefined) return Object.assign(row, { result: RESULT.unreadable, detail: [fault] });
-  const code = (text) => ({ code: text });
   if (row.digest === undefined) {
     const detail = row.of.flatMap((it) => [`${titleOf(it)} `, code(digests.get(keyOf(it)))]);
     return Object.assign(row, { result: RESULT.digest, detail });
   }
   const right = row.of.find((it) => digests.get(keyOf(it)) === row.digest);
-  if (right) return Object.assign(row, { result: RESULT.ok, detail: [`${titleOf(right)}${row.remark}`] });
+  if (right) {
+    const detail = [`${titleOf(right)}${row.remark} `, code(row.digest)];
+    return Object.assign(row, { result: RESULT.ok, right, detail });
+  }
   const named = row.of.map(titleOf).join(', ');
   const got = row.of.length === 1 ? ['it is ', code(digests.get(keyOf(row.of[0]))), ', and '] : [];
   const detail = [`${named}${row.remark}: `, ...got, 'it should be ', code(row.digest)];
   return Object.assign(row, { result: RESULT.failed, detail });
 }
 
-// ---- all rows together
-
-/** How many rows have each result, in the order of the results; rows without one are left out. */
-export function counts(rows) {
-  const of = new Map();
-  for (const { result } of rows) of.set(result, (of.get(result) ?? 0) + 1);
-  return IN_ORDER.filter((it) => of.has(it)).map((it) => [it, of.get(it)]);
-}
-
-const ADVICE = {
-  [RESULT.missing]: 'MISSING is what a list names and was not added.',
-  [RESULT.unlisted]: 'NOT LISTED is what was added and no list names: nothing is known of it.',
-  [RESULT.digest]: 'Add the list of the maker, or paste the digest that a file should have.',
-};
-
-/** The names of rows that failed, since their lines may stand far below. */
-function failedNames(rows) {
-  const names = rows.filter((it) => it.result === RESULT.failed).map((it) => it.label);
-  if (!names.length) return [];
-  const more = names.length > MOST_NAMES ? `, and ${names.length - MOST_NAMES} more` : '';
-  return [`FAILED: ${names.slice(0, MOST_NAMES).join(', ')}${more}.`];
-}
-
-/** What the rows say together: whether all is `ok`, something is `wrong`, or neither, a text, and advice. */
-export function verdictOf(rows) {
-  const all = counts(rows);
-  if (!all.length) return { state: '', text: '', advice: [] };
-  const has = (results) => all.some(([result]) => results.includes(result));
-  const state = has(WRONG) ? 'wrong' : all.every(([result]) => result === RESULT.ok) ? 'ok' : '';
-  const neither = has([RESULT.ok]) ? 'Well as far as it goes: ' : '';
-  const opening = { wrong: 'Something is wrong: ', ok: 'All is well: ' }[state] ?? neither;
-  return {
-    state,
-    text: opening + all.map(([result, count]) => `${count} ${result}`).join(', '),
-    advice: [...failedNames(rows), ...Object.keys(ADVICE).filter((it) => has([it])).map((it) => ADVICE[it])],
-  };
+/**
+ * Makes the lines of a list that names no hash lines of one: of the hash that most of them are right by. Those that are
+ * right by another one alone are FAILED. The rows that changed.
+ */
+export function settleOpen(rows) {
+  const counts = new Map();
+  const right = rows.filter((it) => it.isOpen && it.right);
+  for (const row of right) {
+    const its = counts.get(row.list) ?? new Map();
+    its.set(keyOf(row.right), (its.get(keyOf(row.right)) ?? 0) + 1);
+    counts.set(row.list, its);
+  }
+  const most = new Map([...counts].map(([list, its]) => [list, [...its].sort(([, one], [, two]) => two - one)[0][0]]));
+  const wrong = right.filter((row) => most.get(row.list) !== keyOf(row.right));
+  for (const row of wrong) {
+    row.result = RESULT.failed;
+    row.detail = [`${titleOf(row.right)}, and other lines of this list are of another hash`];
+  }
+  return wrong;
 }

@@ -6,8 +6,11 @@ import { mkdirSync, mkdtempSync, readFileSync, rmSync, writeFileSync } from 'nod
 import { tmpdir } from 'node:os';
 import { join, posix, resolve } from 'node:path';
 import { pathToFileURL } from 'node:url';
-import { Files, shown } from '../../../web/names.js';
-import { jobsOf, keyOf, rowsOf, settle } from '../../../web/plan.js';
+import { keyOf } from '../../../web/functions.js';
+import { readList } from '../../../web/lists.js';
+import { shown } from '../../../web/names.js';
+import { Place, Places } from '../../../web/places.js';
+import { jobsOf, rowsOf, settle, settleOpen } from '../../../web/plan.js';
 
 const [program, folder, rounds = '400'] = process.argv.slice(2);
 const { hash } = await import(pathToFileURL(resolve(folder, 'node.js')));
@@ -147,50 +150,82 @@ function shownLine(reported) {
   return `${shown(name)}: ${isTooLong || isOutside ? 'MISSING' : found[2]}`;
 }
 
-/** What the program reports of lists, and on which of them it remarks. */
+/** What the program reports of lists, and which of them have no entries. */
 function ofProgram(kind, names) {
   const run = spawnSync(program, ['check', ...(kind ? ['-a', kind] : []), ...names], { cwd: work, maxBuffer: 2 ** 30 });
   const report = run.stdout.toString().split('\n').slice(0, -1).map(shownLine);
-  // the page, which may be told the hash of each list, does not say that lists may be of another one
-  const isOfAnother = (it) => it.endsWith(`: ${MESSAGES['other -a']}`) || it.endsWith(`: ${MESSAGES['all failed']}`);
-  const remarks = run.stderr.toString().split('\n').slice(0, -1).map((it) => it.replace(/^sums: /, ''))
-    .filter((it) => !isOfAnother(it));
-  return { report, remarks };
+  const remarks = run.stderr.toString().split('\n').filter((it) => it.endsWith(`: ${MESSAGES['no entries']}`));
+  return { report, remarks: remarks.map((it) => it.replace(/^sums: /, '')) };
 }
 
-/** The same by the page, which was given the folder. */
+/** The rows of the page, which was given the folder with these lists, and which of them have no entries. */
 function ofPage(kind, lists) {
-  const files = new Files();
-  for (const [path, content] of FILES) files.add(`top/${path}`, { content });
-  const added = lists.map(([name, bytes]) => ({ name, path: `top/${name}`, bytes }));
-  const { rows, notes } = rowsOf({ files, text: '', chosen: kind, lists: added });
+  const place = new Place('top', 1);
+  const places = new Places();
+  for (const [path, content] of FILES) place.add(path, { content });
+  for (const [name] of lists) place.add(name, {});
+  places.addFolder(place, null);
+  const added = lists.map(([name, bytes], at) =>
+    ({ id: at, name, item: place.items.get(name), selection: 1, read: readList(name, bytes, kind) }));
+  const { rows, notes } = rowsOf({ places, lists: added, digests: [], chosen: kind });
   for (const job of jobsOf(rows)) {
-    const digestOf = (it) => hash(it.hash, job.file.content, { outputLength: it.length });
+    const digestOf = (it) => hash(it.hash, job.item.file.content, { outputLength: it.length });
     const digests = new Map(job.functions.map((it) => [keyOf(it), digestOf(it)]));
     for (const row of job.rows) settle(row, { digests });
   }
-  const report = rows.filter((it) => it.result !== 'NOT LISTED').map((it) => `${it.label}: ${it.result}`);
-  const remark = (note) =>
-    note.replace(/: no entries\.$/, `: ${MESSAGES['no entries']}`).replace(/: its lines.*/, `: ${MESSAGES['need -a']}`);
-  const remarks = notes.map(remark);
-  return { report, remarks };
+  const remarks = notes.filter((it) => it.endsWith(`: ${MESSAGES['no entries']}.`)).map((it) => it.slice(0, -1));
+  return { rows: rows.filter((it) => it.list), remarks };
+}
+
+/** A row of the page as the line of a report. */
+function reported(row, lists) {
+  const before = row.result === 'MALFORMED' && lists.length > 1 ? `${shown(row.list.name)}: ` : '';
+  return `${before}${row.label}: ${row.result}`;
+}
+
+const endOf = (line) => line?.slice(line.lastIndexOf(': '));
+
+/** The lines of the page, as the program should have them. */
+function compared(kind, lists, theirs, ours) {
+  if (kind) return ours.rows.map((row, at) => [reported(row, lists), theirs.report[at]]);
+  const names = lists.map(([name]) => name);
+  const reports = Object.fromEntries(KINDS.filter(Boolean).map((it) => [it, ofProgram(it, names).report]));
+  return ours.rows.map((row, at) => {
+    // what the program finds malformed without a hash, and the page does not
+    const isOpen = endOf(theirs.report[at]) === ': MALFORMED' && row.result !== 'MALFORMED';
+    if (!isOpen) return [reported(row, lists), theirs.report[at]];
+    // a row that is settled without a file has no functions: each hash says the same of it
+    const kinds = row.of?.map((it) => it.hash) ?? KINDS.filter((it) => it && !reports[it][at].endsWith(': MALFORMED'));
+    const all = kinds.map((it) => reports[it][at]);
+    return [reported(row, lists), all.find((it) => it.endsWith(': OK')) ?? all[0]];
+  });
 }
 
 /** Compares the two, and tells the first line that differs. */
 function differs(kind, lists) {
   const [theirs, ours] = [ofProgram(kind, lists.map(([name]) => name)), ofPage(kind, lists)];
-  for (const what of ['report', 'remarks']) {
-    const at = theirs[what].findIndex((it, line) => it !== ours[what][line]);
-    if (at < 0 && theirs[what].length === ours[what].length) continue;
-    const [wanted, got] = [theirs, ours].map((it) => JSON.stringify(it[what][at])?.slice(0, 200));
-    console.log(`${kind}: ${what}, line ${at}: sums check ${wanted}, the page ${got}`);
-    return true;
+  const lines = compared(kind, lists, theirs, ours);
+  const wrong = lines.find(([page, wanted]) => page !== wanted) ??
+    (lines.length === theirs.report.length ? null : [`${lines.length} lines`, `${theirs.report.length} lines`]) ??
+    (ours.remarks.join() === theirs.remarks.join() ? null : [ours.remarks.join(), theirs.remarks.join()]);
+  if (wrong) {
+    const [got, wanted] = wrong.map((it) => JSON.stringify(it)?.slice(0, 200));
+    console.log(`${kind}: sums check ${wanted}, the page ${got}`);
   }
-  for (const line of ours.report) {
-    const result = line.slice(line.lastIndexOf(' ') + 1);
-    results[result] = (results[result] ?? 0) + 1;
-  }
-  return false;
+  for (const { result } of ours.rows) results[result] = (results[result] ?? 0) + 1;
+  return wrong !== null;
+}
+
+/** A list of two hashes: the page reads it for the one that more of its lines are right by. */
+function differsMixed() {
+  const line = (name, kind) => `${hash(kind, FILES.get(name))}  ${name}\n`;
+  const bytes = Buffer.from(line('a', 'blake3') + line('b c', 'sha256') + line('sub/x', 'sha256'));
+  writeFileSync(join(work, 'mixed'), bytes);
+  const { rows } = ofPage(null, [['mixed', bytes]]);
+  settleOpen(rows);
+  const [got, wanted] = [rows.map((it) => reported(it, [0])).join(), ofProgram('sha256', ['mixed']).report.join()];
+  if (got !== wanted) console.log(`a list of two hashes: sums check ${wanted}, the page ${got}`);
+  return got !== wanted;
 }
 
 const work = mkdtempSync(join(tmpdir(), 'lists-'));
@@ -202,6 +237,7 @@ try {
     mkdirSync(join(work, path, '..'), { recursive: true });
     writeFileSync(join(work, path), content);
   }
+  different += differsMixed();
   for (const kind of KINDS) {
     for (let left = Number(rounds); left > 0; left -= AT_ONCE) {
       const lists = Array.from({ length: Math.min(left, AT_ONCE) }, () => [`list ${written++}`, drawnList(kind)]);

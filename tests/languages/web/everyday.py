@@ -1,0 +1,314 @@
+"""Everyday lists and digests, in the forms that makers publish and people paste, and what makers use the page for."""
+
+import base64
+import pathlib
+import subprocess
+import sys
+import time
+import urllib.parse
+
+import harness
+from driven import Page, TITLES, made, sha256
+
+TOP = pathlib.Path(harness.HERE).parent
+# names of lists, whether their lines decide that they are lists, and the hash of their lines
+LISTS = {
+    "SHA256SUMS": "sha256", "SHA256SUMS.txt": "sha256", "SHASUMS256.txt": "sha256", "SHA256": "sha256",
+    "SHA256SUMS (1)": "sha256", "SHA256SUMS.asc": "sha256", "checksums-sha256.txt": "sha256",
+    "CHECKSUM.SHA256-FreeBSD-14.0-RELEASE-amd64": "sha256", "prog.sha256": "sha256", "prog.tar.gz.sha256sum": "sha256",
+    "CHECKSUM": "sha256", "checksums.txt": "sha256", "prog_1.0_checksums.txt": "blake3", "HASHES": "blake2b",
+    "SHA512SUMS": "sha512", "B2SUMS": "blake2b", "BLAKE2SUMS": "blake2b", "blake2sum.txt": "blake2b",
+    "b2-linux.b3": "blake3", "sha256-simd-1.0.tar.gz.b3": "blake3", "sha512-tool.blake3": "blake3", "prog.b3": "blake3",
+    "BLAKE2SSUMS": "blake2s", "b3sum-1.0.tar.gz.b2": "blake2b", "DIGESTS": "sha512",
+}
+OTHERS = {
+    "weekly-digest.txt": b"Dear reader,\nall is well\n", "invoice-sum": b"12 and 30 is 42\n", "sum.txt": b"42\n",
+    "checksum": b"\x7fELF\0\0", "song.b2": b"\0\1\2\3",
+}
+
+
+def digest_of(program, work, hash_name, path):
+    run = harness.run(program, ["hash", "-a", hash_name, "--", path], cwd=work)
+    return run.out.decode().split()[0]
+
+
+def try_list_names(page, work, program):
+    """Names that makers use are taken as lists, of the hash that their ends or their lines tell."""
+    made(work, "prog", b"hello")
+    for name, hash_name in LISTS.items():
+        listed = made(work, name, f"{digest_of(program, work, hash_name, 'prog')}  prog\n".encode())
+        page.anew()
+        page.files(listed, work / "prog")
+        shown = page.done()
+        harness.same(f"the list {name}", (shown["state"], shown["rows"]), ("ok", ["prog: OK"]))
+    for name, data in OTHERS.items():
+        page.anew()
+        page.files(made(work, name, data))
+        harness.same(f"the file {name}", page.done()["rows"], [f"{name}: DIGEST"])
+    listed = made(work, "list.txt", f"{digest_of(program, work, 'sha256', 'prog')}  prog\n".encode())
+    page.anew()
+    page.files(listed, work / "prog")
+    harness.same("a list by another name is offered", page.done()["offers"], ["list.txt"])
+    page.press("Use list.txt as a list")
+    harness.same("and taken", page.done()["rows"], ["prog: OK"])
+
+
+def try_one_of_many(page, work):
+    """One file of a long list is green, and a list without files asks for them."""
+    lines = [f"{sha256(b'%d' % at)}  file {at}\n" for at in range(99)]
+    lines.insert(50, f"{sha256(b'two')}  two.iso\n")
+    listed = made(work, "many/SHA256SUMS", "".join(lines).encode())
+    page.anew()
+    page.files(listed)
+    shown = page.done()
+    harness.same("a list alone", (shown["state"], shown["verdict"]), ("", "Now add the files. The list names 100."))
+    page.files(made(work, "many/two.iso", b"two"))
+    shown = page.done()
+    harness.same("one of its files", (shown["state"], shown["verdict"], shown["seen"]), ("ok", "two.iso: OK", 1))
+    harness.same("the others are folded", shown["folded"], "Show 99 more on the list, which were not added")
+    page.browser.script("document.getElementById('missing').click()")
+    harness.same("and shown when asked for", page.read()["seen"], 100)
+    made(work, "many/two.iso", b"other")
+    page.anew()
+    page.files(listed, work / "many/two.iso")
+    shown = page.done()
+    harness.same("another content", (shown["state"], shown["verdict"]), ("wrong", "two.iso: FAILED"))
+    harness.judge("what that means", any("Do not use it" in it for it in shown["notes"]), shown["notes"])
+    page.anew()
+    page.files(made(work, "many/odd.sha256", f"no entry\n{sha256(b'x')}  x\n".encode()))
+    shown = page.done()
+    harness.same("a list alone with a malformed line", (shown["state"], shown["verdict"]),
+        ("", "Now add the files. The list names one."))
+
+
+SIGNATURE = """-----BEGIN PGP SIGNATURE-----
+
+iQIzBAEBCAAdFiEE6PI5lvIyGGQMtEy+dc8tlrC4
+=abcd
+-----END PGP SIGNATURE-----
+"""
+
+
+def signed(text, signature=SIGNATURE):
+    return f"-----BEGIN PGP SIGNED MESSAGE-----\nHash: SHA256\n\n{text}{signature}"
+
+
+def try_texts(page, work):
+    """Lists with a signature around them, and of UTF-16."""
+    file = made(work, "Fedora.iso", b"iso")
+    line = f"SHA256 (Fedora.iso) = {sha256(b'iso')}\n"
+    wrong = f"SHA256 (Fedora.iso) = {sha256(b'other')}\n"
+    hidden = SIGNATURE.replace("=abcd", wrong.strip())
+    for what, text, state, rows in (
+        ("a clear-signed list", signed(f"# Fedora.iso: 3 bytes\n{line}"), "ok", ["Fedora.iso: OK"]),
+        ("one with a malformed line", signed(f"{line}no entry\n"), "wrong", ["Fedora.iso: OK", "line 5: MALFORMED"]),
+        ("one with an entry in its signature", signed(line, hidden), "wrong", None),
+        ("one without an end", signed(line, SIGNATURE[:60]), "wrong", None),
+    ):
+        page.anew()
+        page.files(made(work, "Fedora-39-CHECKSUM", text.encode()), file)
+        shown = page.done()
+        harness.same(what, (shown["state"], rows and shown["rows"]), (state, rows))
+        is_told = any("No signature is checked" in it for it in shown["notes"])
+        harness.judge(f"{what}: that no signature is checked", is_told or rows is None, shown["notes"])
+    page.anew()
+    page.files(made(work, "u.sha256", ("\ufeff" + f"{sha256(b'iso')}  Fedora.iso\r\n").encode("utf-16-le")), file)
+    shown = page.done()
+    is_told = any("UTF-16" in it for it in shown["notes"])
+    harness.judge("a list of UTF-16", shown["state"] == "wrong" and is_told, shown["notes"])
+    page.anew()
+    page.files(made(work, "m.sha256", b"\xef\xbb\xbf" + f"{sha256(b'iso')}  Fedora.iso\n".encode()), file)
+    harness.judge("a byte order mark", any("byte order mark" in it for it in page.done()["notes"]))
+
+
+def grouped(digits, size):
+    return " ".join(digits[at : at + size] for at in range(0, len(digits), size))
+
+
+def try_forms(page, work, program):
+    """Digests in the forms that people have, and of hashes that are not here."""
+    made(work, "abc", b"abc")
+    digest = {name: digest_of(program, work, name, "abc") for name in TITLES}
+    own = digest["sha256"]
+    upper = own.upper()
+    in_base64 = base64.b64encode(bytes.fromhex(own)).decode()
+    right = (
+        own, f"  {own} \r\n", f"sha256:{own}", f"SHA-256: {upper}", f"sha256 {own}", f"SHA2-256(abc)= {own}",
+        f"SHA256(abc)= {own}", f"SHA512(abc)= {digest['sha512']}", f"SHA256 (abc) = {own}", f"{own} *abc",
+        f"{own}  abc", f"SHA256  {upper}  C:\\abc", f"0x{own}", f"“{own}”", f"abc: {own}", grouped(own, 8),
+        f"abc: {grouped(upper, 8)}", grouped(own, 2), ":".join(own[at : at + 2] for at in range(0, 64, 2)),
+        f"Algorithm       Hash       Path\n---------       ----       ----\nSHA256          {upper}       C:\\abc\n",
+        f"Algorithm : SHA256\nHash      : {upper}\nPath      : C:\\abc\n",
+        f"SHA256 hash of abc:\n{own}\nCertUtil: -hashfile command completed successfully.\n",
+        f"SHA256 checksum: {own}", f"blake2b:{digest['blake2b']}", f"BLAKE3 {digest['blake3']}", f"sha256-{in_base64}",
+        f"{own[:40]}\u200b{own[40:]}", f"\ufeff{own}", digest["blake2s"], f"{own}\n{own}",
+        f"{own[:40]}\n{own[40:]}",
+    )
+    page.anew()
+    page.files(work / "abc")
+    page.done()
+    for text in right:
+        page.paste(text)
+        shown = page.done()
+        harness.same(f"pasted: {text[:60]!r}", (shown["state"], shown["rows"]), ("ok", ["abc: OK"]))
+    for text, told in (
+        ("900150983cd24fb0d6963f7d28e17f72", "MD5"), ("md5: 900150983cd24fb0d6963f7d28e17f72", "MD5"),
+        ("a9993e364706816aba3e25717850c26c9cd0d89d", "SHA-1"), ("cb" * 48, "SHA-384"),
+        ("sha384:" + "cb" * 48, "SHA-384"),
+        ("SHA3-256: " + "3a" * 32, "SHA3-256"), (own[:63], "copied whole"), (own + "0", "copied whole"),
+        (f"{own}\n{digest['blake3']}", "several digests"), ("hello", "neither"),
+    ):
+        page.paste(text)
+        shown = page.done()
+        harness.same(f"pasted: {text[:60]!r}", (shown["state"], shown["rows"]),
+            ("wrong", ["the pasted text: MALFORMED", "abc: DIGEST"]))
+        harness.judge(f"what is told of {text[:60]!r}", told in shown["details"][0], shown["details"])
+    page.paste(own[:-1] + ("0" if own[-1] != "0" else "1"))
+    harness.same("pasted: a wrong digest", page.done()["verdict"], "abc: FAILED")
+    page.anew()
+    page.files(made(work, "MD5SUMS", b"900150983cd24fb0d6963f7d28e17f72  abc\n"), work / "abc", by="lists")
+    harness.judge("a list of MD5", any("MD5" in it for it in page.done()["notes"]))
+
+
+def try_chosen_hash(page, work):
+    """What is chosen goes away at Start over, and is told where a name says something else."""
+    made(work, "prog", b"hello")
+    listed = made(work, "SHA256SUMS", f"{sha256(b'hello')}  prog\n".encode())
+    page.anew()
+    page.choose("blake2b")
+    page.files(listed, work / "prog")
+    shown = page.done()
+    is_told = any("its name says SHA-256, and BLAKE2b was chosen" in it for it in shown["notes"])
+    harness.judge("another hash is chosen than a name says", is_told and shown["state"] == "wrong", shown["notes"])
+    page.anew()
+    page.files(listed, work / "prog")
+    harness.same("after Start over", page.done()["rows"], ["prog: OK"])
+    harness.same("nothing is chosen", page.browser.script("return document.getElementById('hash').value"), "")
+    mixed = made(work, "checksums.txt", f"{sha256(b'hello')}  prog\n{'0' * 64}  none\n".encode())
+    page.anew()
+    page.files(mixed, work / "prog")
+    harness.same("a list whose name tells no hash", page.done()["rows"], ["prog: OK", "none: MISSING"])
+
+
+# ---- for makers
+
+
+def try_address(page, work):
+    """A digest and a list in the address of the page."""
+    home = page.browser.script("return location.href").split("#")[0]
+    made(work, "two.iso", b"two")
+    page.browser.open("about:blank")
+    page.browser.open(f"{home}#sha256={sha256(b'two')}&name=two.iso")
+    shown = page.done()
+    harness.same("an address with a digest", shown["verdict"], "Now add the file.")
+    harness.judge("what it asks for, and who can write it", "two.iso" in shown["asked"] and "Anybody" in shown["asked"])
+    page.files(work / "two.iso")
+    harness.same("its file", page.done()["verdict"], "two.iso: OK")
+    page.anew()
+    page.files(made(work, "two (1).iso", b"two"))
+    shown = page.done()
+    harness.judge("by another name", shown["state"] == "ok" and "called two.iso" in shown["details"][0], shown)
+    text = urllib.parse.quote(f"{sha256(b'two')}  two.iso\n{sha256(b'x')}  none\n")
+    page.browser.open("about:blank")
+    page.browser.open(f"{home}#list={text}")
+    page.files(work / "two.iso")
+    harness.same("an address with a list", page.done()["rows"], ["two.iso: OK", "none: MISSING"])
+    page.browser.open("about:blank")
+    page.browser.open(f"{home}#sha256=<img src=x onerror=alert(1)>&name=<b>")
+    harness.same("an address with markup", page.browser.script("return document.querySelectorAll('img, b').length"), 0)
+    page.files(work / "two.iso")
+    harness.same("and no digest", page.done()["state"], "wrong")
+    page.browser.open("about:blank")
+    page.browser.open(home)
+
+
+def try_baked(browser, work, original):
+    """A page with a list in it. The address counts for nothing there."""
+    made(work, "two.iso", b"two")
+    listed = made(work, "baked/SHA256SUMS", f"{sha256(b'two')}  two.iso\n{sha256(b'x')}  none\n".encode())
+    out = work / "baked.html"
+    words = [sys.executable, TOP / "tools/page.py", "--list", listed, "--into", original, out]
+    subprocess.run(words, check=True)
+    page = Page(browser, f"{out.as_uri()}#sha256={'0' * 64}&name=two.iso")
+    shown = page.done()
+    harness.same("a page with a list", (shown["verdict"], "SHA256SUMS" in shown["asked"]),
+        ("Now add the files. The list names 2.", True))
+    page.files(work / "two.iso")
+    harness.same("one of its files", page.done()["verdict"], "two.iso: OK")
+    page.anew()
+    page.files(work / "two.iso")
+    harness.same("Start over keeps its list", page.done()["verdict"], "two.iso: OK")
+    harness.same("faults in the console of it", browser.faults(), [])
+
+
+KEEP_SAVED = """
+    window.saved = [];
+    const made = URL.createObjectURL.bind(URL);
+    URL.createObjectURL = (blob) => { blob.text().then((text) => window.saved.push(text)); return made(blob); };
+    HTMLAnchorElement.prototype.click = function () { window.savedAs = this.download; };
+"""
+
+
+def saved(page):
+    page.browser.script("document.getElementById('write').click()")
+    end = time.monotonic() + 20
+    while time.monotonic() < end:
+        text = page.browser.script("return window.saved.pop() ?? null")
+        if text is not None:
+            return page.browser.script("return window.savedAs"), text
+        time.sleep(0.1)
+    return None
+
+
+def try_saving(page, work, program):
+    """The list that the page makes is the one of `sums hash`, and `sums check` finds it right."""
+    files = {"one": b"1", "sub/two": b"2", "sub/b c": b"", "back\\slash": b"3", "\u00fc": b"4"}
+    folder = work / "release"
+    for name, data in files.items():
+        made(folder, name, data)
+    page.browser.script(KEEP_SAVED)
+    for hash_name, list_name in (
+        ("", "SHA256SUMS"), ("sha512", "SHA512SUMS"), ("blake2b", "B2SUMS"), ("blake3", "B3SUMS"),
+        ("blake2s", "BLAKE2SSUMS"),
+    ):
+        page.anew(hash_name)
+        page.folder(folder)
+        harness.judge(f"{list_name} can be saved", page.done()["canSave"])
+        words = ["hash", "-a", hash_name or "sha256", "--", *sorted(files)]
+        wanted = harness.run(program, words, cwd=folder).out.decode()
+        harness.same(f"{list_name}, saved", saved(page), (list_name, wanted))
+    page.press("Copy BLAKE2SSUMS")
+    label = "return document.querySelector('#copy button').textContent"
+    end = time.monotonic() + 10
+    while page.browser.script(label) == "Copy" and time.monotonic() < end:
+        time.sleep(0.1)
+    told = page.browser.script(label)
+    harness.judge("it can be copied", told in ("Copied", "Not copied"), told)
+
+
+def try_removal(page, work):
+    """What was added is named, and can be removed one by one."""
+    made(work, "one", b"1")
+    made(work, "two", b"2")
+    listed = made(work, "x.sha256", f"{sha256(b'1')}  one\n{sha256(b'2')}  two\n".encode())
+    page.anew()
+    page.files(work / "one", work / "two", listed)
+    shown = page.done()
+    harness.same("what was added", sorted(shown["things"]), ["one", "two", "x.sha256"])
+    page.press("Remove two")
+    shown = page.done()
+    harness.same("without a file", (shown["things"], shown["rows"]), (["one", "x.sha256"], ["one: OK", "two: MISSING"]))
+    page.press("Remove x.sha256")
+    harness.same("without the list", page.done()["rows"], ["one: DIGEST"])
+
+
+def try_everyday(page, work, program):
+    """All of these, in one browser."""
+    try_list_names(page, work, program)
+    try_one_of_many(page, work)
+    try_texts(page, work)
+    try_forms(page, work, program)
+    try_chosen_hash(page, work)
+    try_removal(page, work)
+    try_address(page, work)
+    try_saving(page, work, program)

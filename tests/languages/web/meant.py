@@ -1,0 +1,306 @@
+"""Which file a name in a list means, and what a verdict is of: files of one name, folders that are added again, files
+that change. No verdict is OK where `sums check` in that folder says something else."""
+
+import os
+import time
+
+import harness
+from driven import made, sha256
+
+TWICE = "two files of this name were added at once, so neither is judged"
+SEVERAL = "several files of this name were added: remove all but one"
+
+
+def list_of(*entries):
+    """A list of SHA-256, of names and what their files should hold."""
+    return "".join(f"{sha256(data)}  {name}\n" for name, data in entries).encode()
+
+
+def later(path, data):
+    """Writes a file anew, at another time than before."""
+    time.sleep(0.02)
+    path.write_bytes(data)
+    stamp = path.stat().st_mtime + 2
+    os.utime(path, (stamp, stamp))
+
+
+def rows_of(page):
+    return page.done()["rows"]
+
+
+def try_same_names(page, work):
+    """Two files of one name: the one that came with the list counts, and where none did, neither."""
+    good, bad = made(work, "one/app.tgz", b"good"), made(work, "two/app.tgz", b"bad!!")
+    listed = made(work, "SHA256SUMS", list_of(("app.tgz", b"good")))
+    page.anew()
+    page.files(listed, bad)
+    page.judged(2)
+    page.files(good)
+    shown = page.judged(3)
+    harness.same("a list with a wrong file, and then a right one of its name", (shown["state"], shown["rows"]),
+        ("wrong", ["app.tgz: FAILED", "app.tgz (2): NOT LISTED"]))
+    harness.judge("that there are two is told", "Another file app.tgz is there" in shown["added"], shown["added"])
+    page.anew()
+    page.files(bad)
+    page.files(good)
+    page.files(listed)
+    shown = page.judged(3)
+    harness.same("the list behind both", (shown["state"], shown["rows"][0], shown["details"][0]),
+        ("wrong", "app.tgz: UNREADABLE", SEVERAL))
+    page.press("Remove app.tgz")
+    harness.same("one of both is removed", page.judged(2)["rows"], ["app.tgz: OK"])
+    for first, second, result in ((bad, good, "FAILED"), (good, bad, "OK")):
+        page.anew()
+        page.drop(first, second, listed)
+        if page.browser.name == "chromium":
+            # which gives the second a name of its own
+            wanted = [f"app.tgz: {result}", "app (1).tgz: NOT LISTED"]
+            harness.same("dropped at once", page.judged(3)["rows"], wanted)
+        else:
+            shown = page.judged(2)
+            harness.same("dropped at once", (shown["state"], shown["rows"], shown["details"]),
+                ("wrong", ["app.tgz: UNREADABLE"], [TWICE]))
+
+
+def try_same_folders(page, work):
+    """A second folder of one name stands beside the first, and neither has files of the other."""
+    made(work, "x/dist/a", b"evil")
+    made(work, "x/dist/SHA256SUMS", list_of(("a", b"good")))
+    made(work, "y/dist/a", b"good")
+    orders = {"": ("x/dist", "y/dist"), "the other first": ("y/dist", "x/dist")}
+    for what, (first, second) in orders.items():
+        page.anew()
+        page.folder(work / first)
+        page.done()
+        page.folder(work / second)
+        shown = page.judged(3)
+        harness.same(f"two folders of a name {what}", (shown["state"], min(shown["rows"])), ("wrong", "a: FAILED"))
+        harness.same(f"their names {what}", shown["things"], ["dist", "dist (2)"])
+        harness.judge(f"that there are two is told {what}", "Another folder dist" in shown["added"], shown["added"])
+    made(work, "other/dist/c", b"c")
+    made(work, "other/dist/SHA256SUMS", list_of(("c", b"c"), ("a", b"good")))
+    page.folder(work / "other/dist")
+    shown = page.judged(5)
+    named = [f"{row} by {by}" for row, by in zip(shown["rows"], shown["by"])]
+    harness.judge("a list that names what another folder has", "a: MISSING by dist (3)/SHA256SUMS" in named, named)
+    page.press("Remove dist (2)")
+    harness.same("a folder is removed", page.judged(3)["things"], ["dist", "dist (3)"])
+
+
+def try_again(page, work):
+    """A folder that is added again replaces all that it had, and a file too."""
+    folder = work / "again"
+    made(folder, "a", b"a")
+    made(folder, "b", b"b")
+    made(folder, "SHA256SUMS", list_of(("a", b"a"), ("b", b"b")))
+    page.anew()
+    page.folder(folder)
+    harness.same("a folder", page.judged(3)["verdict"], "2 files: OK")
+    (folder / "b").unlink()
+    page.folder(folder)
+    shown = page.judged(2)
+    harness.same("the same without a file", (shown["state"], shown["rows"]), ("", ["a: OK", "b: MISSING"]))
+    harness.judge("what is replaced is told", "again was added again" in shown["added"], shown["added"])
+    harness.same("what a folder lacks is not folded", (shown["seen"], shown["folded"]), (2, ""))
+    (folder / "SHA256SUMS").unlink()
+    later(folder / "a", b"changed")
+    page.folder(folder)
+    harness.same("the same without its list", page.judged(1)["rows"], ["again/a: DIGEST"])
+    changing = made(work, "changing", b"before")
+    page.anew()
+    page.paste(sha256(b"before"))
+    page.files(changing)
+    harness.same("a file", page.judged(1)["rows"], ["changing: OK"])
+    later(changing, b"behind")
+    page.files(changing)
+    shown = page.done()
+    is_told = "Added again" in shown["added"]
+    harness.same("the same after a change", (shown["rows"], is_told), (["changing: FAILED"], True))
+    page.files(changing)
+    harness.same("and once more", page.done()["rows"], ["changing: FAILED"])
+
+
+def try_readings(page, work):
+    """A new list is never judged by an older reading, and what is gone is told."""
+    path = made(work, "f.bin", b"good")
+    first, second = (made(work, name, list_of(("f.bin", b"good"))) for name in ("SHA256SUMS", "sha256sum.txt"))
+    page.anew()
+    page.files(first, path)
+    harness.same("before a change", page.judged(2)["rows"], ["f.bin: OK"])
+    later(path, b"evil")
+    page.files(second)
+    shown = page.judged(3)
+    results = {row.split(": ")[1] for row in shown["rows"]}
+    # Firefox reads what is there by now
+    harness.judge("a list that is added after the file has changed", len(results) == 1 and "OK" not in results, shown)
+    path.unlink()
+    page.files(made(work, "x.sha512", b"%s  f.bin\n" % (b"0" * 128)))
+    shown = page.judged(4)
+    harness.same("a list behind a file that is gone", {row.split(": ")[1] for row in shown["rows"]}, {"UNREADABLE"})
+    harness.judge("and what to do", all("add it again" in it for it in shown["details"]), shown["details"])
+    try_empty(page, work)
+    try_gone(page, work)
+
+
+def try_empty(page, work):
+    """Files of no bytes are read too."""
+    path = made(work, "empty one", b"")
+    page.anew()
+    page.paste(sha256(b""))
+    page.files(path)
+    harness.same("a file of no bytes", page.judged(1)["rows"], ["empty one: OK"])
+    later(path, b"now more")
+    page.paste(f"SHA256 (empty one) = {sha256(b'')}")
+    harness.same("that is longer by now", page.judged(1)["rows"], ["empty one: UNREADABLE"])
+    path.unlink()
+    page.paste(sha256(b""))
+    harness.same("that is gone", page.judged(1)["rows"], ["empty one: UNREADABLE"])
+
+
+def try_gone(page, work):
+    """What was read is looked at again whenever something is added."""
+    path, other = made(work, "gone", b"gone"), made(work, "some", b"some")
+    listed = made(work, "gone.sha256", list_of(("gone", b"gone")))
+    page.anew()
+    page.files(path, listed)
+    harness.same("a file that is there", page.judged(2)["rows"], ["gone: OK"])
+    path.unlink()
+    page.files(other)
+    harness.same("gone when another is added", page.judged(3)["rows"], ["gone: UNREADABLE", "some: NOT LISTED"])
+    grown = made(work, "grown", b"grown")
+    page.anew()
+    page.files(grown)
+    page.judged(1)
+    later(grown, b"grown more")
+    page.paste(sha256(b"grown"))
+    harness.same("a file that has grown", page.judged(1)["rows"], ["grown: UNREADABLE"])
+
+
+def try_below(page, work):
+    """Each list counts from one folder, and rows say which list they are of."""
+    for version, data in (("v1", b"good"), ("v2", b"bad!")):
+        made(work, f"rel/{version}/app.tgz", data)
+        made(work, f"rel/{version}/SHA256SUMS", list_of(("app.tgz", b"good")))
+    page.anew()
+    page.folder(work / "rel")
+    shown = page.judged(4)
+    got = sorted(f"{row} by {by}" for row, by in zip(shown["rows"], shown["by"]))
+    harness.same("two lists with one name", got,
+        ["app.tgz: FAILED by rel/v2/SHA256SUMS", "app.tgz: OK by rel/v1/SHA256SUMS"])
+    harness.judge("which failed", "FAILED: app.tgz (rel/v2/SHA256SUMS)." in shown["notes"], shown["notes"])
+    made(work, "mixed/v1/a", b"a")
+    made(work, "mixed/b", b"b")
+    made(work, "mixed/v1/SHA256SUMS", list_of(("a", b"a"), ("b", b"b")))
+    page.anew()
+    page.folder(work / "mixed")
+    harness.same("names from two folders", page.judged(3)["rows"], ["a: OK", "b: MISSING", "mixed/b: NOT LISTED"])
+    made(work, "above/v1/SHA256SUMS", list_of(("app.tgz", b"good")))
+    made(work, "above/app.tgz", b"good")
+    page.anew()
+    page.folder(work / "above")
+    shown = page.judged(2)
+    remark = shown["details"][0].rpartition(" ")[0]
+    harness.same("names from the folder above", (shown["rows"], remark),
+        (["app.tgz: OK"], "SHA-256, of the file above/app.tgz"))
+    try_loose_list(page, work)
+
+
+def try_loose_list(page, work):
+    """A list beside two folders that both have its file means neither."""
+    listed = made(work, "loose/SHA256SUMS", list_of(("app.tgz", b"good")))
+    page.anew()
+    page.files(listed)
+    page.folder(work / "rel/v1")
+    shown = page.judged(3)
+    harness.judge("a list and a folder with its file", "app.tgz: OK" in shown["rows"], shown["rows"])
+    page.folder(work / "rel/v2")
+    shown = page.judged(5)
+    harness.judge("a list and two folders with its file", "app.tgz: UNREADABLE" in shown["rows"], shown["rows"])
+
+
+def pairs(work):
+    """Folders with names that could be taken for one another: which files each has, its list, and its report."""
+    good, evil = b"good", b"evil"
+    cases = {
+        "a backslash and a slash": {"p/sub/y": evil, "p\\sub/y": good},
+        "a backslash in a file": {"back\\slash": good},
+        "a file and one in a folder": {"back\\slash": good, "back/slash": evil},
+        "upper case": {"Name": good, "name": evil},
+        "normal forms": {"\u00e9": evil, "e\u0301": good},
+        "signs that are alike": {"\u212b": good, "\u00c5": evil},
+        "dots": {"a.": good, "a": evil, "a..": evil},
+        "blanks": {" a": good, "a ": evil, "a": evil},
+        "width": {"\uff41": good, "a": evil},
+        "a folder's name": {"d/x": good, "d ": evil, "D/x": evil},
+    }
+    for number, (what, files) in enumerate(cases.items()):
+        for name in files:
+            folder = work / f"pair{number}"
+            for path, data in files.items():
+                made(folder, path, data)
+            escaped = name.replace("\\", "\\\\")
+            line = f"{chr(92) * (escaped != name)}{sha256(good)}  {escaped}\n"
+            (folder / "SHA256SUMS").write_bytes(line.encode())
+            yield what, folder, name
+
+
+def try_pairs(page, work, program, is_dropped=False):
+    """Beside `sums check`: names that could be taken for one another. Nothing is OK that it does not call OK."""
+    for what, folder, name in pairs(work):
+        run = harness.run(program, ["check", "-a", "sha256", "SHA256SUMS"], cwd=folder)
+        theirs = run.out.decode().rsplit(": ", 1)[1].strip()
+        page.anew()
+        (page.drop if is_dropped else page.folder)(folder)
+        ours = page.done()["rows"][0].rsplit(": ", 1)[1]
+        # Chromium's input takes a backslash of a folder for a slash: of two files of one path then neither is judged
+        is_lost = page.browser.name == "chromium" and not is_dropped and "backslash and" in what
+        is_right = ours == theirs or (is_lost and ours in ("UNREADABLE", "MISSING"))
+        harness.judge(f"{what}, by the name {name!r}", is_right, f"sums check {theirs}, the page {ours}")
+
+
+def try_order(page, work):
+    """Two lists of one name count in the order in which they are added, however long the first takes."""
+    long = b"# a comment\n" * 100000 + list_of(("f", b"other"))
+    first, second = made(work, "order/one/x.sha256", long), made(work, "order/two/x.sha256", list_of(("f", b"f")))
+    page.anew()
+    page.files(first)
+    page.files(second)
+    page.files(made(work, "order/f", b"f"))
+    shown = page.judged(3)
+    harness.same("two lists of a name", (shown["rows"], shown["by"]),
+        (["f: FAILED", "f: OK"], ["x.sha256", "x.sha256 (2)"]))
+
+
+def try_unread(page, work):
+    """A folder of which a part cannot be read: the rest is added, and the part is UNREADABLE."""
+    folder = work / "partly"
+    made(folder, "a", b"a")
+    made(folder, "sub/x", b"x")
+    made(folder, "SHA256SUMS", list_of(("a", b"a"), ("sub/x", b"x")))
+    page.anew()
+    page.browser.script("""
+        const file = (name, text) => ({ isFile: true, name, file: (give) => give(new File([text], name)) });
+        const entries = (all) => ({ readEntries: (give) => give(all.splice(0)) });
+        const failing = { readEntries: (_, fail) => fail(new Error('no')) };
+        const closed = { isDirectory: true, name: 'sub', createReader: () => failing };
+        const top = { isDirectory: true, name: 'partly',
+            createReader: () => entries([file('a', 'a'), closed, file('SHA256SUMS', arguments[0])]) };
+        const event = new Event('drop', { cancelable: true });
+        event.dataTransfer = { items: [{ kind: 'file', webkitGetAsEntry: () => top, getAsFile: () => null }] };
+        dispatchEvent(event);
+    """, (folder / "SHA256SUMS").read_text())
+    shown = page.judged(2)
+    harness.same("dropped: a folder of which a part cannot be read", shown["rows"], ["a: OK", "sub/x: UNREADABLE"])
+    harness.judge("what cannot be read is told", "could not read: sub" in shown["added"], shown["added"])
+
+
+def try_meant(page, work, program):
+    """All of these, in one browser."""
+    try_same_names(page, work)
+    try_same_folders(page, work)
+    try_again(page, work)
+    try_readings(page, work)
+    try_below(page, work)
+    try_pairs(page, work, program)
+    try_order(page, work)
+    try_unread(page, work)

@@ -1,0 +1,41 @@
+// SPDX-License-Identifier: MIT OR Apache-2.0
+// Functions, which are a hash and the length of its digests in bytes, and digests by how many digits they have.
+import { HASHES } from '../bindings/js/hashes.js';
+
+/** Of a digest alone, 32 bytes: what is shorter is a part of one, or says little. */
+export const FEWEST_DIGITS = 64;
+export const TITLES = {
+  sha256: 'SHA-256',
+  sha512: 'SHA-512',
+  blake2b: 'BLAKE2b',
+  blake2s: 'BLAKE2s',
+  blake3: 'BLAKE3',
+};
+/** Hashes that are not here, by how many digits their digests have. */
+const OTHERS = { 32: 'MD5', 40: 'SHA-1', 56: 'SHA-224', 96: 'SHA-384' };
+
+export const titleOf = ({ hash, length }) => TITLES[hash] + (length === HASHES[hash].digest ? '' : `-${8 * length}`);
+export const keyOf = ({ hash, length }) => `${hash} ${length}`;
+export const wholeOf = (hash) => ({ hash, length: HASHES[hash].digest });
+
+/** The function of this hash whose digests have so many digits, or null. */
+export function sized(hash, digits) {
+  const length = digits / 2;
+  const { least, digest } = HASHES[hash];
+  return Number.isInteger(length) && length >= least && length <= digest ? { hash, length } : null;
+}
+
+/** The functions that digests of so many digits are of where no hash is named: those of usual lengths. */
+export function usual(digits) {
+  if (digits < FEWEST_DIGITS) return [];
+  const all = Object.keys(HASHES).map((hash) => sized(hash, digits)).filter(Boolean);
+  return all.filter(({ hash, length }) => length === HASHES[hash].digest || digits === FEWEST_DIGITS);
+}
+
+export const isNotHere = (hash) => `${hash} is not one of the hashes here: ask the maker for SHA-256`;
+
+/** What is said of digests of so many digits where they are those of a hash that is not here, or null. */
+export function otherHash(digits) {
+  const its = OTHERS[digits];
+  return its ? `${digits} digits, as ${its} has them, and ${isNotHere(its)}` : null;
+}

@@ -1,0 +1,70 @@
+// SPDX-License-Identifier: MIT OR Apache-2.0
+// The files of an input and of what was dropped, as one selection: files by themselves, and folders.
+
+const CLOSED = 'the browser could not read it';
+
+/** The path of a file below the folder that was chosen. Its own name keeps a backslash, which its path may not. */
+function pathOf(file) {
+  const path = file.webkitRelativePath;
+  return path.slice(path.indexOf('/') + 1, path.length - file.name.length) + file.name;
+}
+
+/** What an input has, which is emptied, so that a file that has changed can be added again. */
+export function chosen(input) {
+  const files = [...input.files];
+  input.value = '';
+  const loose = files.filter((it) => !it.webkitRelativePath).map((file) => ({ path: file.name, file }));
+  const folders = new Map();
+  for (const file of files.filter((it) => it.webkitRelativePath)) {
+    const name = file.webkitRelativePath.split('/', 1)[0];
+    if (!folders.has(name)) folders.set(name, { name, files: [], closed: [] });
+    folders.get(name).files.push({ path: pathOf(file), file });
+  }
+  return { loose, folders: [...folders.values()] };
+}
+
+const promised = (call) => new Promise((resolve, reject) => call(resolve, reject));
+
+/** All that a reader of a folder gives, which is some at a time. */
+async function allOf(reader) {
+  const all = [];
+  for (;;) {
+    const some = await promised((resolve, reject) => reader.readEntries(resolve, reject));
+    if (!some.length) return all;
+    all.push(...some);
+  }
+}
+
+/** Adds an entry to what a folder has. What cannot be read is told, and the rest is added. */
+async function gather(entry, path, folder) {
+  try {
+    if (entry.isFile) {
+      folder.files.push({ path, file: await promised((resolve, reject) => entry.file(resolve, reject)) });
+    } else {
+      const entries = await allOf(entry.createReader());
+      for (const it of entries) await gather(it, path ? `${path}/${it.name}` : it.name, folder);
+    }
+  } catch (error) {
+    // the folder itself, which a browser may give to no page
+    if (!path) throw error;
+    folder.closed.push({ path, fault: CLOSED });
+  }
+}
+
+/** What was dropped. Chromium gives the files of a folder to no page that is a file itself: then this rejects. */
+export async function dropped(transfer) {
+  const items = [...transfer.items].filter((it) => it.kind === 'file');
+  // both have to be asked for before the event ends
+  const both = items.map((it) => [it.webkitGetAsEntry?.(), it.getAsFile()]);
+  const selection = { loose: [], folders: [] };
+  for (const [entry, file] of both) {
+    if (entry?.isDirectory) {
+      const folder = { name: entry.name, files: [], closed: [] };
+      await gather(entry, '', folder);
+      selection.folders.push(folder);
+    } else if (file) {
+      selection.loose.push({ path: file.name, file });
+    }
+  }
+  return selection;
+}

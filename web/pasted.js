@@ -1,0 +1,78 @@
+// SPDX-License-Identifier: MIT OR Apache-2.0
+// A digest that is pasted alone, in the forms that people have: bare, behind the name of its hash, in groups, and as
+// sha256:, openssl, Get-FileHash, certutil and gpg --print-md write it.
+import { HASHES } from '../bindings/js/hashes.js';
+import { FEWEST_DIGITS, isNotHere, otherHash, sized, TITLES, usual } from './functions.js';
+
+const FEWEST_SEEN = 32; // digits, those of MD5
+const GROUPS = [2, 4, 8, 16];
+const WHOLE_DIGITS = [64, 128];
+const LABEL =
+  /(?<![a-z0-9])(sha-?(?:2-)?(?:256|512)|sha-?(?:1|224|384)|sha-?3-\d+|md5|blake2b|blake2s|blake3)(?![a-z])/gi;
+const BASE64 = /(?<![a-z0-9])sha(?:256|512)-([A-Za-z0-9+/]{43,86}={1,2})/i;
+const INVISIBLE = /[\u200b-\u200d\u2060\ufeff]/g;
+const NO_DIGEST = 'it is neither a digest nor the lines of a list';
+const SEVERAL_DIGESTS = 'it has several digests: paste one, or the lines of a list';
+
+/** What a label calls its hash: one of HASHES, or a title of one that is not here. */
+function hashLabelled(label) {
+  const word = label.toLowerCase();
+  if (Object.hasOwn(HASHES, word)) return word;
+  const [, family, rest] = /^(sha|md)-?(.*)$/.exec(word);
+  const own = `sha${rest.replace('2-', '')}`;
+  if (family === 'sha' && Object.hasOwn(HASHES, own)) return own;
+  return family === 'md' ? 'MD5' : `SHA${rest.startsWith('3-') ? '' : '-'}${rest}`;
+}
+
+/** Groups of as many digits each that follow one another, as one text each. */
+function grouped(text) {
+  const found = [];
+  let [run, size] = ['', 0];
+  for (const word of [...text.split(/[\s:.-]+/), '']) {
+    const isGroup = /^[0-9a-f]+$/i.test(word) && GROUPS.includes(word.length);
+    if (run && (!isGroup || word.length !== size)) {
+      if (run.length >= FEWEST_SEEN) found.push(run);
+      run = '';
+    }
+    if (isGroup) [run, size] = [run + word, word.length];
+  }
+  return found;
+}
+
+/** The digits of each digest in a text, in lower case. */
+function digestsIn(text) {
+  const base64 = BASE64.exec(text);
+  if (base64) return [Array.from(atob(base64[1]), (it) => it.charCodeAt(0).toString(16).padStart(2, '0')).join('')];
+  const runs = text.match(/(?<![0-9a-z])(?:0x)?[0-9a-f]{8,}(?![0-9a-z])/gi) ?? [];
+  const solid = runs.map((it) => it.replace(/^0x/i, '').toLowerCase());
+  const long = solid.filter((it) => it.length >= FEWEST_SEEN);
+  // one digest over two lines
+  const isCut = long.length < 2 && solid.length > 1 && WHOLE_DIGITS.includes(solid.join('').length);
+  if (isCut) return [solid.join('')];
+  return [...new Set(long.length ? long : grouped(text).map((it) => it.toLowerCase()))];
+}
+
+/** The functions that a digest may be of, or why there are none. */
+function functionsOf(digits, hash) {
+  if (hash && !Object.hasOwn(HASHES, hash)) return { of: [], fault: isNotHere(hash) };
+  const other = hash ? null : otherHash(digits);
+  if (other) return { of: [], fault: `it has ${other}` };
+  if (digits < FEWEST_DIGITS) return { of: [], fault: `it has ${digits} digits, too few: was it copied whole?` };
+  const of = hash ? [sized(hash, digits)].filter(Boolean) : usual(digits);
+  if (of.length) return { of, fault: '' };
+  const named = hash ? `no digest of ${TITLES[hash]} has as many` : 'no hash here has as many, unless you choose one';
+  return { of, fault: `it has ${digits} digits, and ${named}: was it copied whole?` };
+}
+
+/**
+ * What a text is that is no list: `{ digest, of, fault }`, the digits of one digest and the functions that it may be
+ * of, one where the text or else `chosen` names it. Where it is no such digest, `of` is empty, and `fault` says why.
+ */
+export function pastedDigest(text, chosen) {
+  const plain = text.replace(INVISIBLE, '');
+  const digests = digestsIn(plain);
+  if (digests.length !== 1) return { digest: '', of: [], fault: digests.length ? SEVERAL_DIGESTS : NO_DIGEST };
+  const labels = new Set(Array.from(plain.matchAll(LABEL), ([, label]) => hashLabelled(label)));
+  const hash = labels.size === 1 ? [...labels][0] : chosen;
+  return { digest: digests[0], ...functionsOf(digests[0].length, hash) };
+}
