@@ -211,7 +211,7 @@ parallel_files() {
 # ask the system
 documents() {
     for document in README.md CHANGELOG.md LICENSE-MIT LICENSE-APACHE THIRD-PARTY docs/*.md docs/*.svg bindings/*/README.md \
-        web/README.md bindings/openssl/configuration bindings/c/sums_hash.h crates/*/CALLING.md crates/source/src/device.rt \
+        web/README.md web/*.png bindings/openssl/configuration bindings/c/sums_hash.h crates/*/CALLING.md crates/source/src/device.rt \
         crates/sumlist/src/files.rt crates/sums/src/main.rt crates/sums/src/progress.rt crates/sums/src/watched.rt \
         packaging/aarch64.c \
         $(find crates/*/specs -type f); do
