@@ -179,7 +179,7 @@ provider() {
 
 # functions: the names that the header declares, one a line
 functions() {
-    sed -n 's/^\(uint32_t\|void\) \(sums_[a-z0-9_]*\)(.*/\2/p' bindings/c/sums_hash.h
+    sed -n 's/^\(uint32_t\|size_t\|void\) \(sums_[a-z0-9_]*\)(.*/\2/p' bindings/c/sums_hash.h
 }
 
 # Each of the next nine calls DO MODE FILE PLACE for each file that belongs to it, DO link TARGET PLACE for each link,

@@ -285,11 +285,11 @@ typedef struct {
 /* Begins a list. Answers SUMS_OK or SUMS_NO_HASH. */
 uint32_t sums_list_init(sums_list_state *state, uint32_t hash);
 /* Reads the piece up to its first LF, and what the line means that ends there. If the piece has no LF, all of it is read
- * and no line has ended. Call it again with what follows entry->taken, until nothing is left. A line of more than
- * 65,536 bytes is malformed. Answers SUMS_OK, SUMS_NOT_BEGUN, or SUMS_INPUT_TOO_LONG after 2^64 - 1 lines. */
-uint32_t sums_list_read(sums_list_state *state, sums_list_entry *entry, const uint8_t *piece, size_t piece_len);
+ * and no line has ended. Call it again with what follows line->taken, until nothing is left. A line of more than 65,536
+ * bytes is malformed. Answers SUMS_OK, SUMS_NOT_BEGUN, or SUMS_INPUT_TOO_LONG after 2^64 - 1 lines. */
+uint32_t sums_list_read(sums_list_state *state, sums_list_entry *line, const uint8_t *piece, size_t piece_len);
 /* At the end of the list, reads the last line, if no LF ended it. The same answers. */
-uint32_t sums_list_end(sums_list_state *state, sums_list_entry *entry);
+uint32_t sums_list_end(sums_list_state *state, sums_list_entry *line);
 
 /* The length in bytes of the line of an entry with its LF, untagged if is_tagged is 0. It is 0 if there is no such hash,
  * the hash has no digests of that length, or the name has no line: it is empty, not UTF-8, holds NUL, or its line would

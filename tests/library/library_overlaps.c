@@ -90,6 +90,23 @@ static void blake3(void) {
     release();
 }
 
+// The name of a line is text, which the digest may lie in.
+static void list_lines(void) {
+    static uint8_t names[TEXT];
+    size_t digest_length = 1 + (size_t)rand() % 64, name_length = 1 + (size_t)rand() % 300;
+    for (size_t i = 0; i < TEXT; i++) names[i] = 1 + text[i] % 127;
+    const uint8_t *at = names + (size_t)rand() % (TEXT - 400);
+    input = part(at, name_length);
+    key = part(rand() % 2 ? at : at + (size_t)rand() % name_length, digest_length);
+    for (uint32_t is_tagged = 0; is_tagged < 2; is_tagged++) {
+        size_t length = sums_list_line_length(SUMS_BLAKE2B, is_tagged, digest_length, at, name_length);
+        if (length > 1000) abort();
+        BOTH(1000, sums_list_line(out, length, SUMS_BLAKE2B, is_tagged, k, digest_length, in, name_length))
+    }
+    free(key.copy);
+    free(input.copy);
+}
+
 int main(void) {
     srand(1);
     for (size_t i = 0; i < TEXT; i++) text[i] = (uint8_t)rand();
@@ -101,6 +118,7 @@ int main(void) {
         keyed_sha512();
         keyed_blake2b();
         keyed_blake2s();
+        list_lines();
     }
     return ends("overlaps");
 }

@@ -75,6 +75,27 @@ static void pieces(void) {
     }
 }
 
+// Lines as long as they may be, in one piece and in many, and lines of names with an escape for each byte.
+static void lists(void) {
+    static sums_list_state state;
+    static sums_list_entry line;
+    static uint8_t list[65537], name[32000], wide[65537];
+    memset(name, '\\', sizeof name);
+    for (uint32_t is_tagged = 0; is_tagged < 2; is_tagged++) {
+        size_t length = sums_list_line_length(SUMS_BLAKE2B, is_tagged, 63, name, sizeof name);
+        if (length == 0 || length > sizeof list) exit(2);
+        sums_list_line(list, length, SUMS_BLAKE2B, is_tagged, text, 63, name, sizeof name);
+        sums_list_init(&state, SUMS_SHA512);
+        sums_list_read(&state, &line, list, length);
+        for (size_t at = 0; at < length; at += line.taken)
+            sums_list_read(&state, &line, list + at, length - at < 1000 ? length - at : 1000);
+        sums_list_read(&state, &line, list, length - 1);
+        sums_list_end(&state, &line);
+    }
+    size_t length = sums_list_report_length(SUMS_VERDICT_OK, name, sizeof name);
+    sums_list_report(wide, length, SUMS_VERDICT_OK, name, sizeof name);
+}
+
 static void *called(void *calls) {
     if (calls) (*(void (**)(void))calls)();
     return NULL;
@@ -98,10 +119,10 @@ static size_t touched(void (**calls)(void)) {
 }
 
 int main(void) {
-    static const char *names[] = {"blake2", "blake3", "sha2", "hmac and hkdf", "pieces"};
-    static void (*calls[])(void) = {blake2, blake3, sha2, keyed, pieces};
+    static const char *names[] = {"blake2", "blake3", "sha2", "hmac and hkdf", "pieces", "lists"};
+    static void (*calls[])(void) = {blake2, blake3, sha2, keyed, pieces, lists};
     size_t thread = touched(NULL);
-    for (int i = 0; i < 5; i++) {
+    for (size_t i = 0; i < sizeof calls / sizeof *calls; i++) {
         size_t taken = touched(&calls[i]) - thread;
         printf("stack of %s: %zu bytes\n", names[i], taken);
         judged(names[i], LENGTH, taken <= MOST);
