@@ -1,8 +1,8 @@
 #!/usr/bin/env python3
 """Compares with the header of C: the calls and states that the crate of Rust declares, the calls of the library itself
-with the order of their arguments and what their clauses name, the refusals of the packages of Rust and Python, and the
-sizes that the states have for the C compiler and in the sources of the crates. The packages of Python and Go compile the
-header itself.
+with the order of their arguments and what their clauses name, the refusals of the packages of Rust and Python, the
+sizes that the states and a line of a list have for the C compiler and in the sources of the crates, and the fields of
+such a line. The packages of Python and Go compile the header itself.
 usage: tests/library/declarations.py HEADER SOURCES CRATES    with sums_hash on the path; SOURCES is src/ of the crate of Rust
 """
 
@@ -20,7 +20,9 @@ sys.path.append(os.path.join(os.path.dirname(os.path.realpath(__file__)), ".."))
 import harness
 from harness import same
 
-KINDS_OF_RUST = {"uint8_t": "u8", "size_t": "usize", "uint64_t": "u64"}
+KINDS_OF_RUST = {
+    "uint8_t": "u8", "uint32_t": "u32", "uint64_t": "u64", "size_t": "usize", "sums_list_entry": "ListLine",
+}
 # The words in a call's clauses that stand for a word in its name.
 WORDS_OF_CLAUSES = {
     "sha256": r"sha256|(StateHolds|IsMac)256",
@@ -35,6 +37,10 @@ WORDS_OF_CLAUSES = {
     "keyed": r"keyed_(root|parameters)",
     "derive": r"derive_(root|parameters)",
     "pieces": r"digests",
+    "read": r"ReadsPiece",
+    "end": r"EndsLine",
+    "line": r"line_text|WritesLine",
+    "report": r"verdict_text|WritesReport",
 }
 
 
@@ -43,13 +49,15 @@ def words(text):
 
 
 def of_header(path):
-    """For each call whether it answers a status, and of each argument whether it is constant, its type, whether it is
-    memory, its name, and how many bytes it has where that is fixed."""
+    """For each call the type of its answer, or none, and of each argument whether it is constant, its type, whether it
+    is memory, its name, and how many bytes it has where that is fixed."""
     with open(path) as file:
         text = re.sub(r"/\*.*?\*/", "", file.read(), flags=re.S)
     argument = re.compile(r"(const )?(\w+) (\*?)(\w+)(?:\[(\d+)\])?")
     return {
-        name: (answer == "uint32_t", [argument.fullmatch(words(each)).groups() for each in arguments.split(",")])
+        name: (
+            KINDS_OF_RUST.get(answer, ""), [argument.fullmatch(words(each)).groups() for each in arguments.split(",")]
+        )
         for answer, name, arguments in re.findall(r"^(\w+) (sums_\w+)\(([^;]*)\);", text, flags=re.M)
     }
 
@@ -88,12 +96,12 @@ def in_library(arguments):
 
 def compare_calls(where, text, header, spelled):
     """The calls that a text in Rust or Rattle declares, with their arguments in their order, as `spelled` writes them."""
-    found = re.findall(r"fn (sums_\w+)\(([^)]*)\)( -> u32)?", text)
+    found = re.findall(r"fn (sums_\w+)\(([^)]*)\)(?: -> (u32|usize))?", text)
     same(f"calls in {where}", sorted(name for name, _, _ in found), sorted(header))
-    for name, arguments, status in found:
+    for name, arguments, answer in found:
         got = [each.strip() for each in arguments.split(",") if each.strip()]
         answers, wanted = header.get(name, (None, []))
-        same(f"{name} in {where}", (bool(status), got), (answers, list(spelled(wanted))))
+        same(f"{name} in {where}", (answer, got), (answers, list(spelled(wanted))))
 
 
 def words_named(name):
@@ -117,7 +125,7 @@ def compare_library(header, crates):
             texts.append(file.read())
     text = "\n".join(texts)
     compare_calls("the library", text, header, in_library)
-    calls = re.findall(r"fn (sums_\w+)\([^)]*\)(?: -> u32)?\n((?:    .*\n)+)\{", text)
+    calls = re.findall(r"fn (sums_\w+)\([^)]*\)(?: -> \w+)?\n((?:    .*\n)+)\{", text)
     same("calls with clauses", sorted(name for name, _ in calls), sorted(header))
     for name, clauses in calls:
         same(f"what the clauses of {name} name", words_of(clauses), words_named(name))
@@ -127,19 +135,20 @@ def compare_rust(header, sizes, path):
     with open(path) as file:
         text = file.read()
     compare_calls("Rust", text, header, lambda arguments: map(in_rust, arguments))
-    wanted = {"".join(part.capitalize() for part in f"{name}_state".split("_")): size for name, size in sizes.items()}
+    wanted = {kind_in_rust(f"sums_{name}"): size for name, size in sizes.items() if name.endswith("_state")}
     same("states in Rust", {name: int(size) for name, size in re.findall(r"(\w+State): (\d+),", text)}, wanted)
 
 
 def refusals(path):
     """The number of each refusal, with its name as an enum has it and what the header says of it."""
     with open(path) as file:
-        found = re.findall(r"^ *SUMS_(\w+) = (\d+),? +/\* (.*) \*/$", file.read(), flags=re.M)
+        statuses = re.search(r"^ *SUMS_OK = 0,.*?^};", file.read(), flags=re.M | re.S)[0]
+    found = re.findall(r"^ *SUMS_(\w+) = (\d+),? +/\* (.*) \*/$", statuses, flags=re.M)
     return {int(number): (name.title().replace("_", ""), text) for name, number, text in found if number != "0"}
 
 
 def compare_refusals(header, path):
-    same("refusals in the header", sorted(header), [1, 2, 3, 4, 5, 6, 7])
+    same("refusals in the header", sorted(header), list(range(1, 11)))
     with open(path) as file:
         found = re.findall(r"^ *(\d+) => Err\(Refusal::(\w+)\)", file.read(), flags=re.M)
     # the states of the crate are always begun
@@ -152,15 +161,15 @@ def compare_refusals(header, path):
 
 
 def sizes_in_header(path):
-    """The size of each state as the header tells it."""
+    """The size of each state, and of a line of a list, as the header tells it."""
     with open(path) as file:
-        found = re.findall(r"sums_(\w+)_state; /\* ([0-9,]+) bytes \*/", file.read())
+        found = re.findall(r"sums_(\w+); /\* ([0-9,]+) bytes \*/", file.read())
     return {name: int(size.replace(",", "")) for name, size in found}
 
 
 def sizes_in_c(header, names):
-    """The size of each state by the C compiler."""
-    lines = "".join(f'printf("{name} %zu\\n", sizeof(sums_{name}_state));' for name in names)
+    """The size of each of them by the C compiler."""
+    lines = "".join(f'printf("{name} %zu\\n", sizeof(sums_{name}));' for name in names)
     with tempfile.TemporaryDirectory() as work:
         source, program = os.path.join(work, "sizes.c"), os.path.join(work, "sizes")
         with open(source, "w") as file:
@@ -170,9 +179,26 @@ def sizes_in_c(header, names):
     return {name: int(size) for name, size in (line.split() for line in out.splitlines())}
 
 
-def sizes_in_crates(folder, names):
-    """The size of each #[repr(C)] struct of the crates' sources, by the layout of C. Blake2bState is blake2b's."""
-    structs, plain = {}, {"u8": (1, 1), "u32": (4, 4), "u64": (8, 8), "usize": (8, 8)}
+def structs_in(text):
+    """The fields of each #[repr(C)] struct of a text in Rust or Rattle, as their names and types."""
+    text = re.sub(r"//[^\n]*", "", text)
+    found = re.findall(r"#\[repr\(C\)\]\s*(?:#\[[^\]]*\]\s*)*pub struct (\w+) *\{([^}]*)\}", text)
+    each = re.compile(r"(\w+): ((?:\[[^\]]*\]|\w+)+)")
+    return {name: each.findall(fields) for name, fields in found}
+
+
+def structs_of(folder):
+    """Those of the sources of all crates."""
+    structs = {}
+    for path in glob.glob(f"{folder}/*/src/**/*.rt", recursive=True):
+        with open(path) as file:
+            structs.update(structs_in(file.read()))
+    return structs
+
+
+def sizes_in_crates(structs, names):
+    """The size of each struct of the crates' sources, by the layout of C. Blake2bState is blake2b_state."""
+    plain = {"u8": (1, 1), "u32": (4, 4), "u64": (8, 8), "usize": (8, 8)}
 
     def layout(kind):
         found = re.fullmatch(r"\[(.*); *(\d+)\]", kind)
@@ -188,24 +214,30 @@ def sizes_in_crates(folder, names):
             end, most = (end + align - 1) // align * align + size, max(most, align)
         return (end + most - 1) // most * most, most
 
-    for place, _, files in os.walk(folder):
-        for name in files:
-            if not name.endswith(".rt"):
-                continue
-            with open(os.path.join(place, name)) as file:
-                text = re.sub(r"//[^\n]*", "", file.read())
-            for found in re.finditer(r"#\[repr\(C\)\]\s*(?:#\[[^\]]*\]\s*)*pub struct (\w+) *\{([^}]*)\}", text):
-                fields = [field.split(":")[1].strip() for field in found[2].split(",") if ":" in field]
-                structs[found[1]] = fields
-    sizes = {name.removesuffix("State").lower(): of_fields(fields)[0] for name, fields in structs.items()}
-    return {name: sizes.get(name.replace("_", "")) for name in names}
+    sizes = {name: of_fields([kind for _, kind in fields])[0] for name, fields in structs.items()}
+    return {name: sizes.get(kind_in_rust(f"sums_{name}")) for name in names}
 
 
 def compare_sizes(header, crates):
     told = sizes_in_header(header)
-    same("states in the header", len(told), 9)
-    same("sizes of the states in C", sizes_in_c(header, told), told)
-    same("sizes of the states in the crates", sizes_in_crates(crates, told), told)
+    same("states and lines in the header", len(told), 11)
+    same("sizes in C", sizes_in_c(header, told), told)
+    same("sizes in the crates", sizes_in_crates(structs_of(crates), told), told)
+
+
+def compare_lines(header, crates, native):
+    """The fields of a line of a list, which callers read, in the header, the library and the crate of Rust."""
+    with open(header) as file:
+        text = re.sub(r"/\*.*?\*/", "", file.read(), flags=re.S)
+    fields = re.search(r"typedef struct \{([^}]*)\} sums_list_entry;", text)[1]
+    wanted = []
+    for kind, names in re.findall(r"(\w+) ([^;]*);", fields):
+        for name, count in re.findall(r"(\w+)(?:\[(\d+)\])?", names):
+            kind_of_one = KINDS_OF_RUST[kind]
+            wanted.append((name, f"[{kind_of_one}; {count}]" if count else kind_of_one))
+    same("a line in the library", structs_of(crates)["ListLine"], wanted)
+    with open(native) as file:
+        same("a line in Rust", structs_in(file.read())["ListLine"], wanted)
 
 
 def main():
@@ -216,6 +248,7 @@ def main():
     compare_rust(header, sizes_in_header(header_path), f"{sources}/native.rs")
     compare_refusals(refusals(header_path), f"{sources}/refusal.rs")
     compare_sizes(header_path, crates)
+    compare_lines(header_path, crates, f"{sources}/native.rs")
     harness.finish()
 
 

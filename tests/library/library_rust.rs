@@ -1,7 +1,8 @@
 //! Calls each function of the crate of Rust, and prints what it gives, for tests/library/library_python to compare.
 
-use std::io::Write;
+use std::io::{self, ErrorKind, Read, Write};
 
+use sums_hash::list::*;
 use sums_hash::*;
 
 /// A position that no 32 bits hold.
@@ -56,6 +57,148 @@ fn written() -> Result<(), Refusal> {
     assert_eq!(whole.finish(), sha512(&data));
     assert_eq!(pieces.finish(), sha512(&data));
     assert_eq!(std::io::Error::from(Refusal::InputTooLong).kind(), std::io::ErrorKind::InvalidInput);
+    Ok(())
+}
+
+/// A reader that gives a byte at a time, is interrupted before each, and fails at the end.
+struct Failing(&'static [u8], bool);
+
+impl Read for Failing {
+    fn read(&mut self, piece: &mut [u8]) -> io::Result<usize> {
+        self.1 = !self.1;
+        if self.1 {
+            return Err(ErrorKind::Interrupted.into());
+        }
+        match self.0.read(&mut piece[..1])? {
+            0 => Err(ErrorKind::TimedOut.into()),
+            count => Ok(count),
+        }
+    }
+}
+
+/// A list of lines of each kind, in pieces of a byte, and from a reader that fails behind it.
+fn lists() -> Result<(), Refusal> {
+    const LIST: &[u8] = b"# list\n\\2e  a\\nb\r\n50  x\n\nSHA256 (x) = 2e\nBLAKE2s-8 (x y) = 50\n2E *last";
+    let (mut state, mut line) = (ListState::new(Some(Hash::Blake2b)), ListLine::new());
+    let mut told = vec![];
+    for byte in LIST.chunks(1) {
+        assert_eq!(state.read(byte, &mut line)?, 1);
+        told.extend((line.meaning() != Meaning::None).then(|| format!("{line:?}")));
+    }
+    state.end(&mut line)?;
+    told.push(format!("{line:?}"));
+    state.end(&mut line)?;
+    assert_eq!((line.meaning(), line.number()), (Meaning::None, 7));
+    let entry = |number, name, digest: u8, hash: Hash| {
+        let (hash, digest) = (format!("{hash:?}"), [digest]);
+        format!("ListLine {{ number: {number}, meaning: Entry {{ name: {name:?}, digest: {digest:?}, hash: {hash} }} }}")
+    };
+    let other = |number, meaning| format!("ListLine {{ number: {number}, meaning: {meaning} }}");
+    let entries = [entry(2, "a\nb", 0x2e, Hash::Blake2b), entry(3, "x", 0x50, Hash::Blake2b)];
+    assert_eq!(told[..3], [other(1, "Skipped"), entries[0].clone(), entries[1].clone()]);
+    assert_eq!(told[3..5], [other(4, "Skipped"), other(5, "Malformed")]);
+    assert_eq!(told[5..], [entry(6, "x y", 0x50, Hash::Blake2s), entry(7, "last", 0x2e, Hash::Blake2b)]);
+
+    let mut list = List::new(Failing(LIST, false), None);
+    assert!(matches!(list.next(), Some(Err(Error::Malformed { line: 2, untagged: true }))));
+    assert!(matches!(list.next(), Some(Err(Error::Malformed { line: 3, untagged: true }))));
+    assert!(matches!(list.next(), Some(Err(Error::Malformed { line: 5, untagged: false }))));
+    assert_eq!(list.next().unwrap().unwrap().name, "x y");
+    assert!(matches!(list.next(), Some(Err(Error::Io(fault))) if fault.kind() == ErrorKind::TimedOut));
+    assert!(list.next().is_none() && list.next().is_none());
+    assert_eq!(list.skipped(), 2);
+    let mut whole = List::new(LIST, Some(Hash::Blake2b)).filter_map(Result::ok);
+    assert_eq!(whole.by_ref().map(|entry| entry.line).collect::<Vec<_>>(), [2, 3, 6, 7]);
+    assert!(whole.next().is_none());
+    Ok(())
+}
+
+/// Lines, in memory of each length about theirs, and what has none.
+fn lines() -> Result<(), Refusal> {
+    let (digest, longest) = ([0xab; 32], "n".repeat(65536));
+    for (hash, is_tagged, want) in [
+        (Hash::Blake2b, false, format!("\\{}  a\\nb\n", "ab".repeat(32))),
+        (Hash::Blake2b, true, format!("\\BLAKE2b-256 (a\\nb) = {}\n", "ab".repeat(32))),
+        (Hash::Sha256, true, format!("\\SHA256 (a\\nb) = {}\n", "ab".repeat(32))),
+    ] {
+        let length = line_length(hash, is_tagged, 32, "a\nb");
+        assert_eq!(length, Some(want.len()));
+        assert_eq!(if is_tagged { tagged_line } else { line }(hash, &digest, "a\nb")?, want);
+        for room in want.len() - 1..=want.len() + 1 {
+            let mut out = vec![7; room];
+            let written = write_line(&mut out, hash, is_tagged, &digest, "a\nb");
+            let fits = room == want.len();
+            assert_eq!(written, if fits { Ok(()) } else { Err(Refusal::OutputLength) });
+            assert_eq!(out, if fits { want.clone().into_bytes() } else { vec![7; room] });
+        }
+    }
+    for name in ["", "a\0b", &longest[..65_471], &longest] {
+        assert_eq!(line_length(Hash::Sha256, false, 32, name), None);
+        assert_eq!(line(Hash::Sha256, &digest, name), Err(Refusal::NoLine));
+        assert_eq!(tagged_line(Hash::Sha256, &digest, name), Err(Refusal::NoLine));
+    }
+    assert_eq!(line(Hash::Sha256, &digest, &longest[..65_470])?.len(), 65_537);
+    assert_eq!(line_length(Hash::Sha256, true, usize::MAX, "a"), None);
+    assert_eq!(tagged_line(Hash::Sha512, &digest, "a"), Err(Refusal::DigestLength));
+    assert_eq!(line(Hash::Blake2s, &[], "a"), Err(Refusal::DigestLength));
+
+    let texts = ["OK", "FAILED", "MISSING", "UNREADABLE", "TOO LONG"];
+    let verdicts = [Verdict::Ok, Verdict::Failed, Verdict::Missing, Verdict::Unreadable, Verdict::TooLong];
+    for (verdict, text) in verdicts.into_iter().zip(texts) {
+        assert_eq!(report(verdict, "\r")?, format!("\\r: {text}\n"));
+        assert_eq!(report_length(verdict, &longest), Some(65_536 + 3 + text.len()));
+        assert_eq!(write_report(&mut [], verdict, "a"), Err(Refusal::OutputLength));
+    }
+    assert_eq!(report(Verdict::Ok, &"n".repeat(65_537)), Err(Refusal::NoLine));
+    Ok(())
+}
+
+/// The files of lists: inside of the folder and out of it, right, wrong, missing and a folder.
+fn checked() -> Result<(), Box<dyn std::error::Error>> {
+    let folder = std::env::temp_dir().join(format!("sums-hash-lists-{}", std::process::id()));
+    std::fs::create_dir_all(folder.join("inner/deeper"))?;
+    std::fs::write(folder.join("out"), "abc")?;
+    std::fs::write(folder.join("inner/in"), "abc")?;
+    let out = folder.join("out").to_str().unwrap().to_owned();
+    let (right, wrong) = (sha256(b"abc"), sha256(b"ab"));
+    let mut text = line(Hash::Sha256, &wrong, "in")? + &line(Hash::Sha256, &right, "none")?;
+    text += &line(Hash::Sha256, &right, "deeper")?;
+    text += "# comment\nmalformed\n2e  untagged\n";
+    for name in ["in", "./in", "../out", "deeper/../in", "deeper/../../out", "..", "/", &out] {
+        text += &tagged_line(Hash::Sha256, &right, name)?;
+    }
+    let list = folder.join("list");
+    std::fs::write(&list, &text)?;
+    let everywhere = check(&list, Some(Hash::Sha256), folder.join("inner"))?;
+    let inside = check_inside(&list, Some(Hash::Sha256), folder.join("inner"))?;
+    let counts = |report: &Report| {
+        [Verdict::Ok, Verdict::Failed, Verdict::Missing, Verdict::Unreadable].map(|verdict| report.count(verdict))
+    };
+    assert_eq!((counts(&everywhere), everywhere.outside.len()), ([6, 1, 1, 3], 0));
+    assert_eq!((counts(&inside), inside.outside.len()), ([2, 1, 1, 1], 6));
+    for report in [everywhere, inside] {
+        assert_eq!((report.malformed.as_slice(), report.untagged, report.skipped), (&[5, 6][..], true, 1));
+        assert!(!report.is_ok());
+    }
+    for (text, is_ok) in [
+        (line(Hash::Sha256, &right, "in")?, true),
+        (line(Hash::Sha256, &right, "in")? + "\n# end", true),
+        (line(Hash::Sha256, &right, "in")? + "x", false),
+        (line(Hash::Sha256, &right, "../out")?, false),
+        (line(Hash::Sha256, &wrong, "in")?, false),
+        ("# no entry\n".to_owned(), false),
+        (String::new(), false),
+    ] {
+        std::fs::write(&list, &text)?;
+        assert_eq!(check_inside(&list, Some(Hash::Sha256), folder.join("inner"))?.is_ok(), is_ok, "{text}");
+    }
+    let fault = check(folder.join("none"), None, &folder).unwrap_err();
+    assert!(matches!(fault, Error::Io(fault) if fault.kind() == ErrorKind::NotFound));
+    std::fs::remove_dir_all(&folder)?;
+    for (name, hash) in [("sha256", Hash::Sha256), ("blake2b", Hash::Blake2b), ("blake3", Hash::Blake3)] {
+        assert_eq!((Hash::named(name), hash.to_string()), (Some(hash), name.to_owned()));
+    }
+    assert_eq!((Hash::named("SHA256"), Hash::named("")), (None, None));
     Ok(())
 }
 
@@ -163,6 +306,9 @@ fn main() -> Result<(), Refusal> {
     told("blake2s_pieces", &digests[..20 * 13]);
     pieces_of_each_length()?;
     written()?;
+    lists()?;
+    lines()?;
+    checked().unwrap();
 
     for refusal in [
         Blake2b::new(65, b"").err(),

@@ -16,6 +16,8 @@
 //! Lengths and positions are in bytes. A refused call has written nothing. A message in pieces owns the memory of its
 //! state; its `Debug` shows nothing of it. Neither is wiped when it is dropped, and no constant time is claimed.
 //!
+//! The module [`list`] reads, checks and writes lists of digests, as sha256sum and b2sum write them.
+//!
 //! With the feature `digest` the module `traits` has the hashes and HMAC under the traits of the crate digest. With
 //! `std`, which is on by default, each message in pieces is a `std::io::Write`.
 #![no_std]
@@ -31,6 +33,7 @@ mod native;
 mod blake2;
 mod blake3;
 mod keyed;
+pub mod list;
 mod message;
 mod pieces;
 mod refusal;

@@ -26,6 +26,21 @@ states! {
     HmacSha512State: 432,
     HmacBlake2bState: 448,
     HmacBlake2sState: 240,
+    ListState: 65560,
+}
+
+/// A line of a list, as the library writes it.
+#[repr(C)]
+#[derive(Clone)]
+pub struct ListLine {
+    pub number: u64,
+    pub taken: u64,
+    pub kind: u32,
+    pub hash: u32,
+    pub digest_len: u32,
+    pub name_len: u32,
+    pub digest: [u8; 64],
+    pub name: [u8; 65536],
 }
 
 extern "C" {
@@ -300,4 +315,26 @@ extern "C" {
     pub fn sums_hmac_blake2s_init(state: *mut HmacBlake2sState, key: *const u8, key_len: usize) -> u32;
     pub fn sums_hmac_blake2s_update(state: *mut HmacBlake2sState, piece: *const u8, piece_len: usize) -> u32;
     pub fn sums_hmac_blake2s_finish(state: *const HmacBlake2sState, out: *mut u8, out_len: usize) -> u32;
+    pub fn sums_list_init(state: *mut ListState, hash: u32) -> u32;
+    pub fn sums_list_read(state: *mut ListState, line: *mut ListLine, piece: *const u8, piece_len: usize) -> u32;
+    pub fn sums_list_end(state: *mut ListState, line: *mut ListLine) -> u32;
+    pub fn sums_list_line_length(
+        hash: u32,
+        is_tagged: u32,
+        digest_len: usize,
+        name: *const u8,
+        name_len: usize,
+    ) -> usize;
+    pub fn sums_list_line(
+        out: *mut u8,
+        out_len: usize,
+        hash: u32,
+        is_tagged: u32,
+        digest: *const u8,
+        digest_len: usize,
+        name: *const u8,
+        name_len: usize,
+    ) -> u32;
+    pub fn sums_list_report_length(verdict: u32, name: *const u8, name_len: usize) -> usize;
+    pub fn sums_list_report(out: *mut u8, out_len: usize, verdict: u32, name: *const u8, name_len: usize) -> u32;
 }

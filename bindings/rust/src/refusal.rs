@@ -15,8 +15,14 @@ pub enum Refusal {
     EndOfOutput,
     /// The function takes no pieces of that length.
     PieceLength,
-    /// The output is not as long as the digests of all pieces.
+    /// The output is not as long as the digests of all pieces, or as the line.
     OutputLength,
+    /// No hash has that number.
+    NoHash,
+    /// No line has that name.
+    NoLine,
+    /// No verdict has that number.
+    NoVerdict,
     /// A status that this version of the crate does not know.
     Other(u32),
 }
@@ -29,7 +35,13 @@ impl fmt::Display for Refusal {
             Refusal::InputTooLong => write!(f, "the message is longer than the function takes"),
             Refusal::EndOfOutput => write!(f, "the output has no such bytes"),
             Refusal::PieceLength => write!(f, "the function takes no pieces of that length"),
-            Refusal::OutputLength => write!(f, "the output is not as long as the digests of all pieces"),
+            Refusal::OutputLength => write!(
+                f,
+                "the output is not as long as the digests of all pieces, or as the line"
+            ),
+            Refusal::NoHash => write!(f, "no hash has that number"),
+            Refusal::NoLine => write!(f, "no line has that name"),
+            Refusal::NoVerdict => write!(f, "no verdict has that number"),
             Refusal::Other(status) => write!(f, "status {status}"),
         }
     }
@@ -55,6 +67,9 @@ pub(crate) fn checked(status: u32) -> Result<(), Refusal> {
         5 => Err(Refusal::EndOfOutput),
         6 => Err(Refusal::PieceLength),
         7 => Err(Refusal::OutputLength),
+        8 => Err(Refusal::NoHash),
+        9 => Err(Refusal::NoLine),
+        10 => Err(Refusal::NoVerdict),
         _ => Err(Refusal::Other(status)),
     }
 }
@@ -66,7 +81,7 @@ mod tests {
     #[test]
     fn statuses() {
         assert_eq!(checked(0), Ok(()));
-        for status in [4, 8, u32::MAX] {
+        for status in [4, 11, u32::MAX] {
             assert_eq!(checked(status), Err(Refusal::Other(status)));
         }
     }
