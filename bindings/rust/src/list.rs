@@ -157,6 +157,11 @@ impl ListLine {
         self.0.number
     }
 
+    #[cfg(feature = "std")]
+    fn has_ended(&self) -> bool {
+        self.0.kind != 0
+    }
+
     /// What the line means.
     pub fn meaning(&self) -> Meaning<'_> {
         match self.0.kind {

@@ -90,9 +90,10 @@ impl From<Refusal> for Error {
 /// ```
 pub struct List<R> {
     reader: R,
-    // what was read of it, and where the rest of that begins
+    // room for a piece, and where what was read into it begins and ends
     piece: Vec<u8>,
     at: usize,
+    end: usize,
     state: Box<ListState>,
     line: Box<ListLine>,
     has_ended: bool,
@@ -105,8 +106,9 @@ impl<R: Read> List<R> {
     pub fn new(reader: R, hash: Option<Hash>) -> Self {
         Self {
             reader,
-            piece: Vec::new(),
+            piece: vec![0; PIECE],
             at: 0,
+            end: 0,
             state: Box::new(ListState::new(hash)),
             line: Box::default(),
             has_ended: false,
@@ -121,27 +123,27 @@ impl<R: Read> List<R> {
 
     /// Asks for more of the list, and answers whether there is some.
     fn fill(&mut self) -> io::Result<bool> {
-        self.piece.resize(PIECE, 0);
-        self.at = 0;
-        let count = loop {
+        loop {
             match self.reader.read(&mut self.piece) {
                 Err(fault) if fault.kind() == ErrorKind::Interrupted => {}
-                answer => break answer,
+                Err(fault) => return Err(fault),
+                Ok(count) => {
+                    (self.at, self.end) = (0, count);
+                    return Ok(count > 0);
+                }
             }
-        };
-        self.piece.truncate(*count.as_ref().unwrap_or(&0));
-        Ok(count? > 0)
+        }
     }
 
     /// Reads a line, of which the last one ends the list.
     fn read_line(&mut self) -> Result<(), Error> {
         loop {
-            if self.at == self.piece.len() && !self.fill()? {
+            if self.at == self.end && !self.fill()? {
                 self.has_ended = true;
                 return Ok(self.state.end(&mut self.line)?);
             }
-            self.at += self.state.read(&self.piece[self.at..], &mut self.line)?;
-            if self.line.meaning() != Meaning::None {
+            self.at += self.state.read(&self.piece[self.at..self.end], &mut self.line)?;
+            if self.line.has_ended() {
                 return Ok(());
             }
         }
