@@ -1,6 +1,6 @@
 // The command `part` with `--each`: the lines of all parts of a file.
 
-ghost use Rattle.std.specs.Prelude.{◌≡◌, ℕ, ◌%◌, ◌*◌, ◌^◌, ◌≤◌, [], Some, true, length, IfOk, IfSome, IsErrOf};
+ghost use Rattle.std.specs.Prelude.{◌≡◌, ℕ, ◌%◌, ◌*◌, ◌^◌, ◌≤◌, ◌⊎◌, [], Some, true, length, IfOk, IfSome, IsErrOf};
 ghost use Rattle.source.specs.Counts.{count_after};
 ghost use Rattle.command.specs.Cutting.{EachRuns};
 ghost use Rattle.command.specs.Lines.{is_input, opens_of};
@@ -32,6 +32,8 @@ impl<'i, 't, 'o, L: Feed, T: Tree, W: Sink> Session<'i, 't, 'o, L, T, W> {
         ensures opens { OpensAtMost (opens_of name.entry.now) (⟦<Self as Streams>⟧.seen self.old)
             (⟦<Self as Streams>⟧.seen self.new) }
         ensures same { SameStreams self.old self.new }
+        ensures memory { IsErrOf result Fault.OutOfMemory → (T.wants_memory ≡ true) ⊎ (self.new ≡ self.old) }
+        ensures unwritten { IsErrOf result Fault.OutOfMemory → self.new.out.now ≡ self.old.out.now }
     {
         self.print_all_parts(parts.chunks, name)
     }
@@ -48,6 +50,8 @@ impl<'i, 't, 'o, L: Feed, T: Tree, W: Sink> Session<'i, 't, 'o, L, T, W> {
         ensures opens { OpensAtMost (opens_of name.entry.now) (⟦<Self as Streams>⟧.seen self.old)
             (⟦<Self as Streams>⟧.seen self.new) }
         ensures same { SameStreams self.old self.new }
+        ensures memory { IsErrOf result Fault.OutOfMemory → (T.wants_memory ≡ true) ⊎ (self.new ≡ self.old) }
+        ensures unwritten { IsErrOf result Fault.OutOfMemory → self.new.out.now ≡ self.old.out.now }
     {
         let mut run = room_for_run(self.alloc, chunks)?;
         read_named!(

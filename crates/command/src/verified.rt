@@ -1,7 +1,7 @@
 // The command `part` with `--verify`: whether the parts that lines tell are those of a file.
 
 ghost use Rattle.std.specs.Prelude.{◌≡◌, ◌≤◌, ◌+◌, ◌*◌, ◌++◌, ◌∷◌, ℕ, [], true, length, IfOk, IfSome, IsErrOf, Some};
-ghost use Rattle.std.specs.Prelude.{if◌then◌else◌, nat_lt};
+ghost use Rattle.std.specs.Prelude.{◌⊎◌, if◌then◌else◌, nat_lt};
 ghost use Rattle.std.specs.Fmt.{decimal};
 ghost use Rattle.source.specs.Counts.{count_after};
 ghost use Rattle.source.specs.Written.{Writes};
@@ -41,6 +41,8 @@ impl<'i, 't, 'o, L: Feed, T: Tree, W: Sink> Session<'i, 't, 'o, L, T, W> {
         ensures opens { OpensAtMost (1 + opens_of name.entry.now) (⟦<Self as Streams>⟧.seen self.old)
             (⟦<Self as Streams>⟧.seen self.new) }
         ensures same { SameStreams self.old self.new }
+        ensures memory { IsErrOf result Fault.OutOfMemory → (T.wants_memory ≡ true) ⊎ (self.new ≡ self.old) }
+        ensures unwritten { IsErrOf result Fault.OutOfMemory → self.new.out.now ≡ self.old.out.now }
     {
         let mut run = part_buffer(self.alloc, RUN)?;
         let mut list = open_file(parts, 0, self.tree)?;
@@ -70,6 +72,7 @@ impl<'i, 't, 'o, L: Feed, T: Tree, W: Sink> Session<'i, 't, 'o, L, T, W> {
             (⟦<Self as Streams>⟧.seen self.new) }
         ensures same { SameStreams self.old self.new }
         ensures memory { IsErrOf result Fault.OutOfMemory → T.wants_memory ≡ true }
+        ensures unwritten { IsErrOf result Fault.OutOfMemory → self.new.out.now ≡ self.old.out.now }
     {
         read_named!(self, name, 0, verify_feed(run, parts, list, name, self.out))
     }
