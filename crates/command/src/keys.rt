@@ -13,6 +13,7 @@ ghost use Rattle.task.specs.inside.Views.{derivation_shown};
 use crate::fault::Fault;
 use crate::output::{write_bytes, write_output};
 use crate::session::{Session, Streams, absorb_named};
+use crate::verifying::slice_of;
 use b3::Blake3;
 use kdf::{Extract, expand};
 use mac::{Blake2b512, Blake2s256, BlockHash, Sha256Stream, Sha512Stream, hash_laws};
@@ -115,7 +116,7 @@ impl<'i, 't, 'o, L: Feed, T: Tree, W: Sink> Session<'i, 't, 'o, L, T, W> {
         ensures same { SameStreams self.old self.new }
         ensures memory { IsErrOf result Fault.OutOfMemory → T.wants_memory ≡ true }
     {
-        let Ok(mut extract) = Extract::<H>::new(salt_of(hkdf)) else {
+        let Ok(mut extract) = Extract::<H>::new(slice_of(&hkdf.salt)) else {
             return Err(Fault::Usage(UsageFault::OutOfRange(Setting::Salt)));
         };
         absorb_named(&mut extract, material, self.tree)?;
@@ -149,15 +150,6 @@ fn line_end(is_raw: bool) -> &'static [u8]
     ensures { result.now ≡ printing.line_end is_raw }
 {
     if is_raw { b"" } else { b"\n" }
-}
-
-fn salt_of(hkdf: &Hkdf) -> Option<&[u8]>
-    ensures { option_map (λ s. s.now) result ≡ option_map (λ v. v.items) hkdf.now.salt }
-{
-    match &hkdf.salt {
-        Some(salt) => Some(salt.as_slice()),
-        None => None,
-    }
 }
 
 // Writes the key that is expanded of a pseudorandom key. Its buffer is not on the
