@@ -9,6 +9,7 @@ ghost use Rattle.task.specs.Settings as settings;
 ghost use Rattle.task.specs.Settings.{files};
 ghost use Rattle.task.specs.Tasks as spec;
 ghost use Rattle.task.specs.Tasks.{asked, in_file, these};
+ghost use Rattle.task.specs.inside.Reading as reading;
 ghost use Rattle.task.specs.inside.Seen.{IsAsDefined, judged, seen};
 ghost use Rattle.task.specs.inside.Views.{names_shown, sum_shown, task_shown, texts_of};
 
@@ -117,6 +118,33 @@ impl<'a> Task<'a> {
         ensures { IsAsDefined task_shown (asked (given_of request.entry)) result }
     {
         task_of(alloc, &request)
+    }
+}
+
+impl<'a> Task<'a> {
+    /// Whether standard input is a list, of names or of digests.
+    pub fn lists_input(&self) -> bool
+        ensures { result ≡ reading.lists_input (task_shown self.now) }
+    {
+        match self {
+            Task::Lines { names, .. } => match names {
+                Names::Given(_) => false,
+                Names::From(list) => *list == "-",
+            },
+            Task::Check { lists, .. } => lists.contains(&"-"),
+            _ => false,
+        }
+    }
+
+    /// How many bytes are read at most of a file from where it is opened, where a number of chunks says so.
+    pub fn most_read(&self) -> Option<u64>
+        ensures { result ≡ reading.most_read (task_shown self.now) }
+    {
+        match self {
+            Task::Part { place, .. } => place.chunks?.checked_mul(1024),
+            Task::Starts { parts, .. } => parts.chunks.checked_mul(1024),
+            _ => None,
+        }
     }
 }
 
