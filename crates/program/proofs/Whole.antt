@@ -1,7 +1,6 @@
 -- A run of the program is that of its request, with the last trouble told.
 use Rattle.std.proofs.Common.{◌≡◌, ℕ, List, [], ◌∷◌, ◌++◌, Option, Some, None, Result, Ok, Err, IfOk, IfSome, refl}
 use Rattle.std.proofs.Common.{sym, ap, ◌∙◌, ◌⊎◌, ◌+◌, ◌≤◌, false, inl, inr, subst, append-nil, arith}
-use Rattle.std.specs.Prelude.{IsErrAnd}
 use Rattle.std.proofs.KnownBytes.{Appends-nil}
 use Rattle.source.specs.Written.{Done, Failed, Shown}
 use Rattle.sumlist.specs.Report.{Files}
@@ -11,16 +10,13 @@ use Rattle.request.specs.declared.request.Request.{Request}
 use Rattle.request.specs.declared.request.WordsFault.{WordsFault}
 use Rattle.request.specs.declared.request.WordsFault.TheVariants as words_fault
 use Rattle.task.specs.Tasks.{Asked, asked}
-use Rattle.task.specs.declared.fault.TaskFault.{TaskFault}
-use Rattle.task.specs.declared.fault.TaskFault.TheVariants as task
-use Rattle.task.specs.inside.Seen.{IsAsDefined}
-use Rattle.task.specs.inside.Views.{task_shown}
+use Rattle.task.specs.declared.fault.UsageFault.{UsageFault}
+use Rattle.task.specs.inside.Texts.{fault_text}
 use Rattle.command.specs.Run.{Counted, Run, Runs, Tells, TellsAll, end_of, prints, stops}
 use Rattle.command.specs.Run.{cannot_write as run_cannot_write, out_of_memory as run_out_of_memory}
 use Rattle.command.specs.inside.Seen.{Does}
-use Rattle.command.specs.inside.Troubles.{cannot_write, of_task, out_of_memory, shown, status_of, told, trouble_of}
+use Rattle.command.specs.inside.Troubles.{cannot_write, out_of_memory, status_of, told, trouble_of, usage}
 use Rattle.command.specs.declared.fault.Fault.{Fault}
-use Rattle.command.proofs.Refused.{Does-refused}
 use Rattle.command.proofs.Telling.{TellsAll-append, TellsAll-one}
 use Rattle.program.specs.Program.{ClapRuns, ProgramRuns, RequestRuns, TaskRuns, most_opens}
 
@@ -58,11 +54,11 @@ Runs-stopped run f status out_old out_new err_old err_mid err_new takes tells is
 }
 
 module _ (first : Option (List ℕ)) (tree : Option Files) where
-  -- what was done of a request
-  abbrev pub Requested : Given → Result ℕ Fault → (out_old out_new err_old err_new : Shown) → (i j u v x y : ℕ) → Type 0
-  Requested r answer out_old out_new err_old err_new i j u v x y =
+  -- what was done of a task
+  abbrev pub Worked : Asked → Result ℕ Fault → (out_old out_new err_old err_new : Shown) → (i j u v x y : ℕ) → Type 0
+  Worked task answer out_old out_new err_old err_new i j u v x y =
       IfSome first (λ bytes. IfSome tree (λ files. (run : Run)
-      × ((opens : ℕ) × RequestRuns r files bytes run opens × (y ≤ x + opens)) × Does run
+      × (TaskRuns task files bytes run × (y ≤ x + most_opens task files bytes)) × Does run
       answer out_old out_new × TellsAll err_old err_new run.notes × Counted run.failures i j u v))
 
   -- what was done of a task by a command that passes over nothing
@@ -95,57 +91,43 @@ opens_always None tree task x y most = tt
 opens_always (Some bytes) None task x y most = tt
 opens_always (Some bytes) (Some files) task x y most = most bytes files
 
-requested : (r : Given) (task : Asked) (files : Files) (bytes : List ℕ) (run : Run) (x y : ℕ) → asked r ≡ Ok task
-    → TaskRuns task files bytes run → y ≤ x + most_opens task files bytes
-    → (opens : ℕ) × RequestRuns r files bytes run opens × (y ≤ x + opens)
-requested r task files bytes run x y is runs most = (most_opens task files bytes, inl (rw is (runs, refl)), most)
-
-pub told_task : (first : Option (List ℕ)) (tree : Option Files) (r : Given) (task : Asked) (answer : Result ℕ Fault)
+pub told_task : (first : Option (List ℕ)) (tree : Option Files) (task shown : Asked) (answer : Result ℕ Fault)
     (out_old out_new err_old err_new : Shown) (i j u v x y : ℕ)
-    → asked r ≡ Ok task → Tellingly first tree task answer out_old out_new err_old err_new i j u v
-    → Opens first tree task x y → Requested first tree r answer out_old out_new err_old err_new i j u v x y
-told_task None tree r task answer out_old out_new err_old err_new i j u v x y is h most = tt
-told_task (Some bytes) None r task answer out_old out_new err_old err_new i j u v x y is h most = tt
-told_task (Some bytes) (Some files) r task answer out_old out_new err_old err_new i j u v x y is h most =
-    (h.0, requested r task files bytes h.0 x y is h.1 most, h.2, h.3, h.4)
+    → task ≡ shown → Tellingly first tree shown answer out_old out_new err_old err_new i j u v
+    → Opens first tree shown x y → Worked first tree task answer out_old out_new err_old err_new i j u v x y
+told_task None tree task shown answer out_old out_new err_old err_new i j u v x y same h most = tt
+told_task (Some bytes) None task shown answer out_old out_new err_old err_new i j u v x y same h most = tt
+told_task (Some bytes) (Some files) task shown answer out_old out_new err_old err_new i j u v x y same h most =
+    rw same (h.0, (h.1, most), h.2, h.3, h.4)
 
-pub told_always : (first : Option (List ℕ)) (tree : Option Files) (r : Given) (task : Asked) (answer : Result ℕ Fault)
+pub told_always : (first : Option (List ℕ)) (tree : Option Files) (task shown : Asked) (answer : Result ℕ Fault)
     (out_old out_new err_old err_new : Shown) (i j u v x y : ℕ)
-    → asked r ≡ Ok task → Tellingly first tree task answer out_old out_new err_old err_new i j u v
-    → ((bytes : List ℕ) (files : Files) → y ≤ x + most_opens task files bytes)
-    → Requested first tree r answer out_old out_new err_old err_new i j u v x y
-told_always first tree r task answer out_old out_new err_old err_new i j u v x y is h most =
-    told_task first tree r task answer out_old out_new err_old err_new i j u v x y is h
-    (opens_always first tree task x y most)
+    → task ≡ shown → Tellingly first tree shown answer out_old out_new err_old err_new i j u v
+    → ((bytes : List ℕ) (files : Files) → y ≤ x + most_opens shown files bytes)
+    → Worked first tree task answer out_old out_new err_old err_new i j u v x y
+told_always first tree task shown answer out_old out_new err_old err_new i j u v x y same h most =
+    told_task first tree task shown answer out_old out_new err_old err_new i j u v x y same h
+    (opens_always first tree shown x y most)
 
-pub quiet_task : (first : Option (List ℕ)) (tree : Option Files) (r : Given) (task : Asked)
-    (answer : Result ℕ Fault) (out_old out_new err : Shown) (i j u v x y : ℕ)
-    → asked r ≡ Ok task → Quietly first tree task answer out_old out_new i j u v
-    → ((bytes : List ℕ) (files : Files) → y ≤ x + most_opens task files bytes)
-    → Requested first tree r answer out_old out_new err err i j u v x y
-quiet_task None tree r task answer out_old out_new err i j u v x y is h most = tt
-quiet_task (Some bytes) None r task answer out_old out_new err i j u v x y is h most = tt
-quiet_task (Some bytes) (Some files) r task answer out_old out_new err i j u v x y is h most =
-    (h.0, requested r task files bytes h.0 x y is h.1 (most bytes files), h.2, rw h.3 refl, h.4)
+pub quiet_task : (first : Option (List ℕ)) (tree : Option Files) (task shown : Asked) (answer : Result ℕ Fault)
+    (out_old out_new err : Shown) (i j u v x y : ℕ)
+    → task ≡ shown → Quietly first tree shown answer out_old out_new i j u v
+    → ((bytes : List ℕ) (files : Files) → y ≤ x + most_opens shown files bytes)
+    → Worked first tree task answer out_old out_new err err i j u v x y
+quiet_task None tree task shown answer out_old out_new err i j u v x y same h most = tt
+quiet_task (Some bytes) None task shown answer out_old out_new err i j u v x y same h most = tt
+quiet_task (Some bytes) (Some files) task shown answer out_old out_new err i j u v x y same h most =
+    rw same (h.0, (h.1, most bytes files), h.2, rw h.3 refl, h.4)
 
-refused : (r : Given) (e : TaskFault) (files : Files) (bytes : List ℕ) → IsAsDefined task_shown (asked r) (Err e)
-    → RequestRuns r files bytes (stops (shown (trouble_of (of_task e)))) 0
-refused r (task.Usage fault) files bytes judged = inl (rw judged (refl, refl))
-refused r task.OutOfMemory files bytes judged = inr (refl, refl)
+-- the run of a task is that of the request that asks for it
+requested : (r : Given) (task : Asked) (files : Files) (bytes : List ℕ) (run : Run) → asked r ≡ Ok task
+    → TaskRuns task files bytes run → RequestRuns r files bytes run (most_opens task files bytes)
+requested r task files bytes run is runs = inl (rw is (runs, refl))
 
-pub no_task : (first : Option (List ℕ)) (tree : Option Files) (r : Given) (e : TaskFault) (answer : Result ℕ Fault)
-    (out err : Shown) (i u x : ℕ)
-    → IsErrAnd answer (λ g. g ≡ of_task e) → IsAsDefined task_shown (asked r) (Err e)
-    → Requested first tree r answer out out err err i i u u x x
-no_task None tree r e answer out err i u x stop judged = tt
-no_task (Some bytes) None r e answer out err i u x stop judged = tt
-no_task (Some bytes) (Some files) r e answer out err i u x stop judged = (
-  stops (shown (trouble_of (of_task e))),
-  (0, refused r e files bytes judged, omega arith),
-  Does-refused (trouble_of (of_task e)) [] (of_task e) answer out out stop refl refl,
-  refl,
-  Counted-none i u,
-)
+-- and a fault of its settings is told
+refused : (r : Given) (fault : Text) (files : Files) (bytes : List ℕ) → asked r ≡ Err fault
+    → RequestRuns r files bytes (stops (2, fault)) 0
+refused r fault files bytes is = inl (rw is (refl, refl))
 
 -- the text of wrong words is told
 pub clap_told : (kind : ErrorKind) (text : Text) (status : ℕ) (out_old out_new err_old err_new : Shown) → IsWrong kind
@@ -181,40 +163,58 @@ clap_printed kind text status out_old out_new err_old err_new right (inr p) = (
 )
 
 module _ (words : List Text) where
-  pub run_done : (first : Option (List ℕ)) (tree : Option Files) (r : Given) (status : ℕ)
-      (out_old out_new err_old err_new : Shown) (i j u v x y : ℕ)
-      → AreRead words (Ok r)
-      → Requested first tree r (Ok status) out_old out_new err_old err_new i j u v x y
+  pub run_done : (first : Option (List ℕ)) (tree : Option Files) (r : Given) (task : Asked) (status : ℕ)
+      (out_old out_new err_old err_new : Shown) (i j u v x y : ℕ) → AreRead words (Ok r) → asked r ≡ Ok task
+      → Worked first tree task (Ok status) out_old out_new err_old err_new i j u v x y
       → Program first tree words status out_old out_new err_old err_new i j u v x y
-  run_done None tree r status out_old out_new err_old err_new i j u v x y read h = tt
-  run_done (Some bytes) None r status out_old out_new err_old err_new i j u v x y read h = tt
-  run_done (Some bytes) (Some files) r status out_old out_new err_old err_new i j u v x y read h = (
+  run_done None tree r task status out_old out_new err_old err_new i j u v x y read is h = tt
+  run_done (Some bytes) None r task status out_old out_new err_old err_new i j u v x y read is h = tt
+  run_done (Some bytes) (Some files) r task status out_old out_new err_old err_new i j u v x y read is h = (
     h.0,
-    h.1.0,
+    most_opens task files bytes,
     Runs-done h.0 status out_old out_new err_old err_new h.2 h.3,
     h.4,
-    h.1.2,
-    inl (r, read, h.1.1),
+    h.1.1,
+    inl (r, read, requested r task files bytes h.0 is h.1.0),
   )
 
-  pub run_stopped : (first : Option (List ℕ)) (tree : Option Files) (r : Given) (f : Fault) (status : ℕ)
-      (out_old out_new err_old err_mid err_new : Shown) (i j u v x y : ℕ)
-      → AreRead words (Ok r)
-      → Requested first tree r (Err f) out_old out_new err_old err_mid i j u v x y
+  pub run_stopped : (first : Option (List ℕ)) (tree : Option Files) (r : Given) (task : Asked) (f : Fault) (status : ℕ)
+      (out_old out_new err_old err_mid err_new : Shown) (i j u v x y : ℕ) → AreRead words (Ok r) → asked r ≡ Ok task
+      → Worked first tree task (Err f) out_old out_new err_old err_mid i j u v x y
       → status ≡ status_of (trouble_of f) → Tells err_mid err_new (told (trouble_of f))
       → Program first tree words status out_old out_new err_old err_new i j u v x y
-  run_stopped None tree r f status out_old out_new err_old err_mid err_new i j u v x y read h is last = tt
-  run_stopped (Some bytes) None r f status out_old out_new err_old err_mid err_new i j u v x y read h is last =
-      tt
-  run_stopped (Some bytes) (Some files) r f status out_old out_new err_old err_mid err_new i j u v x y read h is
-      last = (
+  run_stopped None tree r task f status out_old out_new err_old err_mid err_new i j u v x y read is h same last = tt
+  run_stopped (Some bytes) None r task f status out_old out_new err_old err_mid err_new i j u v x y read is h same
+      last = tt
+  run_stopped (Some bytes) (Some files) r task f status out_old out_new err_old err_mid err_new i j u v x y read is h
+      same last = (
         h.0,
-        h.1.0,
-        Runs-stopped h.0 f status out_old out_new err_old err_mid err_new h.2 h.3 is last,
+        most_opens task files bytes,
+        Runs-stopped h.0 f status out_old out_new err_old err_mid err_new h.2 h.3 same last,
         h.4,
-        h.1.2,
-        inl (r, read, h.1.1),
+        h.1.1,
+        inl (r, read, requested r task files bytes h.0 is h.1.0),
       )
+
+  -- a setting is at fault
+  pub run_refused : (first : Option (List ℕ)) (tree : Option Files) (r : Given) (fault : UsageFault) (status : ℕ)
+      (out err_old err_new : Shown) (i u x : ℕ) → AreRead words (Ok r) → asked r ≡ Err (fault_text fault)
+      → status ≡ 2 → Tells err_old err_new (told (usage fault))
+      → Program first tree words status out out err_old err_new i i u u x x
+  run_refused None tree r fault status out err_old err_new i u x read is same last = tt
+  run_refused (Some bytes) None r fault status out err_old err_new i u x read is same last = tt
+  run_refused (Some bytes) (Some files) r fault status out err_old err_new i u x read is same last = (
+    stops (2, fault_text fault),
+    0,
+    record {
+      status = same;
+      out = (refl, Appends-nil out.contents);
+      err = TellsAll-one err_old err_new (told (usage fault)) last;
+    },
+    Counted-none i u,
+    omega arith,
+    inl (r, read, refused r (fault_text fault) files bytes is),
+  )
 
   pub run_without_memory : (first : Option (List ℕ)) (tree : Option Files) (status : ℕ) (out err_old err_new : Shown)
       (i u x : ℕ)

@@ -1,13 +1,15 @@
 //! A whole run of `sums`: from the words to the status.
 #![tactic(auto)]
 
-ghost use Rattle.std.specs.Prelude.{◌≡◌, [], IfSome, List, ℕ, map};
-ghost use Rattle.request.specs.CommandLine.{Text, given_of, kind_of};
+ghost use Rattle.std.specs.Prelude.{◌≡◌, [], IfSome, List, map};
+ghost use Rattle.request.specs.CommandLine.{Text, kind_of};
 ghost use Rattle.request.specs.inside.Reading.{IsRead};
+ghost use Rattle.task.specs.inside.Views.{task_shown};
 ghost use Rattle.command.specs.Run.{Run, Runs, TellsAll};
 ghost use Rattle.command.specs.inside.Seen.{DoesRun, OpensAtMost};
 ghost use Rattle.command.specs.inside.Streams.{SameStreams};
-ghost use Rattle.program.specs.Program.{ClapRuns, ProgramRuns, RequestRuns};
+ghost use Rattle.program.specs.Program.{ClapRuns, ProgramRuns, TaskRuns, most_opens};
+ghost use Rattle.program.specs.inside.Judging.{IsJudged};
 
 pub use memory::run_in_memory;
 
@@ -18,7 +20,18 @@ use request::{Error, Request, WordsFault, line};
 use source::{Feed, Sink, WriteFailed, write_all};
 use std::alloc::Global;
 use sumlist::Tree;
-use task::{Names, Task};
+use task::{Names, Task, TaskFault, UsageFault};
+
+/// Why words ask for no task.
+#[derive(Debug, Drop)]
+pub enum NoTask {
+    /// They are wrong, or ask for help or the version: `clap`'s error tells which.
+    Words(Error),
+    /// A setting of their request is at fault.
+    Usage(UsageFault),
+    /// Memory ran out.
+    OutOfMemory,
+}
 
 /// One whole run over the words, the program's own name first, with the standard streams and the
 /// files: it answers the status. After a write to `err` that fails the rest of its line is dropped.
@@ -36,29 +49,52 @@ pub fn run<L: Feed, T: Tree, W: Sink, E: Sink>(
         (L.failure_count input.old) (L.failure_count input.new)
         (T.failure_count tree.old) (T.failure_count tree.new) (T.opens tree.old) (T.opens tree.new))) }
 {
-    run_read(alloc, line(alloc, words), input, tree, out, err)
+    run_task(
+        alloc,
+        task_of(alloc, line(alloc, words)),
+        input,
+        tree,
+        out,
+        err,
+    )
 }
 
-/// The same of words that `line` has read: what it answers of them is handed in.
-pub fn run_read<L: Feed, T: Tree, W: Sink, E: Sink>(
+/// The task that words ask for which `line` has read.
+pub fn task_of<'a>(alloc: Global, read: Result<Request<'a>, WordsFault>) -> Result<Task<'a>, NoTask>
+    ensures { (words : List Text) → IsRead words read.entry → IsJudged words result }
+{
+    match read {
+        Ok(request) => match Task::of(alloc, request) {
+            Ok(task) => Ok(task),
+            Err(TaskFault::Usage(fault)) => Err(NoTask::Usage(fault)),
+            Err(TaskFault::OutOfMemory) => Err(NoTask::OutOfMemory),
+        },
+        Err(WordsFault::Words(error)) => Err(NoTask::Words(error)),
+        Err(WordsFault::OutOfMemory) => Err(NoTask::OutOfMemory),
+    }
+}
+
+/// The run of words whose task is known, as `run` does it.
+pub fn run_task<L: Feed, T: Tree, W: Sink, E: Sink>(
     alloc: Global,
-    read: Result<Request<'_>, WordsFault>,
+    judged: Result<Task<'_>, NoTask>,
     input: &mut L,
     tree: &mut T,
     out: &mut W,
     err: &mut E,
 ) -> u8
-    ensures { (words : List Text) → IsRead words read.entry
+    ensures { (words : List Text) → IsJudged words judged.entry
         → IfSome (L.remaining input.old) (λ bytes. IfSome (T.files tree.old) (λ files.
         ProgramRuns words bytes files result
         (W.shown out.old) (W.shown out.new) (E.shown err.old) (E.shown err.new)
         (L.failure_count input.old) (L.failure_count input.new)
         (T.failure_count tree.old) (T.failure_count tree.new) (T.opens tree.old) (T.opens tree.new))) }
 {
-    let request = match read {
-        Ok(request) => request,
-        Err(WordsFault::OutOfMemory) => return tell(err, Fault::OutOfMemory),
-        Err(WordsFault::Words(error)) => {
+    let task = match judged {
+        Ok(task) => task,
+        Err(NoTask::Usage(fault)) => return tell(err, Fault::Usage(fault)),
+        Err(NoTask::OutOfMemory) => return tell(err, Fault::OutOfMemory),
+        Err(NoTask::Words(error)) => {
             let Ok(text) = format!(in alloc; "{error}") else {
                 return tell(err, Fault::OutOfMemory);
             };
@@ -71,27 +107,28 @@ pub fn run_read<L: Feed, T: Tree, W: Sink, E: Sink>(
         tree,
         out,
     };
-    match run_request(&mut session, request, err) {
+    match do_task(&mut session, task, err) {
         Ok(status) => status,
         Err(fault) => tell(err, fault),
     }
 }
 
-// What the request asks for, done over the streams of the session.
-fn run_request<'n, 'i, 't, 'o, L: Feed, T: Tree, W: Sink, E: Sink>(
+// The task, done over the streams of the session.
+fn do_task<'n, 'i, 't, 'o, L: Feed, T: Tree, W: Sink, E: Sink>(
     session: &mut Session<'i, 't, 'o, L, T, W>,
-    request: Request<'n>,
+    task: Task<'n>,
     err: &mut E,
 ) -> Result<u8, Fault<'n>>
-    ensures run { DoesRun (λ bytes files run. (opens : ℕ) × RequestRuns (given_of request.entry) files bytes run opens
-        × OpensAtMost opens (⟦<Session<'i, 't, 'o, L, T, W> as Streams>⟧.seen session.old)
+    ensures run { DoesRun (λ bytes files run. TaskRuns (task_shown task.entry) files bytes run
+        × OpensAtMost (most_opens (task_shown task.entry) files bytes)
+        (⟦<Session<'i, 't, 'o, L, T, W> as Streams>⟧.seen session.old)
         (⟦<Session<'i, 't, 'o, L, T, W> as Streams>⟧.seen session.new))
         (λ notes. TellsAll (E.shown err.old) (E.shown err.new) notes) result
         (⟦<Session<'i, 't, 'o, L, T, W> as Streams>⟧.seen session.old)
         (⟦<Session<'i, 't, 'o, L, T, W> as Streams>⟧.seen session.new) }
     ensures same { SameStreams session.old session.new }
 {
-    match Task::of(session.alloc, request)? {
+    match task {
         Task::Lines { sum, names } => match names {
             Names::Given(files) => session.print_lines(sum, files.as_slice(), err),
             Names::From(list) => session.print_lines_from(sum, list, err),

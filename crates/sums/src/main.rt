@@ -15,7 +15,7 @@ mod tests;
 mod watched;
 
 use command::{Fault, tell};
-use program::run_read;
+use program::{run_task, task_of};
 use progress::{Erasing, Progress};
 use request::{Request, WordsFault, line};
 use source::{Device, FixedSink, Sink, write_all};
@@ -110,17 +110,23 @@ fn run_words<W: Sink, E: Sink>(
     match texts_of(alloc, words.as_slice()) {
         Ok(texts) => {
             let read = line(alloc, texts.as_slice());
-            if asks_for_progress(&read) {
-                progress.begin(most_read(&read));
+            let is_shown = asks_for_progress(&read);
+            let judged = task_of(alloc, read);
+            let (lists_input, most) = match &judged {
+                Ok(task) => (task.lists_input(), task.most_read()),
+                Err(_) => (false, None),
+            };
+            if is_shown {
+                progress.begin(most);
             }
             let mut input = Watched::new(Device::new(rt.stdin()), progress.watch_input());
-            let files = if lists_input(&read) {
+            let files = if lists_input {
                 FileTree::beside_list(rt, "/dev/stdin")
             } else {
                 FileTree::new(rt)
             };
             let mut tree = WatchedTree::new(files, progress);
-            run_read(alloc, read, &mut input, &mut tree, out, err)
+            run_task(alloc, judged, &mut input, &mut tree, out, err)
         }
         Err(AllocError) => tell(err, Fault::OutOfMemory),
     }
@@ -148,26 +154,6 @@ fn tell_words<E: Sink>(kind: ErrorKind, err: &mut E) -> u8
     }
     let _ = write_all(err, b"sums: a word is not UTF-8\n");
     2
-}
-
-// Whether standard input is a list of names or of digests.
-fn lists_input(read: &Result<Request<'_>, WordsFault>) -> bool {
-    let Ok(request) = read else {
-        return false;
-    };
-    match request.command() {
-        "check" => match request.texts("file") {
-            Some(lists) => lists.contains(&"-"),
-            None => true,
-        },
-        _ => request.text("files0-from") == Some("-"),
-    }
-}
-
-// How many bytes of its file a part has at most, where that was said.
-fn most_read(read: &Result<Request<'_>, WordsFault>) -> Option<u64> {
-    let chunks: u64 = read.as_ref().ok()?.text("chunks")?.parse().ok()?;
-    chunks.checked_mul(1024)
 }
 
 fn words_of(rt: &HostRuntime) -> io::Result<Vec<String>> {

@@ -4,5 +4,6 @@ use Rattle.program.proofs.run.Goals as goal
 
 pub returns : goal.returns
 returns g c =
-    c.run_read.ensures (map (λ w. w.now) c.args.words.now)
-    (read_as _ c.line.result c.line.ensures.request c.line.ensures.fault)
+    let words = map (λ w. w.now) c.args.words.now in
+    c.run_task.ensures words
+    (c.task_of.ensures words (read_as words c.line.result c.line.ensures.request c.line.ensures.fault))
