@@ -83,8 +83,19 @@ int length_of(PyObject *value, size_t *to);
 
 // ---- refusals.c
 
+// What a refusal says, as PyUnicode_FromFormat takes it; without a text it says what its number does.
+struct bounds {
+    const char *text;
+    size_t least, most;
+};
+
+#define SAYS(...) ((struct bounds){__VA_ARGS__})
+#define DIGEST_SIZE "digest_size must be between %zu and %zu bytes"
+#define LENGTH "length must be between %zu and %zu bytes"
+
 int set(PyObject *to, const char *name, PyObject *value);
 PyObject *class_of_refusals(PyObject *module);
+int refuse(PyObject *module, uint32_t status, struct bounds bounds);
 int judged(PyObject *self, uint32_t status);
 
 // ---- hashers.c

@@ -39,10 +39,21 @@ static int init_refused(PyObject *self, PyObject *args, PyObject *words)
     return PyObject_SetAttrString(self, "status", status);
 }
 
+// The attributes, and the text, which has bounds that the number does not have.
+static PyObject *state_of_refusal(PyObject *self)
+{
+    PyObject *attributes = PyObject_GenericGetDict(self, NULL), *text = PyObject_GetAttrString(self, "args");
+    PyObject *state = attributes && text ? PyDict_Copy(attributes) : NULL;
+    if (state && PyDict_SetItemString(state, "args", text) < 0) Py_CLEAR(state);
+    Py_XDECREF(attributes);
+    Py_XDECREF(text);
+    return state;
+}
+
 static PyObject *reduce_refused(PyObject *self, PyObject *Py_UNUSED(none))
 {
     PyObject *status = PyObject_GetAttrString(self, "status");
-    return status ? Py_BuildValue("O(N)N", Py_TYPE(self), status, PyObject_GenericGetDict(self, NULL)) : NULL;
+    return status ? Py_BuildValue("O(N)N", Py_TYPE(self), status, state_of_refusal(self)) : NULL;
 }
 
 static PyMethodDef methods_of_refused[] = {{"__reduce__", reduce_refused, METH_NOARGS, NULL}, {0}};
@@ -72,13 +83,33 @@ static PyObject *module_of(PyTypeObject *type)
     }
 }
 
-// 0, or -1 with the refusal raised. The call was on an object, or one of a module's.
+// Raises a refusal of a module, and returns -1.
+int refuse(PyObject *module, uint32_t status, struct bounds bounds)
+{
+    struct kept *kept = PyModule_GetState(module);
+    PyObject *refusal = PyObject_CallFunction(kept->refused, "k", (unsigned long)status);
+    int done = refusal ? 0 : -1;
+    if (refusal && bounds.text)
+        done = set(refusal, "args", Py_BuildValue("(N)", PyUnicode_FromFormat(bounds.text, bounds.least, bounds.most)));
+    if (done == 0) PyErr_SetObject(kept->refused, refusal);
+    Py_XDECREF(refusal);
+    return -1;
+}
+
+static struct bounds bounds_of(const struct kind *kind, uint32_t status)
+{
+    size_t most = (size_t)kind->digest_size;
+    switch (status) {
+    case SUMS_DIGEST_LENGTH: return kind->salt_size ? SAYS(DIGEST_SIZE, 1, most) : SAYS(LENGTH, most / 2, most);
+    case SUMS_KEY_LENGTH: return SAYS("key must be between %zu and %zu bytes", 0, (size_t)kind->key_size);
+    case SUMS_END_OF_OUTPUT: return SAYS("the output ends after 18446744073709551615 bytes");
+    default: return SAYS(NULL);
+    }
+}
+
+// 0, or -1 with the refusal of a call on an object raised.
 int judged(PyObject *self, uint32_t status)
 {
     if (status == SUMS_OK) return 0;
-    struct kept *kept = PyModule_GetState(PyModule_Check(self) ? self : module_of(Py_TYPE(self)));
-    PyObject *number = PyLong_FromUnsignedLong(status);
-    if (number) PyErr_SetObject(kept->refused, number);
-    Py_XDECREF(number);
-    return -1;
+    return refuse(module_of(Py_TYPE(self)), status, bounds_of(((Hasher *)self)->kind, status));
 }

@@ -23,11 +23,11 @@ enum { INPUTS = 3, MOST_KEY = 255 * MOST_DIGEST }; // the most that HKDF derives
 
 struct whole {
     PyObject *module;
-    const struct inner *hash;
+    const struct inner *hash; // or NULL where the input is hashed in pieces
     uint32_t (*run)(const struct whole *whole);
     uint8_t *out;
     size_t length;
-    size_t digest_size, piece_length; // where the input is hashed in pieces
+    size_t digest_size, most_digest_size, piece_length; // of pieces
     Py_buffer in[INPUTS];
 };
 
@@ -111,6 +111,17 @@ static int find_inner(PyObject *name, struct whole *whole)
     return -1;
 }
 
+static struct bounds bounds_of_whole(const struct whole *whole, uint32_t status)
+{
+    size_t size = whole->hash ? whole->hash->digest_size : 0;
+    switch (status) {
+    case SUMS_DIGEST_LENGTH: return size ? SAYS(LENGTH, 0, 255 * size) : SAYS(DIGEST_SIZE, 1, whole->most_digest_size);
+    case SUMS_KEY_LENGTH: return SAYS("prk must be at least %zu bytes", size);
+    case SUMS_PIECE_LENGTH: return SAYS("piece_len must be at least 1");
+    default: return SAYS(NULL);
+    }
+}
+
 // What the call writes, of inputs that are lent.
 static PyObject *written(struct whole *whole)
 {
@@ -128,7 +139,10 @@ static PyObject *written(struct whole *whole)
         status = run_zeroed(whole);
         Py_END_ALLOW_THREADS
     }
-    if (judged(whole->module, status) < 0) Py_CLEAR(bytes);
+    if (status != SUMS_OK) {
+        refuse(whole->module, status, bounds_of_whole(whole, status));
+        Py_CLEAR(bytes);
+    }
     return bytes;
 }
 
@@ -200,10 +214,10 @@ static PyObject *hkdf_expand(PyObject *module, PyObject *args, PyObject *words)
 
 // The bytes of the digests of all pieces. Where C refuses the lengths there are none. A bytes object takes no more than
 // PY_SSIZE_T_MAX.
-static int measure(struct whole *whole, size_t most)
+static int measure(struct whole *whole)
 {
     size_t length = (size_t)whole->in[0].len, size = whole->digest_size;
-    if (size == 0 || size > most || whole->piece_length == 0) return 0;
+    if (size == 0 || size > whole->most_digest_size || whole->piece_length == 0) return 0;
     size_t pieces = length / whole->piece_length + (length % whole->piece_length != 0);
     whole->length = pieces * size;
     if (pieces <= PY_SSIZE_T_MAX / size) return 0;
@@ -214,11 +228,11 @@ static int measure(struct whole *whole, size_t most)
 // The digests of the pieces, of which each has as many bytes as the kind's longest where no other number is given.
 static PyObject *digests(struct whole *whole, const struct kind *kind, PyObject *data, PyObject *piece, PyObject *size)
 {
-    whole->digest_size = (size_t)kind->digest_size;
+    whole->digest_size = whole->most_digest_size = (size_t)kind->digest_size;
     if (length_of(piece, &whole->piece_length) < 0) return NULL;
     if (size && length_of(size, &whole->digest_size) < 0) return NULL;
     if (lend(data, &whole->in[0]) < 0) return NULL;
-    PyObject *bytes = measure(whole, (size_t)kind->digest_size) == 0 ? written(whole) : NULL;
+    PyObject *bytes = measure(whole) == 0 ? written(whole) : NULL;
     PyBuffer_Release(&whole->in[0]);
     return bytes;
 }

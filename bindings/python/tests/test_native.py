@@ -446,7 +446,7 @@ for own, other in (first, second), (second, first):
                       *(pickle.loads(pickle.dumps(caught.exception, protocol))
                         for protocol in range(pickle.HIGHEST_PROTOCOL + 1))):
             self.assertEqual((type(again), str(again), again.status, again.note),
-                             (sums_hash.Refused, "the function has no output of that length", 1, "kept"))
+                             (sums_hash.Refused, "digest_size must be between 1 and 64 bytes", 1, "kept"))
         self.assertEqual(sums_hash.Refused.__module__, "sums_hash")
         # as it was written when the class was one of Python
         again = pickle.loads(b"csums_hash\nRefused\np0\n(I1\ntp1\nRp2\n(dp3\nVstatus\np4\nI1\nsb.")

@@ -57,6 +57,30 @@ class AsHashlib(unittest.TestCase):
                 self.assertRaises(ValueError, ours, **wrong)
             self.assertRaises(TypeError, ours, digest_size=1.0)
 
+    def test_bounds(self):
+        """A refusal names the bounds, of the type whatever a class of one's own says."""
+        own = type("Own", (sums_hash.blake2b,), {"MAX_DIGEST_SIZE": 99, "digest_size": 99, "MAX_KEY_SIZE": 99})
+        sizes, lengths = "digest_size must be between 1 and {} bytes", "length must be between {} and {} bytes"
+        for text, status, call in (
+            (sizes.format(64), 1, lambda: sums_hash.blake2b(digest_size=0)),
+            (sizes.format(64), 1, lambda: own(digest_size=65)),
+            (sizes.format(32), 1, lambda: sums_hash.blake2s(b"abc", digest_size=33)),
+            (sizes.format(64), 1, lambda: sums_hash.blake2b_pieces(b"abc", 1, 65)),
+            (sizes.format(32), 1, lambda: sums_hash.blake2s_pieces(b"abc", 1, digest_size=0)),
+            (lengths.format(16, 32), 1, lambda: sums_hash.hmac_sha256(b"").digest(15)),
+            (lengths.format(32, 64), 1, lambda: sums_hash.hmac_blake2b(b"").hexdigest(2**60)),
+            (lengths.format(0, 8160), 1, lambda: sums_hash.hkdf("sha256", b"", 8161)),
+            (lengths.format(0, 16320), 1, lambda: sums_hash.hkdf_expand("BLAKE2B", bytes(64), 2**60)),
+            ("prk must be at least 32 bytes", 2, lambda: sums_hash.hkdf_expand("blake2s", bytes(31), 1)),
+            ("key must be between 0 and 64 bytes", 2, lambda: sums_hash.blake2b(key=bytes(65))),
+            ("key must be between 0 and 32 bytes", 2, lambda: sums_hash.blake2s(key=bytes(33))),
+            ("piece_len must be at least 1", 6, lambda: sums_hash.sha512_pieces(b"", 0)),
+        ):
+            with self.assertRaises(sums_hash.Refused) as caught:
+                call()
+            refused = caught.exception
+            self.assertEqual((str(refused), refused.args, refused.status), (text, (text,), status))
+
     def test_usedforsecurity(self):
         for name in sums_hash.algorithms_guaranteed:
             want = getattr(sums_hash, name)(b"abc").digest()
@@ -217,7 +241,7 @@ class Keys(unittest.TestCase):
             self.assertEqual(hasher.hexdigest(99, seek=100), whole[100:199].hex())
             self.assertEqual(hasher.digest(0, seek=2**64 - 1), b"")
             self.assertEqual(len(hasher.digest(1, seek=2**64 - 2)), 1)
-        with self.assertRaisesRegex(sums_hash.Refused, "^the output has no such bytes$") as caught:
+        with self.assertRaisesRegex(sums_hash.Refused, "^the output ends after 18446744073709551615 bytes$") as caught:
             sums_hash.blake3().digest(1, seek=2**64 - 1)
         self.assertEqual(caught.exception.status, 5)
         for wrong in ({"length": -1}, {"seek": -1}, {"seek": 2**64}):
@@ -286,7 +310,7 @@ class Pieces(unittest.TestCase):
             for data in (b"", DATA):
                 with self.assertRaises(sums_hash.Refused) as caught:
                     pieces(data, 0, 20)
-                self.assertEqual(str(caught.exception), "the function takes no pieces of that length")
+                self.assertEqual(str(caught.exception), "piece_len must be at least 1")
                 self.assertEqual(caught.exception.status, 6)
                 for length in (-1, -2**70, 2**63):
                     self.assertRaises(ValueError, pieces, data, length, 20)
