@@ -2,6 +2,7 @@
 """What an extension in C may get wrong: lengths, words, buffers, references, signals, threads, forks, interpreters.
 python3 -m unittest discover bindings/python/tests    with sums_hash on the path; a debug build counts references"""
 
+import ast
 import copy
 import ctypes
 import gc
@@ -393,6 +394,27 @@ b'md5' is none of sha256, sha512, blake2b, blake2s
         for kind in (Own, Further):
             self.assertRaises(sums_hash.Refused, kind, digest_size=0)
             self.assertRaises(sums_hash.Refused, kind.__new__(kind).digest)
+
+    def test_texts_of_the_stub(self):
+        """An editor shows what help() does."""
+        path = os.path.join(os.path.dirname(sums_hash.__file__), "_native.pyi")
+        with open(path, encoding="utf-8") as file:
+            stub = {node.name: node for node in ast.parse(file.read()).body if hasattr(node, "name")}
+
+        def methods(kind):
+            bases = [methods(stub[base.id]) for base in kind.bases if base.id in stub]
+            own = {node.name: node for node in kind.body if isinstance(node, ast.FunctionDef)}
+            return {name: node for known in (*bases, own) for name, node in known.items()}
+
+        things = {name: thing for name, thing in vars(_native).items() if not name.startswith("_")}
+        self.assertEqual(set(things), {name for name in stub if not name.startswith("_")})
+        for name, thing in things.items():
+            self.assertEqual(ast.get_docstring(stub[name]), inspect.cleandoc(thing.__doc__), name)
+            known = methods(stub[name]) if inspect.isclass(thing) else {}
+            for method, node in known.items():
+                if method != "__init__":
+                    told = inspect.cleandoc(getattr(thing, method).__doc__)
+                    self.assertEqual(ast.get_docstring(node), told, f"{name}.{method}")
 
     def test_refusals_of_another_name(self):
         """A package that stands in another one, and one that is loaded anew, know their own refusals."""
