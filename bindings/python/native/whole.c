@@ -115,7 +115,8 @@ static struct bounds bounds_of_whole(const struct whole *whole, uint32_t status)
 {
     size_t size = whole->hash ? whole->hash->digest_size : 0;
     switch (status) {
-    case SUMS_DIGEST_LENGTH: return size ? SAYS(LENGTH, 0, 255 * size) : SAYS(DIGEST_SIZE, 1, whole->most_digest_size);
+    case SUMS_DIGEST_LENGTH: return SAYS(DIGEST_SIZE, 1, whole->most_digest_size);
+    case SUMS_END_OF_OUTPUT: return SAYS(LENGTH, 0, 255 * size);
     case SUMS_KEY_LENGTH: return SAYS("prk must be at least %zu bytes", size);
     case SUMS_PIECE_LENGTH: return SAYS("piece_len must be at least 1");
     default: return SAYS(NULL);
