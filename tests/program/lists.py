@@ -302,33 +302,46 @@ def ends():
 
 # ---- written lines
 
+def forms():
+    """The lines of all names with a digest, plain and tagged: of which hash, its words, the digits and the report."""
+    kinds = [(alg, int(each["most"]), each["label"].encode(), []) for alg, each in tables.HASHES.items()]
+    kinds += [("blake2b", size, b"BLAKE2b-%d" % (8 * size), ["-l", str(size)]) for size in (1, 32)]
+    for alg, size, label, words in kinds:
+        digits = digest_of_abc(alg, size)
+        plain = [lead + digits + end for _, lead, end in NAMES]
+        tagged = [lead + label + b" (" + end[2:-1] + b") = " + digits + b"\n" for _, lead, end in NAMES]
+        report = b"".join(end[2:-1] + b": OK\n" for _, _, end in NAMES)
+        yield alg, words, digits, plain, report
+        yield alg, [*words, "--tag"], digits, tagged, report
+
+
 def written():
     """Lines of both forms, as `hash` writes them and `check` reads them back."""
-    forms = [(alg, int(each["most"]), each["label"].encode(), []) for alg, each in tables.HASHES.items()]
-    forms += [("blake2b", size, b"BLAKE2b-%d" % (8 * size), ["-l", str(size)]) for size in (1, 32)]
-    for alg, size, label, words in forms:
-        digits = digest_of_abc(alg, size)
-        names = [name for name, _, _ in NAMES]
-        plain = b"".join(lead + digits + end for _, lead, end in NAMES)
-        tagged = b"".join(lead + label + b" (" + end[2:-1] + b") = " + digits + b"\n" for _, lead, end in NAMES)
-        report = b"".join(end[2:-1] + b": OK\n" for _, _, end in NAMES)
-        for form, want, more in (("lines", plain, []), ("tagged lines", tagged, ["--tag"])):
-            answer = run("hash", "-a", alg, *words, *more, "--", *names)
-            same(sized(f"{form} of {alg} of {size} bytes"), answer, (0, want, b""))
-            check(f"{form} of {alg} of {size} bytes, checked", alg, want, report, (len(NAMES), 0, 0, 0, 0, 0, 0))
+    names = [name for name, _, _ in NAMES]
+    for alg, words, _, lines_of_names, report in forms():
+        about, want = " ".join(["lines of", alg, *words]), b"".join(lines_of_names)
+        answer = run("hash", "-a", alg, *words, "--", *names)
+        same(sized(about), answer, (0, want, b""))
+        check(f"{about}, checked", alg, want, report, (len(NAMES), 0, 0, 0, 0, 0, 0))
 
 
-program = harness.program()
-with harness.folder():
-    files()
-    sizes()
-    too_long_lines(1_048_576)
-    library = harness.preloaded("fail_call")
-    for settings in ({}, *({"LD_PRELOAD": library, "SHORT": str(size)} for size in SIZES)):
-        lines()
-        longest_lines()
-        lists()
-        both_forms()
-        ends()
-        written()
-harness.finish()
+def main():
+    global program, settings
+    program = harness.program()
+    with harness.folder():
+        files()
+        sizes()
+        too_long_lines(1_048_576)
+        library = harness.preloaded("fail_call")
+        for settings in ({}, *({"LD_PRELOAD": library, "SHORT": str(size)} for size in SIZES)):
+            lines()
+            longest_lines()
+            lists()
+            both_forms()
+            ends()
+            written()
+    harness.finish()
+
+
+if __name__ == "__main__":
+    main()

@@ -208,6 +208,15 @@ def random_line(source, kind, files):
     return line.replace(b"\n", b"")[: LONGEST_LINE + 2]
 
 
+def make_files(source):
+    """Files of some of the names, here, and what each has."""
+    files = {name: source.choice(CONTENTS) for name in NAMES if source.random() < 0.8}
+    for name, content in files.items():
+        with open(name, "wb") as file:
+            file.write(content)
+    return files
+
+
 def main():
     program, *numbers = harness.arguments(1)
     program = os.path.abspath(program)
@@ -216,10 +225,7 @@ def main():
     print(f"tests/program/random_lists.py: {wanted} lines, seed {seed}")
     source, differences, done = random.Random(seed), 0, 0
     with harness.folder():
-        files = {name: source.choice(CONTENTS) for name in NAMES if source.random() < 0.8}
-        for name, content in files.items():
-            with open(name, "wb") as file:
-                file.write(content)
+        files = make_files(source)
         while done < wanted:
             kind = source.choice(list(LENGTHS))
             lines = [random_line(source, kind, files) for _ in range(LINES_A_LIST)]
@@ -235,4 +241,5 @@ def main():
     return 1 if differences else 0
 
 
-sys.exit(main())
+if __name__ == "__main__":
+    sys.exit(main())

@@ -13,7 +13,10 @@ static int fill_module(PyObject *module)
         Py_XDECREF(type);
         if (done < 0) return -1;
     }
-    return 0;
+    PyObject *lists = type_of_lists(module);
+    int done = lists ? PyModule_AddType(module, (PyTypeObject *)lists) : -1;
+    Py_XDECREF(lists);
+    return done;
 }
 
 static int visit_kept(PyObject *module, visitproc visit, void *arg)

@@ -130,6 +130,12 @@ PyObject *reduce(PyObject *self, PyObject *none);
 PyObject *type_of(PyObject *module, const struct kind *kind);
 int describe(PyObject *type, const struct kind *kind);
 
+// ---- lists.c
+
+PyObject *type_of_lists(PyObject *module);
+PyObject *list_line(PyObject *module, PyObject *args);
+PyObject *list_report(PyObject *module, PyObject *args);
+
 // ---- module.c
 
 PyModuleDef *definition(void);

@@ -19,7 +19,7 @@ static PyObject *reason(PyObject *status)
         [SUMS_NOT_BEGUN] = "the state was never begun",
         [SUMS_END_OF_OUTPUT] = "the output has no such bytes",
         [SUMS_PIECE_LENGTH] = "the function takes no pieces of that length",
-        [SUMS_OUTPUT_LENGTH] = "the output is not as long as the digests of all pieces",
+        [SUMS_OUTPUT_LENGTH] = "the output is not as long as the digests of all pieces, or as the line",
         [SUMS_NO_HASH] = "no hash has that number",
         [SUMS_NO_LINE] = "no line has that name",
         [SUMS_NO_VERDICT] = "no verdict has that number",

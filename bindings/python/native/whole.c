@@ -291,5 +291,10 @@ PyMethodDef functions[] = {
     {"blake2s_pieces", WITH_WORDS(blake2s_pieces),
      DOC_OF_PIECES(blake2s, ", digest_size=32", "BLAKE2s (RFC 7693)", "digest_size")},
     {"blake3_pieces", WITH_WORDS(blake3_pieces), DOC_OF_PIECES(blake3, "", "BLAKE3", "32")},
+    {"list_line", list_line, METH_VARARGS,
+     "list_line(hash, is_tagged, digest, name, /)\n--\n\nThe line of a list with this digest of the hash of this "
+     "number, and its LF."},
+    {"list_report", list_report, METH_VARARGS,
+     "list_report(verdict, name, /)\n--\n\nThe line of a report with the verdict of this number, and its LF."},
     {0},
 };

@@ -44,6 +44,7 @@ __all__ = [
     "hmac_sha256", "hmac_sha512", "hmac_blake2b", "hmac_blake2s", "hmac_digest",
     "hkdf", "hkdf_extract", "hkdf_expand",
     "sha256_pieces", "sha512_pieces", "blake2b_pieces", "blake2s_pieces", "blake3_pieces",
+    "Entry", "MalformedLine", "Report", "Result", "check", "format_line", "format_verdict", "read_list",
 ]
 
 # The bytes of a digest under HMAC and HKDF.
@@ -94,3 +95,10 @@ def file_digest(fileobj: Any, digest: str | Callable[[], Any], /, *, _bufsize: i
             if count == 0:
                 return hasher
             hasher.update(view[:count])
+
+
+# ---- lists of digests, over what stands above
+
+from .lists import (  # noqa: E402
+    Entry, MalformedLine, Report, Result, check, format_line, format_verdict, read_list,
+)

@@ -1,7 +1,7 @@
 # SPDX-License-Identifier: MIT OR Apache-2.0
 # The types and the texts of native/, for checkers of types and for editors.
 import sys
-from typing import Any, ClassVar, Self
+from typing import Any, ClassVar, Self, final
 
 if sys.version_info >= (3, 12):
     from collections.abc import Buffer as _Buffer
@@ -142,3 +142,20 @@ def blake3_pieces(data: _Buffer, piece_len: int) -> bytes:
     """The digests of the pieces of data by BLAKE3, of 32 bytes each, one behind the other.
     Every piece has piece_len bytes, and the last may have fewer; no data has no piece.
     """
+
+@final
+class ListState:
+    """A list of digests that is read. Untagged lines are of the hash of this number, or with 0 malformed."""
+    def __init__(self, hash: int) -> None: ...
+    def read(self, data: _Buffer, start: int, /) -> tuple[int, int, int, Any, Any, Any]:
+        """Reads a piece of the list, from the byte `start` up to its first LF. It returns how many bytes were read,
+        what the line is (SUMS_LINE_..), its number, and of an entry the number of the hash, the digest and the name.
+        """
+    def end(self, /) -> tuple[int, int, int, Any, Any, Any]:
+        """Reads the last line, if no LF ended it. It returns the same."""
+
+def list_line(hash: int, is_tagged: bool, digest: _Buffer, name: str, /) -> bytes:
+    """The line of a list with this digest of the hash of this number, and its LF."""
+
+def list_report(verdict: int, name: str, /) -> bytes:
+    """The line of a report with the verdict of this number, and its LF."""

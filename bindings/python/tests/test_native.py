@@ -31,6 +31,7 @@ from test_sums_hash import DATA, FIXED, every_object
 
 KINDS = [type(hasher) for hasher in every_object()]
 LONG = 2**16  # bytes of a piece that lets other threads run
+LIST = b"0" * 64 + b"  none\n# a comment\nSHA256 (none) = " + b"0" * 64 + b"\nx"
 
 
 def fresh(kind, data=b""):
@@ -377,8 +378,9 @@ b'md5' is none of sha256, sha512, blake2b, blake2s
         self.assertRaises(TypeError, hasher.__deepcopy__, None)
 
     def test_refusals(self):
-        for status, text in ((1, "the function has no output of that length"), (8, "status 8"), (0, "status 0"),
-                             (-1, "status -1"), (2**70, f"status {2**70}"), ("x", "status x")):
+        for status, text in ((1, "the function has no output of that length"), (8, "no hash has that number"),
+                             (11, "status 11"), (0, "status 0"), (-1, "status -1"), (2**70, f"status {2**70}"),
+                             ("x", "status x")):
             refused = sums_hash.Refused(status)
             self.assertEqual((str(refused), refused.args, refused.status), (text, (text,), status))
         self.assertRaises(TypeError, sums_hash.Refused)
@@ -526,6 +528,60 @@ except ImportError as fault:
         for suffix in importlib.machinery.EXTENSION_SUFFIXES:
             self.assertIn(f"_native{suffix}", text)
         self.assertIn(package, text)
+
+
+class Lists(unittest.TestCase):
+    """The object under read_list, whose calls give what the library says."""
+
+    def test_a_line(self):
+        state = _native.ListState(1)
+        self.assertEqual(state.read(b"", 0), (0, 0, 0, None, None, None))
+        self.assertEqual(state.read(LIST, 0), (71, 4, 1, 1, bytes(32), "none"))
+        self.assertEqual(state.read(memoryview(LIST), 71), (12, 1, 2, None, None, None))
+        self.assertEqual(state.read(bytearray(b"x"), 0)[:2], (1, 0))
+        self.assertEqual(state.end()[1:3], (2, 3))
+        self.assertEqual(state.end()[1], 0)
+
+    def test_refused(self):
+        state = _native.ListState(1)
+        state.read(b"x", 0)
+        for wrong in (6, 2**32 - 1):
+            with self.assertRaises(sums_hash.Refused) as caught:
+                state.__init__(wrong)
+            self.assertEqual((caught.exception.status, str(caught.exception)), (8, "no hash has that number"))
+        for wrong in (-1, 2**32, 2**70):
+            self.assertRaises(ValueError, _native.ListState, wrong)
+        for start in (2, -1, 2**63, 2**64):
+            self.assertRaises(ValueError, state.read, b"x", start)
+        self.assertEqual(state.end()[1], 2)
+        state.read(b"x", 0)
+        state.__init__(1)
+        self.assertEqual(state.end()[1], 0)
+        with self.assertRaises(sums_hash.Refused) as caught:
+            _native.ListState.__new__(_native.ListState).read(b"\n", 0)
+        self.assertEqual(caught.exception.status, 4)
+        with self.assertRaises(sums_hash.Refused) as caught:
+            _native.list_report(6, "x")
+        self.assertEqual((caught.exception.status, str(caught.exception)), (10, "no verdict has that number"))
+
+    def test_classes(self):
+        self.assertRaises(TypeError, type, "Own", (_native.ListState,), {})
+        for duplicate in (copy.copy, copy.deepcopy, pickle.dumps):
+            self.assertRaises(TypeError, duplicate, _native.ListState(1))
+
+    def test_two_threads(self):
+        """A call beside another one at work is an exception, and a later one goes on."""
+        state, faults = _native.ListState(1), set()
+        thread = threading.Thread(target=state.read, args=(b"#" * 2**26 + b"\n", 0))
+        thread.start()
+        while thread.is_alive():
+            try:
+                state.read(b"", 0)
+            except RuntimeError as fault:
+                faults.add(str(fault))
+        thread.join()
+        self.assertEqual(faults, {"another thread is at work on the list"})
+        self.assertEqual(state.read(b"\n", 0)[1:3], (1, 2))
 
 
 class Buffers(unittest.TestCase):
@@ -756,6 +812,7 @@ class Threads(unittest.TestCase):
         shorter."""
         for size, runs in ((2048, True), (2047, False)):
             data, hasher, output = bytes(size), sums_hash.sha256(), sums_hash.blake3()
+            lines = _native.ListState(1)
             for name, call in {
                 "update": lambda: hasher.update(data), "a message": lambda: sums_hash.blake2s(data),
                 "output": lambda: output.digest(size), "a key": lambda: sums_hash.hmac_sha256(data),
@@ -765,6 +822,7 @@ class Threads(unittest.TestCase):
                 "salt": lambda: sums_hash.hkdf("sha256", b"", 1, salt=data),
                 "info": lambda: sums_hash.hkdf("sha256", b"", 1, info=data),
                 "pieces": lambda: sums_hash.sha256_pieces(data, 64 if runs else size),
+                "a line of a list": lambda: lines.read(data, 0),
             }.items():
                 with self.subTest(call=name, size=size):
                     self.assertEqual(lets_others_run(call), runs)
@@ -924,6 +982,17 @@ def every_call():
         lambda: sums_hash.blake2b(salt="text"), lambda: sums_hash.blake2b(person=1), lambda: sums_hash.blake2b(key=""),
         lambda: sums_hash.hkdf("sha256", b"m", -1), lambda: sums_hash.hkdf("sha256", b"m", "5"),
         lambda: sums_hash.hkdf_expand("sha256", bytes(32), -1), lambda: sums_hash.hkdf_expand("md5", bytes(32), 5),
+        lambda: list(sums_hash.read_list(LIST, "sha256")),
+        lambda: list(sums_hash.read_list([LIST[:9], LIST[9:], LIST])),
+        lambda: list(sums_hash.read_list(memoryview(LIST)[::2])), lambda: sums_hash.check(LIST, "sha256").lines,
+        lambda: sums_hash.check(LIST, "md5"), lambda: _native.ListState(6), lambda: _native.ListState("1"),
+        lambda: _native.ListState.__new__(_native.ListState).read(LIST, 0), lambda: _native.ListState(1).end(),
+        lambda: _native.ListState(1).read(LIST, 999), lambda: _native.ListState(1).read("text", 0),
+        lambda: _native.ListState(1).read(bytes(5000), 0), lambda: pickle.dumps(_native.ListState(1)),
+        lambda: sums_hash.format_line("a\n", bytes(32), "sha256", True),
+        lambda: sums_hash.format_line("", b"", "blake3"), lambda: sums_hash.format_line("a", "text", "sha256"),
+        lambda: sums_hash.format_line("a", bytearray(9), "sha256"),
+        lambda: sums_hash.format_verdict("a\n", "OK"), lambda: sums_hash.format_verdict("\ud800", "OK"),
         lambda: pickle.loads(pickle.dumps(sums_hash.Refused(9))), lambda: sums_hash.Refused(),
         lambda: sums_hash.Refused(None).__reduce__(),
     )
@@ -1014,10 +1083,10 @@ class References(unittest.TestCase):
         module = importlib.util.module_from_spec(importlib.util.spec_from_loader(name, loader))
         loader.exec_module(module)
         classes = [weakref.ref(kind) for kind in vars(module).values() if isinstance(kind, type)]
-        self.assertEqual((module is _native, len(classes)), (False, 10))
+        self.assertEqual((module is _native, len(classes)), (False, 11))
         del module
         gc.collect()
-        self.assertEqual([kind() for kind in classes], [None] * 10)
+        self.assertEqual([kind() for kind in classes], [None] * 11)
 
     def test_none_is_kept_of_what_is_shared(self):
         """The number of a refusal and the name of a class, of which no more are made."""
