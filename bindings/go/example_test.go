@@ -5,6 +5,8 @@ package hash_test
 import (
 	"fmt"
 	"io"
+	"strings"
+	"testing/fstest"
 
 	"example.org/sums/hash"
 )
@@ -47,4 +49,31 @@ func ExampleHKDFSHA256() {
 	key, err := hash.HKDFSHA256(8, []byte("secret"), nil, []byte("what for"))
 	fmt.Printf("%x %v\n", key, err)
 	// Output: 35d170c4abafc00e <nil>
+}
+
+const list = "ba7816bf8f01cfea414140de5dae2223b00361a396177a9cb410ff61f20015ad  disk.iso\n" +
+	"SHA256 (a.iso) = ba7816bf8f01cfea414140de5dae2223b00361a396177a9cb410ff61f20015ad\n"
+
+func ExampleCheck() {
+	downloads := fstest.MapFS{"SHA256SUMS": {Data: []byte(list)}, "disk.iso": {Data: []byte("abc")}} // or os.DirFS
+	report, err := hash.Check(downloads, "SHA256SUMS", hash.AlgorithmSHA256)
+	fmt.Print(report)
+	fmt.Println(report.Passed(), err)
+	// Output:
+	// disk.iso: OK
+	// a.iso: MISSING
+	// false <nil>
+}
+
+func ExampleListScanner() {
+	scanner := hash.NewListScanner(strings.NewReader(list+"?\n"), hash.AlgorithmSHA256)
+	for scanner.Scan() {
+		entry := scanner.Entry()
+		fmt.Printf("%d %s %s %x\n", entry.Line, entry.Name, entry.Hash, entry.Sum[:4])
+	}
+	fmt.Println(scanner.Err())
+	// Output:
+	// 1 disk.iso sha256 ba7816bf
+	// 2 a.iso sha256 ba7816bf
+	// sums: line 3 is malformed
 }

@@ -1,8 +1,8 @@
 // SPDX-License-Identifier: MIT OR Apache-2.0
 
-// Package hash has BLAKE2b, BLAKE2s, BLAKE3, SHA-256, SHA-512 and HMAC over them as hash.Hash, and HKDF, over the C
-// library libsums_hash, whose every call is proved equal to its definition. This package above it is tested, and not
-// proved. It needs cgo.
+// Package hash has BLAKE2b, BLAKE2s, BLAKE3, SHA-256, SHA-512 and HMAC over them as hash.Hash, HKDF, and lists of
+// digests, over the C library libsums_hash, whose every call is proved equal to its definition. This package above it is
+// tested, and not proved. It needs cgo.
 //
 // The library is the archive that comes with the module, for Linux on amd64 or arm64 with glibc; with the build tag
 // sums_system it is the installed one, which pkg-config finds. Keys and states are not wiped, and no constant time is
@@ -26,10 +26,13 @@ var (
 	ErrNotBegun     = errors.New("sums: the message was never begun")
 	ErrEndOfOutput  = errors.New("sums: the output has no such bytes")
 	ErrPieceLength  = errors.New("sums: the function takes no pieces of that length")
+	ErrNoAlgorithm  = errors.New("sums: no hash has that number")
+	ErrNoLine       = errors.New("sums: no line has that name")
+	ErrNoVerdict    = errors.New("sums: no verdict has that number")
 	ErrCopied       = errors.New("sums: a copy of a message's struct is no message: Clone makes one")
 )
 
-// SUMS_OUTPUT_LENGTH never comes: an output is made as long as the digests of all pieces.
+// SUMS_OUTPUT_LENGTH never comes: an output is made as long as the digests of all pieces, or as the line.
 var refusals = map[C.uint32_t]error{
 	C.SUMS_DIGEST_LENGTH:  ErrDigestLength,
 	C.SUMS_KEY_LENGTH:     ErrKeyLength,
@@ -37,6 +40,9 @@ var refusals = map[C.uint32_t]error{
 	C.SUMS_NOT_BEGUN:      ErrNotBegun,
 	C.SUMS_END_OF_OUTPUT:  ErrEndOfOutput,
 	C.SUMS_PIECE_LENGTH:   ErrPieceLength,
+	C.SUMS_NO_HASH:        ErrNoAlgorithm,
+	C.SUMS_NO_LINE:        ErrNoLine,
+	C.SUMS_NO_VERDICT:     ErrNoVerdict,
 }
 
 // checked is what a status means. A later library may have some that are not known here.
