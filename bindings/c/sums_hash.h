@@ -1,5 +1,5 @@
-/* BLAKE2b, BLAKE2s (RFC 7693), BLAKE3, SHA-256, SHA-512 (FIPS 180-4), HMAC (RFC 2104) and HKDF (RFC 5869), each
- * proved against its definition. No call allocates, keeps a global, sets errno or starts a thread.
+/* BLAKE2b, BLAKE2s (RFC 7693), BLAKE3, SHA-256, SHA-512 (FIPS 180-4), HMAC (RFC 2104), HKDF (RFC 5869) and lists of
+ * digests, each proved against its definition. No call allocates, keeps a global, sets errno or starts a thread.
  *
  * What the caller owes:
  * - A buffer is a pointer and then its length in bytes, below 2^63. Where the length is 0 the pointer may be null;

@@ -107,6 +107,9 @@ fn lists() -> Result<(), Refusal> {
     assert!(matches!(list.next(), Some(Err(Error::Io(fault))) if fault.kind() == ErrorKind::TimedOut));
     assert!(list.next().is_none() && list.next().is_none());
     assert_eq!(list.skipped(), 2);
+    let untagged = sums_hash::list::line(Hash::Sha256, &[7; 32], "a")?;
+    let mut without = List::new(untagged.as_bytes(), None);
+    assert!(matches!(without.next(), Some(Err(Error::Malformed { line: 1, untagged: true }))));
     let mut whole = List::new(LIST, Some(Hash::Blake2b)).filter_map(Result::ok);
     assert_eq!(whole.by_ref().map(|entry| entry.line).collect::<Vec<_>>(), [2, 3, 6, 7]);
     assert!(whole.next().is_none());

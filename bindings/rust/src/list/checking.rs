@@ -34,7 +34,8 @@ impl Report {
         self.entries.iter().filter(|(_, each)| *each == verdict).count()
     }
 
-    /// Whether there is an entry, each entry is [`Verdict::Ok`], and no line is malformed.
+    /// Whether there is an entry, each entry is [`Verdict::Ok`], and no line is malformed. `sums check` ends with status 0
+    /// for a list without an entry too.
     pub fn is_ok(&self) -> bool {
         let has_others = !self.outside.is_empty() || !self.malformed.is_empty();
         !has_others && !self.entries.is_empty() && self.count(Verdict::Ok) == self.entries.len()
