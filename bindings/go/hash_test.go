@@ -356,14 +356,15 @@ func TestLongest(t *testing.T) {
 func TestStatuses(t *testing.T) {
 	for status, c := range []struct{ got, want error }{
 		{checked(0), nil}, {checked(1), ErrDigestLength}, {checked(2), ErrKeyLength}, {checked(3), ErrInputTooLong},
-		{checked(4), ErrNotBegun}, {checked(5), ErrEndOfOutput}, {checked(6), ErrPieceLength},
+		{checked(4), ErrNotBegun}, {checked(5), ErrEndOfOutput}, {checked(6), ErrPieceLength}, {checked(8), ErrNoAlgorithm},
+		{checked(9), ErrNoLine}, {checked(10), ErrNoVerdict},
 	} {
 		if c.got != c.want {
 			t.Error(status, c.got)
 		}
 	}
 	for want, got := range map[string]error{
-		"sums: status 7": checked(7), "sums: status 8": checked(8), "sums: status 4294967295": checked(1<<32 - 1),
+		"sums: status 7": checked(7), "sums: status 11": checked(11), "sums: status 4294967295": checked(1<<32 - 1),
 	} {
 		if got == nil || got.Error() != want {
 			t.Error(want, got)

@@ -56,7 +56,9 @@ class Cases(InFolder):
     def test_reports(self):
         """What the program reports of each list, and what it means by each line, however the list is cut."""
         count = 0
-        for group in groups():
+        for place, group in enumerate(groups()):
+            os.mkdir(f"group {place}")
+            os.chdir(f"group {place}")
             for name, content in group["files"].items():
                 self.write(base64.b64decode(name), base64.b64decode(content))
             for case in group["lists"]:
@@ -69,6 +71,7 @@ class Cases(InFolder):
                 self.assertEqual(len(report.results) + report.skipped, lines, case["about"])
                 self.cut(data, case)
                 count += 1
+            os.chdir("..")
         self.assertGreater(count, 900)
 
     def cut(self, data, case):
