@@ -247,6 +247,23 @@ func TestListReaders(t *testing.T) {
 	}
 }
 
+// TestShortLines tries more lines in a piece than the room takes at a time, each with a digest of its own.
+func TestShortLines(t *testing.T) {
+	var list strings.Builder
+	for i := 0; i < 20000; i++ {
+		list.WriteString(hex.EncodeToString([]byte{byte(i)}) + "  x\n")
+	}
+	entries, err := all(hash.NewListScanner(strings.NewReader(list.String()), hash.AlgorithmBLAKE2b))
+	if err != nil || len(entries) != 20000 {
+		t.Fatal(err, len(entries))
+	}
+	for i, entry := range entries {
+		if entry.Line != uint64(i+1) || len(entry.Sum) != 1 || entry.Sum[0] != byte(i) {
+			t.Fatal(i, entry)
+		}
+	}
+}
+
 // never is a reader that says it has read so many bytes.
 type never struct{ n int }
 
