@@ -64,7 +64,7 @@ def random_rows(count, seed, program):
             if program:
                 report = harness.run(program, ["check", "-a", kind, "-"], given).out
             else:
-                report, _ = random_lists.report(given.removesuffix(b"\n").split(b"\n"), kind)
+                _, report, _ = random_lists.report(given.removesuffix(b"\n").split(b"\n"), kind)
             found.append({"about": f"random list {at} of seed {seed}", "algorithm": kind, "list": text(given),
                           "report": text(report)})
         return {"files": files_here(), "lists": found, "lines": []}

@@ -183,7 +183,7 @@ def structs_in(text):
     """The fields of each #[repr(C)] struct of a text in Rust or Rattle, as their names and types."""
     text = re.sub(r"//[^\n]*", "", text)
     found = re.findall(r"#\[repr\(C\)\]\s*(?:#\[[^\]]*\]\s*)*pub struct (\w+) *\{([^}]*)\}", text)
-    each = re.compile(r"(\w+): ((?:\[[^\]]*\]|\w+)+)")
+    each = re.compile(r"(\w+): ([^,\n]+)")
     return {name: each.findall(fields) for name, fields in found}
 
 
@@ -209,12 +209,12 @@ def sizes_in_crates(structs, names):
 
     def of_fields(fields):
         end, most = 0, 1
-        for kind in fields:
+        for _, kind in fields:
             size, align = layout(kind)
             end, most = (end + align - 1) // align * align + size, max(most, align)
         return (end + most - 1) // most * most, most
 
-    sizes = {name: of_fields([kind for _, kind in fields])[0] for name, fields in structs.items()}
+    sizes = {name: of_fields(fields)[0] for name, fields in structs.items()}
     return {name: sizes.get(kind_in_rust(f"sums_{name}")) for name in names}
 
 
