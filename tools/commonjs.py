@@ -10,7 +10,7 @@ import sys
 sys.dont_write_bytecode = True
 import page  # noqa: E402
 
-NAMES = "bind, getHashes, Refused, toHex"
+NAMES = "bind, getHashes, MalformedLine, Refused, toHex"
 TYPES = ("index", "library")
 
 

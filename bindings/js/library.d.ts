@@ -61,6 +61,70 @@ export interface Message {
   copy(options?: { outputLength?: number }): Message;
 }
 
+/** The hash of an entry, by its own name. */
+export type ListHash = 'sha256' | 'sha512' | 'blake2b' | 'blake2s' | 'blake3';
+
+/** An entry of a list: the file of this name has this digest. */
+export interface ListEntry {
+  name: string;
+  /** Hexadecimal digits in lower case. */
+  digest: string;
+  hash: ListHash;
+  /** The number of the line, from 1. */
+  line: number;
+}
+
+/** A line that is neither skipped nor an entry. `untagged`: it would be an entry if another hash were named. */
+export interface BadLine {
+  name: null;
+  digest: null;
+  hash: null;
+  line: number;
+  untagged: boolean;
+}
+
+export interface StrictOptions {
+  /** `throw`: the iterator throws a `MalformedLine`, and ends. `yield`: it goes on, and gives a `BadLine`. */
+  malformed?: 'throw';
+}
+export interface LenientOptions {
+  malformed: 'yield';
+}
+
+/** A list, or a file, that is there without waiting. */
+type AtHand = Bytes | Iterable<Bytes>;
+/** One that has to be waited for. */
+type Coming = BlobLike | { getReader(): unknown } | AsyncIterable<Bytes>;
+/** The content of a file. A string is none: it may be meant as a path. */
+export type FileSource = ArrayBufferLike | ArrayBufferView | Coming | (object & Iterable<Bytes>);
+
+export type Verdict = 'OK' | 'FAILED' | 'MISSING' | 'UNREADABLE' | 'TOO LONG';
+interface Outcome {
+  /** The digest that the file has, of `OK` and `FAILED`; else null. */
+  actual: string | null;
+  /** Why the file could not be read; else null. */
+  error: unknown;
+}
+export type CheckedRow =
+  | (ListEntry & Outcome & { verdict: Verdict })
+  | (BadLine & Outcome & { verdict: 'MALFORMED' });
+
+export interface Checked {
+  /** Whether there are rows, and all of them are `OK`. */
+  ok: boolean;
+  /** A row for each line that is not skipped, in their order. */
+  rows: CheckedRow[];
+  /** How many rows have each verdict, and how many lines were skipped. */
+  summary: Record<Verdict | 'MALFORMED' | 'skipped', number>;
+}
+
+export interface CheckOptions {
+  /** The hash of untagged lines; without it they are malformed. */
+  hash?: HashSpelling | null;
+  /** Names that lead out of their folder are `UNREADABLE`, and their files are not asked for. */
+  inside?: boolean;
+}
+
 export interface Library {
   /** Begins a hash. */
   createHash(algorithm: HashSpelling, options?: HashOptions): Message;
@@ -80,6 +144,28 @@ export interface Library {
   hkdfSync(algorithm: HmacSpelling, material: Bytes, salt: Bytes, info: Bytes, length: number): ArrayBuffer;
   /** BLAKE3: a key of so many bytes, 32 where none are named, from material, for a context. */
   deriveKey(context: Bytes, material: Bytes, length?: number): Digest;
+  /**
+   * The entries of a list, one after another. `algorithm` is the hash of untagged lines; without one they are
+   * malformed. Of a Blob, of a stream or of what gives pieces that have to be waited for, it is for `for await`.
+   */
+  readList(list: AtHand, algorithm?: HashSpelling | null, options?: StrictOptions): Generator<ListEntry, void>;
+  readList(list: AtHand, algorithm: HashSpelling | null | undefined, options: LenientOptions):
+    Generator<ListEntry | BadLine, void>;
+  readList(list: Coming, algorithm?: HashSpelling | null, options?: StrictOptions): AsyncGenerator<ListEntry, void>;
+  readList(list: Coming, algorithm: HashSpelling | null | undefined, options: LenientOptions):
+    AsyncGenerator<ListEntry | BadLine, void>;
+  /** Reads a list, and the file of each entry. `find` gives the file of a name, or null if there is none. */
+  check(
+    list: Source,
+    find: (name: string) => FileSource | null | undefined | Promise<FileSource | null | undefined>,
+    options?: CheckOptions,
+  ): Promise<Checked>;
+  /** The line of an entry, with its LF; `tagged`, it names its hash. A digest is bytes or hexadecimal digits. */
+  formatLine(
+    algorithm: HashSpelling, digest: Bytes, name: string | Uint8Array, options?: { tagged?: boolean },
+  ): string;
+  /** The line of a report, such as `name: OK`, with its LF. */
+  formatReport(row: { name: string; verdict: Verdict } | { line: number; verdict: 'MALFORMED' } | CheckedRow): string;
 }
 
 /**

@@ -1,6 +1,8 @@
 // SPDX-License-Identifier: MIT OR Apache-2.0
 import { bytesOf, encoderOf, whole, withText } from './bytes.js';
+import { checkList } from './checking.js';
 import { HASHES, hashName } from './hashes.js';
+import { entriesOf, lineOfEntry, lineOfReport } from './lines.js';
 import { CHUNK, DIGEST_LENGTH, KEY_LENGTH, Machine, ROOM, within } from './machine.js';
 import { beginMessage, LONGEST, optionsOf, outputLengthOf } from './message.js';
 import { piecesOf } from './sources.js';
@@ -147,5 +149,12 @@ export function bind(module, instance) {
     return result;
   }
 
-  return { createHash, createHmac, hash, hashOf, hashPieces, hkdfSync, deriveKey };
+  const readList = (list, algorithm, options) => entriesOf(machine, list, algorithm, options);
+  const check = (list, find, options) => checkList(machine, hashOf, list, find, options);
+  const formatLine = (algorithm, digest, name, options) => lineOfEntry(machine, algorithm, digest, name, options);
+  const formatReport = (row) => lineOfReport(machine, row);
+
+  return {
+    createHash, createHmac, hash, hashOf, hashPieces, hkdfSync, deriveKey, readList, check, formatLine, formatReport,
+  };
 }

@@ -5,8 +5,9 @@ const PAGE = 65536;
 export const CHUNK = 262144;
 /** How many bytes can be there at once, of keys and whatever else has to be there as a whole. */
 export const ROOM = 2 ** 24;
-// Behind what the module itself uses comes a page with the slot, and then input and output.
-const INPUT = PAGE;
+// Behind what the module itself uses come two pages with the slot, and then input and output. The longest state is that
+// of a list, which is longer than one page.
+const SLOT = 2 * PAGE;
 
 const REFUSALS = [
   '',
@@ -17,10 +18,15 @@ const REFUSALS = [
   'the output has no such bytes',
   'the function takes no pieces of that length',
   'the output has another length than the digests',
+  'no list is of such a hash',
+  'no line has that name: it is empty, not UTF-8, has a NUL, or is too long',
+  'there is no such verdict',
 ];
 export const DIGEST_LENGTH = 1;
 export const KEY_LENGTH = 2;
+export const INPUT_TOO_LONG = 3;
 export const END_OF_OUTPUT = 5;
+export const NO_LINE = 9;
 
 /** What cannot be done. `status` is its number in `sums_hash.h`. */
 export class Refused extends RangeError {
@@ -68,7 +74,7 @@ export class Machine {
     this.#resident = null;
     const instance = this.#spare ?? new WebAssembly.Instance(this.#module);
     this.#spare = null;
-    this.#base = instance.exports.memory.grow(1 + CHUNK / PAGE) * PAGE;
+    this.#base = instance.exports.memory.grow((SLOT + CHUNK) / PAGE) * PAGE;
     this.#memory = new Uint8Array(instance.exports.memory.buffer);
     this.#instance = instance;
   }
@@ -95,13 +101,24 @@ export class Machine {
     if (this.#resident === state) this.#resident = null;
   }
 
-  /** Calls a function of the header. */
-  call(name, ...words) {
+  #answer(name, words) {
     const instance = this.#instance;
     this.#instance = null;
-    const status = instance.exports[`sums_${name}`](...words);
+    const answer = instance.exports[`sums_${name}`](...words);
     this.#instance = instance;
+    return answer;
+  }
+
+  /** Calls a function of the header. */
+  call(name, ...words) {
+    const status = this.#answer(name, words);
     if (status) throw new Refused(status);
+  }
+
+  /** The length that a function of the header has for numbers and an argument. */
+  lengthOf(name, numbers, argument) {
+    this.empty();
+    return Number(this.#answer(name, [...numbers, ...this.put(argument)]));
   }
 
   /** The slot, as a word of a call. */
@@ -111,13 +128,13 @@ export class Machine {
 
   /** The place so many bytes behind the begin of input and output, as a word of a call. */
   input(offset = 0) {
-    return BigInt(this.#base + INPUT + offset);
+    return BigInt(this.#base + SLOT + offset);
   }
 
   /** Makes room for so many bytes of input and output. */
   room(length) {
     if (length > ROOM) throw new RangeError(`more than ${ROOM} bytes that have to be in memory at once`);
-    const lack = this.#base + INPUT + length - this.#memory.length;
+    const lack = this.#base + SLOT + length - this.#memory.length;
     if (lack <= 0) return;
     const instance = this.#instance;
     this.#instance = null;
@@ -127,13 +144,18 @@ export class Machine {
   }
 
   write(data, offset = 0) {
-    this.#memory.set(data, this.#base + INPUT + offset);
+    this.#memory.set(data, this.#base + SLOT + offset);
+  }
+
+  /** So many bytes of output, until something else is written there. */
+  view(length, offset = 0) {
+    const at = this.#base + SLOT + offset;
+    return this.#memory.subarray(at, at + length);
   }
 
   /** A copy of so many bytes of output. */
   read(length, offset = 0) {
-    const at = this.#base + INPUT + offset;
-    return this.#memory.slice(at, at + length);
+    return this.view(length, offset).slice();
   }
 
   /** Writes arguments one behind the other: for each the two words of a call, its place and its length. */

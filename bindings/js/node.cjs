@@ -4,11 +4,14 @@
 'use strict';
 const { readFileSync } = require('node:fs');
 const { join } = require('node:path');
-const { bind, getHashes, Refused, toHex } = require('./modules.cjs');
+const { bind, getHashes, MalformedLine, Refused, toHex } = require('./modules.cjs');
 
 const compiled = new WebAssembly.Module(readFileSync(join(__dirname, 'sums_hash.wasm')));
-const { createHash, createHmac, hash, hashOf, hashPieces, hkdfSync, deriveKey } = bind(compiled);
+const {
+  createHash, createHmac, hash, hashOf, hashPieces, hkdfSync, deriveKey, readList, check, formatLine, formatReport,
+} = bind(compiled);
 
 module.exports = {
-  createHash, createHmac, hash, hashOf, hashPieces, hkdfSync, deriveKey, toHex, getHashes, Refused,
+  createHash, createHmac, hash, hashOf, hashPieces, hkdfSync, deriveKey, readList, check, formatLine, formatReport,
+  toHex, getHashes, MalformedLine, Refused,
 };

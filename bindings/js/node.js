@@ -5,7 +5,10 @@ import { bind } from './library.js';
 
 const module = new WebAssembly.Module(readFileSync(new URL('./sums_hash.wasm', import.meta.url)));
 
-export const { createHash, createHmac, hash, hashOf, hashPieces, hkdfSync, deriveKey } = bind(module);
+export const {
+  createHash, createHmac, hash, hashOf, hashPieces, hkdfSync, deriveKey, readList, check, formatLine, formatReport,
+} = bind(module);
 export { toHex } from './bytes.js';
 export { getHashes } from './hashes.js';
+export { MalformedLine } from './lines.js';
 export { Refused } from './machine.js';

@@ -84,11 +84,20 @@ async function* piecesOfMany(source) {
 const isBlob = (source) =>
   ['slice', 'arrayBuffer'].every((name) => typeof source?.[name] === 'function') && source.size >= 0;
 
+const isStream = (source) => typeof source?.getReader === 'function';
+
+/** The pieces of bytes, or of what gives pieces without waiting, such as an array. Null of any other source. */
+export function piecesAtHand(source) {
+  if (isBytes(source)) return [source];
+  if (isBlob(source) || isStream(source) || source?.[Symbol.asyncIterator]) return null;
+  return source?.[Symbol.iterator] ? source : null;
+}
+
 /** The pieces of a Blob, of a stream of the web or of Node, or of anything else that gives pieces one by one. */
 export function piecesOf(source) {
   if (isBytes(source)) return [source];
   if (isBlob(source)) return piecesOfBlob(source);
-  if (typeof source?.getReader === 'function') return piecesOfStream(source);
+  if (isStream(source)) return piecesOfStream(source);
   if (source?.[Symbol.asyncIterator] || source?.[Symbol.iterator]) return piecesOfMany(source);
   throw new TypeError('the source must be bytes, a Blob, a stream or something that gives pieces');
 }
