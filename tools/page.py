@@ -24,6 +24,7 @@ WORKER = [*(f"bindings/js/{name}.js" for name in PACKAGE), *(f"web/{name}.js" fo
 SHOWING = ["functions", "names", "gather", "given", "table", "page"]
 SCRIPT = ["bindings/js/hashes.js", *(f"web/{name}.js" for name in SHOWING)]
 LIST = re.compile(r'(<script type="text/plain" id="list")[^>]*>[^<]*<')
+COMMENT = re.compile(r"^ *(?://.*|/\*\*(?:.|\n)*?\*/)\n", re.M)
 IMPORT = re.compile(r"^import \{([^}]*)\} from '(?:[^']*/)?([a-z]+)\.js';\n", re.M)
 
 
@@ -90,7 +91,8 @@ def with_list(text, path):
 
 
 def page(module, version):
-    script, style, worker = script_of(SCRIPT), read("web/page.css"), script_of(WORKER)
+    # the sources have the comments
+    script, style, worker = COMMENT.sub("", script_of(SCRIPT)), read("web/page.css"), COMMENT.sub("", script_of(WORKER))
     for text in (script, style, worker):
         assert not re.search(r"</(script|style)|<!--", text, re.I), "what ends its element early"
     parts = {

@@ -23,18 +23,26 @@ const filesOf = (place) => new Map([...place.items].filter(([, it]) => it.file).
 const readBytes = async (blob) => new Uint8Array(await blob.arrayBuffer());
 
 /** Whether bytes hold an entry, or would as UTF-8, of which the list then speaks. */
-const holdsEntries = (bytes) => looksLikeList(bytes) || (isUtf16(bytes) && looksLikeList(fromUtf16(bytes)));
+function holdsEntries(library, bytes) {
+  return looksLikeList(library, bytes) || (isUtf16(bytes) && looksLikeList(library, fromUtf16(bytes)));
+}
 
 export class Added {
   places = new Places();
   chosen = null;
   said = []; // what the last addition replaced, and what it could not add
+  #library;
   #lists = [];
   #offered = new Set();
   #digests = []; // that came with the page
   #text = '';
   #last = null;
   #count = 0; // of selections, lists and things
+
+  /** `library` reads the lines of lists. */
+  constructor(library) {
+    this.#library = library;
+  }
 
   // ---- what changes it
 
@@ -109,7 +117,7 @@ export class Added {
 
   async #holdsEntries({ file }) {
     try {
-      return file.size <= LIST_BYTES && holdsEntries(await readBytes(file.slice(0, BYTES_SEEN)));
+      return file.size <= LIST_BYTES && holdsEntries(this.#library, await readBytes(file.slice(0, BYTES_SEEN)));
     } catch {
       return false;
     }
@@ -181,7 +189,7 @@ export class Added {
   }
 
   #readAs({ name, bytes, fault }) {
-    return fault ? { lines: [], notes: [], fault } : readList(lastPart(name), bytes, this.chosen);
+    return fault ? { lines: [], notes: [], fault } : readList(this.#library, lastPart(name), bytes, this.chosen);
   }
 
   /** The digests that stand alone. */
@@ -195,7 +203,7 @@ export class Added {
     if (!this.#text.trim()) return {};
     if (this.#last?.text === this.#text && this.#last.chosen === this.chosen) return this.#last;
     const bytes = new TextEncoder().encode(this.#text);
-    const read = readList('', bytes, this.chosen);
+    const read = readList(this.#library, '', bytes, this.chosen);
     const isList = read.fault || read.lines.some(({ entry }) => entry !== MALFORMED);
     const list = { id: ++this.#count, name: 'the pasted text', item: null, bytes, read, readFor: this.chosen };
     const digest = isList ? null : { title: 'the pasted text', ...pastedDigest(this.#text, this.chosen) };

@@ -24,13 +24,14 @@ export class Engine {
   #post;
   #queue = [];
   #isBusy = false;
-  #added = new Added();
+  #added;
   #number = 0; // of the last command
   #run = null;
 
   /** `post` is given what is to be shown. */
   constructor(library, post) {
     this.#library = library;
+    this.#added = new Added(library);
     this.#post = post;
   }
 

@@ -24,8 +24,8 @@ function known({ lines }) {
 }
 
 /** The same, where an untagged line may be of each hash whose usual digests are as long. */
-function open(lines, bytes) {
-  const all = parseList(bytes, ANY).lines;
+function open(library, lines, bytes) {
+  const all = parseList(library, bytes, ANY).lines;
   return lines.map((line, at) => {
     const { entry } = all[at];
     const of = line.entry === MALFORMED && entry !== MALFORMED ? usual(entry.digest.length) : [];
@@ -34,15 +34,15 @@ function open(lines, bytes) {
 }
 
 /** The lengths of digests of lines that are malformed, and would be entries of some other hash. */
-function lengthsOfOthers(lines, bytes) {
-  const all = parseList(bytes, ANY).lines;
+function lengthsOfOthers(library, lines, bytes) {
+  const all = parseList(library, bytes, ANY).lines;
   const others = all.filter(({ entry }, at) => entry !== MALFORMED && lines[at].entry === MALFORMED);
   return [...new Set(others.map(({ entry }) => entry.digest.length))];
 }
 
 /** Why lines are malformed that would be entries of another hash. */
-function notOfHash(lines, bytes, hash) {
-  const lengths = lengthsOfOthers(lines, bytes);
+function notOfHash(library, lines, { bytes, hash }) {
+  const lengths = lengthsOfOthers(library, lines, bytes);
   if (!lengths.length) return [];
   const other = lengths.map(otherHash).find(Boolean);
   if (other) return [`its digests have ${other}.`];
@@ -71,22 +71,22 @@ function withoutArmour(lines, armour) {
 }
 
 /**
- * What a list says: `lines` of `{ number, entry }`, where an entry is MALFORMED or `{ name, digest, of }`, and notes on
+ * What a list says, as the library reads it: `lines` of `{ number, entry }`, where an entry is MALFORMED or `{ name, digest, of }`, and notes on
  * it; or the fault of one that is too long. Its hash is the one that was chosen, or that its name tells, or else each
  * that has digests as long as those of its lines, which `isOpen` says of a line.
  */
-export function readList(name, bytes, chosen) {
+export function readList(library, name, bytes, chosen) {
   const named = hashOfList(name);
   const hash = chosen ?? named;
-  const parsed = parseList(bytes, hash, MOST_LINES);
+  const parsed = parseList(library, bytes, hash, MOST_LINES);
   if (!parsed) return { lines: [], notes: [], fault: TOO_MANY_LINES };
   const armour = armourOf(bytes);
   const plain = known(parsed);
-  const all = parsed.needsHash ? open(plain, bytes) : plain;
+  const all = parsed.needsHash ? open(library, plain, bytes) : plain;
   const lines = withoutArmour(all, armour);
   const notes = notesOnText(bytes, lines, armour !== null);
   if (!lines.length) notes.push('no entries.');
-  if (lines.some(({ entry }) => entry === MALFORMED)) notes.push(...notOfHash(all, bytes, hash));
+  if (lines.some(({ entry }) => entry === MALFORMED)) notes.push(...notOfHash(library, all, { bytes, hash }));
   if (chosen && named && chosen !== named) {
     notes.push(`its name says ${TITLES[named]}, and ${TITLES[chosen]} was chosen.`);
   }

@@ -42,9 +42,9 @@ export function fromUtf16(bytes) {
 }
 
 /** How many entries a text has whose digests are of usual lengths, and how many other lines that are not skipped. */
-function entriesIn(bytes) {
-  const { lines } = parseList(bytes, 'blake2b');
-  const tagged = parseList(bytes, null).lines;
+function entriesIn(library, bytes) {
+  const { lines } = parseList(library, bytes, 'blake2b');
+  const tagged = parseList(library, bytes, null).lines;
   const isEntry = ({ entry }, at) => entry !== MALFORMED &&
     (tagged[at].entry !== MALFORMED || usual(2 * entry.length).length > 0);
   const entries = lines.filter(isEntry).length;
@@ -52,12 +52,12 @@ function entriesIn(bytes) {
 }
 
 /** Whether at least half of the first lines of a text are entries, armour apart. */
-export function looksLikeList(bytes) {
+export function looksLikeList(library, bytes) {
   const isWhole = bytes.length <= SNIFFED;
   const first = bytes.subarray(0, SNIFFED);
   const text = isUtf16(first) ? fromUtf16(first) : first;
   const lineEnd = isWhole ? text.length : text.lastIndexOf(10) + 1;
-  const { entries, others } = entriesIn(text.subarray(0, lineEnd));
+  const { entries, others } = entriesIn(library, text.subarray(0, lineEnd));
   const isSigned = latin.decode(bytes.subarray(0, SIGNED.length)) === SIGNED;
   return entries > 0 && (isSigned || entries >= others);
 }

@@ -1,5 +1,5 @@
-// The page's reading of lists and its verdicts beside those of `sums check`: random lists over a folder of files, and
-// lines at the limits.
+// The page's reading of lists and its verdicts, and those of the package's `check`, beside those of `sums check`:
+// random lists over a folder of files, and lines at the limits.
 // usage: node tests/languages/web/lists.mjs PROGRAM PACKAGE [ROUNDS]    PACKAGE is the folder of the package, with its module
 import { spawnSync } from 'node:child_process';
 import { mkdirSync, mkdtempSync, readFileSync, rmSync, writeFileSync } from 'node:fs';
@@ -13,7 +13,8 @@ import { Place, Places } from '../../../web/places.js';
 import { jobsOf, rowsOf, settle, settleOpen } from '../../../web/plan.js';
 
 const [program, folder, rounds = '400'] = process.argv.slice(2);
-const { hash } = await import(pathToFileURL(resolve(folder, 'node.js')));
+const library = await import(pathToFileURL(resolve(folder, 'node.js')));
+const { check, formatReport, hash } = library;
 const KINDS = [null, 'sha256', 'sha512', 'blake2b', 'blake2s', 'blake3'];
 const AT_ONCE = 100; // lists in a run of the program
 /** What the program says of a list, by its name in the table. */
@@ -155,7 +156,26 @@ function ofProgram(kind, names) {
   const run = spawnSync(program, ['check', ...(kind ? ['-a', kind] : []), ...names], { cwd: work, maxBuffer: 2 ** 30 });
   const report = run.stdout.toString().split('\n').slice(0, -1).map(shownLine);
   const remarks = run.stderr.toString().split('\n').filter((it) => it.endsWith(`: ${MESSAGES['no entries']}`));
-  return { report, remarks: remarks.map((it) => it.replace(/^sums: /, '')) };
+  return { report, remarks: remarks.map((it) => it.replace(/^sums: /, '')), out: run.stdout };
+}
+
+/** A list in pieces of drawn lengths. */
+function* inPieces(bytes) {
+  for (let at = 0; at < bytes.length;) {
+    const length = 1 + below(oneOf([3, 100, 70000]));
+    yield bytes.subarray(at, at + length);
+    at += length;
+  }
+}
+
+/** The report of the package on lists, as the program writes it. */
+async function ofPackage(kind, lists) {
+  let out = '';
+  for (const [name, bytes] of lists) {
+    const { rows } = await check(inPieces(bytes), (it) => readFileSync(`${work}/${it}`), { hash: kind });
+    for (const row of rows) out += `${row.name === null && lists.length > 1 ? `${name}: ` : ''}${formatReport(row)}`;
+  }
+  return out;
 }
 
 /** The rows of the page, which was given the folder with these lists, and which of them have no entries. */
@@ -166,7 +186,7 @@ function ofPage(kind, lists) {
   for (const [name] of lists) place.add(name, {});
   places.addFolder(place, null);
   const added = lists.map(([name, bytes], at) =>
-    ({ id: at, name, item: place.items.get(name), selection: 1, read: readList(name, bytes, kind) }));
+    ({ id: at, name, item: place.items.get(name), selection: 1, read: readList(library, name, bytes, kind) }));
   const { rows, notes } = rowsOf({ places, lists: added, digests: [], chosen: kind });
   for (const job of jobsOf(rows)) {
     const digestOf = (it) => hash(it.hash, job.item.file.content, { outputLength: it.length });
@@ -202,7 +222,7 @@ function compared(kind, lists, theirs, ours) {
 }
 
 /** Compares the two, and tells the first line that differs. */
-function differs(kind, lists) {
+async function differs(kind, lists) {
   const [theirs, ours] = [ofProgram(kind, lists.map(([name]) => name)), ofPage(kind, lists)];
   const lines = compared(kind, lists, theirs, ours);
   const wrong = lines.find(([page, wanted]) => page !== wanted) ??
@@ -213,7 +233,15 @@ function differs(kind, lists) {
     console.log(`${kind}: sums check ${wanted}, the page ${got}`);
   }
   for (const { result } of ours.rows) results[result] = (results[result] ?? 0) + 1;
-  return wrong !== null;
+  return wrong !== null || differsFromPackage(kind, lists, theirs);
+}
+
+async function differsFromPackage(kind, lists, theirs) {
+  const [got, wanted] = [await ofPackage(kind, lists), theirs.out.toString()].map((it) => it.split('\n'));
+  const at = wanted.findIndex((it, line) => it !== got[line]);
+  const isSame = at < 0 && got.length === wanted.length;
+  if (!isSame) console.log(`${kind}: sums check ${wanted[at]?.slice(0, 200)}, the package ${got[at]?.slice(0, 200)}`);
+  return !isSame;
 }
 
 /** A list of two hashes: the page reads it for the one that more of its lines are right by. */
@@ -243,7 +271,7 @@ try {
       const lists = Array.from({ length: Math.min(left, AT_ONCE) }, () => [`list ${written++}`, drawnList(kind)]);
       lists.push([`list ${written++}`, edges()]);
       for (const [name, bytes] of lists) writeFileSync(join(work, name), bytes);
-      different += differs(kind, lists);
+      different += await differs(kind, lists);
     }
   }
 } finally {
