@@ -8,7 +8,7 @@ import { Place, Places } from './places.js';
 import { faultOf, isAgain } from './reading.js';
 import { fromUtf16, isUtf16, looksLikeList } from './texts.js';
 import { TITLES } from './functions.js';
-import { MALFORMED } from './list.js';
+import { MALFORMED } from './entries.js';
 import { plural } from './verdict.js';
 
 const LIST_BYTES = 2 ** 26;

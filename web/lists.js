@@ -1,7 +1,7 @@
 // SPDX-License-Identifier: MIT OR Apache-2.0
 // A list that was added: which hash its lines are of, what they say, and what is to be said of it.
 import { otherHash, TITLES, usual } from './functions.js';
-import { MALFORMED, parseList } from './list.js';
+import { MALFORMED, parseList } from './entries.js';
 import { hashOfList } from './listnames.js';
 import { armourOf, hasMark, isUtf16 } from './texts.js';
 

@@ -1,7 +1,7 @@
 // SPDX-License-Identifier: MIT OR Apache-2.0
 // What is to be checked, and what came out: the rows of the page, without the page.
 import { keyOf, titleOf, wholeOf } from './functions.js';
-import { MALFORMED } from './list.js';
+import { MALFORMED } from './entries.js';
 import { lastPart, shown } from './names.js';
 
 /** The results of a row, as `sums check` names them, and two more: a file that no list names, and a digest alone. */

@@ -1,6 +1,6 @@
 // SPDX-License-Identifier: MIT OR Apache-2.0
 // What stands around the lines of a list: the armour of a signature, and another encoding than UTF-8.
-import { MALFORMED, parseList } from './list.js';
+import { MALFORMED, parseList } from './entries.js';
 import { usual } from './functions.js';
 
 const SIGNED = '-----BEGIN PGP SIGNED MESSAGE-----';
