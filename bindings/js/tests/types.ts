@@ -33,10 +33,12 @@ const plain = (one: Message): Message => Object.assign(one, { output: () => new 
 const library = (): Library => bind({});
 
 const list = formatLine('sha256', hash('sha256', 'abc'), 'a') + formatLine('BLAKE3', bytes, 'b', { tagged: true });
-const entries: ListEntry[] = [...readList(list, 'SHA-256'), ...readList([list, bytes], null), ...readList(bytes)];
 const lenient: (ListEntry | BadLine)[] = [...readList(list, undefined, { malformed: 'yield' })];
 for (const it of lenient) if (it.name === null) [it.untagged, it.line]; else [it.name.length, it.digest, it.hash];
-const kinds: ListHash[] = entries.map((it) => it.hash);
+function kinds(): ListHash[] {
+  const entries: ListEntry[] = [...readList(list, 'SHA-256'), ...readList([list, bytes], null), ...readList(bytes)];
+  return entries.map((it) => it.hash);
+}
 async function listed(stream: ReadableStream<Uint8Array>, blob: Blob, files: Map<string, Blob>) {
   for await (const { name } of readList(stream, 'sha256')) name.trim();
   for await (const it of readList(blob, null, { malformed: 'yield' })) it.name?.trim();
