@@ -99,5 +99,5 @@ LONG = {
     "docs/RELEASING.md": {"staged": source_build, "second": second_builder},
     "docs/BENCHMARKS.md": {name: in_clone("docs/BENCHMARKS.md", name)
                            for name in ["speed", "speed-parts", "speed-hashers", "speed-library", "speed-provider",
-                                        "speed-languages", "speed-javascript"]},
+                                        "speed-languages", "speed-lists", "speed-javascript"]},
 }
