@@ -71,9 +71,10 @@ def random_rows(count, seed, program):
 
 
 def main():
-    count, seed, *program = harness.arguments(2)
+    count, seed, *words = harness.arguments(2)
+    program = os.path.abspath(words[0]) if words else None
     print(json.dumps(rows()))
-    print(json.dumps(random_rows(int(count), int(seed), os.path.abspath(program[0]) if program else None)))
+    print(json.dumps(random_rows(int(count), int(seed), program)))
 
 
 if __name__ == "__main__":

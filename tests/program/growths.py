@@ -113,7 +113,9 @@ def ended(make_run, is_refused, **settings):
             if got != usual:
                 complaints.append(f"none refused: {got}")
             return statuses, complaints
-        if not is_refused(usual, got) and (settings or got != usual):
+        # behind the last one no other is refused, as where the settings refuse one alone
+        is_alone = not settings or got.allocations == number
+        if not is_refused(usual, got) and not (is_alone and got == usual):
             complaints.append(f"allocation {number} refused: {got}")
         statuses.append(got.status)
 
