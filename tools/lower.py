@@ -67,7 +67,7 @@ class Reader:
         return self.at == len(self.data)
 
     def take(self, count):
-        known(count <= len(self.data) - self.at, "an end in its middle")
+        known(count <= len(self.data) - self.at, "the module ends unexpectedly")
         self.at += count
         return self.data[self.at - count : self.at]
 

@@ -1,6 +1,7 @@
 // The C library's calls on the pieces of a buffer, beside a call for each piece, of ours and of other libraries. With
 // MANY the crates blake2b_simd and blake2s_simd, which hash several at once too. See bench/library.
 
+#define SUMS_HASH_UNCHECKED // no length here is refused
 #include "times.h"
 #include <blake2.h>
 #include <blake3.h>

@@ -114,9 +114,9 @@ func (o *Output) Read(buffer []byte) (int, error) {
 	return len(buffer), nil
 }
 
-// Seek moves to a position, counted from the start or from here. It answers the position, which is negative from byte
-// 2^63 on, where it is 2^64 more. A position outside the output is refused, and each that is counted from the end,
-// since no int64 tells where that is; nothing moves then.
+// Seek moves to a position, counted from the start or from here, and returns it; from byte 2^63 on the result is negative,
+// 2^64 less than the position. A position outside the output is refused, and so is one counted from the end, which no
+// int64 can hold; the position stays then.
 func (o *Output) Seek(offset int64, whence int) (int64, error) {
 	var base uint64
 	switch whence {

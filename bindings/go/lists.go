@@ -97,8 +97,8 @@ func NewListScanner(r io.Reader, alg Algorithm) *ListScanner {
 // KeepMalformed has Scan give malformed lines too, in place of ending there: as an Entry whose Malformed is not nil.
 func (s *ListScanner) KeepMalformed() { s.goesOn = true }
 
-// Scan reads the next entry, which Entry then is. It is false at the end of the list, at a malformed line, and where the
-// reader fails, which Err tells. Where the reader fails, a line that has not ended is not read.
+// Scan reads the next entry, which Entry then returns. It is false at the end of the list, at a malformed line, and if the
+// reader fails; Err tells which. If the reader fails, a line that has not ended is not read.
 func (s *ListScanner) Scan() bool {
 	s.entry = Entry{}
 	for s.err == nil && s.at == s.used && !s.isDone {

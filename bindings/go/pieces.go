@@ -33,8 +33,8 @@ func digests(size int, data []byte, pieceLen int, write func(piecewise) C.uint32
 	return all, nil
 }
 
-// SHA256Pieces is the digests of the pieces of data by SHA-256 (FIPS 180-4, 6.2), of 32 bytes each, one behind the
-// other. Every piece has pieceLen bytes, and the last may have fewer; no data has no piece. Where there are enough whole
+// SHA256Pieces is the digests of the pieces of data by SHA-256 (FIPS 180-4, 6.2), of 32 bytes each, one after the
+// other. Every piece has pieceLen bytes, and the last may have fewer; empty data has no pieces. If there are enough whole
 // pieces, several are hashed side by side. A pieceLen below 1 is ErrPieceLength.
 func SHA256Pieces(data []byte, pieceLen int) ([]byte, error) {
 	return digests(32, data, pieceLen, func(c piecewise) C.uint32_t {

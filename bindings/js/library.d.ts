@@ -138,7 +138,7 @@ export interface Library {
   hashOf(algorithm: HashSpelling, source: Source, options?: TextOptions): Promise<string>;
   hashOf(algorithm: HashSpelling, source: Source, options: BufferOptions): Promise<Digest>;
   hashOf(algorithm: HashSpelling, source: Source, options?: AnyOptions): Promise<string | Digest>;
-  /** The digests of all pieces of bytes, one behind the other. A piece has `pieceLength` bytes, the last or less. */
+  /** The digests of all pieces of bytes, one after the other. A piece has `pieceLength` bytes, the last or less. */
   hashPieces(algorithm: HashSpelling, data: Bytes, pieceLength: number, options?: { outputLength?: number }): Digest;
   /** HKDF: a key of so many bytes, up to 255 digests. */
   hkdfSync(algorithm: HmacSpelling, material: Bytes, salt: Bytes, info: Bytes, length: number): ArrayBuffer;

@@ -158,7 +158,7 @@ export class Machine {
     return this.view(length, offset).slice();
   }
 
-  /** Writes arguments one behind the other: for each the two words of a call, its place and its length. */
+  /** Writes arguments one after the other: for each the two words of a call, its place and its length. */
   put(...all) {
     this.room(lengthOfAll(all));
     let at = 0;

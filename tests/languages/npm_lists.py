@@ -15,6 +15,7 @@ import subprocess
 import sys
 
 sys.path.append(os.path.join(os.path.dirname(os.path.realpath(__file__)), ".."))
+sys.path.append(os.path.join(os.path.dirname(os.path.realpath(__file__)), "../program"))
 
 import harness
 
@@ -74,7 +75,7 @@ def main():
     stand_in = Package(harness.program(), package)
     harness.run = stand_in.run
     try:
-        statuses = [ran("random_lists.py", *(lines or ["5000"])), ran("lists.py")]
+        statuses = [ran("random_lists.py", *(lines or ["5000"])), ran("lists.py", "digests")]
     finally:
         stand_in.end()
     return 1 if any(statuses) else 0

@@ -58,7 +58,7 @@ def of_header(path):
         name: (
             KINDS_OF_RUST.get(answer, ""), [argument.fullmatch(words(each)).groups() for each in arguments.split(",")]
         )
-        for answer, name, arguments in re.findall(r"^(\w+) (sums_\w+)\(([^;]*)\);", text, flags=re.M)
+        for answer, name, arguments in re.findall(r"^(\w+) (sums_\w+)\(([^;]*)\)(?: SUMS_CHECKED)?;", text, flags=re.M)
     }
 
 

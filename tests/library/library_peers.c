@@ -3,6 +3,7 @@
 // are touched. See tests/library/library.
 // usage: library_peers [ROUNDS] [SEED]
 
+#define SUMS_HASH_UNCHECKED // no length here is refused
 #include "library.h"
 #include <blake2.h>
 #include <openssl/evp.h>
@@ -260,6 +261,13 @@ static void blake3_round(const uint8_t *text, size_t length) {
         else got = sums_blake3_derive(out, count, position, text, length, context, context_len);
         status("blake3", got, 0);
         same("blake3", length, out, want, count);
+        if (mode == HASH) {
+            peer_blake3(mode, want, 32, 0, text, length, key, context, context_len);
+            out = output(32);
+            sums_blake3_hash(out, text, length);
+            same("blake3_hash", length, out, want, 32);
+            peer_blake3(mode, want, count, position, text, length, key, context, context_len);
+        }
         memset(state, below(256), sizeof *state);
         if (mode == HASH) sums_blake3_init(state);
         else if (mode == KEYED_HASH) sums_blake3_init_keyed(state, key);

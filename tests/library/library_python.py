@@ -144,7 +144,7 @@ def told_by_rust():
     ]
     lines += whole + [line for line in whole for _ in range(2)]
     whole = [("sha256", hashlib.sha256(data).digest()), ("sha512", hashlib.sha512(data).digest())]
-    lines += whole + whole
+    lines += [("blake3_hash", sums_hash.blake3(data).digest()), *whole, *whole]
     for name in ("sha256", "sha512", "blake2b", "blake2s"):
         prk, key_of = hkdf(name, data, 100, salt, person)
         lines += [("hmac " + name, hmac.new(key, data, name).digest())]

@@ -258,6 +258,7 @@ fn main() -> Result<(), Refusal> {
         }
     }
 
+    told("blake3_hash", &blake3_hash(&input));
     told("sha256", &sha256(&input));
     told("sha512", &sha512(&input));
     let (mut short, mut long) = (Sha256::new(), Sha512::new());

@@ -83,6 +83,7 @@ static void blake3_lengths(void) {
     TAKEN(16, sums_blake3_keyed(bytes, 16, UINT64_MAX - 16, NULL, 0, text))
     TAKEN(16, sums_blake3_derive(bytes, 16, UINT64_MAX - 16, NULL, 0, NULL, 0))
     status("blake3 of no bytes", sums_blake3(NULL, 0, UINT64_MAX, NULL, 0), SUMS_OK);
+    sums_blake3_hash(output(32), NULL, 0);
     sums_blake3_init_derive(&state, NULL, 0);
     sums_blake3_init(&state);
     status("update", sums_blake3_update(&state, NULL, 0), SUMS_OK);

@@ -411,6 +411,8 @@ static void blake3(void) {
         uint8_t *hash = all[i][0], *keyed = all[i][1], *derived = all[i][2];
         status("blake3", sums_blake3(hash, 131, 0, input, length), SUMS_OK);
         spells("blake3", length, hash, blake3_vectors[i].hash);
+        sums_blake3_hash(digest, input, length);
+        same("blake3_hash", length, digest, hash, 32);
         status("blake3_keyed", sums_blake3_keyed(keyed, 131, 0, input, length, key), SUMS_OK);
         spells("blake3_keyed", length, keyed, blake3_vectors[i].keyed);
         status("blake3_derive", sums_blake3_derive(derived, 131, 0, input, length, label, strlen(context)), SUMS_OK);

@@ -201,7 +201,7 @@ static PyObject *duplicated(PyObject *object)
     return other;
 }
 
-// A class of Python's own may give its objects attributes, which those of the types here have not.
+// A subclass in Python may add attributes; the types of this module have none.
 static int may_have_attributes(PyObject *object)
 {
     return PyType_HasFeature(Py_TYPE(object), Py_TPFLAGS_HAVE_GC);

@@ -269,8 +269,8 @@ PIECES(blake3, BLAKE3)
 
 #define DOC_OF_PIECES(hash, words, title, size) \
     #hash "_pieces(data, piece_len" words ")\n--\n\nThe digests of the pieces of data by " title ", of " size \
-    " bytes each, one behind the other.\nEvery piece has piece_len bytes, and the last may have fewer; no data has " \
-    "no piece."
+    " bytes each, one after the other.\nEvery piece has piece_len bytes, and the last may have fewer; empty data " \
+    "has no pieces."
 
 PyMethodDef functions[] = {
     {"hmac_digest", WITH_WORDS(hmac_digest),

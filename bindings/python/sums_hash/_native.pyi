@@ -119,28 +119,28 @@ def hkdf_expand(name: str, prk: _Buffer, length: int, *, info: _Buffer | None = 
     """A key of so many bytes, of a pseudorandom key that is as long as a digest or longer."""
 
 def sha256_pieces(data: _Buffer, piece_len: int) -> bytes:
-    """The digests of the pieces of data by SHA-256 (FIPS 180-4), of 32 bytes each, one behind the other.
-    Every piece has piece_len bytes, and the last may have fewer; no data has no piece.
+    """The digests of the pieces of data by SHA-256 (FIPS 180-4), of 32 bytes each, one after the other.
+    Every piece has piece_len bytes, and the last may have fewer; empty data has no pieces.
     """
 
 def sha512_pieces(data: _Buffer, piece_len: int) -> bytes:
-    """The digests of the pieces of data by SHA-512 (FIPS 180-4), of 64 bytes each, one behind the other.
-    Every piece has piece_len bytes, and the last may have fewer; no data has no piece.
+    """The digests of the pieces of data by SHA-512 (FIPS 180-4), of 64 bytes each, one after the other.
+    Every piece has piece_len bytes, and the last may have fewer; empty data has no pieces.
     """
 
 def blake2b_pieces(data: _Buffer, piece_len: int, digest_size: int = 64) -> bytes:
-    """The digests of the pieces of data by BLAKE2b (RFC 7693), of digest_size bytes each, one behind the other.
-    Every piece has piece_len bytes, and the last may have fewer; no data has no piece.
+    """The digests of the pieces of data by BLAKE2b (RFC 7693), of digest_size bytes each, one after the other.
+    Every piece has piece_len bytes, and the last may have fewer; empty data has no pieces.
     """
 
 def blake2s_pieces(data: _Buffer, piece_len: int, digest_size: int = 32) -> bytes:
-    """The digests of the pieces of data by BLAKE2s (RFC 7693), of digest_size bytes each, one behind the other.
-    Every piece has piece_len bytes, and the last may have fewer; no data has no piece.
+    """The digests of the pieces of data by BLAKE2s (RFC 7693), of digest_size bytes each, one after the other.
+    Every piece has piece_len bytes, and the last may have fewer; empty data has no pieces.
     """
 
 def blake3_pieces(data: _Buffer, piece_len: int) -> bytes:
-    """The digests of the pieces of data by BLAKE3, of 32 bytes each, one behind the other.
-    Every piece has piece_len bytes, and the last may have fewer; no data has no piece.
+    """The digests of the pieces of data by BLAKE3, of 32 bytes each, one after the other.
+    Every piece has piece_len bytes, and the last may have fewer; empty data has no pieces.
     """
 
 @final

@@ -3,8 +3,19 @@ use crate::message::message;
 use crate::native;
 use crate::refusal::{checked, Refusal};
 
-/// Bytes of the BLAKE3 output of a message, from a position on; a digest is the first 32. They are refused where they
-/// would end behind byte 2^64 - 1.
+/// BLAKE3 of a message.
+///
+/// ```
+/// assert_eq!(sums_hash::blake3_hash(b"abc")[..4], [0x64, 0x37, 0xb3, 0xac]);
+/// ```
+pub fn blake3_hash(input: &[u8]) -> [u8; 32] {
+    let mut out = [0; 32];
+    unsafe { native::sums_blake3_hash(&mut out, input.as_ptr(), input.len()) };
+    out
+}
+
+/// Bytes of the BLAKE3 output of a message, from a position on; [`blake3_hash`] has the first 32. They are refused if
+/// they would end past byte 2^64 - 1.
 pub fn blake3(out: &mut [u8], position: u64, input: &[u8]) -> Result<(), Refusal> {
     checked(unsafe { native::sums_blake3(out.as_mut_ptr(), out.len(), position, input.as_ptr(), input.len()) })
 }
@@ -67,8 +78,8 @@ impl Blake3 {
         checked(unsafe { native::sums_blake3_reset(&mut self.0) }).expect("a state that was begun is not refused");
     }
 
-    /// Bytes of the output, from a position on; a digest is the first 32. The message can go on. They are refused where
-    /// they would end behind byte 2^64 - 1.
+    /// Bytes of the output, from a position on; a digest is the first 32. The message can go on. They are refused if
+    /// they would end past byte 2^64 - 1.
     pub fn output(&self, position: u64, out: &mut [u8]) -> Result<(), Refusal> {
         checked(unsafe { native::sums_blake3_output(&self.0, position, out.as_mut_ptr(), out.len()) })
     }

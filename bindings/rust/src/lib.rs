@@ -3,8 +3,7 @@
 //! definition. This crate above it is tested, and not proved.
 //!
 //! ```
-//! let mut digest = [0; 32];
-//! sums_hash::blake3(&mut digest, 0, b"abc")?;
+//! let digest: [u8; 32] = sums_hash::blake3_hash(b"abc");
 //!
 //! let mut message = sums_hash::Sha256::new();
 //! message.update(b"a")?;

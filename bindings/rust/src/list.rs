@@ -214,8 +214,8 @@ impl ListState {
     }
 
     /// Reads a piece of the list up to its first LF, and what the line means that ends there. If the piece has no LF,
-    /// all of it is read and no line has ended. The answer is how many bytes were read; the rest of the piece is for the
-    /// next call. It is refused after 2^64 - 1 lines.
+    /// all of it is read and no line has ended. Returns how many bytes were read; the rest of the piece is for the next
+    /// call. A list is refused after 2^64 - 1 lines.
     pub fn read(&mut self, piece: &[u8], line: &mut ListLine) -> Result<usize, Refusal> {
         checked(unsafe { native::sums_list_read(&mut self.0, &mut line.0, piece.as_ptr(), piece.len()) })?;
         Ok(line.0.taken as usize)

@@ -81,6 +81,7 @@ extern "C" {
         personal: *const [u8; 8],
     ) -> u32;
     pub fn sums_blake3(out: *mut u8, out_len: usize, position: u64, input: *const u8, input_len: usize) -> u32;
+    pub fn sums_blake3_hash(out: *mut [u8; 32], input: *const u8, input_len: usize);
     pub fn sums_blake3_keyed(
         out: *mut u8,
         out_len: usize,

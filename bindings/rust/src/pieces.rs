@@ -2,9 +2,9 @@
 use crate::native;
 use crate::refusal::{checked, Refusal};
 
-/// The digests by SHA-256 (FIPS 180-4, 6.2) of the pieces of `input`, one behind the other. Every piece has `piece_len`
-/// bytes, and the last may have fewer; no input has no piece. Where there are enough whole pieces, several are hashed side
-/// by side.
+/// The digests by SHA-256 (FIPS 180-4, 6.2) of the pieces of `input`, one after the other. Every piece has `piece_len`
+/// bytes, and the last may have fewer; an empty input has no pieces. If there are enough whole pieces, several are hashed
+/// side by side.
 ///
 /// A `piece_len` of 0 is refused, and so is an `out` that has not 32 bytes for each piece:
 ///

@@ -11,8 +11,8 @@
 //! `SimpleHkdf` of `hkdf` 0.12. `Hmac` and `Hkdf` of these crates do not, nor what is built on them, since they need
 //! the blocks of a hash (`CoreProxy`): take [`HmacSha256`] and its like, and [`hkdf_sha256`](crate::hkdf_sha256).
 //!
-//! These traits have no refusals: `update` panics where the message would be longer than the function takes, which is
-//! 2^61 - 1 bytes at least, and a reader where the output ends, behind 2^64 - 1 bytes. With the feature `std` each is a
+//! These traits have no refusals: `update` panics if the message would be longer than the function takes, which is at
+//! least 2^61 - 1 bytes, and a reader panics at the end of the output, after 2^64 - 1 bytes. With the feature `std` each is a
 //! `std::io::Write` too, and the reader a `std::io::Read` and a `std::io::Seek`, which panic nowhere.
 
 use core::fmt;

@@ -38,7 +38,17 @@ pub extern "C" fn sums_blake3(out: &mut [u8], position: u64, input: &[u8]) -> u3
     output_into(&hasher, position, out)
 }
 
-/// The same under a key of 32 bytes.
+/// The BLAKE3 digest of `input`: the first 32 bytes of its output (the BLAKE3 paper, sections 2.3 and 2.6).
+#[unsafe(no_mangle)]
+pub extern "C" fn sums_blake3_hash(out: &mut [u8; 32], input: &[u8])
+    ensures { out.new ≡ slice (hash_root input.now) 0 32 }
+{
+    let mut hasher = Blake3::new();
+    hasher.update(input).unwrap();
+    hasher.output().fill(out).unwrap();
+}
+
+/// Fills `out` with the bytes of `sums_blake3` under a key of 32 bytes.
 #[unsafe(no_mangle)]
 pub extern "C" fn sums_blake3_keyed(
     out: &mut [u8],
@@ -55,7 +65,7 @@ pub extern "C" fn sums_blake3_keyed(
     output_into(&hasher, position, out)
 }
 
-/// The same of what is derived from key material under a context, a text that is meant for one use
+/// Fills `out` in the same way with what is derived from key material under a context, a text that is meant for one use
 /// alone.
 #[unsafe(no_mangle)]
 pub extern "C" fn sums_blake3_derive(

@@ -121,7 +121,7 @@ impl<R: Read> List<R> {
         self.skipped
     }
 
-    /// Asks for more of the list, and answers whether there is some.
+    /// Reads more of the list, and returns whether there was some.
     fn fill(&mut self) -> io::Result<bool> {
         loop {
             match self.reader.read(&mut self.piece) {
