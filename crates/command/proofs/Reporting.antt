@@ -5,8 +5,7 @@ use Rattle.std.specs.List.{slice_split, onto_first, sum_by}
 use Rattle.std.proofs.lemmas.List.Sums.{sum_by-cons}
 use Rattle.request.specs.CommandLine.{Text}
 use Rattle.sumlist.specs.Lines.{lines, without_empty_last}
-use Rattle.sumlist.specs.Report.{Files, summary_of}
-use Rattle.sumlist.specs.declared.kind.Kind.{Kind}
+use Rattle.sumlist.specs.Report.{Files, Meaning, summary_of}
 use Rattle.sumlist.specs.Tally.{is_clean}
 use Rattle.command.specs.Checking.{ListRuns}
 use Rattle.command.specs.Lines.{content_of, is_input, opens_of}
@@ -24,17 +23,17 @@ status_light true s is e = omega (arith, is, e)
 status_light false s is e = omega (arith, is, e)
 
 -- the run over a list, which has its name in its report or none
-abbrev pub list_runs : Bool → Option Kind → Bool → Files → Text → List ℕ → Run → Type 0
-list_runs is_summed kind are_named files name input =
-    ListRuns is_summed files kind (if are_named then Some name else None) name (content_of name input files)
+abbrev pub list_runs : Bool → Meaning → Bool → Files → Text → List ℕ → Run → Type 0
+list_runs is_summed entries are_named files name input =
+    ListRuns is_summed files entries (if are_named then Some name else None) name (content_of name input files)
 
 -- a list that was read to its end does not end the run
-runs_light : (is_summed : Bool) (files : Files) (kind : Option Kind) (list : Option Text) (name : Text)
-    (content : Option (List ℕ)) (run : Run) (s : ℕ) → ListRuns is_summed files kind list name content run
+runs_light : (is_summed : Bool) (files : Files) (entries : Meaning) (list : Option Text) (name : Text)
+    (content : Option (List ℕ)) (run : Run) (s : ℕ) → ListRuns is_summed files entries list name content run
     → run.ending ≡ Ok s → s ≢ 3
-runs_light is_summed files kind list name None run s runs is e =
+runs_light is_summed files entries list name None run s runs is e =
     refused_ends 0 false name None run s (inl runs) is
-runs_light is_summed files kind list name (Some bytes) run s runs is e = elim runs.2 [
+runs_light is_summed files entries list name (Some bytes) run s runs is e = elim runs.2 [
   | inl p ↦
       let same = sym is ∙ ap ends p in
       let one : s ≡ (if is_clean (summary_of runs.0) then 0 else 1) = cc in
@@ -45,11 +44,11 @@ runs_light is_summed files kind list name (Some bytes) run s runs is e = elim ru
   ]
 ]
 
-pub list_whole : (is_summed : Bool) (kind : Option Kind) (are_named : Bool) (files : Files) (name : Text)
-    (input : List ℕ) (run : Run) (s : ℕ) → list_runs is_summed kind are_named files name input run → run.ending ≡ Ok s
+pub list_whole : (is_summed : Bool) (entries : Meaning) (are_named : Bool) (files : Files) (name : Text)
+    (input : List ℕ) (run : Run) (s : ℕ) → list_runs is_summed entries are_named files name input run → run.ending ≡ Ok s
     → s ≢ 3
-list_whole is_summed kind are_named files name input run s runs is =
-    runs_light is_summed files kind (if are_named then Some name else None) name (content_of name input files) run s
+list_whole is_summed entries are_named files name input run s runs is =
+    runs_light is_summed files entries (if are_named then Some name else None) name (content_of name input files) run s
     runs is
 
 -- ---- what is opened

@@ -6,7 +6,7 @@ use Rattle.std.specs.Fmt.{digits}
 use Rattle.std.specs.Str.{chars}
 use Rattle.hex.specs.Hex.{encode_with}
 use Rattle.command.specs.inside.Cutting.{part_count, start_lines}
-use Rattle.sumlist.specs.Report.{no_lines, report_from, summary_of, told, untagged, skipped, malformed}
+use Rattle.sumlist.specs.Report.{Meaning, foreign, keyed, malformed, no_lines, report_from, skipped, summary_of, told, unkeyed}
 use Rattle.sumlist.specs.declared.kind.Kind.TheVariants.{Blake2b, Blake2s, Blake3, Sha256}
 use Rattle.sumlist.specs.declared.summary.Summary.{Summary}
 use Rattle.sumlist.specs.declared.verdict.Verdict.TheVariants.{Differs, Missing}
@@ -68,9 +68,9 @@ unfolding digits
 starts_of_all = refl
 
 -- a list that is not there, and behind it one with an untagged line, of which the numbers are told
-followed_example : (let numbers : Summary = record no_lines { malformed = 1; needs_kind = true } in
-    let list : Run = record (prints (report_from (Some (codes "l")) 1 (untagged ∷ [])) 1) {
-      notes = noted true (Some (codes "l")) numbers ++ hinted (codes "l") None numbers;
+followed_example : (let numbers : Summary = record no_lines { malformed = 1; foreign = 1 } in
+    let list : Run = record (prints (report_from (Some (codes "l")) 1 (foreign ∷ [])) 1) {
+      notes = noted true (Some (codes "l")) numbers ++ hinted (codes "l") (unkeyed None) numbers;
     } in followed (stops (of_name (codes "none") (codes ": cannot read\n"))) (followed list (prints [] 0)))
     ≡ record (prints (codes "l: line 1: MALFORMED\n") 1) {
       notes = codes "sums: none: cannot read\n"
@@ -81,31 +81,45 @@ unfolding visible chars digits encode_utf8 report_from
 followed_example = refl
 
 -- skipped lines alone are no entries, and beside a malformed line nothing is told of that
-hinted_example : hinted (codes "-") None (summary_of (skipped ∷ [])) ≡ codes "sums: -: no entries\n" ∷ []
+hinted_example : hinted (codes "-") (unkeyed None) (summary_of (skipped ∷ [])) ≡ codes "sums: -: no entries\n" ∷ []
 unfolding visible chars encode_utf8 summary_of
 hinted_example = refl
 
-hinted_none : hinted (codes "-") (Some Blake3) (summary_of (skipped ∷ malformed ∷ [])) ≡ []
+hinted_none : hinted (codes "-") (unkeyed (Some Blake3)) (summary_of (skipped ∷ malformed ∷ [])) ≡ []
 unfolding summary_of
 hinted_none = refl
 
 -- a line of another kind, beside one that is FAILED
-hinted_kind : hinted (codes "-") (Some Blake3) (summary_of (untagged ∷ told (codes "a") Differs ∷ []))
+hinted_kind : hinted (codes "-") (unkeyed (Some Blake3)) (summary_of (foreign ∷ told (codes "a") Differs ∷ []))
     ≡ codes "sums: -: digests of another length than those of -a\n" ∷ []
 unfolding visible chars encode_utf8 summary_of
 hinted_kind = refl
 
 -- lines that are FAILED, with skipped ones: under BLAKE2 and BLAKE3, where no line has another outcome
-hinted_failed : hinted (codes "-") (Some Blake2s) (summary_of (told (codes "a") Differs ∷ skipped ∷ []))
+hinted_failed : hinted (codes "-") (unkeyed (Some Blake2s)) (summary_of (told (codes "a") Differs ∷ skipped ∷ []))
     ≡ codes "sums: -: all FAILED, untagged lines may need another -a\n" ∷ []
 unfolding visible chars encode_utf8 summary_of
 hinted_failed = refl
 
-hinted_sha : hinted (codes "-") (Some Sha256) (summary_of (told (codes "a") Differs ∷ [])) ≡ []
+hinted_sha : hinted (codes "-") (unkeyed (Some Sha256)) (summary_of (told (codes "a") Differs ∷ [])) ≡ []
 unfolding summary_of
 hinted_sha = refl
 
-hinted_missing : hinted (codes "-") (Some Blake2b)
+hinted_missing : hinted (codes "-") (unkeyed (Some Blake2b))
     (summary_of (told (codes "a") Differs ∷ told (codes "b") Missing ∷ [])) ≡ []
 unfolding summary_of
 hinted_missing = refl
+
+-- tags of one byte, whatever makes them: tagged lines are counted
+abbrev tags : Meaning
+tags = keyed 1 0 (λ m. m)
+
+hinted_tagged : hinted (codes "-") tags (summary_of (foreign ∷ told (codes "a") Differs ∷ foreign ∷ []))
+    ≡ codes "sums: -: tagged lines, which anyone can make: 2\n" ∷ []
+unfolding visible chars digits encode_utf8 summary_of
+hinted_tagged = refl
+
+hinted_key : hinted (codes "-") tags (summary_of (told (codes "a") Differs ∷ []))
+    ≡ codes "sums: -: all FAILED, -a or the key may be another\n" ∷ []
+unfolding visible chars encode_utf8 summary_of
+hinted_key = refl

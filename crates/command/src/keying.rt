@@ -6,7 +6,9 @@ ghost use Rattle.command.specs.inside.Keys.{takes_key};
 ghost use Rattle.command.specs.Lines.{key_opens};
 ghost use Rattle.command.specs.inside.Keys.{IsKey, MayRefuseFile, MayRefuseKey, key_content, key_file_limit};
 ghost use Rattle.command.specs.inside.Reading.{failed};
-ghost use Rattle.command.specs.inside.Rules.{HasRule, MayRefuseSum, TakesRoom, WantsRoom, line_by, sum_content};
+ghost use Rattle.command.specs.inside.Rules.{HasRule, MayRefuseSum, TakesRoom, WantsRoom, keyed_line, line_by};
+ghost use Rattle.command.specs.inside.Rules.{sum_content};
+ghost use Rattle.task.specs.Tasks.{tags};
 ghost use Rattle.command.specs.inside.Seen.{source_opens};
 ghost use Rattle.command.specs.inside.Troubles.{trouble_of};
 ghost use Rattle.task.specs.inside.Views.{key_shown, sum_shown};
@@ -18,7 +20,7 @@ use mac::{Blake2b512, Blake2s256, BlockHash, Sha256Stream, Sha512Stream, hash_la
 use source::{BLAKE2B_LEN, BLAKE2S_LEN, Feed, ReadFailed};
 use std::alloc::Global;
 use sumlist::Tree;
-use task::{HmacHash, Key, Mac, Sum};
+use task::{HmacHash, Key, Mac, Sum, Tagging};
 
 // A key file has at most so many bytes.
 pub(crate) const KEY_FILE_LIMIT: usize = 65_536;
@@ -43,14 +45,33 @@ pub(crate) fn rule_of<'n, T: Tree>(
 {
     match sum {
         Sum::Digest(hashing) => Ok(Rule::Digest(hashing)),
-        Sum::Tag(tagging, key) => {
-            let key = key_of(alloc, key, tree)?;
-            if takes(tagging.mac, key.as_slice()) {
-                Ok(Rule::Tag(Keyed { tagging, key }))
-            } else {
-                Err(Fault::KeyLength)
-            }
-        }
+        Sum::Tag(tagging, key) => Ok(Rule::Tag(keyed_of(alloc, tagging, key, tree)?)),
+    }
+}
+
+/// What makes tags under a key, which is read and judged here, with the faults of `rule_of`.
+pub(crate) fn keyed_of<'n, T: Tree>(
+    alloc: Global,
+    tagging: Tagging,
+    key: Key<'n>,
+    tree: &mut T,
+) -> Result<Keyed, Fault<'n>>
+    ensures keyed { IfSome (T.files tree.old) (λ files. MatchResult result
+        (λ keyed. HasRule files (tags tagging.mac tagging.is_raw (key_shown key.entry)) (keyed_line keyed))
+        (λ fault. MayRefuseSum files (tags tagging.mac tagging.is_raw (key_shown key.entry)) (trouble_of fault))) }
+    ensures same { IfOk result (λ keyed. keyed.tagging ≡ tagging) }
+    ensures counted { IfSome (T.files tree.old) (λ files. T.failure_count tree.new
+        ≡ count_after (T.failure_count tree.old)
+        (failed false (key_content files (key_shown key.entry)) result).files) }
+    ensures opens { T.opens tree.new ≤ T.opens tree.old + source_opens (key_shown key.entry) }
+    ensures files { T.files tree.new ≡ T.files tree.old }
+    ensures memory { IsErrOf result Fault.OutOfMemory → source_opens (key_shown key.entry) ≡ 1 }
+{
+    let key = key_of(alloc, key, tree)?;
+    if takes(tagging.mac, key.as_slice()) {
+        Ok(Keyed { tagging, key })
+    } else {
+        Err(Fault::KeyLength)
     }
 }
 

@@ -1,48 +1,98 @@
 // The command `check`: the reports on lists.
 
 ghost use Rattle.std.specs.Prelude.{◌≡◌, ◌≤◌, ◌+◌, ◌++◌, ◌∷◌, [], map, IfSome, MatchOption, Some, codes, true};
-ghost use Rattle.std.specs.Prelude.{false, if◌then◌else◌, is_some, option_map};
+ghost use Rattle.std.specs.Prelude.{MatchResult, false, if◌then◌else◌, option_map};
 ghost use Rattle.std.specs.Option.{option_map_or};
 ghost use Rattle.std.specs.List.{sum_by};
 ghost use Rattle.source.specs.Counts.{count_after};
 ghost use Rattle.source.specs.Written.{Writes};
-ghost use Rattle.sumlist.specs.Checked.{name_in};
 ghost use Rattle.sumlist.specs.Lines.{lines};
 ghost use Rattle.sumlist.specs.Tally.{summary_text};
-ghost use Rattle.command.specs.Checking.{CheckRuns, ListRuns, has_lengths, hints};
+ghost use Rattle.std.specs.Fmt.{decimal};
+ghost use Rattle.task.specs.Tasks.{tags};
+ghost use Rattle.task.specs.inside.Views.{entries_shown, key_shown};
+ghost use Rattle.command.specs.Checking as spec;
+ghost use Rattle.command.specs.Checking.{CheckRuns, ListRuns, ListsRun, foreign_hint, has_lengths, hints};
 ghost use Rattle.command.specs.Visible.{visible};
-ghost use Rattle.command.specs.Lines.{content_of, is_input, opens_of};
+ghost use Rattle.command.specs.Lines.{content_of, entries_opens, is_input, opens_of};
 ghost use Rattle.command.specs.Run.{TellsAll};
 ghost use Rattle.command.specs.inside.Faults.{hinted_of, noted_of, of_check, heading};
 ghost use Rattle.command.specs.inside.Listing.{ListTaken};
 ghost use Rattle.command.specs.inside.Reading.{Leaves, failed};
 ghost use Rattle.command.specs.inside.Reported.{PrintsReport};
-ghost use Rattle.command.specs.inside.Seen.{IfTold, OpensAtMost, DoesRun, opens_from};
+ghost use Rattle.command.specs.inside.Keys.{key_content};
+ghost use Rattle.command.specs.inside.Rules.{HasRule, MayRefuseSum, keyed_line, meaning};
+ghost use Rattle.command.specs.inside.Seen.{IfTold, OpensAtMost, DoesRun, opens_from, source_opens};
+ghost use Rattle.command.specs.inside.Troubles.{trouble_of};
 ghost use Rattle.command.specs.inside.Streams.{SameStreams};
 
 use crate::fault::{Fault, write_of};
+use crate::keying::keyed_of;
 use crate::lines::settle;
+use crate::rule::ShortKeyed;
 use crate::session::{Session, Streams, open_file};
 use crate::visible::write_visible;
-use source::{Feed, Sink, WriteFailed, write_all};
-use sumlist::{CheckFault, Kind, ListRules, Summary, Tree, check_list, write_summary};
-use task::Checking;
+use itoa::Buffer;
+use source::{Feed, Sink, WriteFailed, write_all, write_pieces};
+use std::alloc::Global;
+use sumlist::{CheckFault, Kind, Summary, Tree, check_list, write_summary};
+use task::{Entries, Key, ShortMac, Tagging};
 
 impl<'i, 't, 'o, L: Feed, T: Tree, W: Sink> Session<'i, 't, 'o, L, T, W> {
     /// Prints the report of each list, and goes on with the next after a list that can't be read to its
-    /// end, which is told on `err`. Of several lists, a malformed line is told with its list's name. Where
-    /// it is asked for, tells how many lines of each list had each outcome. Tells what the report of a list
-    /// does not say: that malformed lines would be entries of another kind, that all lines are skipped, or
-    /// that all others are FAILED, where another hash may have digests as long. Answers 0 where every line
-    /// that is not skipped is OK, else 1. The faults are `CannotWrite` and `OutOfMemory`, after which no
-    /// further list is read; what was written before is a beginning of the reports.
+    /// end, which is told on `err`. A key is read and judged first, once: the faults are
+    /// `KeyFileTooLong`, `KeyLength` and `CannotRead` of its file. Of several lists, a malformed line is told
+    /// with its list's name. Where it is asked for, tells how many lines of each list had each outcome. Tells
+    /// what the report of a list does not say: that malformed lines would be entries of another list, that all
+    /// lines are skipped, or that all others are FAILED, where another hash may have digests as long. Answers 0
+    /// where every line that is not skipped is OK, else 1. Then come the faults `CannotWrite` and
+    /// `OutOfMemory`, after which no further list is read; what was written before is a beginning of the
+    /// reports.
     pub fn print_reports<'n, E: Sink>(
         &mut self,
-        checking: Checking,
+        entries: Entries<'n>,
+        is_summed: bool,
         lists: &[&'n str],
         err: &mut E,
     ) -> Result<u8, Fault<'n>>
-        ensures run { DoesRun (λ bytes files. CheckRuns checking files (map (λ n. n.now) lists.entry.now) bytes)
+        ensures run { DoesRun (λ bytes files. CheckRuns (entries_shown entries.entry) is_summed files
+            (map (λ n. n.now) lists.entry.now) bytes)
+            (λ notes. TellsAll (E.shown err.old) (E.shown err.new) notes)
+            result (⟦<Self as Streams>⟧.seen self.old) (⟦<Self as Streams>⟧.seen self.new) }
+        ensures opens { IfTold (⟦<Self as Streams>⟧.seen self.old) (λ bytes files. OpensAtMost
+            (entries_opens (entries_shown entries.entry)
+            + sum_by (λ name. opens_of name + opens_from lines (content_of name bytes files))
+            (map (λ n. n.now) lists.entry.now))
+            (⟦<Self as Streams>⟧.seen self.old) (⟦<Self as Streams>⟧.seen self.new)) }
+        ensures same { SameStreams self.old self.new }
+    {
+        match entries {
+            Entries::Digests(kind) => {
+                self.print_lists(&sumlist::Entries::Digests(kind), is_summed, lists, err)
+            }
+            Entries::Tags(short, key) => {
+                let keyed = short_keyed(self.alloc, short, key, self.tree)?;
+                let length = short.mac.tag_len() as usize;
+                self.print_lists(
+                    &sumlist::Entries::Tags(length, &keyed),
+                    is_summed,
+                    lists,
+                    err,
+                )
+            }
+        }
+    }
+
+    // Prints the reports of lists whose entries are these.
+    fn print_lists<'n, E: Sink>(
+        &mut self,
+        entries: &sumlist::Entries<'_, ShortKeyed>,
+        is_summed: bool,
+        lists: &[&'n str],
+        err: &mut E,
+    ) -> Result<u8, Fault<'n>>
+        ensures run { DoesRun (λ bytes files. ListsRun (meaning entries.now) is_summed files
+            (map (λ n. n.now) lists.entry.now) bytes)
             (λ notes. TellsAll (E.shown err.old) (E.shown err.new) notes)
             result (⟦<Self as Streams>⟧.seen self.old) (⟦<Self as Streams>⟧.seen self.new) }
         ensures opens { IfTold (⟦<Self as Streams>⟧.seen self.old) (λ bytes files. OpensAtMost
@@ -54,8 +104,8 @@ impl<'i, 't, 'o, L: Feed, T: Tree, W: Sink> Session<'i, 't, 'o, L, T, W> {
         let are_named = lists.len() > 1;
         let mut status: u8 = 0;
         for name in lists {
-            let rules = rules_of(checking.kind, are_named, name);
-            status = status.max(self.print_report(rules, checking.is_summed, name, err)?);
+            let title = title_of(are_named, name);
+            status = status.max(self.print_report(entries, title, is_summed, name, err)?);
         }
         Ok(status)
     }
@@ -64,12 +114,13 @@ impl<'i, 't, 'o, L: Feed, T: Tree, W: Sink> Session<'i, 't, 'o, L, T, W> {
     // either.
     fn print_report<'f, E: Sink>(
         &mut self,
-        rules: ListRules<'_>,
+        entries: &sumlist::Entries<'_, ShortKeyed>,
+        title: Option<&str>,
         is_summed: bool,
         name: &str,
         err: &mut E,
     ) -> Result<u8, Fault<'f>>
-        ensures report { PrintsReport is_summed rules.entry.kind (name_in rules.entry) name.entry.now result
+        ensures report { PrintsReport is_summed (meaning entries.now) (option_map (λ n. n.now) title.entry) name.entry.now result
             (⟦<Self as Streams>⟧.seen self.old) (⟦<Self as Streams>⟧.seen self.new)
             (E.shown err.old) (E.shown err.new) }
         ensures opens { IfTold (⟦<Self as Streams>⟧.seen self.old) (λ bytes files. OpensAtMost
@@ -77,7 +128,7 @@ impl<'i, 't, 'o, L: Feed, T: Tree, W: Sink> Session<'i, 't, 'o, L, T, W> {
             (⟦<Self as Streams>⟧.seen self.old) (⟦<Self as Streams>⟧.seen self.new)) }
         ensures same { SameStreams self.old self.new }
     {
-        match self.check_named(rules, is_summed, name, err) {
+        match self.check_named(entries, title, is_summed, name, err) {
             Ok(status) => Ok(status),
             Err(fault) => settle(err, fault),
         }
@@ -86,13 +137,14 @@ impl<'i, 't, 'o, L: Feed, T: Tree, W: Sink> Session<'i, 't, 'o, L, T, W> {
     // Checks the list of this name.
     fn check_named<'n, E: Sink>(
         &mut self,
-        rules: ListRules<'_>,
+        entries: &sumlist::Entries<'_, ShortKeyed>,
+        title: Option<&str>,
         is_summed: bool,
         name: &'n str,
         err: &mut E,
     ) -> Result<u8, Fault<'n>>
-        ensures run { DoesRun (λ bytes files. ListRuns is_summed files rules.entry.kind (name_in rules.entry)
-            name.entry.now (content_of name.entry.now bytes files))
+        ensures run { DoesRun (λ bytes files. ListRuns is_summed files (meaning entries.now)
+            (option_map (λ n. n.now) title.entry) name.entry.now (content_of name.entry.now bytes files))
             (λ notes. TellsAll (E.shown err.old) (E.shown err.new) notes)
             result (⟦<Self as Streams>⟧.seen self.old) (⟦<Self as Streams>⟧.seen self.new) }
         ensures gave { Leaves (is_input name.entry.now) result
@@ -104,7 +156,7 @@ impl<'i, 't, 'o, L: Feed, T: Tree, W: Sink> Session<'i, 't, 'o, L, T, W> {
         ensures same { SameStreams self.old self.new }
     {
         if name == "-" {
-            return self.check_input(rules, is_summed, name, err);
+            return self.check_input(entries, title, is_summed, name, err);
         }
         let mut list = open_file(name, 0, self.tree)?;
         let mut listed = Session {
@@ -113,7 +165,7 @@ impl<'i, 't, 'o, L: Feed, T: Tree, W: Sink> Session<'i, 't, 'o, L, T, W> {
             tree: self.tree,
             out: self.out,
         };
-        let answer = listed.check_input(rules, is_summed, name, err);
+        let answer = listed.check_input(entries, title, is_summed, name, err);
         self.tree.close(list);
         answer
     }
@@ -121,13 +173,15 @@ impl<'i, 't, 'o, L: Feed, T: Tree, W: Sink> Session<'i, 't, 'o, L, T, W> {
     // Checks the list of this name, which is the session's input.
     fn check_input<'n, E: Sink>(
         &mut self,
-        rules: ListRules<'_>,
+        entries: &sumlist::Entries<'_, ShortKeyed>,
+        title: Option<&str>,
         is_summed: bool,
         name: &'n str,
         err: &mut E,
     ) -> Result<u8, Fault<'n>>
         ensures list { IfTold (⟦<Self as Streams>⟧.seen self.old) (λ bytes files. ListTaken
-            (ListRuns is_summed files rules.entry.kind (name_in rules.entry) name.entry.now (Some bytes))
+            (ListRuns is_summed files (meaning entries.now) (option_map (λ n. n.now) title.entry) name.entry.now
+            (Some bytes))
             name.entry.now bytes result
             (W.shown self.old.out.now) (W.shown self.new.out.now) (E.shown err.old) (E.shown err.new)
             (T.failure_count self.old.tree.now) (T.failure_count self.new.tree.now)) }
@@ -139,20 +193,42 @@ impl<'i, 't, 'o, L: Feed, T: Tree, W: Sink> Session<'i, 't, 'o, L, T, W> {
             (opens_from lines (Some bytes)) (⟦<Self as Streams>⟧.seen self.old) (⟦<Self as Streams>⟧.seen self.new)) }
         ensures same { SameStreams self.old self.new }
     {
-        let answer = check_list(self.alloc, self.input, rules, self.tree, self.out);
-        note(rules.name, is_summed, &answer, err);
-        hint(name, rules.kind, &answer, err);
+        let answer = check_list(self.alloc, self.input, entries, title, self.tree, self.out);
+        note(title, is_summed, &answer, err);
+        hint(name, entries, &answer, err);
         status_of(answer, name)
     }
 }
 
-// How a list of this name is read: its report tells the name where there are several lists.
-fn rules_of(kind: Option<Kind>, are_named: bool, name: &str) -> ListRules<'_>
-    ensures kind { result.kind ≡ kind }
-    ensures name { name_in result ≡ (if are_named then Some name.now else None) }
+// The keyed function of the tags in lists, with its key.
+fn short_keyed<'n, T: Tree>(
+    alloc: Global,
+    short: ShortMac,
+    key: Key<'n>,
+    tree: &mut T,
+) -> Result<ShortKeyed, Fault<'n>>
+    ensures keyed { IfSome (T.files tree.old) (λ files. MatchResult result
+        (λ keyed. HasRule files (tags short.mac false (key_shown key.entry)) (keyed_line keyed.keyed))
+        (λ fault. MayRefuseSum files (tags short.mac false (key_shown key.entry)) (trouble_of fault))) }
+    ensures counted { IfSome (T.files tree.old) (λ files. T.failure_count tree.new
+        ≡ count_after (T.failure_count tree.old)
+        (failed false (key_content files (key_shown key.entry)) result).files) }
+    ensures opens { T.opens tree.new ≤ T.opens tree.old + source_opens (key_shown key.entry) }
+    ensures files { T.files tree.new ≡ T.files tree.old }
 {
-    let name = if are_named { Some(name) } else { None };
-    ListRules { kind, name }
+    let tagging = Tagging {
+        mac: short.mac,
+        is_raw: false,
+    };
+    let keyed = keyed_of(alloc, tagging, key, tree)?;
+    Ok(ShortKeyed { keyed })
+}
+
+// The name that a list has in its report, where there are several lists.
+fn title_of(are_named: bool, name: &str) -> Option<&str>
+    ensures { option_map (λ n. n.now) result ≡ (if are_named then Some name.now else None) }
+{
+    if are_named { Some(name) } else { None }
 }
 
 // Tells the numbers of a list on standard error, in one text: what is not taken of it is dropped.
@@ -187,39 +263,49 @@ fn write_note<E: Sink>(
 }
 
 // Tells what the report of a list does not say, in one text: what is not taken of it is dropped.
-fn hint<E: Sink>(name: &str, kind: Option<Kind>, answer: &Result<Summary, CheckFault>, err: &mut E)
-    ensures { TellsAll (E.shown err.old) (E.shown err.new) (hinted_of name.now kind answer.now) }
+fn hint<E: Sink>(
+    name: &str,
+    entries: &sumlist::Entries<'_, ShortKeyed>,
+    answer: &Result<Summary, CheckFault>,
+    err: &mut E,
+)
+    ensures { TellsAll (E.shown err.old) (E.shown err.new) (hinted_of name.now (meaning entries.now) answer.now) }
 {
     let Ok(summary) = answer else {
         return;
     };
-    if let Some(hint) = hint_of(kind, summary) {
+    if summary.foreign > 0 {
+        let _ = write_foreign(name, entries, summary.foreign, err);
+    } else if let Some(hint) = hint_of(entries, summary) {
         let _ = write_hint(name, hint, err);
     }
 }
 
-fn hint_of(kind: Option<Kind>, summary: &Summary) -> Option<&'static str>
-    ensures { MatchOption result (hints kind summary.now ≡ []) (λ hint. hints kind summary.now ≡ hint.now ∷ []) }
+// What there is to tell of a list without an entry of another list.
+fn hint_of(entries: &sumlist::Entries<'_, ShortKeyed>, summary: &Summary) -> Option<&'static str>
+    requires { summary.now.foreign ≡ 0 }
+    ensures { MatchOption result (hints (meaning entries.now) summary.now ≡ [])
+        (λ hint. hints (meaning entries.now) summary.now ≡ hint.now ∷ []) }
 {
-    if summary.needs_kind {
-        return Some(needed_kind(kind));
-    }
     if summary.is_empty() {
-        return Some(": no entries\n");
+        Some(": no entries\n")
+    } else if summary.is_all_failed() {
+        failed_hint(entries)
+    } else {
+        None
     }
-    if summary.is_all_failed() && has_lengths(kind) {
-        return Some(": all FAILED, untagged lines may need another -a\n");
-    }
-    None
 }
 
-fn needed_kind(kind: Option<Kind>) -> &'static str
-    ensures { result.now ≡ (if is_some kind then codes ": digests of another length than those of -a\n"
-        else codes ": untagged lines need -a\n") }
+fn failed_hint(entries: &sumlist::Entries<'_, ShortKeyed>) -> Option<&'static str>
+    ensures { MatchOption result (spec.failed_hint (meaning entries.now) ≡ [])
+        (λ hint. spec.failed_hint (meaning entries.now) ≡ hint.now ∷ []) }
 {
-    match kind {
-        Some(_) => ": digests of another length than those of -a\n",
-        None => ": untagged lines need -a\n",
+    match entries {
+        sumlist::Entries::Digests(kind) if has_lengths(*kind) => {
+            Some(": all FAILED, untagged lines may need another -a\n")
+        }
+        sumlist::Entries::Digests(_) => None,
+        sumlist::Entries::Tags(_, _) => Some(": all FAILED, -a or the key may be another\n"),
     }
 }
 
@@ -228,6 +314,39 @@ fn has_lengths(kind: Option<Kind>) -> bool
     ensures { result ≡ option_map_or has_lengths kind false }
 {
     matches!(kind, Some(Kind::Blake2b | Kind::Blake2s | Kind::Blake3))
+}
+
+// Tells of the entries of another list, so many.
+fn write_foreign<E: Sink>(
+    name: &str,
+    entries: &sumlist::Entries<'_, ShortKeyed>,
+    count: u64,
+    err: &mut E,
+) -> Result<(), WriteFailed>
+    ensures { Writes result (E.shown err.old) (E.shown err.new)
+        (codes "sums: " ++ (visible name.now ++ foreign_hint (meaning entries.now) count)) }
+{
+    match entries {
+        sumlist::Entries::Digests(None) => write_hint(name, ": untagged lines need -a\n", err),
+        sumlist::Entries::Digests(Some(_)) => {
+            write_hint(name, ": digests of another length than those of -a\n", err)
+        }
+        sumlist::Entries::Tags(_, _) => write_tagged(name, count, err),
+    }
+}
+
+fn write_tagged<E: Sink>(name: &str, count: u64, err: &mut E) -> Result<(), WriteFailed>
+    ensures { Writes result (E.shown err.old) (E.shown err.new) (codes "sums: "
+        ++ (visible name.now ++ (codes ": tagged lines, which anyone can make: " ++ (decimal count ++ 10 ∷ [])))) }
+{
+    let mut digits = Buffer::new();
+    let digits = digits.format(count).as_bytes();
+    write_all(err, b"sums: ")?;
+    write_visible(name, err)?;
+    write_pieces(
+        err,
+        &[b": tagged lines, which anyone can make: ", digits, b"\n"],
+    )
 }
 
 fn write_hint<E: Sink>(name: &str, hint: &str, err: &mut E) -> Result<(), WriteFailed>

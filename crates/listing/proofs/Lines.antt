@@ -1,5 +1,6 @@
 -- What lines mean that are too long, which hash a number names, and texts without LF.
-use Rattle.std.proofs.Common.{◌≡◌, ◌<◌, ◌≤◌, ◌∙◌, List, take, false, None, Option, Some, ap, arith, length, refl, sym, ℕ}
+use Rattle.std.proofs.Common.{◌≡◌, ◌<◌, ◌≤◌, ◌∙◌, ℕ, List, take, false, None, Option, Some}
+use Rattle.std.proofs.Common.{ap, arith, length, refl, sym}
 use Rattle.std.specs.Prelude.{if◌then◌else◌, ◌==◌, Contains}
 use Rattle.std.proofs.lemmas.Bool.{ne_eqb, eqb-false}
 use Rattle.std.proofs.lemmas.List.Elements.{All-contains, All-contains_itself, All-weaker}
@@ -17,7 +18,10 @@ use Rattle.listing.specs.inside.State.{held}
 pub overlong : (text : List ℕ) (kind : Option Kind) → 65536 < length text
     → IsMalformed text kind × (IsUntagged text kind → ⊥)
 overlong text kind long = (
-  (λ s. let l = s.0.1 in absurd (omega (arith, l, long)), λ e s. let l = s.is_line.1 in absurd (omega (arith, l, long))),
+  (
+    λ s. let l = s.0.1 in absurd (omega (arith, l, long)),
+    λ e s. let l = s.is_line.1 in absurd (omega (arith, l, long)),
+  ),
   λ u. let l = u.3.is_line.1 in absurd (omega (arith, l, long)),
 )
 

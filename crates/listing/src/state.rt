@@ -82,12 +82,7 @@ impl ListState {
             ↔ (IsBegun self.old × (self.old.lines ≡ 2 ^ 64 - 1)) }
         ensures refused { OnErr result ((self.new ≡ self.old) × (line.new ≡ line.old)) }
     {
-        if !self.is_begun() {
-            return Err(ListFault::NotBegun);
-        }
-        if self.lines == u64::MAX {
-            return Err(ListFault::TooLong);
-        }
+        self.takes_line()?;
         let Some((front, _)) = split_at_byte(piece, b'\n') else {
             self.keep(piece);
             line.kind = LINE_NONE;
@@ -113,18 +108,28 @@ impl ListState {
             ↔ (IsBegun self.old × (self.old.lines ≡ 2 ^ 64 - 1)) }
         ensures refused { OnErr result ((self.new ≡ self.old) × (line.new ≡ line.old)) }
     {
-        if !self.is_begun() {
-            return Err(ListFault::NotBegun);
-        }
-        if self.lines == u64::MAX {
-            return Err(ListFault::TooLong);
-        }
+        self.takes_line()?;
         line.taken = 0;
         if self.held == 0 {
             line.kind = LINE_NONE;
             return Ok(());
         }
         self.end_line(&[], line);
+        Ok(())
+    }
+
+    // Refuses the numbers of no list, and those of one that can have no line more.
+    fn takes_line(&self) -> Result<(), ListFault>
+        ensures going { OnOk result (IsBegun self.now × (self.now.lines < 2 ^ 64 - 1)) }
+        ensures not_begun { IsErrOf result ListFault.NotBegun ↔ (IsBegun self.now → ⊥) }
+        ensures too_long { IsErrOf result ListFault.TooLong ↔ (IsBegun self.now × (self.now.lines ≡ 2 ^ 64 - 1)) }
+    {
+        if !self.is_begun() {
+            return Err(ListFault::NotBegun);
+        }
+        if self.lines == u64::MAX {
+            return Err(ListFault::TooLong);
+        }
         Ok(())
     }
 

@@ -14,7 +14,7 @@ use Rattle.command.specs.Cutting.{EachRuns, PartRuns, StartsRuns}
 use Rattle.command.specs.Hashing.{LinesGiven, LinesListed}
 use Rattle.command.specs.Joining.{JoinRuns}
 use Rattle.command.specs.Keying.{KdfRuns, LineRuns, SumRuns}
-use Rattle.command.specs.Lines.{content_of, key_opens, opens_of}
+use Rattle.command.specs.Lines.{content_of, entries_opens, key_opens, opens_of}
 use Rattle.command.specs.Verifying.{VerifyRuns}
 
 -- the run of a task
@@ -25,7 +25,7 @@ TaskRuns (prints_lines sum (in_file list)) files input =
 TaskRuns (prints_line sum wanted name file) files input =
     SumRuns sum files (λ l. LineRuns wanted l name file input files)
 TaskRuns (derives derived is_raw name) files input = KdfRuns derived is_raw name files
-TaskRuns (checks how lists) files input = CheckRuns how files lists input
+TaskRuns (checks entries is_summed lists) files input = CheckRuns entries is_summed files lists input
 TaskRuns (prints_part first chunks name) files input = PartRuns first chunks name files input
 TaskRuns (prints_starts chunks name) files input = StartsRuns chunks name files
 TaskRuns (prints_parts chunks name) files input = EachRuns chunks name files input
@@ -39,8 +39,8 @@ most_opens (prints_lines sum (in_file list)) files input =
     key_opens sum + (opens_of list + length (option_map_or names (content_of list input files) []))
 most_opens (prints_line sum wanted name file) files input = key_opens sum + opens_of file
 most_opens (derives derived is_raw name) files input = 1
-most_opens (checks how lists) files input =
-    sum_by (λ list. opens_of list + length (option_map_or lines (content_of list input files) [])) lists
+most_opens (checks entries is_summed lists) files input = entries_opens entries
+    + sum_by (λ list. opens_of list + length (option_map_or lines (content_of list input files) [])) lists
 most_opens (prints_part first chunks name) files input = opens_of name
 most_opens (prints_starts chunks name) files input = 55
 most_opens (prints_parts chunks name) files input = opens_of name

@@ -16,7 +16,7 @@ pub use memory::run_in_memory;
 mod memory;
 
 use command::{Fault, Session, Streams, tell};
-use request::{Error, Request, WordsFault, line};
+use request::{Error, Request, WordsFault, line, text_of};
 use source::{Feed, Sink, WriteFailed, write_all};
 use std::alloc::Global;
 use sumlist::Tree;
@@ -95,7 +95,7 @@ pub fn run_task<L: Feed, T: Tree, W: Sink, E: Sink>(
         Err(NoTask::Usage(fault)) => return tell(err, Fault::Usage(fault)),
         Err(NoTask::OutOfMemory) => return tell(err, Fault::OutOfMemory),
         Err(NoTask::Words(error)) => {
-            let Ok(text) = format!(in alloc; "{error}") else {
+            let Ok(text) = text_of(alloc, &error) else {
                 return tell(err, Fault::OutOfMemory);
             };
             return print_clap(&error, text.as_str(), out, err);
@@ -154,9 +154,11 @@ fn do_task<'n, 'i, 't, 'o, L: Feed, T: Tree, W: Sink, E: Sink>(
             is_raw,
             material,
         } => session.print_key(&derivation, is_raw, material),
-        Task::Check { checking, lists } => {
-            session.print_reports(checking, lists.as_slice(), err)
-        }
+        Task::Check {
+            entries,
+            is_summed,
+            lists,
+        } => session.print_reports(entries, is_summed, lists.as_slice(), err),
     }
 }
 

@@ -1,7 +1,7 @@
 -- The command line of the program, as what a parse by `clap` reads of it. `clap` judges which options there are, which
 -- of them take a value or a number, what has to be there, and the names of `-a`.
 use Rattle.std.specs.Prelude.{◌≡◌, ◌≢◌, Bool, true, false, List, [], ◌∷◌, Option, Some, Result, MatchResult, codes}
-use Rattle.std.specs.Prelude.{fold, map, slice_get}
+use Rattle.std.specs.Prelude.{◌++◌, fold, map, slice_get, take}
 use Rattle.std.specs.Borrow.{Bor}
 use Rattle.std.specs.Option.{option_map_or}
 use Rattle.std.specs.Str.{bytes_eq}
@@ -55,9 +55,9 @@ files = record file { action = Some Append }
 abbrev pub command : Text → List Rule → App
 command name = fold with_rule (new_app name)
 
--- the six commands: `names` are those of ALG and `macs` those of MAC
-abbrev pub commands : NameList → NameList → List App
-commands names macs = command (codes "hash") (required (algorithm names) ∷ number (letter (codes "l"))
+-- the six commands: `names` are those of ALG, `macs` those of MAC, and `both` those of either
+abbrev pub commands : NameList → NameList → NameList → List App
+commands names macs both = command (codes "hash") (required (algorithm names) ∷ number (letter (codes "l"))
     ∷ number (option (codes "seek")) ∷ number (option (codes "parts")) ∷ option (codes "salt")
     ∷ option (codes "personal") ∷ option (codes "verify") ∷ flag (codes "tag") ∷ flag (codes "raw")
     ∷ flag (codes "progress") ∷ option (codes "files0-from") ∷ option (codes "name") ∷ files ∷ [])
@@ -67,7 +67,8 @@ commands names macs = command (codes "hash") (required (algorithm names) ∷ num
     ∷ command (codes "kdf") (required (algorithm names) ∷ required (option (codes "ikm-file"))
     ∷ option (codes "salt") ∷ option (codes "info") ∷ option (codes "context")
     ∷ required (number (letter (codes "l"))) ∷ flag (codes "raw") ∷ [])
-    ∷ command (codes "check") (algorithm names ∷ flag (codes "summary") ∷ flag (codes "progress") ∷ files ∷ [])
+    ∷ command (codes "check") (algorithm both ∷ option (codes "key") ∷ option (codes "key-file")
+    ∷ number (letter (codes "l")) ∷ flag (codes "summary") ∷ flag (codes "progress") ∷ files ∷ [])
     ∷ command (codes "part") (required (algorithm names) ∷ number (option (codes "first"))
     ∷ number (option (codes "chunks")) ∷ flag (codes "list") ∷ number (option (codes "each"))
     ∷ option (codes "verify") ∷ flag (codes "progress") ∷ file ∷ [])
@@ -82,8 +83,8 @@ program_app = record (new_app (codes "sums")) {
 }
 
 -- the same with the six below it
-unfoldable pub sums_app : NameList → NameList → App
-sums_app names macs = fold (λ whole below. with_subcommand whole below.top) program_app (commands names macs)
+unfoldable pub sums_app : NameList → NameList → NameList → App
+sums_app names macs both = fold (λ whole below. with_subcommand whole below.top) program_app (commands names macs both)
 
 -- what the words give: the name of a command, and the values of its options and arguments, each under its id
 abbrev pub Given : Type 0
@@ -106,11 +107,12 @@ abbrev pub mac_names : List Text
 mac_names = codes "hmac-sha256" ∷ codes "hmac-sha512" ∷ codes "hmac-blake2b" ∷ codes "hmac-blake2s"
     ∷ codes "blake2b" ∷ codes "blake2s" ∷ codes "blake3" ∷ []
 
--- how the words are read: as what they give, or with a fault of theirs; `-a` takes the names of the hashes, and that of
--- `mac` those of MAC
+-- how the words are read: as what they give, or with a fault of theirs; `-a` takes the names of the hashes, that of
+-- `mac` those of MAC, and that of `check` the hashes and HMAC over them
 abbrev pub AreRead : List Text → Result Given ErrorKind → Type 0
-AreRead words read = (names : NameList) × (macs : NameList) × (map (λ n. n.now) names.now ≡ map (λ k. k.0) kinds)
-    × (map (λ n. n.now) macs.now ≡ mac_names) × let app = sums_app names macs in MatchResult read (λ given.
+AreRead words read = (names : NameList) × (macs : NameList) × (both : NameList)
+    × (map (λ n. n.now) names.now ≡ map (λ k. k.0) kinds) × (map (λ n. n.now) macs.now ≡ mac_names)
+    × (map (λ n. n.now) both.now ≡ map (λ k. k.0) kinds ++ take 4 mac_names) × let app = sums_app names macs both in MatchResult read (λ given.
     (fault_of app words ≡ []) × (subcommand_of app words ≡ Some given)) (λ kind. IsAmong kind (fault_of app words))
 
 -- words that are wrong, and no call for help or the version

@@ -69,7 +69,7 @@ impl<'a> Request<'a> {
     }
 }
 
-static MACS: [&str; 7] = [
+pub(crate) static MACS: [&str; 7] = [
     "hmac-sha256",
     "hmac-sha512",
     "hmac-blake2b",
@@ -77,6 +77,19 @@ static MACS: [&str; 7] = [
     "blake2b",
     "blake2s",
     "blake3",
+];
+
+// The names of the hashes, and of HMAC over them.
+static BOTH: [&str; 9] = [
+    "sha256",
+    "sha512",
+    "blake2b",
+    "blake2s",
+    "blake3",
+    "hmac-sha256",
+    "hmac-sha512",
+    "hmac-blake2b",
+    "hmac-blake2s",
 ];
 
 /// Reads the words of the command line, the program's own name first, as `clap` reads them for the
@@ -87,7 +100,13 @@ pub fn line<'a>(alloc: Global, words: &'a [&'a str]) -> Result<Request<'a>, Word
     ensures fault { (e : _) → result ≡ Err (Words e)
         → AreRead (map (λ w. w.now) words.entry.now) (Err (kind_of e)) }
 {
-    let matches = parsed(alloc, words, Kind::names(), MACS.as_slice())?;
+    let matches = parsed(
+        alloc,
+        words,
+        Kind::names(),
+        MACS.as_slice(),
+        BOTH.as_slice(),
+    )?;
     Ok(request_from(matches))
 }
 
@@ -96,16 +115,17 @@ fn parsed<'a>(
     words: &'a [&'a str],
     names: &'a [&'a str],
     macs: &'a [&'a str],
+    both: &'a [&'a str],
 ) -> Result<ArgMatches<'a>, WordsFault>
     ensures rows { IfOk result (λ m. subcommand_rows_of m
-        ≡ subcommand_of (sums_app names.entry macs.entry) (map (λ w. w.now) words.entry.now)) }
+        ≡ subcommand_of (sums_app names.entry macs.entry both.entry) (map (λ w. w.now) words.entry.now)) }
     ensures met { IfOk result (λ m. has_subcommand m ≡ true) }
     ensures passes { OnOk result
-        (fault_of (sums_app names.entry macs.entry) (map (λ w. w.now) words.entry.now) ≡ []) }
+        (fault_of (sums_app names.entry macs.entry both.entry) (map (λ w. w.now) words.entry.now) ≡ []) }
     ensures fault { (e : _) → result ≡ Err (Words e) → IsAmong (kind_of e)
-        (fault_of (sums_app names.entry macs.entry) (map (λ w. w.now) words.entry.now)) }
+        (fault_of (sums_app names.entry macs.entry both.entry) (map (λ w. w.now) words.entry.now)) }
 {
-    let command = sums_command(alloc, names, macs)?;
+    let command = sums_command(alloc, names, macs, both)?;
     match command.try_get_matches_from(words) {
         Ok(matches) => Ok(matches),
         Err(error) => Err(fault_from(error)),

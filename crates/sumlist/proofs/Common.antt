@@ -23,17 +23,17 @@ pub use Rattle.std.proofs.lemmas.Result.{MatchResult-from_err, err_from_is_err_a
 pub use Rattle.std.proofs.lemmas.Slice.Eq.{bytes_eq-Decides}
 pub use Rattle.std.specs.Io.KnownBytes.{Consumes}
 pub use Rattle.std.specs.List.{All}
-pub use Rattle.sumlist.specs.Checked.{ListChecked, name_in}
+pub use Rattle.sumlist.specs.Checked.{ListChecked}
 pub use Rattle.sumlist.specs.Entry.{Fits, IsEntry, Listing, written}
 pub use Rattle.sumlist.specs.Escape.{SpellsByte, SpellsName, escape_of, escaped, is_special, lead}
 pub use Rattle.sumlist.specs.Line.{HasForm, IsLine, IsMalformed, IsUntagged, Spells, Says, core}
 pub use Rattle.sumlist.specs.Lines.{lines}
-pub use Rattle.sumlist.specs.Report.{AllAllowed, Allowed, Files, Outcome, malformed, no_lines, skipped, text}
-pub use Rattle.sumlist.specs.Report.{told, unreadable_count, untagged, verdict_of, with_line}
+pub use Rattle.sumlist.specs.Report.{AllAllowed, Allowed, Files, IsEntryIn, IsForeign, Meaning, Outcome, foreign, keyed}
+pub use Rattle.sumlist.specs.Report.{maker_of, malformed, no_lines, skipped, text, told, unkeyed, unreadable_count}
+pub use Rattle.sumlist.specs.Report.{verdict_of, with_line}
 pub use Rattle.sumlist.specs.Kinds.{label_of}
 pub use Rattle.sumlist.specs.Tagged.{IsLabel, tagged, tagged_len}
 pub use Rattle.sumlist.specs.declared.checking.CheckFault.{CheckFault}
-pub use Rattle.sumlist.specs.declared.checking.ListRules.{ListRules}
 pub use Rattle.sumlist.specs.declared.kind.Kind.{Kind}
 pub use Rattle.sumlist.specs.declared.summary.Mark.{Mark}
 pub use Rattle.sumlist.specs.declared.summary.Summary.{Summary}

@@ -98,7 +98,7 @@ says_any k kind e sized (inr s) =
     (f.0, f.1, inr (s.0, s.1, s.2, f.2, s.4))
 
 -- a line that spells an entry of some kind spells one of BLAKE2b
-spells_any : (line : List ℕ) (kind : Kind) (e : Listing) → Spells line (Some kind) e
+pub spells_any : (line : List ℕ) (kind : Kind) (e : Listing) → Spells line (Some kind) e
     → (d : Listing) × Spells line (Some Blake2b) d
 spells_any line kind e s =
     let f = says_any (core line) kind e s.is_entry.sized s.form in (

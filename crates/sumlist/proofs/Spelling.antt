@@ -4,7 +4,7 @@ use Rattle.sumlist.proofs.Common.{ap, length-append, if◌then◌else◌, ◌∙
 use Rattle.sumlist.proofs.Common.{nat_tests, decode_of-encode_lower, length-encode_with, encode_lower, lower_digits}
 use Rattle.sumlist.proofs.Common.{Alg, Kind, Listing, IsEntry, escaped, escape_of, needs_escape}
 use Rattle.sumlist.proofs.Common.{SpellsName, HasForm, IsLine, Says, core, IsBlank, Spells, IsLabel, label_of}
-use Rattle.sumlist.proofs.Common.{closing, tagged_len, Option, Some, ℕ}
+use Rattle.sumlist.proofs.Common.{closing, tagged_len, IsUntagged, None, Option, Some, sym, ℕ}
 use Rattle.std.specs.Prelude.{not}
 use Rattle.std.specs.List.{list_all}
 use Rattle.std.proofs.lemmas.List.Elements.{All-contains, All-head}
@@ -14,8 +14,11 @@ use Rattle.sumlist.specs.Entry.{written_line}
 use Rattle.sumlist.specs.Kinds.{alg_kind}
 use Rattle.sumlist.specs.Tagged.{tagged_line}
 use Rattle.sumlist.proofs.EscapedNames.{escaped-plain}
-use Rattle.sumlist.proofs.Reading.{labelled_form, plain_form}
-use Rattle.sumlist.proofs.Words.{InWord, IsWord, digits_word, label_word}
+use Rattle.sumlist.specs.inside.Reading.{stated}
+use Rattle.std.proofs.lemmas.Option.{none-some}
+use Rattle.sumlist.proofs.Reading.{labelled_form, plain_form, told_by-cut}
+use Rattle.sumlist.proofs.Stating.{no_slash, stated-is, unslashed-plain}
+use Rattle.sumlist.proofs.Words.{InWord, IsWord, digits_word, label_word, no_space}
 
 -- ---- the escaped form of a name
 
@@ -83,6 +86,45 @@ written_spells e i =
     (λ body. plain_form _ digits 32 e.alg e.tag body (inl refl) refl i.sized.0 sized value)
     (needs_escape e.name) refl i word (simp (list_all-append, word_inner digits word, escaped_inner e.name))
     (omega (arith, length-append {A = ℕ}, sized, i.sized.1, i.fits.within))
+
+led_inner : (b : Bool) (xs : List ℕ) → Inner xs → Inner ((if b then 92 ∷ [] else []) ++ xs)
+led_inner true xs all = all
+led_inner false xs all = all
+
+-- the plain line of a word without a space is no tagged one
+module _ (digits body : List ℕ) (word : IsWord digits) where
+  plain_unstated : (b : Bool) (line : List ℕ) → line ≡ (if b then 92 ∷ [] else []) ++ (digits ++ 32 ∷ 32 ∷ body)
+      → stated None line ≡ None
+  plain_unstated true line is = rw (
+    is,
+    told_by-cut None (digits ++ 32 ∷ 32 ∷ body) digits (32 ∷ body)
+        (refl, no_space digits word),
+  ) refl
+  plain_unstated false line is =
+      let plain = no_slash digits (32 ∷ body) word in
+      rw (
+        is,
+        plain,
+        unslashed-plain None (digits ++ 32 ∷ 32 ∷ body) plain,
+        told_by-cut None (digits ++ 32 ∷ 32 ∷ body) digits (32 ∷ body) (refl, no_space digits word),
+      ) refl
+
+pub written_untagged : (e : Listing) → IsEntry e → IsUntagged (written_line e) None
+written_untagged e i =
+    let s = written_spells e i in
+    let digits = encode_lower e.tag in
+    let word = digits_word digits e.tag (decode_of-encode_lower e.tag i.bytes) in
+    let inner = led_inner (needs_escape e.name) _
+    (simp (list_all-append, word_inner digits word, escaped_inner e.name)) in (
+      (
+        s.not_skipped,
+        λ d t. none-some d (sym (plain_unstated digits (escaped e.name) word (needs_escape e.name)
+            (core (written_line e)) (core_whole (written_line e) inner)) ∙ stated-is None (core (written_line e)) d t.form),
+      ),
+      alg_kind e.alg,
+      e,
+      s,
+    )
 
 -- ---- the tagged line, whatever the kind of its list
 

@@ -35,7 +35,7 @@ pub entry_of-name : (b : Bool) (f : TextParts) (e : Listing) → entry_of b f �
     → (name_of b f.2 ≡ Some e.name) × (f.1 ≡ e.tag)
 entry_of-name b f e is = grind arith
 
-no_slash : (word more : List ℕ) → IsWord word → is_slashed (word ++ 32 ∷ more) ≡ false
+pub no_slash : (word more : List ℕ) → IsWord word → is_slashed (word ++ 32 ∷ more) ≡ false
 no_slash [] more w = refl
 no_slash (c ∷ word) more w = let first = All-head InWord c word w in grind (arith, nat_tests)
 
@@ -46,7 +46,7 @@ module _ (kind : Option Kind) where
   not_slashed core a t x (ds, s, inr (label, names, whole)) =
       ap is_slashed whole ∙ no_slash label (40 ∷ (x ++ closing ds)) (label_word label a s.0 names)
 
-  unslashed-plain : (core : List ℕ) → is_slashed core ≡ false → unslashed core ≡ core
+  pub unslashed-plain : (core : List ℕ) → is_slashed core ≡ false → unslashed core ≡ core
   unslashed-plain core e = grind arith
 
   pub stated-is : (core : List ℕ) (e : Listing) → Says core kind e → stated kind core ≡ Some e

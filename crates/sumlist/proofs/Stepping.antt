@@ -1,8 +1,8 @@
 -- A list that is checked line by line: a line's outcome comes before those of the lines that are left.
 use Rattle.sumlist.proofs.Common.{◌≡◌, ◌≤◌, ◌+◌, ◌++◌, List, [], ◌∷◌, length, lines, subst, sym, Option, None, Some}
 use Rattle.sumlist.proofs.Common.{◌∙◌, IfSome, ap, refl, IfSome_then, IsErr, Result, Err, Ok, arith, Appends-nil}
-use Rattle.sumlist.proofs.Common.{Appends-trans, AppendsPrefix, ListRules, Mark, Summary, CheckFault, Files}
-use Rattle.sumlist.proofs.Common.{IsCounted, LineChecked, ListChecked, Outcome, lines_of, name_in, no_lines, text}
+use Rattle.sumlist.proofs.Common.{Appends-trans, AppendsPrefix, Mark, Meaning, Summary, CheckFault, Files}
+use Rattle.sumlist.proofs.Common.{IsCounted, LineChecked, ListChecked, Outcome, lines_of, no_lines, text}
 use Rattle.sumlist.proofs.Common.{true, with_line, ℕ}
 use Rattle.std.specs.Io.KnownBytes.{IsAtEnd}
 use Rattle.std.proofs.lemmas.Result.{MatchResult-weaker}
@@ -22,33 +22,33 @@ use Rattle.sumlist.proofs.Deciding.{all_settled, unreadable-cons}
 same_line : (s : Summary) (o : Outcome) → with_line s (outcome_of (mark_of o)) ≡ with_line s o
 same_line s o = grind arith
 
-module _ {files : Files} {rules : ListRules} {s : Summary} {m : ℕ} {b : Option (List ℕ)} where
-  rest-none : RestChecked files rules [] s (Ok s) m m b b
+module _ {files : Files} {k : Meaning} {name : Option (List ℕ)} {s : Summary} {m : ℕ} {b : Option (List ℕ)} where
+  rest-none : RestChecked files k name [] s (Ok s) m m b b
   unfolding report_from summary_of
   rest-none = record { outcomes = []; allowed = tt; counted = omega arith; told = (refl, Appends-nil b) }
 
   -- a fault before any
-  rest-halted : {ls : List (List ℕ)} {r : Result Summary CheckFault} → IsErr r → RestChecked files rules ls s r m m b b
-  rest-halted {ls} stopped = let os = all_settled files rules.kind ls in
+  rest-halted : {ls : List (List ℕ)} {r : Result Summary CheckFault} → IsErr r → RestChecked files k name ls s r m m b b
+  rest-halted {ls} stopped = let os = all_settled files k ls in
       record { outcomes = os.0; allowed = os.1; counted = omega arith; told = grind (arith, AppendsPrefix-none) }
 
   module _ {line : List ℕ} {ls : List (List ℕ)} {r : Result Summary CheckFault} {n : ℕ} {c : Option (List ℕ)} where
     -- a fault at the first
     rest-stopped : IsErr r
-        → (o : Outcome) × Stepped files rules.kind line o m n
-        × AppendsPrefix b c (text (name_in rules) (lines_of s + 1) o)
-        → RestChecked files rules (line ∷ ls) s r m n b c
+        → (o : Outcome) × Stepped files k line o m n
+        × AppendsPrefix b c (text name (lines_of s + 1) o)
+        → RestChecked files k name (line ∷ ls) s r m n b c
     unfolding report_from
     rest-stopped stopped l =
-        let os = all_settled files rules.kind ls in
-        let told = AppendsPrefix-more b c _ (report_from (name_in rules) (lines_of s + 2) os.0) l.2 in
+        let os = all_settled files k ls in
+        let told = AppendsPrefix-more b c _ (report_from name (lines_of s + 2) os.0) l.2 in
         let one = unreadable-cons l.0 os.0 in
         record { outcomes = l.0 ∷ os.0; allowed = (l.1.allowed, os.1); counted = omega arith; told = grind arith }
 
     -- the first was checked, and then the rest
     rest-line : {mark : Mark} {u : Summary} {p : ℕ} {d : Option (List ℕ)}
-        → LineChecked {E = CheckFault} files rules line (lines_of s + 1) (Ok mark) m n b c → IsCounted mark s u
-        → RestChecked files rules ls u r n p c d → RestChecked files rules (line ∷ ls) s r m p b d
+        → LineChecked {E = CheckFault} files k name line (lines_of s + 1) (Ok mark) m n b c → IsCounted mark s u
+        → RestChecked files k name ls u r n p c d → RestChecked files k name (line ∷ ls) s r m p b d
     unfolding report_from
     rest-line {u} {d} l counted q =
         let grown = subst (λ x. IsCounted x s u) (sym l.2.0) counted in
@@ -75,21 +75,21 @@ pub IfSome-two : {X : Type 0} {r s : Option X} {P Q R : X → Type 0} → s ≡ 
     → ((x : X) → P x → Q x → R x) → IfSome r R
 IfSome-two same p q h = grind arith
 
-module _ {rest : Option (List ℕ)} {known : Option Files} {rules : ListRules} {r : Result Summary CheckFault} {n : ℕ}
-    {c : Option (List ℕ)} where
+module _ {rest : Option (List ℕ)} {known : Option Files} {k : Meaning} {name : Option (List ℕ)}
+    {r : Result Summary CheckFault} {n : ℕ} {c : Option (List ℕ)} where
   -- no line came before
-  pub checks-all : {m : ℕ} {b : Option (List ℕ)} → Checks rest known rules [] no_lines r m n b c
-      → IfSome rest (λ list. IfSome known (λ files. ListChecked files rules.kind (name_in rules) list r m n b c))
+  pub checks-all : {m : ℕ} {b : Option (List ℕ)} → Checks rest known k name [] no_lines r m n b c
+      → IfSome rest (λ list. IfSome known (λ files. ListChecked files k name list r m n b c))
   unfolding summary_of
-  checks-all h = IfSome_then rest h.of (λ list k. IfSome_then known k (λ files q.
+  checks-all h = IfSome_then rest h.of (λ list h. IfSome_then known h (λ files q.
       (q.outcomes, q.allowed, q.counted, q.told)))
 
-  pub checks-halted : {ahead : List ℕ} {s : Summary} → IsErr r → Checks rest known rules ahead s r n n c c
+  pub checks-halted : {ahead : List ℕ} {s : Summary} → IsErr r → Checks rest known k name ahead s r n n c c
   checks-halted stopped = record { of = IfSome-all rest (λ _. IfSome-all known (λ _. rest-halted stopped)) }
 
 -- no line is left
-pub checks-none : {rest : Option (List ℕ)} {known : Option Files} {rules : ListRules} {ahead : List ℕ} {s : Summary}
-    {n : ℕ} {c : Option (List ℕ)} → (ahead ≡ []) × IsAtEnd rest → Checks rest known rules ahead s (Ok s) n n c c
+pub checks-none : {rest : Option (List ℕ)} {known : Option Files} {k : Meaning} {name : Option (List ℕ)}
+    {ahead : List ℕ} {s : Summary} {n : ℕ} {c : Option (List ℕ)} → (ahead ≡ []) × IsAtEnd rest → Checks rest known k name ahead s (Ok s) n n c c
 checks-none {rest = None} end = record { of = tt }
 checks-none {rest = Some bytes} {known} end = record { of = IfSome-all known (λ _. rw (end.0, end.1) rest-none) }
 
@@ -99,27 +99,28 @@ NextTaken kept rest ahead rest' ahead' = IfSome rest (λ bytes. (left : List ℕ
     × IsNextPiece 10 true kept (ahead ++ bytes) (ahead' ++ left))
 
 -- what the check of a line says, of which this is kept
-abbrev NextChecked : Option Files → ListRules → Option (List ℕ) → ℕ → Result Mark CheckFault → ℕ → ℕ → Option (List ℕ)
+abbrev NextChecked : Option Files → Meaning → Option (List ℕ) → Option (List ℕ) → ℕ → Result Mark CheckFault → ℕ → ℕ → Option (List ℕ)
     → Option (List ℕ) → Type 0
-NextChecked known rules kept number r m n b c = IfSome known (λ files. (line : List ℕ) → IsKept kept line
-    → LineChecked files rules line number r m n b c)
+NextChecked known k name kept number r m n b c = IfSome known (λ files. (line : List ℕ) → IsKept kept line
+    → LineChecked files k name line number r m n b c)
 
 module _ (kept rest : Option (List ℕ)) (ahead : List ℕ) (rest' : Option (List ℕ)) (ahead' : List ℕ)
-    (known : Option Files) (next : NextTaken kept rest ahead rest' ahead') {rules : ListRules} {s : Summary}
+    (known : Option Files) (next : NextTaken kept rest ahead rest' ahead') {k : Meaning} {name : Option (List ℕ)}
+    {s : Summary}
     {r : Result Summary CheckFault} {n o : ℕ} {c d : Option (List ℕ)} where
-  pub checks-stopped : (f : CheckFault) → IsErr r → NextChecked known rules kept (lines_of s + 1) (Err f) n o c d
-      → Checks rest known rules ahead s r n o c d
+  pub checks-stopped : (f : CheckFault) → IsErr r → NextChecked known k name kept (lines_of s + 1) (Err f) n o c d
+      → Checks rest known k name ahead s r n o c d
   checks-stopped f stopped checked = record {
     of = IfSome_then rest next (λ _ t. IfSome_then known checked (λ _ line.
         rw t.2.2 (rest-stopped stopped (line t.2.0 t.2.1))));
   }
 
   pub checks-line : {u : Summary} {p : ℕ} {e : Option (List ℕ)} (mark : Mark) → IsCounted mark s u
-      → NextChecked known rules kept (lines_of s + 1) (Ok mark) n o c d → Checks rest' known rules ahead' u r o p d e
-      → Checks rest known rules ahead s r n p c e
+      → NextChecked known k name kept (lines_of s + 1) (Ok mark) n o c d → Checks rest' known k name ahead' u r o p d e
+      → Checks rest known k name ahead s r n p c e
   checks-line {u} {p} {e} mark counted checked later = record {
     of = IfSome_then rest next (λ _ t. IfSome-two {r = known} refl checked
-        (subst (λ x. Checks x known rules ahead' u r o p d e) t.1 later).of (λ _ line q.
+        (subst (λ x. Checks x known k name ahead' u r o p d e) t.1 later).of (λ _ line q.
         rw t.2.2 (rest-line (line t.2.0 t.2.1) counted q)));
   }
 

@@ -1,6 +1,6 @@
 -- Worked values of the definitions of lists, computed: a wrong escape, label, cut or number does not check.
 use Rattle.sumlist.proofs.Common.{◌≡◌, inr, [], ◌∷◌, ◌++◌, refl, arith, Missing, Listing, written, lines, skipped}
-use Rattle.sumlist.proofs.Common.{malformed, told, untagged, HasForm, label_of, tagged, codes, None, Some}
+use Rattle.sumlist.proofs.Common.{malformed, told, foreign, HasForm, label_of, tagged, codes, None, Some}
 use Rattle.std.specs.Fmt.{digits}
 use Rattle.hex.specs.Hex.{encode_with, decode_pairs}
 use Rattle.source.specs.declared.alg.Alg.TheVariants.{Blake2b, Blake2s}
@@ -41,7 +41,7 @@ labelled_example =
 lines_example : lines (97 ∷ 10 ∷ 10 ∷ 98 ∷ 10 ∷ []) ≡ (97 ∷ []) ∷ [] ∷ (98 ∷ []) ∷ []
 lines_example = refl
 
-report_example : report_from None 1 (skipped ∷ malformed ∷ told (codes "x") Missing ∷ untagged ∷ [])
+report_example : report_from None 1 (skipped ∷ malformed ∷ told (codes "x") Missing ∷ foreign ∷ [])
     ≡ codes "line 2: MALFORMED" ++ 10 ∷ codes "x: MISSING" ++ 10 ∷ codes "line 4: MALFORMED" ++ 10 ∷ []
 unfolding digits report_from
 report_example = refl

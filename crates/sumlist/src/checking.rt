@@ -1,24 +1,23 @@
 // Lists checked against the files that they name.
 
 ghost use Rattle.std.specs.Prelude.{◌≡◌, ◌+◌, ◌-◌, ◌<◌, ◌≤◌, ◌^◌, ◌↔◌, ℕ, List, [], Option, Result, false, true};
-ghost use Rattle.std.specs.Prelude.{length, None, Some, IfOk, IfSome, IsErr, IsErrOf, MatchResult, OnOk};
+ghost use Rattle.std.specs.Prelude.{length, None, Some, option_map, IfOk, IfSome, IsErr, IsErrOf, MatchResult, OnOk};
 ghost use Rattle.std.specs.Io.KnownBytes.{Consumes, IsAtEnd};
 ghost use Rattle.source.specs.Counts.{count_after};
-ghost use Rattle.sumlist.specs.Checked.{CountsOnly, ListChecked, name_in};
+ghost use Rattle.sumlist.specs.Checked.{CountsOnly, ListChecked};
 ghost use Rattle.sumlist.specs.Lines.{IsKept, lines};
 ghost use Rattle.sumlist.specs.inside.Ahead.{Checks, OpensEach};
-ghost use Rattle.sumlist.specs.Line.{IsMalformed};
-ghost use Rattle.sumlist.specs.inside.Stepped.{LineChecked, MarksMalformed, StepCounts, stop_of};
+ghost use Rattle.sumlist.specs.Report.{maker_of, unkeyed};
+ghost use Rattle.sumlist.specs.inside.Stepped.{IsAllowed, LineChecked, StepCounts, meaning_of, stop_of};
 ghost use Rattle.sumlist.specs.Tally.{entries_of};
-ghost use Rattle.sumlist.specs.inside.Marks.{entry_by, lines_of, part};
+ghost use Rattle.sumlist.specs.inside.Marks.{entry_by, lines_of, part, unreadable_by};
 ghost use Rattle.sumlist.specs.declared.checking.CheckFault.TheVariants.{OutOfMemory, Write};
 
-use crate::line::{needs_kind, read_line};
 use crate::piece_reader::PieceReader;
 use crate::report::{write_malformed, write_verdict};
 use crate::summary::Mark;
 use crate::verdict::{Verdict, check_entry};
-use crate::{Kind, Line, LineFault, Summary, Tree};
+use crate::{Entries, Entry, Kind, Line, LineFault, MakesTag, Summary, Tree};
 use source::{Feed, Sink, SourceFault, WriteFailed};
 use std::alloc::{AllocError, Global};
 use thiserror::Error;
@@ -68,16 +67,6 @@ impl From<AllocError> for CheckFault {
     }
 }
 
-/// How a list is read, and what its report tells.
-#[derive(Clone, Copy, Debug, PartialEq, Eq)]
-pub struct ListRules<'a> {
-    /// The kind of its untagged lines. Without one they are malformed.
-    pub kind: Option<Kind>,
-    /// The name of the list, which its report tells of malformed lines: `NAME: line N: MALFORMED`, the name
-    /// in its escaped form. Without one it is `line N: MALFORMED`.
-    pub name: Option<&'a str>,
-}
-
 /// Checks a list: reads it to its end, compares the file of each entry with the entry's tag, and
 /// writes the report, which has a line for each line that is not skipped. Each line whose LF was read
 /// is checked, and its report written, before the next read of the list. Of the list it keeps one read
@@ -95,7 +84,7 @@ pub fn check<L: Feed, T: Tree, W: Sink>(
     out: &mut W,
 ) -> Result<Summary, CheckFault>
     ensures checked { IfSome (L.remaining list.old) (λ bytes. IfSome (T.files tree.old) (λ files.
-        ListChecked files (Some kind) None bytes result
+        ListChecked files (unkeyed (Some kind)) None bytes result
         (T.failure_count tree.old) (T.failure_count tree.new)
         (W.shown out.old).contents (W.shown out.new).contents)) }
     ensures unreadable { IfOk result (λ s. T.failure_count tree.new
@@ -114,23 +103,22 @@ pub fn check<L: Feed, T: Tree, W: Sink>(
         × Consumes (L.remaining list.old) (L.remaining list.new) given
         × (IsErrOf result CheckFault.ListTooLong ↔ (2 ^ 64 - 1 < length given))) }
 {
-    let rules = ListRules {
-        kind: Some(kind),
-        name: None,
-    };
-    check_list(alloc, list, rules, tree, out)
+    let entries: Entries<'_, Entry> = Entries::Digests(Some(kind));
+    check_list(alloc, list, &entries, None, tree, out)
 }
 
-/// The same of a list by any rules: its untagged lines may have no kind, and its report may tell its name.
-pub fn check_list<L: Feed, T: Tree, W: Sink>(
+/// Checks a list of any entries as `check` does. If a name of the list is given, the report has it in front of
+/// malformed lines: `NAME: line N: MALFORMED`, the name in its escaped form.
+pub fn check_list<L: Feed, M: MakesTag, T: Tree, W: Sink>(
     alloc: Global,
     list: &mut L,
-    rules: ListRules<'_>,
+    entries: &Entries<'_, M>,
+    name: Option<&str>,
     tree: &mut T,
     out: &mut W,
 ) -> Result<Summary, CheckFault>
     ensures checked { IfSome (L.remaining list.old) (λ bytes. IfSome (T.files tree.old) (λ files.
-        ListChecked files rules.entry.kind (name_in rules.entry) bytes result
+        ListChecked files (meaning_of M.limit M.makes entries.now) (option_map (λ n. n.now) name.entry) bytes result
         (T.failure_count tree.old) (T.failure_count tree.new)
         (W.shown out.old).contents (W.shown out.new).contents)) }
     ensures unreadable { IfOk result (λ s. T.failure_count tree.new
@@ -151,7 +139,8 @@ pub fn check_list<L: Feed, T: Tree, W: Sink>(
 {
     let mut checker = Checker {
         alloc,
-        rules,
+        entries,
+        name,
         reader: PieceReader::new(alloc)?,
         summary: Summary::new(),
         lines: 0,
@@ -162,17 +151,19 @@ pub fn check_list<L: Feed, T: Tree, W: Sink>(
 
 // A list that is being checked, line by line.
 #[derive(Drop)]
-struct Checker<'n> {
+struct Checker<'e, 'k, 'n, M> {
     alloc: Global,
-    rules: ListRules<'n>,
+    entries: &'e Entries<'k, M>,
+    name: Option<&'n str>,
     reader: PieceReader,
     summary: Summary,
     // how many lines were checked
     lines: u64,
     ghost counted: { lines ≡ lines_of summary },
+    ghost foreign: { summary.foreign ≤ summary.malformed },
 }
 
-impl<'n> Checker<'n> {
+impl<'e, 'k, 'n, M: MakesTag> Checker<'e, 'k, 'n, M> {
     // Checks the next line, and answers whether another may follow.
     fn step<L: Feed, T: Tree, W: Sink>(
         &mut self,
@@ -185,12 +176,18 @@ impl<'n> Checker<'n> {
             (lines_of self.new.summary + length self.new.reader.ahead ≤ self.new.reader.total) }
         ensures checked { MatchResult result
             (λ _. (r : Result Summary CheckFault) (n : ℕ) (c : Option (List ℕ))
-            → Checks (L.remaining list.new) (T.files tree.old) self.old.rules self.new.reader.ahead self.new.summary
+            → Checks (L.remaining list.new) (T.files tree.old)
+            (meaning_of M.limit M.makes self.old.entries.now) (option_map (λ n. n.now) self.old.name)
+            self.new.reader.ahead self.new.summary
             r (T.failure_count tree.new) n (W.shown out.new).contents c
-            → Checks (L.remaining list.old) (T.files tree.old) self.old.rules self.old.reader.ahead self.old.summary
+            → Checks (L.remaining list.old) (T.files tree.old)
+            (meaning_of M.limit M.makes self.old.entries.now) (option_map (λ n. n.now) self.old.name)
+            self.old.reader.ahead self.old.summary
             r (T.failure_count tree.old) n (W.shown out.old).contents c)
             (λ _. (r : Result Summary CheckFault) → IsErr r
-            → Checks (L.remaining list.old) (T.files tree.old) self.old.rules self.old.reader.ahead self.old.summary
+            → Checks (L.remaining list.old) (T.files tree.old)
+            (meaning_of M.limit M.makes self.old.entries.now) (option_map (λ n. n.now) self.old.name)
+            self.old.reader.ahead self.old.summary
             r (T.failure_count tree.old) (T.failure_count tree.new)
             (W.shown out.old).contents (W.shown out.new).contents) }
         ensures unreadable { OnOk result
@@ -203,7 +200,8 @@ impl<'n> Checker<'n> {
             (λ _. (n : ℕ) → OpensEach (L.remaining list.new) self.new.reader.ahead (T.opens tree.new) n
             → OpensEach (L.remaining list.old) self.old.reader.ahead (T.opens tree.old) n)
             (λ _. OpensEach (L.remaining list.old) self.old.reader.ahead (T.opens tree.old) (T.opens tree.new)) }
-        ensures kept { (T.files tree.new ≡ T.files tree.old) × (self.new.rules ≡ self.old.rules) }
+        ensures kept { (T.files tree.new ≡ T.files tree.old)
+            × (self.new.entries ≡ self.old.entries) × (self.new.name ≡ self.old.name) }
         ensures end { IfOk result (λ more. more ≡ false
             → (self.new.reader.ahead ≡ []) × IsAtEnd (L.remaining list.new)) }
         ensures forth { IfOk result (λ more. more ≡ true
@@ -228,7 +226,8 @@ impl<'n> Checker<'n> {
     fn check<T: Tree, W: Sink>(&self, tree: &mut T, out: &mut W) -> Result<Mark, CheckFault>
         requires few { lines_of self.now.summary + 1 < 2 ^ 64 }
         ensures checked { IfSome (T.files tree.old) (λ files. (line : List ℕ) → IsKept self.now.reader.kept line
-            → LineChecked files self.now.rules line (lines_of self.now.summary + 1) result
+            → LineChecked files (meaning_of M.limit M.makes self.now.entries.now)
+            (option_map (λ n. n.now) self.now.name) line (lines_of self.now.summary + 1) result
             (T.failure_count tree.old) (T.failure_count tree.new)
             (W.shown out.old).contents (W.shown out.new).contents) }
         ensures unreadable { IfOk result (λ mark. T.failure_count tree.new
@@ -239,7 +238,7 @@ impl<'n> Checker<'n> {
         ensures writes { StepCounts result (W.shown out.old).failures (W.shown out.new).failures }
     {
         let Some(line) = self.reader.piece() else {
-            write_malformed(self.rules.name, self.lines + 1, out)?;
+            write_malformed(self.name, self.lines + 1, out)?;
             return Ok(Mark::Malformed);
         };
         self.check_line(line, tree, out)
@@ -254,7 +253,8 @@ impl<'n> Checker<'n> {
     ) -> Result<Mark, CheckFault>
         requires few { lines_of self.now.summary + 1 < 2 ^ 64 }
         ensures checked { IfSome (T.files tree.old) (λ files.
-            LineChecked files self.now.rules line.now (lines_of self.now.summary + 1) result
+            LineChecked files (meaning_of M.limit M.makes self.now.entries.now)
+            (option_map (λ n. n.now) self.now.name) line.now (lines_of self.now.summary + 1) result
             (T.failure_count tree.old) (T.failure_count tree.new)
             (W.shown out.old).contents (W.shown out.new).contents) }
         ensures unreadable { IfOk result (λ mark. T.failure_count tree.new
@@ -264,31 +264,36 @@ impl<'n> Checker<'n> {
         ensures kept { T.files tree.new ≡ T.files tree.old }
         ensures writes { StepCounts result (W.shown out.old).failures (W.shown out.new).failures }
     {
-        match read_line(self.alloc, line, self.rules.kind) {
+        match self.entries.read(self.alloc, line) {
             Ok(Line::Skipped) => Ok(Mark::Skipped),
             Ok(Line::Entry(entry)) => {
-                let verdict = check_entry(&entry, tree)?;
+                let verdict = self.check_entry(&entry, tree)?;
                 write_verdict(entry.name(), verdict, out)?;
                 Ok(Mark::Told(verdict))
             }
             Err(LineFault::Malformed) => {
-                let mark = malformed_mark(line, self.rules.kind);
-                write_malformed(self.rules.name, self.lines + 1, out)?;
+                let mark = self.entries.malformed_mark(line);
+                write_malformed(self.name, self.lines + 1, out)?;
                 Ok(mark)
             }
             Err(LineFault::OutOfMemory) => Err(CheckFault::OutOfMemory),
         }
     }
-}
 
-// The mark of a malformed line.
-fn malformed_mark(line: &[u8], kind: Option<Kind>) -> Mark
-    requires { IsMalformed line.now kind }
-    ensures { MarksMalformed line.now kind result }
-{
-    if needs_kind(line, kind) {
-        Mark::Untagged
-    } else {
-        Mark::Malformed
+    // The verdict on an entry.
+    fn check_entry<T: Tree>(&self, entry: &Entry, tree: &mut T) -> Result<Verdict, AllocError>
+        ensures verdict { IfSome (T.files tree.old) (λ files. IfOk result (IsAllowed
+            (maker_of (meaning_of M.limit M.makes self.now.entries.now) entry.now) entry.now.tag
+            (files entry.now.name))) }
+        ensures counted { MatchResult result
+            (λ v. T.failure_count tree.new ≡ count_after (T.failure_count tree.old) (unreadable_by v))
+            (λ _. T.failure_count tree.new ≡ T.failure_count tree.old) }
+        ensures opens { T.opens tree.new ≤ T.opens tree.old + 1 }
+        ensures kept { T.files tree.new ≡ T.files tree.old }
+    {
+        match self.entries {
+            Entries::Digests(_) => check_entry(entry, entry, tree),
+            Entries::Tags(_, maker) => check_entry(entry, *maker, tree),
+        }
     }
 }

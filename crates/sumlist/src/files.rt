@@ -21,7 +21,7 @@ use std::rt::Files;
 #[derive(Drop)]
 pub struct FileTree<'r, R: Files> {
     rt: &'r R,
-    // what gives each of its bytes once, and is being read already
+    // what gives each of its bytes once, and is read beside the files
     taken: Option<Metadata>,
     failures: u64,
 }
@@ -40,21 +40,21 @@ impl<'r, R: Files> FileTree<'r, R> {
         }
     }
 
-    /// The same while the file of this name is read as a list. Where that is a pipe or a terminal, which gives each
-    /// byte once, opening it is `Failed` under every name: what is read of it would be missing in the list.
-    pub fn beside_list(rt: &'r R, list: &str) -> FileTree<'r, R>
+    /// The same beside what is read by this name. Where that is a pipe or a terminal, which gives each byte once,
+    /// opening it is `Failed` under every name: what is read of it would be missing there.
+    pub fn beside(rt: &'r R, name: &str) -> FileTree<'r, R>
         ensures untold { ⟦<FileTree<'r, R> as Tree>⟧.files result ≡ None }
         ensures fresh { ⟦<FileTree<'r, R> as Tree>⟧.failure_count result ≡ 0 }
         ensures opens { ⟦<FileTree<'r, R> as Tree>⟧.opens result ≡ 0 }
     {
         FileTree {
             rt,
-            taken: rt.metadata(list).ok().filter(gives_once),
+            taken: rt.metadata(name).ok().filter(gives_once),
             failures: 0,
         }
     }
 
-    // Whether this name is one of what is being read already.
+    // Whether this name is one of what is read beside the files.
     fn is_taken(&self, name: &str) -> bool {
         let Some(taken) = &self.taken else {
             return false;

@@ -13,13 +13,14 @@
 #![tactic(auto)]
 
 pub use body::{NameText, fill_name};
-pub use checking::{CheckFault, ListRules, check, check_list};
+pub use checking::{CheckFault, check, check_list};
+pub use entries::{Entries, MakesTag};
 pub use entry::{Entry, EntryFault};
 pub use files::FileTree;
 pub use filling::{FillFault, entry_len, fill_entry, fill_verdict, verdict_len};
 pub use fitting::{LINE_LIMIT, fits, tagged_fits};
 pub use kind::Kind;
-pub use laws::{line_laws, report_laws};
+pub use laws::{keyed_laws, line_laws, report_laws};
 pub use line::{Line, LineFault, Said, parse_line, split_line};
 pub use lines::split_at_byte;
 pub use map::map_laws;
@@ -36,6 +37,7 @@ pub use writing::{write_end, write_entry, write_lead};
 
 mod body;
 mod checking;
+mod entries;
 mod entry;
 mod escaping;
 mod files;

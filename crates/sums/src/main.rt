@@ -112,16 +112,16 @@ fn run_words<W: Sink, E: Sink>(
             let read = line(alloc, texts.as_slice());
             let is_shown = asks_for_progress(&read);
             let judged = task_of(alloc, read);
-            let (lists_input, most) = match &judged {
-                Ok(task) => (task.lists_input(), task.most_read()),
+            let (keeps_input, most) = match &judged {
+                Ok(task) => (task.keeps_input(), task.most_read()),
                 Err(_) => (false, None),
             };
             if is_shown {
                 progress.begin(most);
             }
             let mut input = Watched::new(Device::new(rt.stdin()), progress.watch_input());
-            let files = if lists_input {
-                FileTree::beside_list(rt, "/dev/stdin")
+            let files = if keeps_input {
+                FileTree::beside(rt, "/dev/stdin")
             } else {
                 FileTree::new(rt)
             };

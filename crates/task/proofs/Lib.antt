@@ -1,3 +1,4 @@
+mod Beginnings
 mod Lists
 mod Numbers
 mod Powers

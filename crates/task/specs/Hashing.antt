@@ -1,6 +1,7 @@
 -- What a request of `hash` has printed, or the first fault of its settings.
-use Rattle.std.specs.Prelude.{ℕ, ◌-◌, ◌/◌, ◌^◌, ◌&&◌, ◌||◌, Bool, List, [], ◌∷◌, length, Option, Some, Result, Ok}
-use Rattle.std.specs.Prelude.{codes, is_some, max, min, nat_lt, if◌then◌else◌}
+use Rattle.std.specs.Prelude.{ℕ, ◌-◌, ◌/◌, ◌^◌, ◌++◌, ◌&&◌, ◌||◌, ◌==◌, Bool, List, [], ◌∷◌, length, Option, Some}
+use Rattle.std.specs.Prelude.{Result, Ok, codes, drop, is_some, max, min, nat_lt, unwrap_or, if◌then◌else◌}
+use Rattle.std.specs.List.{starts_with}
 use Rattle.std.specs.Option.{option_map_or}
 use Rattle.source.specs.Digest.{digest_len}
 use Rattle.source.specs.declared.alg.Alg.{Alg}
@@ -45,12 +46,17 @@ lengths kind.Blake3 Tagged = (32, 32)
 lengths kind.Blake3 form = (1, 2 ^ 64 - 1)
 lengths k form = (digest_len (longest k), digest_len (longest k))
 
+-- the digits in the text of `--verify`, before which the name of `-a` and a colon may stand
+abbrev pub digits_of : Given → Text → Text
+digits_of g t = let name = unwrap_or (text_of (codes "a") g) [] ++ codes ":" in
+    if starts_with ◌==◌ t name then drop (length name) t else t
+
 -- its length where `-l` is not given: 32 of BLAKE3, and else the greatest, or as many bytes as the digits of
 -- `--verify` spell where these are fewer, but no less than the least
 abbrev pub default_len : Kind → ℕ × ℕ → Given → ℕ
 default_len kind.Blake3 (least, most) g = 32
 default_len k (least, most) g =
-    option_map_or (λ t. max least (min most (length t / 2))) (text_of (codes "verify") g) most
+    option_map_or (λ t. max least (min most (length (digits_of g t) / 2))) (text_of (codes "verify") g) most
 
 -- the bytes that `-l` and `--seek` say, none of them behind the last one
 abbrev pub stretch_of : ℕ → ℕ → ℕ → Given → Result Stretch Text
@@ -95,8 +101,8 @@ alg_of (hash.Blake2s salt personal) n = alg.Blake2s n
 alg_of hash.Blake3 n = alg.Blake3
 
 -- a digest or tag in digits, as long as what would be printed
-abbrev pub compared : ℕ → Text → Text → Result (List ℕ) Text
-compared n s t = hexadecimal s t >>= (λ bytes. sized n s (Some bytes))
+abbrev pub compared : ℕ → Given → Text → Text → Result (List ℕ) Text
+compared n g s t = hexadecimal s (digits_of g t) >>= (λ bytes. sized n s (Some bytes))
 
 -- that of `--verify`, which stands for the digits of one file
 abbrev pub wanted : ℕ → Given → Result (Option (List ℕ)) Text
@@ -104,4 +110,4 @@ wanted n g = given (λ s t. do
   unless (has_flag (codes "tag") g) (codes "--verify: not with --tag\n")
   unless (has_flag (codes "raw") g) (codes "--verify: not with --raw\n")
   unless (names_several g) (codes "--verify: one file only\n")
-  compared n s t) (codes "verify") g
+  compared n g s t) (codes "verify") g

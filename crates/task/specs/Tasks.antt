@@ -23,7 +23,6 @@ use Rattle.task.specs.declared.parameters.HmacHash.{HmacHash}
 use Rattle.task.specs.declared.parameters.HmacHash.TheVariants as over
 use Rattle.task.specs.declared.tagging.Mac.{Mac}
 use Rattle.task.specs.declared.tagging.Mac.TheVariants.{Hmac, Blake2b, Blake2s, Blake3}
-use Rattle.task.specs.declared.tasks.Checking.{Checking}
 
 -- how a key is derived: by HKDF over a hash, with its length, the salt and the info, or under BLAKE3's context
 pub data Derived : Type 0 where
@@ -35,6 +34,12 @@ pub data Source (A : Type 0) : Type 0 where
   these : A → Source A
   in_file : Text → Source A
 
+-- what the entries of lists are: digests, those of untagged lines by this hash, if there is one; or tags of so many bytes
+-- under a key
+pub data Entries : Type 0 where
+  of_digests : Option Kind → Entries
+  of_tags : Mac → ℕ → Source (List ℕ) → Entries
+
 -- what is printed of a file: a digest, or a tag under a key, in digits or as it is
 pub data Sum : Type 0 where
   digests : Requested → Sum
@@ -45,7 +50,7 @@ pub data Asked : Type 0 where
   prints_lines : Sum → Source (List Text) → Asked
   prints_line : Sum → Option (List ℕ) → Text → Text → Asked
   derives : Derived → Bool → Text → Asked
-  checks : Checking → List Text → Asked
+  checks : Entries → Bool → List Text → Asked
   prints_part : ℕ → Option ℕ → Text → Asked
   prints_starts : ℕ → Text → Asked
   prints_parts : ℕ → Text → Asked
@@ -85,22 +90,34 @@ tagged_by f default least most g = number default least most (codes "l") g >>= (
 abbrev pub hmac : HmacHash → Given → Result (Mac × ℕ) Text
 hmac h = let n = digest_len (hmac_alg h) in tagged_by (Hmac h) n (n / 2) n
 
--- the keyed functions by name
-abbrev pub macs : List (Text × (Given → Result (Mac × ℕ) Text))
-macs = (codes "hmac-sha256", hmac over.Sha256) ∷ (codes "hmac-sha512", hmac over.Sha512)
+-- the keyed functions by name, where the tags of BLAKE3 have so many bytes at most
+abbrev pub macs : ℕ → List (Text × (Given → Result (Mac × ℕ) Text))
+macs most = (codes "hmac-sha256", hmac over.Sha256) ∷ (codes "hmac-sha512", hmac over.Sha512)
     ∷ (codes "hmac-blake2b", hmac over.Blake2b) ∷ (codes "hmac-blake2s", hmac over.Blake2s)
     ∷ (codes "blake2b", tagged_by Blake2b 64 1 64) ∷ (codes "blake2s", tagged_by Blake2s 32 1 32)
-    ∷ (codes "blake3", tagged_by Blake3 32 1 (2 ^ 64 - 1)) ∷ []
+    ∷ (codes "blake3", tagged_by Blake3 32 1 most) ∷ []
 
--- a key is given in one of two ways; the digits of `--key` are judged first
-abbrev pub mac : Given → Result Asked Text
-mac g = do
-  form_of g
-  m ← needed (named macs) (codes "a") g >>= (λ f. f g)
+-- what is told of a key that is given in none of two ways, or in both
+abbrev pub one_key : Text
+one_key = codes "give one of --key and --key-file\n"
+
+-- the digits of `--key` are judged first
+abbrev pub key_of : Given → Result (Source (List ℕ)) Text
+key_of g = do
   key ← given hexadecimal (codes "key") g
-  unless (beq (is_some key) (is_some (text_of (codes "key-file") g))) (codes "give one of --key and --key-file\n")
-  of_files (tags m.0 (has_flag (codes "raw") g)
-      (option_map_or (λ f. in_file f) (text_of (codes "key-file") g) (these (unwrap_or key [])))) m.1 g
+  unless (beq (is_some key) (is_some (text_of (codes "key-file") g))) one_key
+  Ok (option_map_or (λ f. in_file f) (text_of (codes "key-file") g) (these (unwrap_or key [])))
+
+-- a keyed function, the length of its tags, and its key
+abbrev pub under_key : ℕ → Given → Result (Mac × ℕ × Source (List ℕ)) Text
+under_key most g = do
+  m ← needed (named (macs most)) (codes "a") g >>= (λ f. f g)
+  key ← key_of g
+  Ok (m.0, m.1, key)
+
+-- that of `mac`
+abbrev pub mac : Given → Result Asked Text
+mac g = form_of g >> (under_key (2 ^ 64 - 1) g >>= (λ k. of_files (tags k.0 (has_flag (codes "raw") g) k.2) k.1 g))
 
 -- HKDF derives 255 times the digest at most
 abbrev pub hkdf : Alg → Given → Result Derived Text
@@ -131,10 +148,20 @@ kdf g = do
   material ← needed text (codes "ikm-file") g
   Ok (derives by (has_flag (codes "raw") g) material)
 
+-- a key is given
+abbrev pub has_key : Given → Bool
+has_key g = is_some (text_of (codes "key") g) || is_some (text_of (codes "key-file") g)
+
+-- the entries of lists: tags have 64 bytes at most; without a key any other name of `-a` is one of HMAC
+abbrev pub entries : Given → Result Entries Text
+entries g = if has_key g then under_key 64 g >>= (λ k. Ok (of_tags k.0 k.1 k.2)) else (do
+  kind ← given (λ s t. ok_or (lookup (bytes_eq t) kinds) one_key) (codes "a") g
+  absent not_for (codes "l" ∷ []) g
+  Ok (of_digests kind))
+
 -- that of `check`
 abbrev pub check : Given → Result Asked Text
-check g = given (named kinds) (codes "a") g
-    >>= (λ k. Ok (checks (record { kind = k; is_summed = has_flag (codes "summary") g }) (names_or_input g)))
+check g = entries g >>= (λ e. Ok (checks e (has_flag (codes "summary") g) (names_or_input g)))
 
 -- only BLAKE3 has parts
 abbrev pub has_parts : Kind → Result (Unit {0}) Text
@@ -186,7 +213,7 @@ join g = do
   needed (named kinds) (codes "a") g >>= has_parts
   stretch ← stretch_of 32 1 (2 ^ 64 - 1) g
   bytes ← given (number_in 0 (2 ^ 64 - 1)) (codes "bytes") g
-  digest ← given (compared stretch.length) (codes "verify") g
+  digest ← given (compared stretch.length g) (codes "verify") g
   Ok (joins stretch bytes digest (unwrap_or (text_of (codes "name") g) (codes "-")) (names_or_input g))
 
 -- the commands by name; nothing depends on `--progress`, which is for the feeds that a run is given

@@ -1,8 +1,9 @@
 // What `hash` is to print of a file.
 
-ghost use Rattle.std.specs.Prelude.{◌≡◌, ◌+◌, ◌≤◌, IfOk, IfSome, codes, map, option_map};
+ghost use Rattle.std.specs.Prelude.{◌≡◌, ◌≢◌, ◌+◌, ◌++◌, ◌∷◌, [], ◌≤◌, IfOk, IfSome, MatchOption, codes, map};
+ghost use Rattle.std.specs.Prelude.{option_map, unwrap_or};
 ghost use Rattle.std.proofs.Props.{props};
-ghost use Rattle.request.specs.CommandLine.{given_of};
+ghost use Rattle.request.specs.CommandLine.{Text, given_of, text_of as request_text};
 ghost use Rattle.source.specs.Digest.{IsInRange};
 ghost use Rattle.task.specs.Hashing as spec;
 ghost use Rattle.task.specs.Hashing.{alg_of};
@@ -112,13 +113,13 @@ pub(crate) fn wanted(
 ) -> Result<Option<Vec<u8>>, TaskFault>
     ensures { IsAsDefined (option_map (λ v. v.items)) (spec.wanted length (given_of request.now)) result }
 {
-    let Some(digits) = text_of(request, Setting::Verify) else {
+    let Some(text) = text_of(request, Setting::Verify) else {
         return Ok(None);
     };
     unless(request.has("tag"), UsageFault::NotWithTag(Setting::Verify))?;
     unless(request.has("raw"), UsageFault::NotWithRaw(Setting::Verify))?;
     unless(names_several(request), UsageFault::OneFile(Setting::Verify))?;
-    Ok(Some(compared(alloc, digits, length)?))
+    Ok(Some(compared(alloc, request, text, length)?))
 }
 
 /// The same, where it may be that of several files.
@@ -128,20 +129,51 @@ pub(crate) fn given_digest(
     length: u64,
 ) -> Result<Option<Vec<u8>>, TaskFault>
     ensures { IsAsDefined (option_map (λ v. v.items))
-        (given (spec.compared length) (codes "verify") (given_of request.now)) result }
+        (given (spec.compared length (given_of request.now)) (codes "verify") (given_of request.now)) result }
 {
     match text_of(request, Setting::Verify) {
-        Some(digits) => Ok(Some(compared(alloc, digits, length)?)),
+        Some(text) => Ok(Some(compared(alloc, request, text, length)?)),
         None => Ok(None),
     }
 }
 
-// The digest or tag that these digits spell, of so many bytes.
-fn compared(alloc: Global, digits: &str, length: u64) -> Result<Vec<u8>, TaskFault>
-    ensures { IsAsDefined (λ v. v.items) (spec.compared length (codes "verify") digits.now) result }
+// The digest or tag that the digits of this text spell, of so many bytes.
+fn compared(
+    alloc: Global,
+    request: &Request<'_>,
+    text: &str,
+    length: u64,
+) -> Result<Vec<u8>, TaskFault>
+    ensures { IsAsDefined (λ v. v.items) (spec.compared length (given_of request.now) (codes "verify") text.now)
+        result }
 {
-    let bytes = hexadecimal(alloc, Setting::Verify, digits)?;
+    let bytes = hexadecimal(alloc, Setting::Verify, digits_of(request, text))?;
     Ok(of_length(Setting::Verify, length, bytes)?)
+}
+
+// The digits in the text of `--verify`, before which the name of `-a` and a colon may stand.
+fn digits_of<'a>(request: &Request<'_>, text: &'a str) -> &'a [u8]
+    ensures { result.now ≡ spec.digits_of (given_of request.now) text.now }
+{
+    match after_name(text.as_bytes(), algorithm_name(request)) {
+        Some(digits) => digits,
+        None => text.as_bytes(),
+    }
+}
+
+// The name that `-a` gives, or none.
+fn algorithm_name<'a>(request: &Request<'a>) -> &'a str
+    ensures { result.now ≡ unwrap_or (request_text (codes "a") (given_of request.now)) [] }
+{
+    text_of(request, Setting::Algorithm).unwrap_or("")
+}
+
+// What stands behind this name and a colon, where a text begins so.
+fn after_name<'a>(text: &'a [u8], name: &str) -> Option<&'a [u8]>
+    ensures { MatchOption result ((rest : Text) → text.now ≢ name.now ++ 58 ∷ rest)
+        (λ rest. text.now ≡ name.now ++ 58 ∷ rest.now) }
+{
+    text.strip_prefix(name.as_bytes())?.strip_prefix(b":")
 }
 
 // Refuses the settings that the hash does not have.
@@ -213,7 +245,10 @@ fn default_len(request: &Request<'_>, kind: Kind, least: u64, most: u64) -> u64
         return BLAKE3_LEN as u64;
     }
     match text_of(request, Setting::Verify) {
-        Some(digits) => most.min(digits.len() as u64 / 2).max(least),
+        Some(text) => {
+            let digits = digits_of(request, text);
+            most.min(digits.len() as u64 / 2).max(least)
+        }
         None => most,
     }
 }

@@ -6,8 +6,8 @@ pub use fault::{Setting, TaskFault, UsageFault};
 pub use hashing::{Form, Hash, Hashing, Requested, Stretch};
 pub use parameters::HmacHash;
 pub use parting::{Joining, PartLength, Place};
-pub use tagging::{Key, Mac, Tagging};
-pub use tasks::{Checking, Names, Sum, Task};
+pub use tagging::{Key, Mac, ShortMac, Tagging};
+pub use tasks::{Entries, Names, Sum, Task};
 
 mod derivation;
 mod fault;

@@ -74,16 +74,6 @@ pub(crate) fn needed_kind(request: &Request<'_>) -> Result<Kind, UsageFault>
     kind_named(needed(request, Setting::Algorithm)?)
 }
 
-/// The hash that a request names, where it names one.
-pub(crate) fn given_kind(request: &Request<'_>) -> Result<Option<Kind>, UsageFault>
-    ensures { judged result ≡ given (named kinds) (codes "a") (given_of request.now) }
-{
-    match text_of(request, Setting::Algorithm) {
-        Some(name) => Ok(Some(kind_named(name)?)),
-        None => Ok(None),
-    }
-}
-
 fn kind_named(name: &str) -> Result<Kind, UsageFault>
     ensures { judged result ≡ named kinds (codes "a") name.now }
 {
@@ -206,10 +196,14 @@ pub(crate) fn power_in(setting: Setting, most: u64, text: &str) -> Result<u64, U
 }
 
 /// The bytes that a setting's hexadecimal digits spell.
-pub(crate) fn hexadecimal(alloc: Global, setting: Setting, text: &str) -> Result<Vec<u8>, TaskFault>
-    ensures { IsAsDefined (λ v. v.items) (spec.hexadecimal (setting_name setting) text.now) result }
+pub(crate) fn hexadecimal(
+    alloc: Global,
+    setting: Setting,
+    digits: &[u8],
+) -> Result<Vec<u8>, TaskFault>
+    ensures { IsAsDefined (λ v. v.items) (spec.hexadecimal (setting_name setting) digits.now) result }
 {
-    match hex::decode(alloc, text) {
+    match hex::decode(alloc, digits) {
         Ok(bytes) => Ok(bytes),
         Err(FromHexError::OutOfMemory) => Err(TaskFault::OutOfMemory),
         Err(_) => Err(TaskFault::Usage(UsageFault::NotHexadecimal(setting))),
@@ -226,7 +220,7 @@ pub(crate) fn given_bytes(
         (given spec.hexadecimal (setting_name setting) (given_of request.now)) result }
 {
     match text_of(request, setting) {
-        Some(text) => Ok(Some(hexadecimal(alloc, setting, text)?)),
+        Some(text) => Ok(Some(hexadecimal(alloc, setting, text.as_bytes())?)),
         None => Ok(None),
     }
 }

@@ -1,17 +1,17 @@
 // What `mac` is to print.
 
-ghost use Rattle.std.specs.Prelude.{◌≡◌, ◌≤◌, IfOk, codes, option_map, unwrap_or, []};
+ghost use Rattle.std.specs.Prelude.{◌≡◌, ◌≤◌, IfOk, codes, max, option_map, unwrap_or, []};
 ghost use Rattle.std.specs.Option.{option_map_or};
 ghost use Rattle.request.specs.CommandLine.{given_of};
 ghost use Rattle.task.specs.Settings.{number};
 ghost use Rattle.task.specs.Tasks as spec;
 ghost use Rattle.task.specs.Tasks.{in_file, these};
 ghost use Rattle.task.specs.inside.Possible.{HasTag, mac_len};
-ghost use Rattle.task.specs.inside.Seen.{judged, seen};
+ghost use Rattle.task.specs.inside.Seen.{IsAsDefined, judged, seen};
 ghost use Rattle.task.specs.inside.Steps.{mac_of};
 
-use crate::fault::{Setting, UsageFault};
-use crate::parameters::{HmacHash, needed, number};
+use crate::fault::{Setting, TaskFault, UsageFault};
+use crate::parameters::{HmacHash, given_bytes, needed, number, unless};
 use request::Request;
 use source::{BLAKE2B_LEN, BLAKE2S_LEN, BLAKE3_LEN};
 use std::alloc::Global;
@@ -39,6 +39,14 @@ pub struct Tagging {
     ghost has: { HasTag mac },
 }
 
+/// A keyed function with tags of at most 64 bytes, as those of a list have.
+#[derive(Clone, Copy, Debug, PartialEq, Eq)]
+pub struct ShortMac {
+    pub mac: Mac,
+    ghost has: { HasTag mac },
+    ghost few: { mac_len mac ≤ 64 },
+}
+
 /// A key.
 #[derive(Debug, Drop)]
 pub enum Key<'a> {
@@ -49,10 +57,13 @@ pub enum Key<'a> {
 }
 
 impl Mac {
-    /// The keyed function that a request of `mac` names, or the first fault of its settings.
-    pub(crate) fn of(request: &Request<'_>) -> Result<Mac, UsageFault>
-        ensures value { seen (λ m. (m, mac_len m)) result ≡ mac_of (given_of request.now) }
+    /// The keyed function that a request names, or the first fault of its settings. The tags of BLAKE3 have
+    /// at most `most` bytes.
+    pub(crate) fn of(request: &Request<'_>, most: u64) -> Result<Mac, UsageFault>
+        requires { BLAKE3_LEN ≤ most }
+        ensures value { seen (λ m. (m, mac_len m)) result ≡ mac_of most (given_of request.now) }
         ensures has { IfOk result HasTag }
+        ensures few { IfOk result (λ mac. mac_len mac ≤ max 64 most) }
     {
         match needed(request, Setting::Algorithm)? {
             "hmac-sha256" => hmac(request, HmacHash::Sha256),
@@ -66,14 +77,14 @@ impl Mac {
                 Setting::Length,
                 BLAKE3_LEN as u64,
                 1,
-                u64::MAX,
+                most,
             )?)),
             _ => Err(UsageFault::OutOfRange(Setting::Algorithm)),
         }
     }
 
     /// The length of the tags in bytes.
-    pub(crate) fn tag_len(self) -> u64
+    pub fn tag_len(self) -> u64
         ensures { result ≡ mac_len self }
     {
         match self {
@@ -102,8 +113,18 @@ fn blake2_len(request: &Request<'_>, most: u64) -> Result<u64, UsageFault>
 impl<'a> Key<'a> {
     ghost use Rattle.task.specs.inside.Views.{key_shown};
 
-    /// The key of a file, where it is named, or these bytes.
-    pub(crate) fn of(alloc: Global, file: Option<&'a str>, given: Option<Vec<u8>>) -> Key<'a>
+    /// The key of a request, which is given in one of two ways.
+    pub(crate) fn given(alloc: Global, request: &Request<'a>) -> Result<Key<'a>, TaskFault>
+        ensures { IsAsDefined key_shown (spec.key_of (given_of request.now)) result }
+    {
+        let given = given_bytes(alloc, request, Setting::Key)?;
+        let file = request.text("key-file");
+        unless(given.is_some() == file.is_some(), UsageFault::OneKey)?;
+        Ok(Key::of(alloc, file, given))
+    }
+
+    // The key of a file, where it is named, or these bytes.
+    fn of(alloc: Global, file: Option<&'a str>, given: Option<Vec<u8>>) -> Key<'a>
         ensures { key_shown result
             ≡ option_map_or (λ f. in_file f.now) file.entry (these (unwrap_or (option_map (λ v. v.items) given) [])) }
     {

@@ -1,9 +1,12 @@
 // What a run is to do.
 
-ghost use Rattle.std.specs.Prelude.{◌≡◌, ◌&&◌, ◌||◌, IfOk, codes, is_some, length, nat_lt, not};
+ghost use Rattle.std.specs.Prelude.{◌≡◌, ◌≢◌, ◌&&◌, ◌||◌, IfOk, IsErrOf, codes, is_some, length, map, nat_lt, not};
+ghost use Rattle.std.specs.Prelude.{ok_or};
+ghost use Rattle.std.specs.Map.{lookup};
 ghost use Rattle.std.specs.Option.{option_map_or};
 ghost use Rattle.std.specs.Str.{bytes_eq};
 ghost use Rattle.request.specs.CommandLine.{given_of, text_of};
+ghost use Rattle.sumlist.specs.Kinds.{kinds};
 ghost use Rattle.task.specs.Hashing as hashing;
 ghost use Rattle.task.specs.Settings as settings;
 ghost use Rattle.task.specs.Settings.{files};
@@ -11,28 +14,39 @@ ghost use Rattle.task.specs.Tasks as spec;
 ghost use Rattle.task.specs.Tasks.{asked, in_file, these};
 ghost use Rattle.task.specs.inside.Reading as reading;
 ghost use Rattle.task.specs.inside.Seen.{IsAsDefined, judged, seen};
-ghost use Rattle.task.specs.inside.Views.{names_shown, sum_shown, task_shown, texts_of};
+ghost use Rattle.task.specs.inside.Views.{entries_shown, names_shown, sum_shown, task_shown, texts_of};
 
 use crate::derivation::Derivation;
 use crate::fault::{Setting, TaskFault, UsageFault};
 use crate::hashing::{Form, Hashing, given_digest, names_several, stretch_of, wanted};
 use crate::parameters::{
-    file_count, first_given, given_bytes, given_kind, given_number, needed, number, power_in,
-    unless,
+    absent, file_count, first_given, given_number, needed, number, power_in, unless,
 };
 use crate::parting::{Joining, PartLength, Place, names_blake3};
-use crate::tagging::{Key, Mac, Tagging};
+use crate::tagging::{Key, Mac, ShortMac, Tagging};
 use b3::MOST_CHUNKS;
 use request::Request;
 use source::BLAKE3_LEN;
 use std::alloc::{AllocError, Global};
 use sumlist::Kind;
 
+// The tags in a list have at most so many bytes.
+const LISTED_LEN: u64 = 64;
+
 /// What is printed of a file: a digest, or a tag under a key.
 #[derive(Debug, Drop)]
 pub enum Sum<'a> {
     Digest(Hashing),
     Tag(Tagging, Key<'a>),
+}
+
+impl<'a> Sum<'a> {
+    // Whether the key is that of a file.
+    fn has_key_file(&self) -> bool
+        ensures { result ≡ reading.has_key_file (sum_shown self.now) }
+    {
+        matches!(self, Sum::Tag(_, Key::File(_)))
+    }
 }
 
 /// Of which files: those that were named, one at least, or those that a file names.
@@ -42,13 +56,13 @@ pub enum Names<'a> {
     From(&'a str),
 }
 
-/// How `check` reads its lists, and what it tells of them.
-#[derive(Clone, Copy, Debug, PartialEq, Eq)]
-pub struct Checking {
-    /// The hash of their untagged lines, where there is one.
-    pub kind: Option<Kind>,
-    /// A summary of each list is told.
-    pub is_summed: bool,
+/// What the entries of the lists are that `check` reads.
+#[derive(Debug, Drop)]
+pub enum Entries<'a> {
+    /// Digests, those of untagged lines by this hash, if there is one.
+    Digests(Option<Kind>),
+    /// Tags under a key.
+    Tags(ShortMac, Key<'a>),
 }
 
 /// What a run is to do. A name `-` of a file or a list is standard input; names are judged as they
@@ -104,9 +118,10 @@ pub enum Task<'a> {
         is_raw: bool,
         material: &'a str,
     },
-    /// Report on lists, one at least.
+    /// Report on lists of such entries, one at least, with a summary of each where that is asked for.
     Check {
-        checking: Checking,
+        entries: Entries<'a>,
+        is_summed: bool,
         lists: Vec<&'a str>,
     },
 }
@@ -122,16 +137,19 @@ impl<'a> Task<'a> {
 }
 
 impl<'a> Task<'a> {
-    /// Whether standard input is a list, of names or of digests.
-    pub fn lists_input(&self) -> bool
-        ensures { result ≡ reading.lists_input (task_shown self.now) }
+    /// Whether standard input is read beside files that must not take its bytes: as a list of names or of digests,
+    /// as the file of which parts are told, or under a key from a file.
+    pub fn keeps_input(&self) -> bool
+        ensures { result ≡ reading.keeps_input (task_shown self.now) }
     {
         match self {
-            Task::Lines { names, .. } => match names {
-                Names::Given(_) => false,
+            Task::Lines { sum, names } => match names {
+                Names::Given(files) => sum.has_key_file() && have_input(files.as_slice()),
                 Names::From(list) => *list == "-",
             },
-            Task::Check { lists, .. } => lists.contains(&"-"),
+            Task::Line { sum, file, .. } => sum.has_key_file() && *file == "-",
+            Task::Verify { file, .. } => *file == "-",
+            Task::Check { lists, .. } => have_input(lists.as_slice()),
             _ => false,
         }
     }
@@ -148,8 +166,16 @@ impl<'a> Task<'a> {
     }
 }
 
+// Whether standard input is one of these names.
+fn have_input(names: &[&str]) -> bool
+    ensures { result ≡ reading.have_input (map (λ n. n.now) names.now) }
+{
+    names.contains(&"-")
+}
+
 fn task_of<'a>(alloc: Global, request: &Request<'a>) -> Result<Task<'a>, TaskFault>
-    ensures { IsAsDefined task_shown (asked (given_of request.now)) result }
+    ensures task { IsAsDefined task_shown (asked (given_of request.now)) result }
+    ensures memory { IsErrOf result TaskFault.OutOfMemory → (given_of request.now).0 ≢ codes "part" }
 {
     match request.command() {
         "hash" => hash(alloc, request),
@@ -247,13 +273,15 @@ fn mac<'a>(alloc: Global, request: &Request<'a>) -> Result<Task<'a>, TaskFault>
     ensures { IsAsDefined task_shown (spec.mac (given_of request.now)) result }
 {
     Form::of(request)?;
-    let mac = Mac::of(request)?;
-    let given = given_bytes(alloc, request, Setting::Key)?;
-    let key_file = request.text("key-file");
-    unless(given.is_some() == key_file.is_some(), UsageFault::OneKey)?;
+    let mac = Mac::of(request, u64::MAX)?;
+    let key = Key::given(alloc, request)?;
     let is_raw = request.has("raw");
-    let sum = Sum::Tag(Tagging { mac, is_raw }, Key::of(alloc, key_file, given));
-    of_files(alloc, request, sum, mac.tag_len())
+    of_files(
+        alloc,
+        request,
+        Sum::Tag(Tagging { mac, is_raw }, key),
+        mac.tag_len(),
+    )
 }
 
 fn kdf<'a>(alloc: Global, request: &Request<'a>) -> Result<Task<'a>, TaskFault>
@@ -271,12 +299,43 @@ fn kdf<'a>(alloc: Global, request: &Request<'a>) -> Result<Task<'a>, TaskFault>
 fn check<'a>(alloc: Global, request: &Request<'a>) -> Result<Task<'a>, TaskFault>
     ensures { IsAsDefined task_shown (spec.check (given_of request.now)) result }
 {
-    let checking = Checking {
-        kind: given_kind(request)?,
-        is_summed: request.has("summary"),
-    };
+    let entries = Entries::of(alloc, request)?;
     let lists = names_or_input(alloc, request)?;
-    Ok(Task::Check { checking, lists })
+    Ok(Task::Check {
+        entries,
+        is_summed: request.has("summary"),
+        lists,
+    })
+}
+
+impl<'a> Entries<'a> {
+    // What a request says that the entries are: tags, if it gives a key.
+    fn of(alloc: Global, request: &Request<'a>) -> Result<Entries<'a>, TaskFault>
+        ensures { IsAsDefined entries_shown (spec.entries (given_of request.now)) result }
+    {
+        if request.text("key").is_some() || request.text("key-file").is_some() {
+            let mac = Mac::of(request, LISTED_LEN)?;
+            let key = Key::given(alloc, request)?;
+            return Ok(Entries::Tags(ShortMac { mac }, key));
+        }
+        let kind = unkeyed_kind(request)?;
+        absent(request, &[Setting::Length])?;
+        Ok(Entries::Digests(kind))
+    }
+}
+
+// The hash that a request without a key names, if it names one. Any other name is one of HMAC.
+fn unkeyed_kind(request: &Request<'_>) -> Result<Option<Kind>, UsageFault>
+    ensures { judged result ≡ settings.given (λ s t. ok_or (lookup (bytes_eq t) kinds) spec.one_key) (codes "a")
+        (given_of request.now) }
+{
+    match request.text("a") {
+        Some(name) => match Kind::named(name) {
+            Some(kind) => Ok(Some(kind)),
+            None => Err(UsageFault::OneKey),
+        },
+        None => Ok(None),
+    }
 }
 
 fn part<'a>(request: &Request<'a>) -> Result<Task<'a>, UsageFault>

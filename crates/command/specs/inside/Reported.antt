@@ -2,7 +2,7 @@
 use Rattle.std.specs.Prelude.{Bool, Option, Result, ℕ}
 use Rattle.request.specs.CommandLine.{Text}
 use Rattle.source.specs.Written.{Shown}
-use Rattle.sumlist.specs.declared.kind.Kind.{Kind}
+use Rattle.sumlist.specs.Report.{Meaning}
 use Rattle.command.specs.Checking.{ListRuns}
 use Rattle.command.specs.Lines.{content_of, is_input}
 use Rattle.command.specs.inside.Seen.{Seen}
@@ -10,7 +10,7 @@ use Rattle.command.specs.declared.fault.Fault.{Fault}
 use Rattle.command.specs.inside.Hashed.{RunsOne}
 
 -- a list was checked: what that answered, and what was told and answered of it
-abbrev pub PrintsReport : Bool → Option Kind → Option Text → Text → Result ℕ Fault → Seen → Seen → Shown → Shown
+abbrev pub PrintsReport : Bool → Meaning → Option Text → Text → Result ℕ Fault → Seen → Seen → Shown → Shown
     → Type 0
-PrintsReport is_summed kind list name =
-    RunsOne (λ bytes files. ListRuns is_summed files kind list name (content_of name bytes files)) (is_input name)
+PrintsReport is_summed m list name =
+    RunsOne (λ bytes files. ListRuns is_summed files m list name (content_of name bytes files)) (is_input name)

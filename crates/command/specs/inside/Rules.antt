@@ -1,6 +1,8 @@
 -- The rule of the lines that a command prints, as the code holds it, and how it is had.
 use Rattle.std.specs.Prelude.{◌⊎◌, ◌≡◌, ⊤, true, false, List, Option, None, ℕ, IsSome}
-use Rattle.sumlist.specs.Report.{Files}
+use Rattle.sumlist.specs.Report.{Files, Meaning}
+use Rattle.sumlist.specs.declared.entries.Entries.{Entries}
+use Rattle.sumlist.specs.inside.Stepped.{meaning_of}
 use Rattle.task.specs.Tasks.{Sum, digests, tags}
 use Rattle.task.specs.inside.Views.{key_shown}
 use Rattle.task.specs.declared.tasks.Sum.{Sum as CodeSum}
@@ -14,6 +16,7 @@ use Rattle.command.specs.inside.Troubles.{Trouble, key_length}
 use Rattle.command.specs.declared.making.Made.{Made}
 use Rattle.command.specs.declared.rule.Keyed.{Keyed}
 use Rattle.command.specs.declared.rule.Rule.{Rule}
+use Rattle.command.specs.declared.rule.ShortKeyed.{ShortKeyed}
 use Rattle.command.specs.declared.rule.Rule.TheVariants.{Digest, Tag}
 
 -- the lines of tags under a key
@@ -24,6 +27,10 @@ keyed_line keyed = mac_line keyed.tagging.is_raw keyed.tagging.mac keyed.key.ite
 abbrev pub line_by : Rule → LineRule
 line_by (Digest hashing) = digest_line hashing.requested
 line_by (Tag keyed) = keyed_line keyed
+
+-- what the entries of lists are, where tags have such a key
+abbrev pub meaning : Entries ShortKeyed → Meaning
+meaning = meaning_of (λ k. (keyed_line k.keyed).limit) (λ k. (keyed_line k.keyed).bytes)
 
 -- a digest that was made has as many bytes as were asked for
 abbrev pub IsSized : Rule → Made → Type 0

@@ -1,5 +1,6 @@
 -- What the numbers of a list hold of what was read.
-use Rattle.std.specs.Prelude.{◌≡◌, ◌≢◌, ◌++◌, ℕ, ◌+◌, [], List, Contains, take, Option, Some, None, nat_le, if◌then◌else◌}
+use Rattle.std.specs.Prelude.{◌≡◌, ◌≢◌, ◌++◌, ℕ, ◌+◌, [], List, Contains, take, Option, Some, None}
+use Rattle.std.specs.Prelude.{if◌then◌else◌, nat_le}
 use Rattle.sumlist.specs.Lines.{IsKept}
 use Rattle.sumlist.specs.declared.kind.Kind.{Kind}
 use Rattle.listing.specs.Numbers.{number_of}

@@ -3,22 +3,22 @@ use Rattle.std.specs.Prelude.{◌≡◌, ℕ, ◌+◌, []}
 use Rattle.sumlist.specs.declared.verdict.Verdict.{Verdict}
 use Rattle.sumlist.specs.declared.verdict.Verdict.TheVariants.{Matches, Differs, Missing, Unreadable, TooLong}
 use Rattle.sumlist.specs.declared.summary.Mark.{Mark}
-use Rattle.sumlist.specs.declared.summary.Mark.TheVariants.{Skipped, Malformed, Untagged, Told}
+use Rattle.sumlist.specs.declared.summary.Mark.TheVariants.{Skipped, Malformed, Foreign, Told}
 use Rattle.sumlist.specs.declared.summary.Summary.{Summary}
-use Rattle.sumlist.specs.Report.{Outcome, skipped, malformed, untagged, told, with_line}
+use Rattle.sumlist.specs.Report.{Outcome, skipped, malformed, foreign, told, with_line}
 
 -- an outcome without its name
 abbrev pub mark_of : Outcome → Mark
 mark_of skipped = Skipped
 mark_of malformed = Malformed
-mark_of untagged = Untagged
+mark_of foreign = Foreign
 mark_of (told name v) = Told v
 
 -- an outcome of this mark
 abbrev pub outcome_of : Mark → Outcome
 outcome_of Skipped = skipped
 outcome_of Malformed = malformed
-outcome_of Untagged = untagged
+outcome_of Foreign = foreign
 outcome_of (Told v) = told [] v
 
 -- one for the same verdict, else none
@@ -34,7 +34,7 @@ same v w = 0
 abbrev pub part : Mark → Mark → ℕ
 part Skipped Skipped = 1
 part Malformed Malformed = 1
-part Malformed Untagged = 1
+part Malformed Foreign = 1
 part (Told v) (Told w) = same v w
 part m n = 0
 

@@ -1,15 +1,31 @@
 -- What a task reads of standard input and of its file.
-use Rattle.std.specs.Prelude.{ℕ, ◌*◌, ◌^◌, Bool, false, Option, Some, None, codes, if◌then◌else◌, nat_lt}
+use Rattle.std.specs.Prelude.{ℕ, ◌*◌, ◌^◌, ◌&&◌, Bool, true, false, List, Option, Some, None, codes}
+use Rattle.std.specs.Prelude.{if◌then◌else◌, nat_lt}
 use Rattle.std.specs.List.{list_any}
 use Rattle.std.specs.Option.{option_and_then}
 use Rattle.std.specs.Str.{bytes_eq}
-use Rattle.task.specs.Tasks.{Asked, checks, in_file, prints_lines, prints_part, prints_starts}
+use Rattle.request.specs.CommandLine.{Text}
+use Rattle.task.specs.Tasks.{Asked, Sum, checks, in_file, prints_line, prints_lines, prints_part, prints_starts, tags}
+use Rattle.task.specs.Tasks.{these, verifies}
 
--- standard input is a list of names, or one of those of digests
-abbrev pub lists_input : Asked → Bool
-lists_input (prints_lines sum (in_file list)) = bytes_eq list (codes "-")
-lists_input (checks how lists) = list_any (λ list. bytes_eq list (codes "-")) lists
-lists_input task = false
+-- the key is that of a file
+abbrev pub has_key_file : Sum → Bool
+has_key_file (tags mac is_raw (in_file name)) = true
+has_key_file sum = false
+
+-- standard input is one of these names
+abbrev pub have_input : List Text → Bool
+have_input names = list_any (λ name. bytes_eq name (codes "-")) names
+
+-- standard input is read beside files that must not take its bytes: it is a list of names, or one of those of digests,
+-- the file of which parts are told, or a message under a key from a file
+abbrev pub keeps_input : Asked → Bool
+keeps_input (prints_lines sum (in_file list)) = bytes_eq list (codes "-")
+keeps_input (prints_lines sum (these names)) = has_key_file sum && have_input names
+keeps_input (prints_line sum wanted name file) = has_key_file sum && bytes_eq file (codes "-")
+keeps_input (verifies parts file) = bytes_eq file (codes "-")
+keeps_input (checks entries is_summed lists) = have_input lists
+keeps_input task = false
 
 -- so many chunks in bytes, where a u64 holds them
 abbrev pub bytes_of : ℕ → Option ℕ

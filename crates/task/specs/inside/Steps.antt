@@ -6,9 +6,9 @@ use Rattle.task.specs.Settings.{◌>>=◌, named, needed}
 use Rattle.task.specs.Tasks.{Derived, derived, has_parts, macs}
 use Rattle.task.specs.declared.tagging.Mac.{Mac}
 
--- the keyed function of a request of `mac`, with the length of its tags
-abbrev pub mac_of : Given → Result (Mac × ℕ) Text
-mac_of g = needed (named macs) (codes "a") g >>= (λ f. f g)
+-- the keyed function of a request, with the length of its tags, which for BLAKE3 is so many bytes at most
+abbrev pub mac_of : ℕ → Given → Result (Mac × ℕ) Text
+mac_of most g = needed (named (macs most)) (codes "a") g >>= (λ f. f g)
 
 -- how a request of `kdf` has a key derived
 abbrev pub derivation_of : Given → Result Derived Text

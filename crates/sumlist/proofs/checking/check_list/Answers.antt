@@ -39,7 +39,7 @@ loop-checker-preserved g c =
     let gave = c.in_ok-step.ensures.gave in
     record {
       goes = λ r n d later.
-          i.goes r n d ((rw (i.counts.kept, i.counts.rules) at c.in_ok-step.ensures.checked) r n d later);
+          i.goes r n d ((rw (i.counts.kept, i.counts.entries, i.counts.name) at c.in_ok-step.ensures.checked) r n d later);
       read = i.read ++ gave.0;
       consumed = Consumes-trans _ _ _ _ _ i.consumed gave.1;
       opens = c.in_ok-step.ensures.opens _ i.opens;
@@ -52,7 +52,7 @@ returns-clause-checked g c =
     let i = c.loop-checker.invariant in
     let end = c.in_ok-step.ensures.end c.if-branch.false in
     checks-all (i.goes _ _ _
-    ((rw (i.counts.kept, i.counts.rules) at c.in_ok-step.ensures.checked) _ _ _ (checks-none end)))
+    ((rw (i.counts.kept, i.counts.entries, i.counts.name) at c.in_ok-step.ensures.checked) _ _ _ (checks-none end)))
 
 pub returns-clause-gave : goal.returns-clause-gave
 returns-clause-gave g c =

@@ -1,5 +1,7 @@
 use Rattle.sumlist.proofs.Common.{◌≡◌, ◌+◌, ◌-◌, ◌^◌, ◌≤◌, CheckFault, List, Option, Result, Summary, [], length}
 use Rattle.sumlist.proofs.Common.{Consumes, count_after, lines_of, no_lines, ℕ}
+use Rattle.std.specs.Prelude.{option_map}
+use Rattle.sumlist.specs.inside.Stepped.{meaning_of}
 use Rattle.sumlist.specs.Tally.{entries_of}
 use Rattle.sumlist.specs.inside.Ahead.{Checks, OpensEach}
 use Rattle.sumlist.proofs.checking.check_list.Given as goal
@@ -7,9 +9,11 @@ use Rattle.sumlist.proofs.checking.check_list.Given as goal
 abbrev pub invariant-loop-checker : goal.invariant-loop-checker
 invariant-loop-checker g l = record {
   goes : (r : Result Summary CheckFault) (n : ℕ) (c : Option (List ℕ))
-      → Checks (g.L.Feed.remaining l.list) (g.T.Tree.files l.initial.tree) l.fn.rules l.checker.reader.ahead
-      l.checker.summary r (g.T.Tree.failure_count l.tree) n (g.W.Sink.shown l.out).contents c
-      → Checks (g.L.Feed.remaining l.initial.list) (g.T.Tree.files l.initial.tree) l.fn.rules [] no_lines r
+      → Checks (g.L.Feed.remaining l.list) (g.T.Tree.files l.initial.tree)
+      (meaning_of g.M.MakesTag.limit g.M.MakesTag.makes l.fn.entries) (option_map (λ n. n.now) l.fn.name)
+      l.checker.reader.ahead l.checker.summary r (g.T.Tree.failure_count l.tree) n (g.W.Sink.shown l.out).contents c
+      → Checks (g.L.Feed.remaining l.initial.list) (g.T.Tree.files l.initial.tree)
+      (meaning_of g.M.MakesTag.limit g.M.MakesTag.makes l.fn.entries) (option_map (λ n. n.now) l.fn.name) [] no_lines r
       (g.T.Tree.failure_count l.initial.tree) n (g.W.Sink.shown l.initial.out).contents c;
   read : List ℕ;
   consumed : Consumes (g.L.Feed.remaining l.initial.list) (g.L.Feed.remaining l.list) read;
@@ -17,7 +21,8 @@ invariant-loop-checker g l = record {
   once : (n : ℕ) → OpensEach (g.L.Feed.remaining l.list) l.checker.reader.ahead (g.T.Tree.opens l.tree) n
       → OpensEach (g.L.Feed.remaining l.initial.list) [] (g.T.Tree.opens l.initial.tree) n;
   counts : record {
-    rules : l.checker.rules ≡ l.fn.rules;
+    entries : l.checker.entries.now ≡ l.fn.entries;
+    name : l.checker.name ≡ l.fn.name;
     total : l.checker.reader.total ≡ length read;
     reads : g.L.Feed.failure_count l.list ≡ g.L.Feed.failure_count l.initial.list;
     writes : (g.W.Sink.shown l.out).failures ≡ (g.W.Sink.shown l.initial.out).failures;

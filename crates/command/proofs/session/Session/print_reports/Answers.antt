@@ -1,85 +1,29 @@
-use Rattle.std.proofs.Common.{ap, arith, length, map, refl, sym}
-use Rattle.std.specs.Prelude.{nat_lt}
-use Rattle.std.proofs.lemmas.List.{drop_all, length-map}
-use Rattle.command.specs.Lines.{is_input}
-use Rattle.command.specs.inside.Streams.{seen_of}
-use Rattle.command.proofs.Going.{Same-trans, goes-end, goes-next, goes-start, goes-stop}
-use Rattle.command.proofs.Names.{next_name}
-use Rattle.command.proofs.Reporting.{list_runs, list_whole, opens-next, opens-stop}
-use Rattle.command.proofs.Reading.{told_always}
+use Rattle.std.proofs.Common.{false, map, refl}
+use Rattle.sumlist.specs.Report.{keyed}
+use Rattle.task.specs.Tasks.{tags}
+use Rattle.task.specs.inside.Possible.{mac_len}
+use Rattle.task.specs.inside.Views.{key_shown}
+use Rattle.command.specs.Checking.{ListsRun}
+use Rattle.command.specs.Run.{TellsAll}
+use Rattle.command.specs.inside.Rules.{keyed_line}
+use Rattle.command.proofs.Tagging.{sum_had, sum_refused}
 use Rattle.command.proofs.session.Session.print_reports.Goals as goal
 
-pub loop-name-init : goal.loop-name-init
-loop-name-init g c =
-    let see = seen_of g.L.Feed.remaining g.L.Feed.failure_count g.T.Tree.files g.T.Tree.failure_count
-    g.T.Tree.opens g.W.Sink.shown in
-    let are_named = nat_lt 1 (length (map (λ n. n.now) c.args.lists.now)) in
-    record {
-      same = record { input = refl; tree = refl; out = refl };
-      opens = λ d all. all;
-      goes = goes-start is_input (list_runs c.args.checking.is_summed c.args.checking.kind are_named)
-          (list_whole c.args.checking.is_summed c.args.checking.kind are_named) _ (see c.args.self.now) _;
-    }
+pub returns-in_err-keyed-in-Tags-clause-run : goal.returns-in_err-keyed-in-Tags-clause-run
+returns-in_err-keyed-in-Tags-clause-run g c =
+    let short = c.in-Tags.short in
+    rw c.in-Tags.is (sum_refused (tags short.mac false (key_shown c.in-Tags.key)) (λ l bytes files.
+    ListsRun (keyed (mac_len short.mac) l.limit l.bytes) c.args.is_summed files (map (λ n. n.now) c.args.lists.now) bytes)
+    (TellsAll (g.E.Sink.shown c.args.err.now) (g.E.Sink.shown c.args.err.now)) _ _
+    c.in_err-keyed-in-Tags.field-0.0 _ _ _ _ _ _ _ c.from_residual.ensures.1 refl refl refl
+    c.in_err-keyed-in-Tags.ensures.keyed c.in_err-keyed-in-Tags.ensures.counted)
 
-pub loop-name-preserved : goal.loop-name-preserved
-loop-name-preserved g c =
-    let see = seen_of g.L.Feed.remaining g.L.Feed.failure_count g.T.Tree.files g.T.Tree.failure_count
-    g.T.Tree.opens g.W.Sink.shown in
-    let are_named = nat_lt 1 (length (map (λ n. n.now) c.args.lists.now)) in
-    let is = next_name c.args.lists.now c.loop-name.name-index _ c.loop-name-test.true in
-    let most = c.max-status.ensures in
-    let report = rw (
-      c.rules_of-rules.ensures.kind,
-      c.rules_of-rules.ensures.name,
-      sym (length-map c.args.lists.now (λ n. n.now)),
-    ) at c.in_ok-print_report.ensures.report in
-    record {
-      same = Same-trans _ _ _ c.loop-name.invariant.same c.print_report.ensures.same;
-      opens = opens-next (map (λ n. n.now) c.args.lists.now) _ _ _ (see c.args.self.now) (see c.loop-name.self)
-          (see c.print_report.new.self) is c.loop-name.invariant.opens c.print_report.ensures.opens report.answer
-          report.gave report.files;
-      goes = goes-next is_input (list_runs c.args.checking.is_summed c.args.checking.kind are_named)
-          (list_whole c.args.checking.is_summed c.args.checking.kind are_named) _ c.loop-name.status
-          (see c.args.self.now) (see c.loop-name.self) (g.E.Sink.shown c.args.err.now) (g.E.Sink.shown c.loop-name.err)
-          _ _ _ (see c.print_report.new.self) _ is c.loop-name.invariant.goes _ _ (omega (arith, most)) report;
-    }
-
-pub returns-in_err-print_report-clause-run : goal.returns-in_err-print_report-clause-run
-returns-in_err-print_report-clause-run g c =
-    let see = seen_of g.L.Feed.remaining g.L.Feed.failure_count g.T.Tree.files g.T.Tree.failure_count
-    g.T.Tree.opens g.W.Sink.shown in
-    let are_named = nat_lt 1 (length (map (λ n. n.now) c.args.lists.now)) in
-    goes-stop is_input (list_runs c.args.checking.is_summed c.args.checking.kind are_named)
-    (list_whole c.args.checking.is_summed c.args.checking.kind are_named) _ c.loop-name.status (see c.args.self.now)
-    (see c.loop-name.self) (g.E.Sink.shown c.args.err.now) (g.E.Sink.shown c.loop-name.err) _ _ _
-    (see c.print_report.new.self) _ (next_name c.args.lists.now c.loop-name.name-index _ c.loop-name-test.true)
-    c.loop-name.invariant.goes _ _ c.from_residual.ensures.1
-    (rw (c.rules_of-rules.ensures.kind, c.rules_of-rules.ensures.name, sym (length-map c.args.lists.now (λ n. n.now)))
-    at c.in_err-print_report.ensures.report)
-
-pub returns-in_err-print_report-clause-opens : goal.returns-in_err-print_report-clause-opens
-returns-in_err-print_report-clause-opens g c =
-    let see = seen_of g.L.Feed.remaining g.L.Feed.failure_count g.T.Tree.files g.T.Tree.failure_count
-    g.T.Tree.opens g.W.Sink.shown in
-    opens-stop (map (λ n. n.now) c.args.lists.now) _ _ _ (see c.args.self.now) (see c.loop-name.self)
-    (see c.print_report.new.self) (next_name c.args.lists.now c.loop-name.name-index _ c.loop-name-test.true)
-    c.loop-name.invariant.opens
-    c.print_report.ensures.opens
-
-pub returns-clause-run : goal.returns-clause-run
-returns-clause-run g c =
-    let see = seen_of g.L.Feed.remaining g.L.Feed.failure_count g.T.Tree.files g.T.Tree.failure_count
-    g.T.Tree.opens g.W.Sink.shown in
-    let are_named = nat_lt 1 (length (map (λ n. n.now) c.args.lists.now)) in
-    goes-end is_input (list_runs c.args.checking.is_summed c.args.checking.kind are_named)
-    (list_whole c.args.checking.is_summed c.args.checking.kind are_named) _ c.loop-name.status (see c.args.self.now)
-    (see c.loop-name.self) (g.E.Sink.shown c.args.err.now) (g.E.Sink.shown c.loop-name.err) _
-    (ap (map (λ n. n.now)) (drop_all c.loop-name.name-index c.args.lists.now c.loop-name-test.false))
-    c.loop-name.invariant.goes
-
-pub returns-clause-opens : goal.returns-clause-opens
-returns-clause-opens g c =
-    let see = seen_of g.L.Feed.remaining g.L.Feed.failure_count g.T.Tree.files g.T.Tree.failure_count
-    g.T.Tree.opens g.W.Sink.shown in
-    c.loop-name.invariant.opens (see c.loop-name.self)
-    (told_always (see c.loop-name.self) (λ bytes files. omega arith))
+pub returns-in_ok-keyed-in-Tags-clause-run : goal.returns-in_ok-keyed-in-Tags-clause-run
+returns-in_ok-keyed-in-Tags-clause-run g c =
+    let short = c.in-Tags.short in
+    rw c.in-Tags.is (sum_had (tags short.mac false (key_shown c.in-Tags.key)) (λ l bytes files.
+    ListsRun (keyed (mac_len short.mac) l.limit l.bytes) c.args.is_summed files (map (λ n. n.now) c.args.lists.now) bytes)
+    (TellsAll (g.E.Sink.shown c.args.err.now) (g.E.Sink.shown c.print_lists-in-Tags.new.err)) _ _ _ _
+    (keyed_line c.in_ok-keyed-in-Tags.keyed.keyed) _ _ _ _ _ _ _ _ _ _ refl c.short_keyed.ensures.files refl refl
+    c.in_ok-keyed-in-Tags.ensures.keyed c.in_ok-keyed-in-Tags.ensures.counted
+    (rw c.tag_len-length.ensures at c.print_lists-in-Tags.ensures.run))

@@ -15,7 +15,7 @@ returns-in_err-mark-clause-checked g c =
 pub returns-clause-checked : goal.returns-clause-checked
 returns-clause-checked g c =
     let next = rw c.if-not-branch.false at c.in_ok-next.ensures.piece in
-    λ r n d later. checks-line _ _ _ _ _ _ next _ c.count.ensures c.in_ok-mark.ensures.checked later
+    λ r n d later. checks-line _ _ _ _ _ _ next _ c.count.ensures.counted c.in_ok-mark.ensures.checked later
 
 pub returns-in_err-next-clause-once : goal.returns-in_err-next-clause-once
 returns-in_err-next-clause-once g c =

@@ -1,10 +1,11 @@
 use Rattle.std.proofs.Common.{drop, length, map}
 use Rattle.std.specs.Prelude.{nat_lt}
 use Rattle.command.specs.Lines.{is_input}
+use Rattle.command.specs.inside.Rules.{meaning}
 use Rattle.command.specs.inside.Streams.{SameStreams, seen_of}
 use Rattle.command.proofs.Going.{Goes}
 use Rattle.command.proofs.Reporting.{OpensOn, list_runs, list_whole}
-use Rattle.command.proofs.session.Session.print_reports.Given as goal
+use Rattle.command.proofs.session.Session.print_lists.Given as goal
 
 abbrev pub invariant-loop-name : goal.invariant-loop-name
 invariant-loop-name g l =
@@ -15,8 +16,8 @@ invariant-loop-name g l =
       same : SameStreams l.initial.self l.self;
       opens : OpensOn (map (λ n. n.now) l.lists) (map (λ n. n.now) (drop l.name-index l.lists)) (see l.initial.self)
           (see l.self);
-      goes : Goes is_input (list_runs l.checking.is_summed l.checking.kind are_named)
-          (list_whole l.checking.is_summed l.checking.kind are_named)
+      goes : Goes is_input (list_runs l.is_summed (meaning l.fn.entries) are_named)
+          (list_whole l.is_summed (meaning l.fn.entries) are_named)
           (map (λ n. n.now) l.lists) (map (λ n. n.now) (drop l.name-index l.lists)) l.status (see l.initial.self)
           (see l.self) (g.E.Sink.shown l.initial.err) (g.E.Sink.shown l.err);
     }

@@ -1,0 +1,145 @@
+// What is said of words that are refused: the text of `clap`, with tips of the program's own. Those of `clap` are
+// names that look alike, whether or not they mean the same.
+
+use crate::request::MACS;
+use clap::Error;
+use clap::error::ErrorKind;
+use std::alloc::{AllocError, Global};
+use sumlist::Kind;
+
+const TIP: &str = "\n\n  tip: ";
+
+const USAGE: &str = "\n\nUsage: ";
+
+const HELP: &str = "\n\nFor more information, try '--help'.\n";
+
+const COMMANDS: &str =
+    "'sums hash -a sha256 FILE' prints a digest, and 'sums check LIST' checks a list";
+
+const CHECK: &str = "'sums check LIST' checks a list";
+
+const PARALLEL: &str = "'sums-parallel' uses all cores";
+
+const FOLDER: &str =
+    "'find FOLDER -type f -print0 | sums hash -a sha256 --files0-from -' hashes a folder";
+
+// What there is here for options of other programs, by how these begin.
+const OPTIONS: [(&str, &str); 9] = [
+    ("--al", "the algorithm is set by '-a'"),
+    ("--le", "the length is set by '-l'"),
+    ("-c", CHECK),
+    ("--check", CHECK),
+    ("-j", PARALLEL),
+    ("--jobs", PARALLEL),
+    ("--num-threads", PARALLEL),
+    ("-r", FOLDER),
+    ("--recursive", FOLDER),
+];
+
+/// The text of an error: that of `clap`, for wrong words with other tips.
+pub fn text_of(alloc: Global, error: &Error) -> Result<String, AllocError> {
+    let text = format!(in alloc; "{error}")?;
+    if error.use_stderr() {
+        if let Some((front, "")) = text.as_str().rsplit_once(HELP) {
+            return retold(alloc, error.kind(), front);
+        }
+    }
+    Ok(text)
+}
+
+// The same text with other tips.
+fn retold(alloc: Global, kind: ErrorKind, front: &str) -> Result<String, AllocError> {
+    let (front, mut usage) = parted(front, USAGE);
+    let (said, tip) = parted(front, TIP);
+    let mut text = String::from_str(alloc, said)?;
+    match kind {
+        ErrorKind::InvalidSubcommand => push_commands(&mut text, tip)?,
+        ErrorKind::UnknownArgument if usage.ends_with(" <COMMAND>") => {
+            push_commands(&mut text, tip)?
+        }
+        ErrorKind::UnknownArgument => {
+            if !push_option(&mut text, said, tip)? {
+                usage = "";
+            }
+        }
+        ErrorKind::InvalidValue => push_value(alloc, &mut text, said)?,
+        _ => push_after(&mut text, TIP, tip)?,
+    }
+    push_after(&mut text, USAGE, usage)?;
+    text.push_str(HELP)?;
+    Ok(text)
+}
+
+// A text before the last such mark, and the rest behind it.
+fn parted<'a>(text: &'a str, mark: &str) -> (&'a str, &'a str) {
+    text.rsplit_once(mark).unwrap_or((text, ""))
+}
+
+fn push_after(text: &mut String, mark: &str, rest: &str) -> Result<(), AllocError> {
+    if rest.is_empty() {
+        return Ok(());
+    }
+    text.push_str(mark)?;
+    text.push_str(rest)
+}
+
+// Where no command is named: one that is named nearly so, and the two that most want.
+fn push_commands(text: &mut String, tip: &str) -> Result<(), AllocError> {
+    push_after(text, TIP, tip)?;
+    text.push_str(if tip.is_empty() { TIP } else { "\n  tip: " })?;
+    text.push_str(COMMANDS)
+}
+
+// Of an option that a command lacks: what there is in its place, one that begins as it does, or how a file of its name
+// is given. Whether the usage is that of other words than an option which only looks alike.
+fn push_option(text: &mut String, said: &str, tip: &str) -> Result<bool, AllocError> {
+    let word = quoted(said);
+    for (front, here) in OPTIONS {
+        if word.starts_with(front) {
+            push_after(text, TIP, here)?;
+            return Ok(!tip.starts_with("a similar"));
+        }
+    }
+    if tip.starts_with("to pass") {
+        write!(text, "{TIP}if '{word}' is a file, use '-- {word}'")?;
+        return Ok(true);
+    }
+    let is_meant = quoted(tip).get(..4) == word.get(..4);
+    if is_meant {
+        push_after(text, TIP, tip)?;
+    }
+    Ok(is_meant || tip.is_empty())
+}
+
+// What stands first in quotes.
+fn quoted(text: &str) -> &str {
+    let (_, rest) = text.split_once('\'').unwrap_or(("", ""));
+    rest.split_once('\'').unwrap_or((rest, "")).0
+}
+
+// Of a value that `-a` does not take: the name that has its letters and digits, in small letters.
+fn push_value(alloc: Global, text: &mut String, said: &str) -> Result<(), AllocError> {
+    let value = letters(alloc, quoted(said))?;
+    let names = if said.contains("' for '-a <MAC>'") {
+        MACS.as_slice()
+    } else {
+        Kind::names()
+    };
+    for name in names {
+        if letters(alloc, name)?.as_slice() == value.as_slice() {
+            write!(text, "{TIP}a similar value exists: '{name}'")?;
+        }
+    }
+    Ok(())
+}
+
+// The letters and digits of a text, in small letters.
+fn letters(alloc: Global, text: &str) -> Result<Vec<u8>, AllocError> {
+    let mut letters = Vec::new(alloc);
+    for byte in text.as_bytes() {
+        if byte.is_ascii_alphanumeric() {
+            letters.push(byte.to_ascii_lowercase())?;
+        }
+    }
+    Ok(letters)
+}
