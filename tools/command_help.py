@@ -29,9 +29,9 @@ class Option:
         return re.split(r"\. |; | \[|: (?=[a-z0-9])", self.text)[0]
 
     def words(self):
-        """What it takes one of, where its text lists that word by word."""
-        listed = re.search(r": ([a-z0-9-]+(?:(?:, | or )[a-z0-9-]+)*)(?:\. |$)", self.text)
-        return re.split(", | or ", listed[1]) if self.value and listed else []
+        """What it takes one of, where its text lists that word by word, in one list or several."""
+        lists = re.findall(r": ([a-z0-9-]+(?:(?:, | or )[a-z0-9-]+)*)(?:\. |$)", self.text) if self.value else []
+        return list(dict.fromkeys(word for listed in lists for word in re.split(", | or ", listed)))
 
 
 def help_of(program, *words):
