@@ -1,19 +1,24 @@
 #!/usr/bin/env python3
-"""What the lines of a list mean, row by row, and how names stand in written lines: the built program on rows of
-data, with reads as they come and with reads and writes of at most 1, 7 and 4,096 bytes. Digests are hashlib's, and for
-BLAKE3 those of its official vectors and of b3sum.
+"""What the lines of a list mean, row by row, without a key and under one, and how names stand in written lines: the
+built program on rows of data, with reads as they come and with reads and writes of at most 1, 7 and 4,096 bytes.
+Digests are hashlib's, and for BLAKE3 those of its official vectors and of b3sum; tags are hmac's and hashlib's, and for
+BLAKE3 those of tests/standards.py. Random lists under keys come last (tests/program/random_lists.py).
 usage: tests/program/lists.py PROGRAM
+       tests/program/lists.py PROGRAM digests    without keys: what stands in the place of the program takes none
 """
 
 import hashlib
 import os
+import random
 import sys
 
 sys.path.append(os.path.join(os.path.dirname(os.path.realpath(__file__)), ".."))
 
 import harness
+import random_lists
 import tables
 from harness import same
+from random_lists import TAGS, Keyed
 
 
 # The most bytes that a read gives; runs without such a limit come besides.
@@ -35,14 +40,16 @@ def sized(name):
 OUTCOMES = ("OK", "failed", "missing", "unreadable", "too long", "malformed", "skipped")
 # What is told of a list beside its report.
 EMPTY, OTHER, FAILED = map(tables.text, ("{no entries}", "{other -a}", "{all failed}"))
+TAGGED_LINES, OTHER_KEY = map(tables.text, ("{tagged}", "{other key}"))
 
 
 def check(name, alg, given, report, numbers=None, hint=b""):
-    """Checks a list, with --summary where its numbers are named. What has no report has no entries."""
+    """Checks a list of digests by this hash, or of tags; with --summary where its numbers are named. What has no report
+    has no entries."""
     told = b""
-    words = ["check", "-a", alg, "-"]
+    words = ["check", *(alg.words() if isinstance(alg, Keyed) else ["-a", alg]), "-"]
     if numbers is not None:
-        words.insert(3, "--summary")
+        words.insert(-1, "--summary")
         told = ("sums: " + ", ".join(f"{n} {what}" for n, what in zip(numbers, OUTCOMES)) + "\n").encode()
     if hint or not report:
         told += b"sums: -: " + (hint or EMPTY) + b"\n"
@@ -325,21 +332,120 @@ def written():
         check(f"{about}, checked", alg, want, report, (len(NAMES), 0, 0, 0, 0, 0, 0))
 
 
+# ---- lists under a key
+
+KEY = bytes(range(32))
+ABC_UNDER = Keyed("hmac-sha256", KEY, 32)
+# Random lists here; random_lists.py goes through more.
+RANDOM_LISTS = 300
+
+
+def whole(function):
+    return Keyed(function, KEY, TAGS[function][2])
+
+
+def digits_under(kind, content=b"abc"):
+    return kind.tag(content).encode()
+
+
+def keyed_lines():
+    """The lines of a list of digests with a tag in the place of each: the tagged ones are malformed."""
+    digits = digits_under(ABC_UNDER)
+    for about, before, after, meaning in LINES:
+        is_tagged = before.endswith(b" = ")
+        report, hint = reported(MALFORMED if is_tagged else meaning), TAGGED_LINES + b"1" if is_tagged else b""
+        for ending, end in (("", b""), (" and an LF", b"\n"), (" and a CR LF", b"\r\n")):
+            if end != b"\r\n" or not after.endswith((b"\r", b"\\")):
+                check(f"{about}{ending}, under a key", ABC_UNDER, before + digits + after + end, report, hint=hint)
+    upper = digits.upper() + b"  abc.txt\n"
+    check("digits in upper case, under a key", ABC_UNDER, upper, b"abc.txt: OK\n", (1, 0, 0, 0, 0, 0, 0))
+    for line, meaning in LINES_WITHOUT_DIGITS:
+        check(f"{line!r}, under a key", ABC_UNDER, line + b"\n", reported(meaning))
+    for before, digits, meaning in TAGGED:
+        hint = b"" if meaning == MALFORMED else TAGGED_LINES + b"1"
+        check(f"{before!r} under a key", ABC_UNDER, before + digits, reported(MALFORMED), hint=hint)
+
+
+def keyed_sizes():
+    """Without -l a tag is whole; with it, it has so many bytes. Any other number of digits is malformed."""
+    for function, (least, most, _) in TAGS.items():
+        kind = whole(function)
+        for size in range(67):
+            # the tag of the whole length cut short, or with more digits
+            digits = (digits_under(kind) + b"aF" * 67)[:2 * size]
+            if least <= size <= most:
+                digits = digits_under(kind._replace(size=size))
+            report = b"abc.txt: OK\n" if size == kind.size else b"line 1: MALFORMED\n"
+            check(f"{function} of {size} bytes", kind, digits + b"  abc.txt\n", report)
+        for size in range(least, most + 1):
+            kind = kind._replace(size=size)
+            digits, other = digits_under(kind), digits_under(whole(function))
+            lines = (digits[:-2], digits, digits + b"0", digits + b"00", other)
+            reports = (b"abc.txt: OK\n" if line == digits else b"line %d: MALFORMED\n" % at
+                for at, line in enumerate(lines, 1))
+            given = b"".join(line + b"  abc.txt\n" for line in lines)
+            check(f"{function} with -l {size}", kind, given, b"".join(reports))
+
+
+def keyed_lists():
+    """Each outcome, in one list and in several."""
+    good, other = digits_under(ABC_UNDER), digits_under(ABC_UNDER, b"")
+    each = (good + b"  abc.txt\n" + other + b"  abc.txt\n" + good + b"  none.txt\n" + good[2:] + b"  abc.txt\n"
+        + b"SHA256 (abc.txt) = " + SHA256_ABC + b"\n# end\n" + other + b"  empty\r\n" + SHA256_ABC + b" *abc.txt")
+    report = (b"abc.txt: OK\nabc.txt: FAILED\nnone.txt: MISSING\nline 4: MALFORMED\nline 5: MALFORMED\nempty: OK\n"
+        + b"abc.txt: FAILED\n")
+    check("each outcome under a key", ABC_UNDER, each, report, (2, 2, 1, 0, 0, 2, 1), TAGGED_LINES + b"1")
+    check("digests under a key", ABC_UNDER, SHA256_ABC + b"  abc.txt\n", b"abc.txt: FAILED\n", hint=OTHER_KEY)
+    check("a list of comments under a key", ABC_UNDER, b"\n# a\n#", b"", (0, 0, 0, 0, 0, 0, 3))
+    for name, content in (("first list", each), ("second list", good + b"  abc.txt\n"), ("the key", KEY)):
+        with open(name, "wb") as file:
+            file.write(content)
+    answer = run("check", "-a", "hmac-sha256", "--key-file", "the key", "second list", "first list", "-", given=each)
+    wanted = b"abc.txt: OK\n" + b"".join(report.replace(b"line ", list + b": line ") for list in (b"first list", b"-"))
+    told = b"".join(b"sums: %b: %b1\n" % (list, TAGGED_LINES) for list in (b"first list", b"-"))
+    same(sized("several lists under a key"), answer, (1, wanted, told))
+
+
+def keyed_written():
+    """Lines as `mac` writes them and `check` reads them back, with the key as digits and in a file."""
+    with open("the key", "wb") as file:
+        file.write(KEY)
+    names = [name for name, _, _ in NAMES]
+    report = b"".join(end[2:-1] + b": OK\n" for _, _, end in NAMES)
+    for kind in (*map(whole, TAGS), Keyed("blake3", KEY, 64), Keyed("blake2b", KEY, 1), Keyed("hmac-sha256", KEY, 16)):
+        want = b"".join(lead + digits_under(kind) + end for _, lead, end in NAMES)
+        for is_file in (False, True):
+            about, words = f"lines of {kind.function} of {kind.size} bytes", kind.words(is_file)
+            same(sized(about), run("mac", *words, "--", *names), (0, want, b""))
+            same(sized(f"{about}, checked"), run("check", *words, given=want), (0, report, b""))
+
+
+def random_tags():
+    """Random lists under random keys, by a second reading of FORMAT. The seed stays, so that each run has the same."""
+    with harness.folder():
+        for about, answer, wanted in random_lists.keyed_runs(program, RANDOM_LISTS, random.Random(1)):
+            same(about, answer, wanted)
+
+
 def main():
     global program, settings
-    program = harness.program()
+    program, takes_keys = harness.program(), harness.arguments(1)[1:] != ["digests"]
+    rows = [lines, longest_lines, lists, both_forms, ends, written]
+    if takes_keys:
+        rows += [keyed_lines, keyed_lists, keyed_written]
     with harness.folder():
         files()
         sizes()
         too_long_lines(1_048_576)
+        if takes_keys:
+            keyed_sizes()
         library = harness.preloaded("fail_call")
         for settings in ({}, *({"LD_PRELOAD": library, "SHORT": str(size)} for size in SIZES)):
-            lines()
-            longest_lines()
-            lists()
-            both_forms()
-            ends()
-            written()
+            for table in rows:
+                table()
+        settings = {}
+    if takes_keys:
+        random_tags()
     harness.finish()
 
 

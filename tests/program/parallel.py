@@ -41,6 +41,7 @@ ODD = "list\r\n\x1b[1m\\\x9b\u202e"
 LISTS = ("good", "tagged", "mixed", "none", "comments", "no-end", "one", "endless", ODD, "missing", "folder", "",
          "/dev/null")
 WAYS = ([], ["-j1", "--block=3000"], ["-j", "13", "--block", "1"], ["--by", "env A=b", "--block", "50000"])
+KEYED = ["-a", "hmac-sha256", "--key-file", "the key"]
 THERE = ["-S", "2/:", "--block=1"]
 # Lines of a shell with files that runs must not share: pipes, and files that are open already.
 SHARED = (
@@ -58,8 +59,12 @@ SHARED = (
     "sums check --summary list-stdin < f1",
     "cat f1 > pipe & sums check -a sha256 --summary list-pipe",
     "sums check -a sha256 /dev/stdin < good",
+    "cat \'the key\' | sums check -a hmac-sha256 --key-file /dev/stdin tags",
+    "sums check -a hmac-sha256 --key-file /dev/stdin --summary tags tags-mixed < \'the key\'",
+    "sums check -a hmac-sha256 --key-file \'the key\' --summary < tags-mixed",
     "cat parts-small | sums part -a blake3 --verify /dev/stdin large",
     "cat parts | sums part -a blake3 --verify /dev/stdin damaged",
+    "cat parts | sums part -a blake3 --verify /dev/stdin",
     "sums part -a blake3 --verify parts < damaged",
     "cat large | sums part -a blake3 --verify parts /dev/stdin",
     "sums hash -a sha256 f1 more f2 > told; sums hash -a sha256 f1 told more /dev/stdout f2 >> told; cat told")
@@ -102,6 +107,13 @@ def lists(program):
                          b"2" * 64 + b"  folder\n", lines[at][:-1] + b"\r\n", b"x" * 70000 + b"\n",
                          b"#" * 70000 + b"\n",
                          b"a\0b\n", b"3" * 64 + b"  a\xff\n", b"\\" + b"4" * 64 + b"  a\\x\n"][at // 7 % 12]]
+    with open("the key", "wb") as file:
+        file.write(b"secret\n")
+    tags = harness.run(program, ["mac", *KEYED, "--", *names]).out
+    keyed = tags.splitlines(keepends=True)
+    for at in range(0, len(keyed), 5):
+        keyed[at:at] = [[b"\n", lines[0], keyed[at][2:], keyed[at].upper(), b"SHA256 (f1) = " + b"5" * 64 + b"\n",
+                         b"6" * 64 + b"  missing\n"][at // 5 % 6]]
     names = [*map(os.fsencode, names), b"", b"-", b"a\xff", b"x" * 65537, b"missing", b"folder", b"large"]
     names += [*map(os.fsencode, FEW), b"", b"-", b"b\xff", b"y" * 200000, b"more", b"missing"]
     for name, data in (("good", good), ("tagged", tagged), ("mixed", b"".join(lines)), ("none", b""),
@@ -109,6 +121,7 @@ def lists(program):
                        ("nearly", good + tagged[:tagged.index(b"\n") + 1]),
                        ("no-end", good[:-1]), ("one", good[:good.index(b"\n") + 1]), ("endless", b"y" * 300000),
                        (ODD, b"".join(lines[:40])), ("all", good + tagged + b"".join(lines)),
+                       ("tags", tags), ("tags-mixed", b"".join(keyed)), ("tags-tagged", tags + tagged),
                        ("large-list", harness.run(program, ["hash", "-a", "blake3", "just", "more"]).out),
                        ("names", b"\0".join(names) + b"\0"), ("names-no-end", b"\0".join(names)),
                        ("names-many", b"".join(os.fsencode(name) + b"\0" for name in MANY))):
@@ -185,6 +198,19 @@ def of_lists():
         yield f"check {path} by another hash, {alg}", ["check", "-a", alg, path], b""
     yield "check several", ["check", "-a", "sha256", "--summary", "good", "missing", ODD, "none", "folder", "mixed",
                             "tagged", "all"], b""
+    for path in ("tags", "tags-mixed", "tags-tagged", "good", "tagged", "none", "comments", "missing", "folder"):
+        yield f"check {path} under a key", ["check", *KEYED, "--summary", path], b""
+    yield "check several under a key", ["check", *KEYED, "--summary", "tags", "tags-mixed", "good", "missing",
+                                        "tags-tagged", "none"], b""
+    yield "check standard input under a key", ["check", *KEYED], content("tags-mixed")
+    hmac = ["-a", "hmac-sha256"]
+    for words in ([*hmac, "--key", "736563726574"], ["-a", "blake2s", "--key-file", "the key"], hmac,
+                  [*hmac, "--key-file", "missing"], [*hmac, "--key-file=the key", "-l", "16"],
+                  ["-a", "sha256", "--key-file", "the key"], ["--key-file", "the key"],
+                  ["-a", "blake3", "--key-file", "the key"], [*KEYED, "--key", "00"], [*KEYED, *KEYED[2:]],
+                  [*hmac, "--key-file", "folder"], [*hmac, "--key-file", "/dev/null"],
+                  ["-a", "blake3", "-l", "65", "--key-file", "the key"], [*hmac, "--key-file", "/dev/stdin"]):
+        yield f"check under a key, {words}", ["check", *words, "tags"], b"secret\n"
     for name in ("mixed", "none", "good"):
         yield f"check standard input, {name}", ["check", "-a", "sha256", "--summary"], content(name)
     yield "check -", ["check", "-a", "sha256", "-"], content("mixed")

@@ -2,21 +2,27 @@
 """Checks random lists by the program and by a second, plain reading of docs/FORMAT.md in this file,
 and compares reports, statuses and what is said of a list. No part of tools/test.
 usage: tests/program/random_lists.py PROGRAM [LINES] [SEED]    LINES is 200,000 where it is not named
+       tests/program/random_lists.py PROGRAM keys [LISTS] [SEED]    lists of tags, each under a random key: the tags are
+           those of Python's hmac and hashlib, and of tests/standards.py; LISTS is 10,000 where it is not named
 """
 
 import hashlib
+import hmac
 import os
 import random
 import re
 import sys
+from typing import NamedTuple
 
 sys.path.append(os.path.join(os.path.dirname(os.path.realpath(__file__)), ".."))
 
 import harness
+import standards
 import tables
 
 LONGEST_LINE = 65536
 LINES_A_LIST = 500
+TAGS_A_LIST = 20
 CONTENTS = [b"", b"abc", bytes(i % 251 for i in range(1025))]
 # BLAKE3 of these contents, by b3sum
 BLAKE3 = {
@@ -33,10 +39,42 @@ LABELS = {each["label"]: (name, int(each["most"])) for name, each in tables.HASH
 LENGTHS = {name: range(int(each["least"]), int(each["most"]) + 1) for name, each in tables.HASHES.items()}
 # What is said of a list beside its report.
 EMPTY, OTHER, FAILED = map(tables.text, ("{no entries}", "{other -a}", "{all failed}"))
+TAGGED, OTHER_KEY = map(tables.text, ("{tagged}", "{other key}"))
+# the fewest and the most bytes of a tag in a list, and those without -l
+TAGS = {
+    "hmac-sha256": (16, 32, 32), "hmac-sha512": (32, 64, 64), "hmac-blake2b": (32, 64, 64),
+    "hmac-blake2s": (16, 32, 32), "blake2b": (1, 64, 64), "blake2s": (1, 32, 32), "blake3": (1, 64, 32),
+}
 ESCAPES = {b"\\": b"\\\\", b"\n": b"\\n", b"\r": b"\\r"}
 
 
+class Keyed(NamedTuple):
+    """What the entries of a list are under a key: tags of this function, of so many bytes."""
+
+    function: str
+    key: bytes
+    size: int
+
+    def words(self, is_file=False):
+        """The words of `check` and `mac`; the key stands in a file or among them."""
+        key = ["--key-file", "the key"] if is_file else ["--key", self.key.hex()]
+        length = [] if self.size == TAGS[self.function][2] else ["-l", str(self.size)]
+        return ["-a", self.function, *key, *length]
+
+    def tag(self, content):
+        """The digits of the tag of a content."""
+        if self.function == "blake3":
+            made = standards.output(standards.tree(standards.mode_of(self.key), 0, content), 0, self.size)
+        elif self.function.startswith("hmac-"):
+            made = hmac.new(self.key, content, self.function.removeprefix("hmac-")).digest()[:self.size]
+        else:
+            made = hashlib.new(self.function, content, key=self.key, digest_size=self.size).digest()
+        return made.hex()
+
+
 def digest(algorithm, size, content):
+    if isinstance(algorithm, Keyed):
+        return algorithm.tag(content)
     if algorithm == "blake3":
         return BLAKE3[content]
     settings = {"digest_size": size} if "blake2" in algorithm else {}
@@ -72,8 +110,14 @@ def is_name(name):
         return False
 
 
+def sizes_of(kind):
+    """How many bytes the digits of an untagged line may spell; where there is no kind it is malformed."""
+    return (kind.size,) if isinstance(kind, Keyed) else LENGTHS.get(kind, ())
+
+
 def parsed(line, kind):
-    """("skipped",), ("malformed",) or ("entry", name, algorithm, digits) of a line without its LF."""
+    """("skipped",), ("malformed",) or ("entry", name, algorithm, digits) of a line without its LF. Under a key a tagged
+    line is malformed."""
     if len(line) > LONGEST_LINE:
         return ("malformed",)
     if line.endswith(b"\r"):
@@ -86,11 +130,10 @@ def parsed(line, kind):
     tagged = re.fullmatch(rb"([A-Za-z0-9-]+) \((.*)\) = ([0-9a-fA-F]+)", text, re.DOTALL)
     if untagged:
         digits, name = untagged[1], untagged[2]
-        sizes = LENGTHS[kind]
-        if len(digits) % 2 or len(digits) // 2 not in sizes:
+        if len(digits) % 2 or len(digits) // 2 not in sizes_of(kind):
             return ("malformed",)
         algorithm = kind
-    elif tagged:
+    elif tagged and not isinstance(kind, Keyed):
         name, digits = tagged[2], tagged[3]
         meant = of_label(tagged[1].decode())
         if not meant or len(digits) != 2 * meant[1]:
@@ -121,29 +164,31 @@ def verdict_of(name, algorithm, digits):
 
 def report(lines, kind):
     """What a check of a list answers: its status, its report, and what is said of the list."""
-    out, verdicts, is_other = [], set(), False
+    out, verdicts, others = [], set(), 0
     for number, line in enumerate(lines, 1):
         answer = parsed(line, kind)
         if answer[0] == "skipped":
             continue
         if answer[0] == "malformed":
             told, verdict = b"line %d" % number, b"MALFORMED"
-            # BLAKE2b has digests as long as those of each other hash
-            is_other = is_other or parsed(line, "blake2b")[0] == "entry"
+            # BLAKE2b has digests as long as those of each other hash; under a key other entries are tagged ones
+            others += parsed(line, None if isinstance(kind, Keyed) else "blake2b")[0] == "entry"
         else:
             _, name, algorithm, digits = answer
             told, verdict = escaped(name), verdict_of(name, algorithm, digits)
         verdicts.add(verdict)
         out.append(told + b": " + verdict + b"\n")
-    return int(verdicts - {b"OK"} != set()), b"".join(out), said(verdicts, is_other, kind)
+    return int(verdicts - {b"OK"} != set()), b"".join(out), said(verdicts, others, kind)
 
 
-def said(verdicts, is_other, kind):
+def said(verdicts, others, kind):
     """What is said of a list, the first that fits."""
-    if is_other:
-        text = OTHER
+    if others:
+        text = TAGGED + b"%d" % others if isinstance(kind, Keyed) else OTHER
     elif not verdicts:
         text = EMPTY
+    elif verdicts == {b"FAILED"} and isinstance(kind, Keyed):
+        text = OTHER_KEY
     elif verdicts == {b"FAILED"} and kind in ("blake2b", "blake2s", "blake3"):
         text = FAILED
     else:
@@ -159,8 +204,8 @@ def good_line(source, kind, files):
         front = b"\\"
     if source.random() < 0.1:
         body, front = name, b""
-    if source.random() < 0.5:
-        size = source.choice(list(LENGTHS[kind]))
+    if source.random() < (0.9 if isinstance(kind, Keyed) else 0.5):
+        size = source.choice(list(sizes_of(kind)))
         digits = digest(kind, size, content)
         line = digits.encode() + source.choice([b"  ", b" *"]) + body
     else:
@@ -217,9 +262,51 @@ def make_files(source):
     return files
 
 
+def random_key(source):
+    """A function, a key that it takes, and the length of its tags, which is often that without -l."""
+    function = source.choice(list(TAGS))
+    least, most, default = TAGS[function]
+    longest = {"blake2b": 64, "blake2s": 32}.get(function, 200)
+    key = source.randbytes(32 if function == "blake3" else source.randrange("hmac" not in function, longest + 1))
+    if key and source.random() < 0.2:
+        key = key[:-1] + b"\n"
+    return Keyed(function, key, default if source.random() < 0.5 else source.randrange(least, most + 1))
+
+
+def keyed_runs(program, count, source):
+    """Checks so many random lists of tags, and yields what each is, its run, and what that has to be."""
+    files = make_files(source)
+    for number in range(count):
+        kind, is_file = random_key(source), source.random() < 0.5
+        with open("the key", "wb") as file:
+            file.write(kind.key)
+        # some lines are of another key
+        kinds = [kind] * 9 + [random_key(source)]
+        size = source.choice([1, 2, TAGS_A_LIST])
+        lines = [random_line(source, source.choice(kinds), files) for _ in range(size)]
+        run = harness.run(program, ["check", *kind.words(is_file), "-"], b"".join(line + b"\n" for line in lines))
+        yield f"list {number}, {kind}", run, report(lines, kind)
+
+
+def of_keys(program, count, seed):
+    """Random lists under keys."""
+    print(f"tests/program/random_lists.py: {count} lists under keys, seed {seed}")
+    differences = 0
+    with harness.folder():
+        for about, run, wanted in keyed_runs(program, count, random.Random(seed)):
+            if run != wanted:
+                differences += 1
+                print(f"{about}: {run}, and not {wanted}")
+    print(f"tests/program/random_lists.py: {count} lists under keys, {differences} lists with a difference")
+    return 1 if differences else 0
+
+
 def main():
     program, *numbers = harness.arguments(1)
     program = os.path.abspath(program)
+    if numbers[:1] == ["keys"]:
+        count, seed, *_ = [*map(int, numbers[1:]), *[10_000, random.randrange(2**32)][len(numbers) - 1:]]
+        return of_keys(program, count, seed)
     wanted = int(numbers[0]) if numbers else 200_000
     seed = int(numbers[1]) if len(numbers) > 1 else random.randrange(2**32)
     print(f"tests/program/random_lists.py: {wanted} lines, seed {seed}")

@@ -85,6 +85,7 @@ UNREAD = [
     ("mac -a blake2s --key 00", 1, b"", b"-: cannot read\n"),
     ("mac -a blake3 --key-file key32 --name n", 1, b"", b"-: cannot read\n"),
     ("mac -a blake2s --key-file key20 --files0-from self-names", 1, b"", b"/dev/stdin: cannot read\n"),
+    ("mac -a blake2s --key-file /dev/stdin", 1, b"", b"/dev/stdin: cannot read\n"),
     ("kdf -a sha256 -l 1 --ikm-file /dev/stdin", 1, b"", b"/dev/stdin: cannot read\n"),
     ("check -a sha256", 1, b"", b"-: cannot read\n"),
     ("check -a sha256 good-list -", 1, b"abc.txt: OK\n", b"-: cannot read\n"),
@@ -92,6 +93,7 @@ UNREAD = [
     ("part -a blake3", 1, b"", b"-: cannot read\n"),
     ("part -a blake3 --each 1", 1, b"", b"-: cannot read\n"),
     ("part -a blake3 --verify parts", 1, b"", b"-: cannot read\n"),
+    ("part -a blake3 --verify /dev/stdin", 1, b"", b"/dev/stdin: cannot read\n"),
     ("part -a blake3 --verify empty", 1, b"", b"-: cannot read\n"),
     ("join -a blake3", 1, b"", b"-: cannot read\n"),
     ("join -a blake3 chunk.0 -", 1, b"", b"-: cannot read\n"),
@@ -223,7 +225,7 @@ def files_of_another_user():
         os.chmod("this", 0o444)
         same(f"{row.place}: {row.name}, read-only", harness.run(copy, row.words, row.given, **user), row.answer)
         os.chmod("this", 0)
-        refused = (1, b"this: UNREADABLE\n", b"") if row.name == "a listed file" else (1, b"", CANNOT_READ)
+        refused = (1, b"this: UNREADABLE\n", b"") if row.name.startswith("a listed file") else (1, b"", CANNOT_READ)
         same(f"{row.place}: {row.name}, unreadable", harness.run(copy, row.words, row.given, **user), refused)
         os.remove("this")
 
@@ -251,16 +253,24 @@ def write(name, content):
         file.write(content)
 
 
-def terminal_in_its_list():
-    """A terminal from which a list comes is no file of that list: it would take the lines that come."""
-    master, terminal = pty.openpty()
+def terminals():
+    """A terminal from which a list or a message comes is no file beside it: that would take what comes."""
     # each 4 is an end of the input, for a list and for a file of it
-    os.write(master, ABC + b"  /dev/stdin\n\4\4\4")
-    got = subprocess.run([program, "check", "-a", "sha256", "-"], stdin=terminal, capture_output=True, check=False,
-                         timeout=60)
-    os.close(terminal)
-    os.close(master)
-    same("a terminal in its own list", (got.returncode, got.stdout), (1, b"/dev/stdin: UNREADABLE\n"))
+    same("a terminal in its own list", of_terminal("check -a sha256 -", ABC + b"  /dev/stdin\n\4\4\4"),
+         (1, b"/dev/stdin: UNREADABLE\n", b""))
+    same("a terminal as the key of its message", of_terminal("mac -a hmac-sha256 --key-file /dev/stdin", b"k\4\4m\4\4"),
+         (1, b"", b"sums: /dev/stdin: cannot read\n"))
+
+
+def of_terminal(words, typed):
+    """A run whose standard input is a terminal at which this is typed."""
+    master, terminal = pty.openpty()
+    os.write(master, typed)
+    try:
+        return harness.run(program, words.split(), None, stdin=terminal, timeout=PATIENCE)
+    finally:
+        os.close(terminal)
+        os.close(master)
 
 
 def closed_streams():
@@ -273,6 +283,10 @@ def closed_streams():
         same(f"{words}, 0 and 2 closed", without((0, 2), words), (status, out, b""))
         unwritten = (3, b"", CANNOT_WRITE) if out else wanted
         same(f"{words}, 0 and 1 closed", without((0, 1), words), unwritten)
+    write("error-names", b"/dev/stderr\0")
+    for streams in ((2,), (0, 2), (0, 1, 2)):
+        same(f"standard error among the names of a file, {streams} closed",
+             without(streams, "hash -a sha256 --files0-from error-names"), (1, b"", b""))
     for name, words in FULL:
         same(f"{name}, standard output closed", without((1,), words), (3, b"", CANNOT_WRITE))
         same(f"{name}, 1 and 2 closed", without((1, 2), words), (3, b"", b""))
@@ -285,14 +299,24 @@ def without(streams, words):
     return harness.run(program, words.split(), b"abc", preexec_fn=lambda: [os.close(stream) for stream in streams])
 
 
-def own_names():
-    """A list in a file, which gives its bytes as often as they are read, may name itself."""
+def own_files():
+    """A file gives its bytes as often as they are read: a list in it may name it, and it may be its own key and parts."""
     write("own-names", b"own-names\0/dev/stdin\0")
     digest = hashlib.sha256(b"own-names\0/dev/stdin\0").hexdigest().encode()
-    with open("own-names", "rb") as given:
-        got = subprocess.run([program, "hash", "-a", "sha256", "--files0-from", "-"], stdin=given, capture_output=True)
     wanted = digest + b"  own-names\n" + digest + b"  /dev/stdin\n"
-    same("a list of names in a file that names itself", (got.returncode, got.stdout, got.stderr), (0, wanted, b""))
+    same("a list of names in a file that names itself", over("own-names", "hash -a sha256 --files0-from -"),
+         (0, wanted, b""))
+    tag = hmac.new(20 * b"\x0b", 20 * b"\x0b", "sha256").hexdigest().encode()
+    for key in ("/dev/stdin", "key20"):
+        same(f"a file under itself as a key, by {key}", over("key20", f"mac -a hmac-sha256 --key-file {key}"),
+             (0, tag + b"  -\n", b""))
+    same("no parts in a file, beside itself", over("empty", "part -a blake3 --verify /dev/stdin"), (0, b"", b""))
+
+
+def over(name, words):
+    """A run whose standard input is this file."""
+    with open(name, "rb") as given:
+        return harness.run(program, words.split(), None, stdin=given)
 
 
 def few_open_files():
@@ -319,8 +343,8 @@ with harness.folder():
     named_pipes()
     files_of_another_user()
     near_names()
-    terminal_in_its_list()
+    terminals()
     closed_streams()
-    own_names()
+    own_files()
     few_open_files()
 harness.finish()
