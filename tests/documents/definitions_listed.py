@@ -1,7 +1,7 @@
 #!/usr/bin/env python3
 """Asks of the definitions in crates/*/specs, those of inside/ apart, that each public one has a comment directly above
-it, that docs/PROOFS.md links each file, and that a file says at its head what it is to be compared with: those of the
-hashes the section of a standard, and those of lists a heading of docs/FORMAT.md.
+it, that docs/PROOFS.md links each folder of them, and that a file says at its head what it is to be compared with:
+those of the hashes the section of a standard, and those of lists a heading of docs/FORMAT.md.
 usage: tests/documents/definitions_listed.py            asks all that
        tests/documents/definitions_listed.py --table    prints each definition with its comment, file by file
 """
@@ -68,9 +68,10 @@ def check_format(path, about, headings):
 
 def check(files):
     headings = [line.lstrip("# ") for line in lines_of("docs/FORMAT.md") if line.startswith("#")]
-    linked = re.findall(r"\]\(\.\./(\S+\.antt)\)", "\n".join(lines_of("docs/PROOFS.md")))
+    linked = re.findall(r"\]\(\.\./(crates/\S+)\)", "\n".join(lines_of("docs/PROOFS.md")))
+    for folder in sorted({os.path.dirname(path) for path, _, _ in files}):
+        harness.judge(f"{folder}: a link of docs/PROOFS.md", folder in linked)
     for path, about, defined in files:
-        harness.judge(f"{path}: a link of docs/PROOFS.md", path in linked)
         _, crate, _, name = path.split("/")
         for definition, comment in defined:
             harness.judge(f"{path}: {definition} has a comment", comment)

@@ -32,6 +32,17 @@ KINDS = {
     "progress": ("sums", lambda public, call, name: True),
     "laws": ("*", lambda public, call, name: name.endswith("_laws")),
 }
+# the rows of docs/PROOFS.md: the crates whose lines each adds up, and the standards that they are to be compared with
+ROWS = {
+    "hashes": (("words", "blake2", "b3", "pieces"), "RFC 7693, BLAKE2 paper, BLAKE3 paper"),
+    "tags and keys": (("mac", "kdf", "states"), "RFC 2104, RFC 5869"),
+    "reading, lists and parts": (("source", "sumlist", "listing", "partlist"), "[FORMAT](FORMAT.md), BLAKE3 paper"),
+    "the command line": (("request", "task"), ""),
+    "commands and runs": (("command", "program"), "RFC 2104, 5869 and 7693, BLAKE3 paper, UAX #9 and #14"),
+    "calls of C": (("hash_c",), "RFC 7693"),
+}
+# the sentence that counts the lines beside those: of the line of --progress, of laws, and of other contracts
+OTHERS = re.compile(r"^Other lines of `specs/`: \d+ of .*; \d+ of .*; \d+ of .*$", re.M)
 # a definition begins in the first column, or within a module, with what it is
 BEGINS = re.compile(r"(?:  )?(?:(?:abbrev|unfoldable|opaque) pub|pub (record|data)) ([^\s:{(]+)")
 # the line above a definition that belongs to it
@@ -206,37 +217,41 @@ def lines_of(definitions):
 # ---- docs/PROOFS.md
 
 
-def row(name, *numbers):
-    return f"| {name} | " + " | ".join(f"{number:,}" if number else "" for number in numbers) + " |"
+def row(name, *numbers, after=()):
+    cells = [f"{number:,}" if number else "" for number in numbers]
+    return f"| {name} | {' | '.join([*cells, *after])} |"
 
 
-def counted(name, believed, count):
-    """A row of the program, the C library, and what one of them reaches."""
-    return row(name, *map(count, believed), count(set.union(*believed)))
+def counted(name, believed, count, after=""):
+    """A row of the program, the C library, and what one of them reaches, and of what this is after."""
+    return row(name, *map(count, believed), count(set.union(*believed)), after=[after])
+
+
+def linked(title, names):
+    """The crates of a row, each with a link to its definitions."""
+    return f"{title}: " + ", ".join(f"[`{name}`](../crates/{name}/specs)" for name in names)
 
 
 def rows_to_believe():
-    """The lines to believe, by crate. Those of the kit's SHA-2 have a row of their own."""
+    """The lines to believe, by rows of crates. Those of the kit's SHA-2 have a row of their own."""
     believed = [reached("program"), reached("library")]
     of_kit = [{one for one in found if one[0].startswith(f"{sha2()}/")} for found in believed]
     ours = [found - there for found, there in zip(believed, of_kit)]
-    for crate in crates():
-        of_crate = [{one for one in found if crate_of(one[0]) == crate} for found in ours]
-        if any(of_crate):
-            yield counted(f"`{crate}`", of_crate, lines_of)
+    for title, (names, after) in ROWS.items():
+        of_row = [{one for one in found if crate_of(one[0]) in names} for found in ours]
+        yield counted(linked(title, names), of_row, lines_of, after)
     yield counted("together", ours, lines_of)
     yield counted("number of definitions", ours, len)
     if sha2():
-        yield counted("of the kit's `sha2`", of_kit, lines_of)
+        yield counted("of the kit's `sha2`", of_kit, lines_of, "FIPS 180-4")
 
 
-def rows_of_others():
-    """The lines that stand beside those, by what reaches them."""
+def with_others(page):
+    """The page with the numbers of the lines that stand beside those, by what reaches them."""
     left = defined() - reached("program") - reached("library")
     progress, laws = left & reached("progress"), left & reached("laws") - reached("progress")
-    yield row("that say what the line of `--progress` shows", lines_of(progress))
-    yield row("in what laws say of the others", lines_of(laws))
-    yield row("in contracts of the code's other functions", lines_of(left - progress - laws))
+    counts = map(str, map(lines_of, [progress, laws, left - progress - laws]))
+    return OTHERS.sub(lambda told: re.sub(r"(?<=[:;] )\d+(?= of )", lambda number: next(counts), told[0]), page)
 
 
 def with_table(page, head, rows):
@@ -250,8 +265,7 @@ def with_table(page, head, rows):
 
 
 def with_tables(page):
-    page = with_table(page, "| lines of definitions in |", rows_to_believe())
-    return with_table(page, "| other lines |", rows_of_others())
+    return with_others(with_table(page, "| lines of definitions in |", rows_to_believe()))
 
 
 def check_words():
@@ -266,10 +280,14 @@ def check():
     for kind in KINDS:
         harness.judge(f"theorems of the kind {kind}", reached(kind))
     check_words()
-    for definition in sorted(reached("program") | reached("library")):
+    believed = reached("program") | reached("library")
+    theirs = {crate_of(path) for path, _ in believed if not path.startswith(f"{sha2()}/")}
+    harness.same("the crates of the rows", sorted(theirs), sorted(sum((names for names, _ in ROWS.values()), ())))
+    for definition in sorted(believed):
         inside = [one for one in cited_by(*definition) if one[0] and is_inside(one[0])]
         harness.judge(" cites nothing of inside/: ".join(definition), not inside, *inside)
     told, wanted = read(PROOFS), with_tables(read(PROOFS))
+    harness.judge("docs/PROOFS.md counts the other lines", OTHERS.search(told))
     others = [line for line in wanted.splitlines() if line not in told.splitlines()]
     harness.judge("docs/PROOFS.md has the lines that are reached", told == wanted, *others)
     harness.finish()

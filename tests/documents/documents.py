@@ -1,6 +1,6 @@
 #!/usr/bin/env python3
-"""Checks the documents: each link leads somewhere, here and where they are installed, sentences are short, nothing is
-dated, quoted code is there, pictures show what they are made of, README is short, begins with what its readers ask
+"""Checks the documents: each link leads somewhere, here and where they are installed, sentences and pages are short,
+nothing is dated, quoted code is there, pictures show what they are made of, README begins with what its readers ask
 first, among it two commands for those with the kit, and has the options and statuses of the program's help and manual
 pages; those have what tools/pages writes, name the same faults, and list the same terminals as code and tests do.
 usage: tests/documents/documents.py PROGRAM
@@ -18,7 +18,21 @@ import harness
 import links
 
 ROOT = os.path.dirname(harness.HERE)
-README_WORDS = 1500
+# how many words each of these has at most, as `wc -w` counts them
+MOST_WORDS = {
+    "README.md": 1500,
+    "docs/ARCHITECTURE.md": 1550,
+    "docs/BENCHMARKS.md": 2300,
+    "docs/CONTRIBUTING.md": 2250,
+    "docs/DECISIONS.md": 2150,
+    "docs/FORMAT.md": 2700,
+    "docs/INSTALL.md": 330,
+    "docs/PROOFS.md": 3600,
+    "docs/READING.md": 1200,
+    "docs/RELEASING.md": 900,
+    "docs/SCALE.md": 1600,
+    "docs/SECURITY.md": 850,
+}
 FIRST_LINES = 40
 FIRST_TEXTS = ["sums check -a ", "sums hash -a ", " --verify ", ": OK\n", "apt install", "tar -xf", "pip install",
                "(docs/INSTALL.md)", "(#what-is-proved)", "**proved**"]
@@ -31,7 +45,6 @@ KINDS = ["dumb", "unknown", "ansi", "vt52"]
 TERMINALS = {
     "crates/sums/specs/Progress.antt": (r"^is_simple kind = .*?\n\n", r'codes "(\w+)"'),
     "crates/sums/src/progress.rt": (r'None \| Some\("" [^)]*\) => false', r'"(\w+)"'),
-    "docs/FORMAT.md": (r"If `TERM` is unset, empty, [^.]*, nothing is shown", r"(?<!If )`(\w+)`"),
     "man/sums-hash.1": (r"^\.B TERM\nis unset, empty,\n.*?^nothing is shown", r"^\.BR? (?!TERM$)(\w+)"),
     "scripts/sums-parallel": (r'kinds = \("", [^)]*\)', r'"(\w+)"'),
     "tests/program/progress": (r"for kind in TERM=dumb [^;]*", r"TERM=(\w+)"),
@@ -99,6 +112,14 @@ def check_installed():
         none(f"{page}: links to what is not installed", sorted(targets - set(files) - folders))
 
 
+def check_words():
+    """Each page of these has a limit, and keeps it."""
+    harness.same("pages with a limit of words", sorted(MOST_WORDS), PAGES)
+    for page, most in MOST_WORDS.items():
+        count = len(read(page).split())
+        harness.judge(f"{page} has {count} words, and {most} at most", count <= most)
+
+
 def check_diary(page):
     lines = [line for line in read(page).splitlines() if DIARY.search(line)]
     may_date = page == "docs/BENCHMARKS.md"
@@ -162,7 +183,7 @@ def check_synopsis(command):
 
 
 def check_pages():
-    """What tools/pages writes stands in the manual pages and in FORMAT."""
+    """What tools/pages writes stands in the manual pages."""
     done = harness.run(os.path.join(ROOT, "tools/pages"), ["check", PROGRAM])
     harness.judge("what tools/pages writes", done.status == 0, *(done.out + done.err).decode().splitlines())
 
@@ -244,8 +265,7 @@ def main():
     check_installed()
     for page in PAGES:
         check_diary(page)
-    count = len(read("README.md").split())
-    harness.judge(f"README.md has {count} words", count <= README_WORDS)
+    check_words()
     check_first_screen()
     check_commands()
     check_statuses()

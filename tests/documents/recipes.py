@@ -211,6 +211,8 @@ def lists_of(bench, folder):
     with open(os.path.join(folder, "B2SUMS"), "wb") as file:
         file.write(bench.sums(folder, "hash", "-a", "blake2b", "message"))
         file.write(bench.sums(folder, "hash", "-a", "blake2b", "-l", "32", "--", *names))
+    with open(os.path.join(folder, "TAGS"), "wb") as file:
+        file.write(bench.sums(folder, "mac", "-a", "hmac-sha256", "--key-file", "key", "--", *names))
     return listed
 
 
@@ -425,6 +427,36 @@ def signed(bench, text):
 # ---- Folders
 
 
+def keyed_list(bench):
+    """A list of a folder under a key: nothing is changed; then a file, a file and its line, by one who has no key, and a
+    line that has become a tagged one."""
+    key, make, check = bench.text("docs/FORMAT.md", "keyed").splitlines()
+    changed = "backup/sub dir/two"
+
+    def case(forge, report, told=b""):
+        folder = bench.folder()
+        os.mkdir(os.path.join(folder, "backup"))
+        tree(os.path.join(folder, "backup"))
+        fill(os.path.join(folder, changed), 40)
+        ends(bench.run(f"{key}\n{make}", folder), 0, b"")
+        with open(os.path.join(folder, "LIST"), "rb") as file:
+            lines = file.read().splitlines(keepends=True)
+        at = next(at for at, line in enumerate(lines) if line[66:] == changed.encode() + b"\n")
+        if forge is not None:
+            fill(os.path.join(folder, changed), 41)
+            lines[at] = bench.sums(folder, "hash", "-a", "blake3", *forge, changed) if forge else lines[at]
+        with open(os.path.join(folder, "LIST"), "wb") as file:
+            file.write(b"".join(lines))
+        ends(bench.run(check, folder), 0, report.replace(b"AT", b"%d" % (at + 1)), told)
+
+    failed = changed.encode() + b": FAILED\n"
+    bench.judge("docs/FORMAT.md keyed", lambda: case(None, b""))
+    bench.judge("docs/FORMAT.md keyed, a file changed", lambda: case([], failed))
+    bench.judge("docs/FORMAT.md keyed, a file and its line", lambda: case(["-l", "32"], failed))
+    bench.judge("docs/FORMAT.md keyed, a tagged line", lambda: case(
+        ["--tag"], b"line AT: MALFORMED\n", b"sums: LIST: tagged lines, which anyone can make: 1\n"))
+
+
 def tree(folder):
     """Files of each name, in two folders."""
     names = []
@@ -487,6 +519,7 @@ RUNS = {
                       "damage-list": scale_damage, "damage-trust": scale_damage, "damage-find": scale_damage,
                       "damage-mend": scale_damage,
                       "job.sh": scale_slurm, "join.sh": scale_slurm, "slurm": scale_slurm, "spark": scale_spark},
+    "docs/FORMAT.md": {"keyed": keyed_list},
     "man/sums.1": {"lines": lambda bench: lines_of(bench, "man/sums.1"), "folder": folders},
     "man/sums-hash.1": {"lines": hash_page},
     "man/sums-mac.1": {"lines": lambda bench: lines_of(bench, "man/sums-mac.1"), "tag": tags},
