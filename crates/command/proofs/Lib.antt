@@ -12,6 +12,7 @@ pub mod Outputs
 pub mod Comparing
 pub mod Tagging
 pub mod MacLines
+pub mod TagLines
 pub mod Deriving
 pub mod CutParts
 pub mod Starting

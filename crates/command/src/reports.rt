@@ -10,18 +10,18 @@ ghost use Rattle.sumlist.specs.Lines.{lines};
 ghost use Rattle.sumlist.specs.Tally.{summary_text};
 ghost use Rattle.std.specs.Fmt.{decimal};
 ghost use Rattle.task.specs.Tasks.{tags};
-ghost use Rattle.task.specs.inside.Views.{entries_shown, key_shown};
+ghost use Rattle.task.specs.inside.Views.{key_shown};
 ghost use Rattle.command.specs.Checking as spec;
-ghost use Rattle.command.specs.Checking.{CheckRuns, ListRuns, ListsRun, foreign_hint, has_lengths, hints};
+ghost use Rattle.command.specs.Checking.{ListRuns, ListsRun, foreign_hint, has_lengths, hints};
 ghost use Rattle.command.specs.Visible.{visible};
-ghost use Rattle.command.specs.Lines.{content_of, entries_opens, is_input, opens_of};
+ghost use Rattle.command.specs.Lines.{content_of, is_input, opens_of};
 ghost use Rattle.command.specs.Run.{TellsAll};
 ghost use Rattle.command.specs.inside.Faults.{hinted_of, noted_of, of_check, heading};
 ghost use Rattle.command.specs.inside.Listing.{ListTaken};
 ghost use Rattle.command.specs.inside.Reading.{Leaves, failed};
 ghost use Rattle.command.specs.inside.Reported.{PrintsReport};
 ghost use Rattle.command.specs.inside.Keys.{key_content};
-ghost use Rattle.command.specs.inside.Rules.{HasRule, MayRefuseSum, keyed_line, meaning};
+ghost use Rattle.command.specs.inside.Rules.{EntriesRun, HasRule, MayRefuseSum, entries_opens, keyed_line, meaning};
 ghost use Rattle.command.specs.inside.Seen.{IfTold, OpensAtMost, DoesRun, opens_from, source_opens};
 ghost use Rattle.command.specs.inside.Troubles.{trouble_of};
 ghost use Rattle.command.specs.inside.Streams.{SameStreams};
@@ -55,12 +55,12 @@ impl<'i, 't, 'o, L: Feed, T: Tree, W: Sink> Session<'i, 't, 'o, L, T, W> {
         lists: &[&'n str],
         err: &mut E,
     ) -> Result<u8, Fault<'n>>
-        ensures run { DoesRun (λ bytes files. CheckRuns (entries_shown entries.entry) is_summed files
+        ensures run { DoesRun (λ bytes files. EntriesRun entries.entry is_summed files
             (map (λ n. n.now) lists.entry.now) bytes)
             (λ notes. TellsAll (E.shown err.old) (E.shown err.new) notes)
             result (⟦<Self as Streams>⟧.seen self.old) (⟦<Self as Streams>⟧.seen self.new) }
         ensures opens { IfTold (⟦<Self as Streams>⟧.seen self.old) (λ bytes files. OpensAtMost
-            (entries_opens (entries_shown entries.entry)
+            (entries_opens entries.entry
             + sum_by (λ name. opens_of name + opens_from lines (content_of name bytes files))
             (map (λ n. n.now) lists.entry.now))
             (⟦<Self as Streams>⟧.seen self.old) (⟦<Self as Streams>⟧.seen self.new)) }

@@ -2,8 +2,8 @@
 use Rattle.std.proofs.Common.{◌≡◌, ◌<◌, ◌≤◌, ◌∙◌, ℕ, List, take, false, None, Option, Some}
 use Rattle.std.proofs.Common.{ap, arith, length, refl, sym}
 use Rattle.std.specs.Prelude.{if◌then◌else◌, ◌==◌, Contains}
-use Rattle.std.proofs.lemmas.Bool.{ne_eqb, eqb-false}
-use Rattle.std.proofs.lemmas.List.Elements.{All-contains, All-contains_itself, All-weaker}
+use Rattle.std.proofs.lemmas.Bool.{eqb-false}
+use Rattle.std.proofs.lemmas.List.Elements.{All-contains}
 use Rattle.std.proofs.lemmas.Bool.Decides.{nat_tests}
 use Rattle.sumlist.specs.Line.{IsMalformed, IsUntagged}
 use Rattle.sumlist.specs.Lines.{IsKept}
@@ -49,10 +49,6 @@ number_one k l e = sym (kind_back k) ∙ ap kind_at e ∙ kind_back l
 -- a text without a byte has no such byte anywhere, and the reverse
 pub none_from_no : (c : ℕ) (text : List ℕ) → HasNo c text → Contains text c → ⊥
 none_from_no c text without some = eqb-false c c (All-contains (λ x. (x == c) ≡ false) text c without some) refl
-
-pub no_from_none : (c : ℕ) (text : List ℕ) → (Contains text c → ⊥) → HasNo c text
-no_from_none c text none = All-weaker (Contains text) _ (λ x some. ne_eqb x c (λ same. none (rw same at some))) text
-    (All-contains_itself text)
 
 -- what is held of a line that is not too long
 pub held_bytes : (s : ListState) (b : List ℕ) → s.held ≤ 65536 → IsKept (held s) b → b ≡ take s.held s.line

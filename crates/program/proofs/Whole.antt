@@ -1,8 +1,11 @@
 -- A run of the program is that of its request, with the last trouble told.
 use Rattle.std.proofs.Common.{◌≡◌, ℕ, List, [], ◌∷◌, ◌++◌, Option, Some, None, Result, Ok, Err, IfOk, IfSome, refl}
-use Rattle.std.proofs.Common.{sym, ap, ◌∙◌, ◌⊎◌, ◌+◌, ◌≤◌, false, inl, inr, subst, append-nil, arith}
+use Rattle.std.proofs.Common.{sym, ap, ◌∙◌, ◌⊎◌, ◌+◌, ◌≤◌, Bool, false, inl, inr, subst, append-nil, arith}
+use Rattle.std.specs.Prelude.{length, sum_by}
+use Rattle.std.specs.Option.{option_map_or}
 use Rattle.std.proofs.KnownBytes.{Appends-nil}
 use Rattle.source.specs.Written.{Done, Failed, Shown}
+use Rattle.sumlist.specs.Lines.{lines}
 use Rattle.sumlist.specs.Report.{Files}
 use Rattle.request.specs.CommandLine.{AreRead, ErrorKind, Given, IsWrong, Text, given_of, kind_of}
 use Rattle.request.specs.inside.Reading.{IsRead}
@@ -11,9 +14,14 @@ use Rattle.request.specs.declared.request.WordsFault.{WordsFault}
 use Rattle.request.specs.declared.request.WordsFault.TheVariants as words_fault
 use Rattle.task.specs.Tasks.{Asked, asked}
 use Rattle.task.specs.declared.fault.UsageFault.{UsageFault}
+use Rattle.task.specs.declared.tasks.Entries.{Entries}
+use Rattle.task.specs.declared.tasks.Entries.TheVariants.{Digests, Tags}
 use Rattle.task.specs.inside.Texts.{fault_text}
+use Rattle.task.specs.inside.Views.{entries_shown}
+use Rattle.command.specs.Lines.{content_of, opens_of}
 use Rattle.command.specs.Run.{Counted, Run, Runs, Tells, TellsAll, end_of, prints, stops}
 use Rattle.command.specs.Run.{cannot_write as run_cannot_write, out_of_memory as run_out_of_memory}
+use Rattle.command.specs.inside.Rules.{EntriesRun, entries_opens}
 use Rattle.command.specs.inside.Seen.{Does}
 use Rattle.command.specs.inside.Troubles.{cannot_write, out_of_memory, status_of, told, trouble_of, usage}
 use Rattle.command.specs.declared.fault.Fault.{Fault}
@@ -118,6 +126,23 @@ quiet_task None tree task shown answer out_old out_new err i j u v x y same h mo
 quiet_task (Some bytes) None task shown answer out_old out_new err i j u v x y same h most = tt
 quiet_task (Some bytes) (Some files) task shown answer out_old out_new err i j u v x y same h most =
     rw same (h.0, (h.1, most bytes files), h.2, rw h.3 refl, h.4)
+
+-- lists are checked as what their entries are asks for
+pub told_check : (first : Option (List ℕ)) (tree : Option Files) (entries : Entries) (is_summed : Bool)
+    (lists : List Text) (answer : Result ℕ Fault) (out_old out_new err_old err_new : Shown) (i j u v : ℕ)
+    → IfSome first (λ bytes. IfSome tree (λ files. (run : Run) × EntriesRun entries is_summed files lists bytes run
+    × Does run answer out_old out_new × TellsAll err_old err_new run.notes × Counted run.failures i j u v))
+    → Tellingly first tree (entries_shown entries is_summed lists) answer out_old out_new err_old err_new i j u v
+told_check first tree (Digests kind) is_summed lists answer out_old out_new err_old err_new i j u v h = h
+told_check first tree (Tags short key) is_summed lists answer out_old out_new err_old err_new i j u v h = h
+
+-- and open as many files
+pub check_opens : (first : Option (List ℕ)) (tree : Option Files) (entries : Entries) (is_summed : Bool)
+    (lists : List Text) (x y : ℕ) → IfSome first (λ bytes. IfSome tree (λ files. y ≤ x + (entries_opens entries
+    + sum_by (λ list. opens_of list + length (option_map_or lines (content_of list bytes files) [])) lists)))
+    → Opens first tree (entries_shown entries is_summed lists) x y
+check_opens first tree (Digests kind) is_summed lists x y h = h
+check_opens first tree (Tags short key) is_summed lists x y h = h
 
 -- the run of a task is that of the request that asks for it
 requested : (r : Given) (task : Asked) (files : Files) (bytes : List ℕ) (run : Run) → asked r ≡ Ok task

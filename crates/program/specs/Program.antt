@@ -4,17 +4,17 @@ use Rattle.std.specs.Option.{option_map_or}
 use Rattle.source.specs.Written.{Shown}
 use Rattle.sumlist.specs.Lines.{lines}
 use Rattle.sumlist.specs.Naming.{names}
-use Rattle.sumlist.specs.Report.{Files}
+use Rattle.sumlist.specs.Report.{Files, keyed, unkeyed}
 use Rattle.request.specs.CommandLine.{AreRead, ErrorKind, Given, IsWrong, Text}
-use Rattle.task.specs.Tasks.{Asked, asked, checks, derives, in_file, joins, prints_line, prints_lines, prints_part}
-use Rattle.task.specs.Tasks.{prints_parts, prints_starts, these, verifies}
-use Rattle.command.specs.Checking.{CheckRuns}
+use Rattle.task.specs.Tasks.{Asked, asked, checks, checks_tags, derives, in_file, joins, prints_line, prints_lines}
+use Rattle.task.specs.Tasks.{prints_part, prints_parts, prints_starts, tags, these, verifies}
+use Rattle.command.specs.Checking.{ListsRun}
 use Rattle.command.specs.Run.{Counted, Prints, Run, Runs, out_of_memory, prints, stops}
 use Rattle.command.specs.Cutting.{EachRuns, PartRuns, StartsRuns}
 use Rattle.command.specs.Hashing.{LinesGiven, LinesListed}
 use Rattle.command.specs.Joining.{JoinRuns}
 use Rattle.command.specs.Keying.{KdfRuns, LineRuns, SumRuns}
-use Rattle.command.specs.Lines.{content_of, entries_opens, key_opens, opens_of}
+use Rattle.command.specs.Lines.{content_of, key_opens, opens_of}
 use Rattle.command.specs.Verifying.{VerifyRuns}
 
 -- the run of a task
@@ -25,7 +25,9 @@ TaskRuns (prints_lines sum (in_file list)) files input =
 TaskRuns (prints_line sum wanted name file) files input =
     SumRuns sum files (λ l. LineRuns wanted l name file input files)
 TaskRuns (derives derived is_raw name) files input = KdfRuns derived is_raw name files
-TaskRuns (checks entries is_summed lists) files input = CheckRuns entries is_summed files lists input
+TaskRuns (checks kind is_summed lists) files input = ListsRun (unkeyed kind) is_summed files lists input
+TaskRuns (checks_tags mac n key is_summed lists) files input =
+    SumRuns (tags mac false key) files (λ l. ListsRun (keyed n l.limit l.bytes) is_summed files lists input)
 TaskRuns (prints_part first chunks name) files input = PartRuns first chunks name files input
 TaskRuns (prints_starts chunks name) files input = StartsRuns chunks name files
 TaskRuns (prints_parts chunks name) files input = EachRuns chunks name files input
@@ -39,7 +41,9 @@ most_opens (prints_lines sum (in_file list)) files input =
     key_opens sum + (opens_of list + length (option_map_or names (content_of list input files) []))
 most_opens (prints_line sum wanted name file) files input = key_opens sum + opens_of file
 most_opens (derives derived is_raw name) files input = 1
-most_opens (checks entries is_summed lists) files input = entries_opens entries
+most_opens (checks kind is_summed lists) files input =
+    sum_by (λ list. opens_of list + length (option_map_or lines (content_of list input files) [])) lists
+most_opens (checks_tags mac n key is_summed lists) files input = key_opens (tags mac false key)
     + sum_by (λ list. opens_of list + length (option_map_or lines (content_of list input files) [])) lists
 most_opens (prints_part first chunks name) files input = opens_of name
 most_opens (prints_starts chunks name) files input = 55

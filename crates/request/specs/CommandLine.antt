@@ -112,8 +112,9 @@ mac_names = codes "hmac-sha256" ∷ codes "hmac-sha512" ∷ codes "hmac-blake2b"
 abbrev pub AreRead : List Text → Result Given ErrorKind → Type 0
 AreRead words read = (names : NameList) × (macs : NameList) × (both : NameList)
     × (map (λ n. n.now) names.now ≡ map (λ k. k.0) kinds) × (map (λ n. n.now) macs.now ≡ mac_names)
-    × (map (λ n. n.now) both.now ≡ map (λ k. k.0) kinds ++ take 4 mac_names) × let app = sums_app names macs both in MatchResult read (λ given.
-    (fault_of app words ≡ []) × (subcommand_of app words ≡ Some given)) (λ kind. IsAmong kind (fault_of app words))
+    × (map (λ n. n.now) both.now ≡ map (λ k. k.0) kinds ++ take 4 mac_names)
+    × let app = sums_app names macs both in MatchResult read (λ given. (fault_of app words ≡ [])
+    × (subcommand_of app words ≡ Some given)) (λ kind. IsAmong kind (fault_of app words))
 
 -- words that are wrong, and no call for help or the version
 abbrev pub IsWrong : ErrorKind → Type 0

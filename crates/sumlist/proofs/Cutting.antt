@@ -3,8 +3,10 @@
 use Rattle.sumlist.proofs.Common.{◌≡◌, ◌<◌, List, [], ◌∷◌, ◌++◌, length, refl, ap, ◌∙◌, arith, eqb, lines, ℕ}
 use Rattle.sumlist.proofs.Common.{Consumes, IfSome, false}
 use Rattle.sumlist.proofs.Common.{Option, Some, All-append, append_assoc, IsCut, length-append, nat_tests}
-use Rattle.sumlist.proofs.Common.{nil_from_length}
-use Rattle.std.proofs.lemmas.Bool.{eq-eqb}
+use Rattle.sumlist.proofs.Common.{All-weaker, nil_from_length}
+use Rattle.std.specs.Prelude.{Contains}
+use Rattle.std.proofs.lemmas.Bool.{eq-eqb, ne_eqb}
+use Rattle.std.proofs.lemmas.List.Elements.{All-contains_itself}
 use Rattle.std.proofs.lemmas.List.Splits.{slice_split_at, slice_split_none, length-slice_split}
 use Rattle.sumlist.specs.Lines.{IsKept, pieces}
 use Rattle.sumlist.specs.inside.Cut.{HasNo}
@@ -27,6 +29,10 @@ pieces-cut end text piece rest cut start more free = rw cut.0 (ap (pieces end) (
 pub pieces-last : (end : ℕ) (piece : List ℕ) → 0 < length piece → HasNo end piece
     → pieces end piece ≡ piece ∷ []
 pieces-last end piece some h = rw (slice_split_none (λ b. eqb b end) piece h) (grind arith)
+
+pub HasNo-from_none : (c : ℕ) (text : List ℕ) → (Contains text c → ⊥) → HasNo c text
+HasNo-from_none c text none = All-weaker (Contains text) _ (λ x some. ne_eqb x c (λ same. none (rw same at some))) text
+    (All-contains_itself text)
 
 pub lines-ended : (line rest : List ℕ) → HasNo 10 line → lines (line ++ 10 ∷ rest) ≡ line ∷ lines rest
 lines-ended line rest h = pieces-ended 10 line rest h

@@ -15,5 +15,4 @@ pub mod Report
 pub mod Tally
 pub mod Checked
 pub mod Settled
-pub mod Keyed
 pub mod inside

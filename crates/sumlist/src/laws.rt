@@ -1,7 +1,6 @@
 // What holds of lines and of reports.
 
 ghost use Rattle.sumlist.specs.Meanings.{NoOtherMeaning, OneMeaning};
-ghost use Rattle.sumlist.specs.Keyed.{WrittenIsOk};
 ghost use Rattle.sumlist.specs.Settled.{NoneCounted, OneSettled};
 
 /// Does nothing. Its contract says what the lines of lists mean: each is skipped, or spells an entry, or is
@@ -17,10 +16,4 @@ pub fn line_laws()
 pub fn report_laws()
     ensures one { OneSettled }
     ensures none { NoneCounted }
-{}
-
-/// Does nothing. Its contract says that the line which is written of a name and the tag of a file's bytes is
-/// OK in a list of such tags.
-pub fn keyed_laws()
-    ensures { WrittenIsOk }
 {}

@@ -20,7 +20,7 @@ pub use files::FileTree;
 pub use filling::{FillFault, entry_len, fill_entry, fill_verdict, verdict_len};
 pub use fitting::{LINE_LIMIT, fits, tagged_fits};
 pub use kind::Kind;
-pub use laws::{keyed_laws, line_laws, report_laws};
+pub use laws::{line_laws, report_laws};
 pub use line::{Line, LineFault, Said, parse_line, split_line};
 pub use lines::split_at_byte;
 pub use map::map_laws;

@@ -5,8 +5,8 @@ use Rattle.hex.specs.Hex.{decode_pairs}
 use Rattle.request.proofs.ExampleWords.{clap_on_literals, subcommand_of}
 use Rattle.request.specs.CommandLine.{NameList, Text, sums_app}
 use Rattle.sumlist.specs.declared.kind.Kind.TheVariants as kind
-use Rattle.task.specs.Tasks.{Asked, asked, checks, digests, in_file, joins, least_power, prints_line, prints_lines}
-use Rattle.task.specs.Tasks.{of_digests, of_tags, tags, these, verifies}
+use Rattle.task.specs.Tasks.{Asked, asked, checks, checks_tags, digests, in_file, joins, least_power, prints_line}
+use Rattle.task.specs.Tasks.{prints_lines, tags, these, verifies}
 use Rattle.task.specs.declared.hashing.Form.TheVariants.{Plain}
 use Rattle.task.specs.declared.hashing.Hash.TheVariants.{Whole}
 use Rattle.task.specs.declared.tagging.Mac.TheVariants.{Blake2b, Blake2s}
@@ -91,12 +91,12 @@ unfolding clap_on_literals sums_app
 kdf_context names macs both = refl
 
 check_input : Asks (codes "check" ∷ [])
-    (Ok (checks (of_digests None) false (codes "-" ∷ [])))
+    (Ok (checks None false (codes "-" ∷ [])))
 unfolding clap_on_literals sums_app
 check_input names macs both = refl
 
 check_tags : Asks (codes "check" ∷ codes "-ablake2s" ∷ codes "-l8" ∷ codes "--key-file=k" ∷ codes "l" ∷ [])
-    (Ok (checks (of_tags (Blake2s 8) 8 (in_file (codes "k"))) false (codes "l" ∷ [])))
+    (Ok (checks_tags (Blake2s 8) 8 (in_file (codes "k")) false (codes "l" ∷ [])))
 unfolding clap_on_literals sums_app
 check_tags names macs both = refl
 

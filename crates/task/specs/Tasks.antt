@@ -1,13 +1,13 @@
 -- What a request asks for, or the first fault of its settings: the commands in the order of the manual page.
 use Rattle.std.specs.Prelude.{ℕ, ◌-◌, ◌*◌, ◌/◌, ◌%◌, ◌^◌, ◌&&◌, ◌||◌, Bool, false, List, [], ◌∷◌, Option}
-use Rattle.std.specs.Prelude.{Result, Ok, Err, codes, is_some, length, nat_lt, not, ok_or, unwrap_or}
+use Rattle.std.specs.Prelude.{Result, Ok, Err, codes, is_some, length, nat_lt, not, ok_or, unwrap_or, zip}
 use Rattle.std.specs.Prelude.{if◌then◌else◌}
 use Rattle.std.specs.Map.{lookup}
 use Rattle.std.specs.Bool.{beq}
 use Rattle.std.specs.Int.{leading_zeros, w64}
 use Rattle.std.specs.Option.{option_map_or}
 use Rattle.std.specs.Str.{bytes_eq}
-use Rattle.request.specs.CommandLine.{Given, Text, has_flag, text_of}
+use Rattle.request.specs.CommandLine.{Given, Text, has_flag, mac_names, text_of}
 use Rattle.source.specs.Digest.{digest_len}
 use Rattle.source.specs.declared.alg.Alg.{Alg}
 use Rattle.source.specs.declared.alg.Alg.TheVariants as alg
@@ -34,12 +34,6 @@ pub data Source (A : Type 0) : Type 0 where
   these : A → Source A
   in_file : Text → Source A
 
--- what the entries of lists are: digests, those of untagged lines by this hash, if there is one; or tags of so many bytes
--- under a key
-pub data Entries : Type 0 where
-  of_digests : Option Kind → Entries
-  of_tags : Mac → ℕ → Source (List ℕ) → Entries
-
 -- what is printed of a file: a digest, or a tag under a key, in digits or as it is
 pub data Sum : Type 0 where
   digests : Requested → Sum
@@ -50,7 +44,8 @@ pub data Asked : Type 0 where
   prints_lines : Sum → Source (List Text) → Asked
   prints_line : Sum → Option (List ℕ) → Text → Text → Asked
   derives : Derived → Bool → Text → Asked
-  checks : Entries → Bool → List Text → Asked
+  checks : Option Kind → Bool → List Text → Asked
+  checks_tags : Mac → ℕ → Source (List ℕ) → Bool → List Text → Asked
   prints_part : ℕ → Option ℕ → Text → Asked
   prints_starts : ℕ → Text → Asked
   prints_parts : ℕ → Text → Asked
@@ -92,10 +87,8 @@ hmac h = let n = digest_len (hmac_alg h) in tagged_by (Hmac h) n (n / 2) n
 
 -- the keyed functions by name, where the tags of BLAKE3 have so many bytes at most
 abbrev pub macs : ℕ → List (Text × (Given → Result (Mac × ℕ) Text))
-macs most = (codes "hmac-sha256", hmac over.Sha256) ∷ (codes "hmac-sha512", hmac over.Sha512)
-    ∷ (codes "hmac-blake2b", hmac over.Blake2b) ∷ (codes "hmac-blake2s", hmac over.Blake2s)
-    ∷ (codes "blake2b", tagged_by Blake2b 64 1 64) ∷ (codes "blake2s", tagged_by Blake2s 32 1 32)
-    ∷ (codes "blake3", tagged_by Blake3 32 1 most) ∷ []
+macs most = zip mac_names (hmac over.Sha256 ∷ hmac over.Sha512 ∷ hmac over.Blake2b ∷ hmac over.Blake2s
+    ∷ tagged_by Blake2b 64 1 64 ∷ tagged_by Blake2s 32 1 32 ∷ tagged_by Blake3 32 1 most ∷ [])
 
 -- what is told of a key that is given in none of two ways, or in both
 abbrev pub one_key : Text
@@ -148,20 +141,14 @@ kdf g = do
   material ← needed text (codes "ikm-file") g
   Ok (derives by (has_flag (codes "raw") g) material)
 
--- a key is given
-abbrev pub has_key : Given → Bool
-has_key g = is_some (text_of (codes "key") g) || is_some (text_of (codes "key-file") g)
-
--- the entries of lists: tags have 64 bytes at most; without a key any other name of `-a` is one of HMAC
-abbrev pub entries : Given → Result Entries Text
-entries g = if has_key g then under_key 64 g >>= (λ k. Ok (of_tags k.0 k.1 k.2)) else (do
+-- that of `check`: under a key the entries of lists are tags of at most 64 bytes; else digests, those of untagged lines by
+-- this hash, if there is one, and any other name of `-a` is one of HMAC
+abbrev pub check : Given → Result Asked Text
+check g = (if is_some (text_of (codes "key") g) || is_some (text_of (codes "key-file") g)
+    then under_key 64 g >>= (λ k. Ok (checks_tags k.0 k.1 k.2)) else (do
   kind ← given (λ s t. ok_or (lookup (bytes_eq t) kinds) one_key) (codes "a") g
   absent not_for (codes "l" ∷ []) g
-  Ok (of_digests kind))
-
--- that of `check`
-abbrev pub check : Given → Result Asked Text
-check g = entries g >>= (λ e. Ok (checks e (has_flag (codes "summary") g) (names_or_input g)))
+  Ok (checks kind))) >>= (λ lists. Ok (lists (has_flag (codes "summary") g) (names_or_input g)))
 
 -- only BLAKE3 has parts
 abbrev pub has_parts : Kind → Result (Unit {0}) Text

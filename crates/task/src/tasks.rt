@@ -14,6 +14,7 @@ ghost use Rattle.task.specs.Tasks as spec;
 ghost use Rattle.task.specs.Tasks.{asked, in_file, these};
 ghost use Rattle.task.specs.inside.Reading as reading;
 ghost use Rattle.task.specs.inside.Seen.{IsAsDefined, judged, seen};
+ghost use Rattle.task.specs.inside.Steps.{entries};
 ghost use Rattle.task.specs.inside.Views.{entries_shown, names_shown, sum_shown, task_shown, texts_of};
 
 use crate::derivation::Derivation;
@@ -311,7 +312,7 @@ fn check<'a>(alloc: Global, request: &Request<'a>) -> Result<Task<'a>, TaskFault
 impl<'a> Entries<'a> {
     // What a request says that the entries are: tags, if it gives a key.
     fn of(alloc: Global, request: &Request<'a>) -> Result<Entries<'a>, TaskFault>
-        ensures { IsAsDefined entries_shown (spec.entries (given_of request.now)) result }
+        ensures { IsAsDefined entries_shown (entries (given_of request.now)) result }
     {
         if request.text("key").is_some() || request.text("key-file").is_some() {
             let mac = Mac::of(request, LISTED_LEN)?;

@@ -1,14 +1,20 @@
 -- The rule of the lines that a command prints, as the code holds it, and how it is had.
-use Rattle.std.specs.Prelude.{◌⊎◌, ◌≡◌, ⊤, true, false, List, Option, None, ℕ, IsSome}
-use Rattle.sumlist.specs.Report.{Files, Meaning}
+use Rattle.std.specs.Prelude.{◌⊎◌, ◌≡◌, ⊤, Bool, true, false, List, Option, None, ℕ, IsSome}
+use Rattle.request.specs.CommandLine.{Text}
+use Rattle.sumlist.specs.Report.{Files, Meaning, keyed, unkeyed}
 use Rattle.sumlist.specs.declared.entries.Entries.{Entries}
 use Rattle.sumlist.specs.inside.Stepped.{meaning_of}
 use Rattle.task.specs.Tasks.{Sum, digests, tags}
+use Rattle.task.specs.inside.Possible.{mac_len}
 use Rattle.task.specs.inside.Views.{key_shown}
+use Rattle.task.specs.declared.tasks.Entries.{Entries as TaskEntries}
+use Rattle.task.specs.declared.tasks.Entries.TheVariants.{Digests, Tags}
 use Rattle.task.specs.declared.tasks.Sum.{Sum as CodeSum}
 use Rattle.task.specs.declared.tasks.Sum.TheVariants as code
-use Rattle.command.specs.Keying.{mac_line}
-use Rattle.command.specs.Lines.{LineRule, digest_line}
+use Rattle.command.specs.Checking.{ListsRun}
+use Rattle.command.specs.Keying.{SumRuns, mac_line}
+use Rattle.command.specs.Lines.{LineRule, digest_line, key_opens}
+use Rattle.command.specs.Run.{Run}
 use Rattle.command.specs.inside.Keys.{IsKey, MayRefuseKey, key_content, takes_key}
 use Rattle.command.specs.inside.Making.{made_len}
 use Rattle.command.specs.inside.Seen.{source_opens}
@@ -31,6 +37,17 @@ line_by (Tag keyed) = keyed_line keyed
 -- what the entries of lists are, where tags have such a key
 abbrev pub meaning : Entries ShortKeyed → Meaning
 meaning = meaning_of (λ k. (keyed_line k.keyed).limit) (λ k. (keyed_line k.keyed).bytes)
+
+-- the run of `check` over such lists: a key is read and judged before any of them
+abbrev pub EntriesRun : TaskEntries → Bool → Files → List Text → List ℕ → Run → Type 0
+EntriesRun (Digests kind) is_summed files lists input = ListsRun (unkeyed kind) is_summed files lists input
+EntriesRun (Tags short key) is_summed files lists input = SumRuns (tags short.mac false (key_shown key)) files
+    (λ l. ListsRun (keyed (mac_len short.mac) l.limit l.bytes) is_summed files lists input)
+
+-- how often a file is opened for the key of their entries
+abbrev pub entries_opens : TaskEntries → ℕ
+entries_opens (Digests kind) = 0
+entries_opens (Tags short key) = key_opens (tags short.mac false (key_shown key))
 
 -- a digest that was made has as many bytes as were asked for
 abbrev pub IsSized : Rule → Made → Type 0

@@ -5,8 +5,8 @@ use Rattle.std.specs.List.{list_any}
 use Rattle.std.specs.Option.{option_and_then}
 use Rattle.std.specs.Str.{bytes_eq}
 use Rattle.request.specs.CommandLine.{Text}
-use Rattle.task.specs.Tasks.{Asked, Sum, checks, in_file, prints_line, prints_lines, prints_part, prints_starts, tags}
-use Rattle.task.specs.Tasks.{these, verifies}
+use Rattle.task.specs.Tasks.{Asked, Sum, checks, checks_tags, in_file, prints_line, prints_lines, prints_part}
+use Rattle.task.specs.Tasks.{prints_starts, tags, these, verifies}
 
 -- the key is that of a file
 abbrev pub has_key_file : Sum → Bool
@@ -24,7 +24,8 @@ keeps_input (prints_lines sum (in_file list)) = bytes_eq list (codes "-")
 keeps_input (prints_lines sum (these names)) = has_key_file sum && have_input names
 keeps_input (prints_line sum wanted name file) = has_key_file sum && bytes_eq file (codes "-")
 keeps_input (verifies parts file) = bytes_eq file (codes "-")
-keeps_input (checks entries is_summed lists) = have_input lists
+keeps_input (checks kind is_summed lists) = have_input lists
+keeps_input (checks_tags mac n key is_summed lists) = have_input lists
 keeps_input task = false
 
 -- so many chunks in bytes, where a u64 holds them

@@ -1,16 +1,16 @@
 -- The tasks of the code as the definitions have them.
-use Rattle.std.specs.Prelude.{ℕ, List, Vec, map, option_map}
+use Rattle.std.specs.Prelude.{ℕ, Bool, List, Vec, map, option_map}
 use Rattle.std.specs.Borrow.{Bor}
 use Rattle.request.specs.CommandLine.{Text}
-use Rattle.task.specs.Tasks.{Asked, Derived, Entries, Source, Sum, by_blake3, by_hkdf, checks, derives, digests, hmac_alg}
-use Rattle.task.specs.Tasks.{in_file, joins, of_digests, of_tags, prints_line, prints_lines, prints_part, prints_parts}
+use Rattle.task.specs.Tasks.{Asked, Derived, Source, Sum, by_blake3, by_hkdf, checks, checks_tags, derives, digests}
+use Rattle.task.specs.Tasks.{hmac_alg, in_file, joins, prints_line, prints_lines, prints_part, prints_parts}
 use Rattle.task.specs.Tasks.{prints_starts, tags, these, verifies}
 use Rattle.task.specs.inside.Possible.{mac_len}
 use Rattle.task.specs.declared.derivation.Derivation.{Derivation}
 use Rattle.task.specs.declared.derivation.Derivation.TheVariants as derivation
 use Rattle.task.specs.declared.tagging.Key.{Key}
 use Rattle.task.specs.declared.tagging.Key.TheVariants.{Given as GivenKey, File}
-use Rattle.task.specs.declared.tasks.Entries.{Entries as CodeEntries}
+use Rattle.task.specs.declared.tasks.Entries.{Entries}
 use Rattle.task.specs.declared.tasks.Entries.TheVariants.{Digests, Tags}
 use Rattle.task.specs.declared.tasks.Names.{Names}
 use Rattle.task.specs.declared.tasks.Names.TheVariants.{Given as GivenNames, From}
@@ -37,10 +37,10 @@ abbrev pub sum_shown : CodeSum → Sum
 sum_shown (Digest hashing) = digests hashing.requested
 sum_shown (Tag form key) = tags form.mac form.is_raw (key_shown key)
 
--- what the entries of lists are
-abbrev pub entries_shown : CodeEntries → Entries
-entries_shown (Digests kind) = of_digests kind
-entries_shown (Tags short key) = of_tags short.mac (mac_len short.mac) (key_shown key)
+-- what is asked of lists, by what their entries are
+abbrev pub entries_shown : Entries → Bool → List Text → Asked
+entries_shown (Digests kind) = checks kind
+entries_shown (Tags short key) = checks_tags short.mac (mac_len short.mac) (key_shown key)
 
 abbrev pub derivation_shown : Derivation → Derived
 derivation_shown (derivation.Hkdf by) =
@@ -58,4 +58,4 @@ task_shown (code.Verify parts name) = verifies parts.now name.now
 task_shown (code.Join joining wanted name lists) =
     joins joining.stretch joining.bytes (option_map (λ v. v.items) wanted) name.now (texts_of lists)
 task_shown (code.Kdf derivation is_raw material) = derives (derivation_shown derivation) is_raw material.now
-task_shown (code.Check entries is_summed lists) = checks (entries_shown entries) is_summed (texts_of lists)
+task_shown (code.Check entries is_summed lists) = entries_shown entries is_summed (texts_of lists)

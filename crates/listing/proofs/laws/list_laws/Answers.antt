@@ -1,6 +1,5 @@
 use Rattle.std.proofs.Common.{List, ◌∷◌, [], ℕ, ◌<◌, ◌≡◌, arith, length, refl}
-use Rattle.sumlist.proofs.Cutting.{lines-ended, lines-last}
-use Rattle.listing.proofs.Lines.{no_from_none}
+use Rattle.sumlist.proofs.Cutting.{HasNo-from_none, lines-ended, lines-last}
 use Rattle.listing.proofs.laws.list_laws.Goals as goal
 
 -- a text that is not empty has some bytes
@@ -9,7 +8,7 @@ some_bytes [] some = absurd (some refl)
 some_bytes (c ∷ line) some = omega arith
 
 pub returns-clause-first : goal.returns-clause-first
-returns-clause-first c = λ line rest none. lines-ended line rest (no_from_none 10 line none)
+returns-clause-first c = λ line rest none. lines-ended line rest (HasNo-from_none 10 line none)
 
 pub returns-clause-last : goal.returns-clause-last
-returns-clause-last c = λ line some none. lines-last line (some_bytes line some) (no_from_none 10 line none)
+returns-clause-last c = λ line some none. lines-last line (some_bytes line some) (HasNo-from_none 10 line none)

@@ -1,0 +1,58 @@
+-- The lines that are printed of tags are a list of them, each of which is OK.
+use Rattle.std.proofs.Common.{◌≡◌, ◌∙◌, ℕ, ◌≤◌, List, [], ◌∷◌, ◌++◌, length, Option, Some, None, ap, false, inl, refl, sym}
+use Rattle.std.specs.Prelude.{All, IsSomeAnd, flat_map, map}
+use Rattle.std.proofs.Common.{append_assoc}
+use Rattle.request.specs.CommandLine.{Text}
+use Rattle.source.specs.declared.alg.Alg.TheVariants.{Blake2b}
+use Rattle.sumlist.specs.Entry.{IsEntry, Listing, written_line}
+use Rattle.sumlist.specs.Lines.{lines}
+use Rattle.sumlist.specs.Report.{AllAllowed, Allowed, Files, keyed, told}
+use Rattle.sumlist.specs.declared.verdict.Verdict.TheVariants.{Matches}
+use Rattle.sumlist.proofs.Cutting.{HasNo-from_none, lines-ended}
+use Rattle.sumlist.proofs.Deciding.{matches}
+use Rattle.sumlist.proofs.Spelling.{written_spells, written_untagged}
+use Rattle.task.specs.declared.tagging.Mac.{Mac}
+use Rattle.task.specs.declared.tagging.Mac.TheVariants as mac
+use Rattle.command.specs.Keying.{mac_line}
+use Rattle.command.specs.Laws.{IsTagged, TagsAreOk, line_of_file}
+use Rattle.command.specs.Lines.{LineRule, line_beside, tag_line}
+
+module _ (digits limit : ℕ) (f : List ℕ → List ℕ) (n : ℕ) (files : Files) where
+  abbrev rule : LineRule
+  rule = tag_line false digits limit f
+
+  entry_of : Text → List ℕ → Listing
+  entry_of name m = record { name = name; alg = Blake2b n; tag = f m }
+
+  -- a line and those behind it
+  cut : (name : Text) (m rest : List ℕ) → IsEntry (entry_of name m)
+      → lines (line_beside name (f m) ++ rest) ≡ written_line (entry_of name m) ∷ lines rest
+  cut name m rest i =
+      let line = written_line (entry_of name m) in
+      ap lines (simp append_assoc)
+      ∙ lines-ended line rest (HasNo-from_none 10 line (written_spells (entry_of name m) i).is_line.0)
+
+  pub all_ok : (names : List Text) → All (IsTagged rule n files) names → AllAllowed files (keyed n limit f)
+      (lines (flat_map (line_of_file rule files) names)) (map (λ name. told name Matches) names)
+  all_ok [] all = tt
+  all_ok (name ∷ names) all = with_content (files name) refl all.0
+    where
+      with_content : (content : Option (List ℕ)) → files name ≡ content → IsSomeAnd content (λ m. (length m ≤ limit)
+          × IsEntry (entry_of name m)) → AllAllowed files (keyed n limit f)
+          (lines (flat_map (line_of_file rule files) (name ∷ names))) (map (λ name. told name Matches) (name ∷ names))
+      with_content None is h = absurd h
+      with_content (Some m) is (fits, i) = rw (is, cut name m (flat_map (line_of_file rule files) names) i) (
+        (
+          entry_of name m,
+          (written_untagged _ i, written_spells _ i, i.sized.1),
+          refl,
+          rw is (matches (limit, f) (f m) m fits refl),
+        ),
+        all_ok names all.1,
+      )
+
+pub tags_ok : TagsAreOk
+tags_ok (mac.Hmac h k) key n files names all = all_ok _ _ _ n files names all
+tags_ok (mac.Blake2b k) key n files names all = all_ok _ _ _ n files names all
+tags_ok (mac.Blake2s k) key n files names all = all_ok _ _ _ n files names all
+tags_ok (mac.Blake3 k) key n files names all = all_ok _ _ _ n files names all
