@@ -18,22 +18,22 @@ use Rattle.command.specs.Joining.{line_complaint}
 use Rattle.command.specs.Lines.{content_of, is_input}
 use Rattle.command.specs.Run.{IsUnread, Run, cannot_write, of_name, prints, stops}
 
--- whether these bytes reach to the end of a part, and those at its place have its chaining value, and the status
+-- whether these bytes reach the end of a part, and those at its place have its chaining value, and the status
 abbrev pub verdict : List ℕ → PartValue → Verdict × ℕ
 verdict m part = let x = take part.len (drop (1024 * part.first_chunk) m) in
     if nat_lt (length m) (1024 * part.first_chunk + part.len) then (Missing, 1)
     else if bytes_eq part.value (cv (tree_of hash_parameters part.first_chunk x)) then (Matches, 0) else (Differs, 1)
 
--- the line that says so
+-- the line that gives the verdict
 abbrev pub verdict_line : List ℕ → PartValue → Text
 verdict_line m part = decimal part.first_chunk ++ 32 ∷ (decimal part.len ++ verdict_text (verdict m part).0)
 
--- the greatest status of parts
+-- the greatest status of any part
 abbrev pub status : List ℕ → List PartValue → ℕ
 status m parts = fold (λ s part. max s (verdict m part).1) 0 parts
 
--- what a run ends with behind the lines of these parts, where others follow: there are none; the next tells no part
--- behind those; or a read of either file failed
+-- how a run ends after the lines of these parts, if others follow: there are none; the next one describes no part that
+-- follows them; or a read of either file failed
 abbrev pub VerifyEnds : Text → Text → (text m : List ℕ) → List PartValue → List (List ℕ) → Run → Type 0
 VerifyEnds parts name text m told after run = ((after ≡ []) × (run ≡ (if nat_lt (bytes_of told) (length m)
     then stops (of_name name (codes ": bytes behind the last part\n")) else prints [] (status m told))))
@@ -42,7 +42,7 @@ VerifyEnds parts name text m told after run = ((after ≡ []) × (run ≡ (if na
     × (run ≡ stops (of_name parts (codes ": line " ++ (decimal (length told + 1) ++ line_complaint fault)))))
     ⊎ IsUnread false parts (Some text) run ⊎ IsUnread (is_input name) name (Some m) run
 
--- the lines of parts so far were printed, and the run ends; or a write of them failed
+-- the lines of the parts so far were printed, and the run ends; or a write of them failed
 abbrev pub Compares : Text → Text → (text m : List ℕ) → Run → Type 0
 Compares parts name text m run = (before : List (List ℕ)) × (after : List (List ℕ)) × (told : List PartValue)
     × (lines text ≡ before ++ after) × AllTell before told × AreInRow told
@@ -50,7 +50,7 @@ Compares parts name text m run = (before : List (List ℕ)) × (after : List (Li
     ((run ≡ record (stops cannot_write) { text = said; is_whole = false })
     ⊎ ((end : Run) × VerifyEnds parts name text m told after end × (run ≡ record end { text = said })))
 
--- the run of `part --verify`, where `-` is a file of parts, and any name of the file that they are of
+-- the run of `part --verify`, for which `-` is a file of parts; the file to which the parts belong may have any name
 abbrev pub VerifyRuns : Text → Text → Files → List ℕ → Run → Type 0
 VerifyRuns parts name files input run = let content = content_of name input files in
     IsUnread false parts (files parts) run ⊎ IsSomeAnd (files parts) (λ text.

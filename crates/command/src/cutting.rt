@@ -1,4 +1,4 @@
-// The command `part`: the line that tells a part of a file.
+// The command `part`: the line that describes a part of a file.
 
 ghost use Rattle.std.specs.Prelude.{◌≡◌, ℕ, ◌%◌, ◌*◌, ◌^◌, ◌<◌, ◌≤◌, [], length, true, option_map, vec_len};
 ghost use Rattle.std.specs.Prelude.{IfOk, IfSome, IsErrOf, MatchOption, None, OnOk, Some};
@@ -25,15 +25,15 @@ use std::alloc::{AllocError, Global};
 use sumlist::Tree;
 use task::Place;
 
-/// A part is read in runs of at most so many chunks.
+/// A part is read in runs of at most this many chunks.
 pub(crate) const RUN: u64 = 1024;
 
 impl<'i, 't, 'o, L: Feed, T: Tree, W: Sink> Session<'i, 't, 'o, L, T, W> {
-    /// Prints the line of a part of the file: its bytes from the first chunk of a place on, in as many
-    /// chunks as that has or to the end. Answers 0. The faults are `CannotRead`, `NoBytes` where none stand
-    /// there, `MoreThanPart` where they are more than can be a part there, in its place `TooLong` where a
-    /// part there has room up to byte 2^64 - 1, `CannotWrite` and `OutOfMemory`. Where the part is one of
-    /// standard input, no byte behind it is read.
+    /// Prints the line of a part of the file: its bytes from the first chunk of a place on, in as many chunks
+    /// as the place has, or to the end. Answers 0. The faults are `CannotRead`, `NoBytes` if there are none
+    /// and the place is not chunk 0, `MoreThanPart` if there are more than one part can have there, or
+    /// instead `TooLong` if a part there can reach byte 2^64 - 1, `CannotWrite` and `OutOfMemory`. If the
+    /// part is from standard input, no byte after it is read.
     pub fn print_part<'n>(&mut self, place: Place, name: &'n str) -> Result<u8, Fault<'n>>
         ensures run { DoesRun (λ bytes files. PartRuns place.first place.chunks name.entry.now files bytes)
             (λ notes. notes ≡ [])
@@ -49,7 +49,7 @@ impl<'i, 't, 'o, L: Feed, T: Tree, W: Sink> Session<'i, 't, 'o, L, T, W> {
         Ok(0)
     }
 
-    // The part, for which memory is taken before the file is opened.
+    // The part; memory is taken before the file is opened.
     fn part_in<'n>(&mut self, place: Place, name: &'n str) -> Result<PartValue, Fault<'n>>
         ensures part { IfContent name.entry.now (⟦<Self as Streams>⟧.seen self.old) (λ content.
             MakesPart place.first name.entry.now (option_map (cut place.first place.chunks name.entry.now) content)
@@ -76,7 +76,7 @@ impl<'i, 't, 'o, L: Feed, T: Tree, W: Sink> Session<'i, 't, 'o, L, T, W> {
     }
 }
 
-/// Room for a part of so many chunks, or for a run of it.
+/// Room for a part of this many chunks, or for a run of it.
 pub(crate) fn room_for_run(alloc: Global, chunks: u64) -> Result<Vec<u8>, AllocError>
     requires { (e : ℕ) × (chunks ≡ 2 ^ e) }
     ensures power { IfOk result (λ buffer. (e : ℕ) × (vec_len buffer ≡ 1024 * 2 ^ e)) }
@@ -85,7 +85,7 @@ pub(crate) fn room_for_run(alloc: Global, chunks: u64) -> Result<Vec<u8>, AllocE
     part_buffer(alloc, chunks.min(RUN))
 }
 
-// The part of what a feed gives, in so many chunks of it or in all.
+// The part of what a feed gives, in this many chunks or in all.
 fn part_of_feed<'n, F: Feed>(
     place: Place,
     room: u64,
@@ -112,8 +112,8 @@ fn part_of_feed<'n, F: Feed>(
     }
 }
 
-/// The part of the next bytes of a feed, or of the first `bytes` of them, as bytes from the chunk `first`
-/// on in at most `room` chunks: `None` where there are none and that is not the first chunk.
+/// The part of the next bytes of a feed, or of the first `bytes` of them, as bytes from the chunk `first` on
+/// in at most `room` chunks: `None` if there are none and `first` is not 0.
 pub(crate) fn next_part<'n, F: Feed>(
     first: u64,
     room: u64,
@@ -141,8 +141,8 @@ pub(crate) fn next_part<'n, F: Feed>(
     }
 }
 
-// The fault of a part that was not made, where it had room up to the chunk `end`. What is too long for
-// a part there is a message that is too long only where that is the message's end.
+// The fault of a part that was not made, with room up to the chunk `end`. If that is the end of the longest
+// message, what is too long for the part is too long for any message.
 fn unmade(fault: SourceFault, end: u64, name: &str) -> Fault<'_>
     ensures { result ≡ spec.unmade fault end name.entry }
 {
@@ -153,14 +153,14 @@ fn unmade(fault: SourceFault, end: u64, name: &str) -> Fault<'_>
     }
 }
 
-/// How many bytes so many chunks have, where that is a number: what is longer is too long.
+/// The length of this many chunks in bytes, if it fits a `u64`: what is longer is too long.
 pub(crate) fn chunk_bytes(chunks: Option<u64>) -> Option<u64>
     ensures { MatchOption chunks (result ≡ None) (λ n. SomeIff result (1024 * n < 2 ^ 64) (1024 * n)) }
 {
     (CHUNK_LEN as u64).checked_mul(chunks?)
 }
 
-// The power of two of chunks that a part from this chunk on has room in.
+// The power of two of chunks for which a part from this chunk on has room.
 fn room_from(first: u64, chunks: Option<u64>) -> u64
     requires { IsPlace first chunks }
     ensures { IsRoom first chunks result }

@@ -24,7 +24,7 @@ use std::alloc::{AllocError, Global};
 use sumlist::{fits, tagged_fits, write_tagged_line};
 use task::{Form, Hash, Requested};
 
-/// Room for a part of so many chunks.
+/// Room for a part of this many chunks.
 pub(crate) fn part_buffer(alloc: Global, chunks: u64) -> Result<Vec<u8>, AllocError>
     requires { IsPartSize chunks }
     ensures power { IfOk result (λ buffer. (e : ℕ) × (vec_len buffer ≡ 1024 * 2 ^ e)) }
@@ -48,7 +48,7 @@ pub(crate) fn listable<'n>(requested: Requested, name: &'n str) -> Result<(), Fa
     Ok(())
 }
 
-/// The digest of all that a feed gives, which BLAKE3 takes in parts as long as the buffer, if that is not
+/// The digest of all that a feed gives. BLAKE3 takes it in parts as long as the buffer, if the buffer is not
 /// empty.
 pub(crate) fn digest_of_feed<'n, F: Feed>(
     requested: Requested,
@@ -113,7 +113,7 @@ fn plain_digest<'n, F: Feed>(alg: Alg, name: &'n str, feed: &mut F) -> Result<Ma
     }
 }
 
-// BLAKE3's output of all that a feed gives, in parts as long as the buffer, if that is not empty.
+// BLAKE3's output of all that a feed gives, in parts as long as the buffer, if the buffer is not empty.
 fn output_of_feed<'n, F: Feed>(
     run: &mut [u8],
     name: &'n str,

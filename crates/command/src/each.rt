@@ -21,11 +21,11 @@ use sumlist::Tree;
 use task::PartLength;
 
 impl<'i, 't, 'o, L: Feed, T: Tree, W: Sink> Session<'i, 't, 'o, L, T, W> {
-    /// Prints the lines of all parts of a file, one behind the other, where each but the last has so many
-    /// chunks: the lines that `print_part` prints of them. An empty file has one part. Answers 0. The
-    /// file is read once, and each line is written before the bytes of the next part are read. The
-    /// faults are `CannotRead`, `TooLong` above 2^64 - 1 bytes, `CannotWrite` and `OutOfMemory`, which comes
-    /// before the file is opened.
+    /// Prints the lines of all parts of a file, one after another, as `print_part` prints them. Each part but
+    /// the last has `parts.chunks` chunks; an empty file has one part. Answers 0. The file is read once, and
+    /// each line is written before the bytes of the next part are read. The faults are `CannotRead`,
+    /// `TooLong` above 2^64 - 1 bytes, `CannotWrite`, and `OutOfMemory`, which comes before the file is
+    /// opened.
     pub fn print_parts<'n>(&mut self, parts: PartLength, name: &'n str) -> Result<u8, Fault<'n>>
         ensures run { DoesRun (λ bytes files. EachRuns parts.chunks name.entry.now files bytes) (λ notes. notes ≡ [])
             result (⟦<Self as Streams>⟧.seen self.old) (⟦<Self as Streams>⟧.seen self.new) }
@@ -38,7 +38,7 @@ impl<'i, 't, 'o, L: Feed, T: Tree, W: Sink> Session<'i, 't, 'o, L, T, W> {
         self.print_all_parts(parts.chunks, name)
     }
 
-    // The same by the content of the name.
+    // Prints them from the content of the name.
     fn print_all_parts<'n>(&mut self, chunks: u64, name: &'n str) -> Result<u8, Fault<'n>>
         requires { IsPartLength chunks }
         ensures printed { IfContent name.entry.now (⟦<Self as Streams>⟧.seen self.old) (λ content. PrintsParts chunks
@@ -63,7 +63,7 @@ impl<'i, 't, 'o, L: Feed, T: Tree, W: Sink> Session<'i, 't, 'o, L, T, W> {
     }
 }
 
-// Writes the lines of all parts of so many chunks of what a feed gives.
+// Writes the lines of all parts of what a feed gives, each of this many chunks.
 fn write_parts<'n, F: Feed, W: Sink>(
     chunks: u64,
     run: &mut [u8],
@@ -94,7 +94,7 @@ fn write_parts<'n, F: Feed, W: Sink>(
     }
 }
 
-// The part of the next bytes of a feed from a chunk on, of so many chunks or of fewer where it ends.
+// The part of the next bytes of a feed from a chunk on, of this many chunks, or of fewer if the feed ends.
 fn next_chunks<'n, F: Feed>(
     first: u64,
     chunks: u64,

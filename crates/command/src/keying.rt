@@ -1,4 +1,4 @@
-// The rule of the lines that a command prints: where it needs a key, that is read first, once.
+// The rule of the lines that a command prints: if it needs a key, that is read first, once.
 
 ghost use Rattle.std.specs.Prelude.{◌≡◌, ◌≤◌, ◌+◌, [], false, length, true, IfOk, IfSome, IsErrOf, MatchResult, Some};
 ghost use Rattle.source.specs.Counts.{count_after};
@@ -22,11 +22,11 @@ use std::alloc::Global;
 use sumlist::Tree;
 use task::{HmacHash, Key, Mac, Sum, Tagging};
 
-// A key file has at most so many bytes.
+// A key file has at most this many bytes.
 pub(crate) const KEY_FILE_LIMIT: usize = 65_536;
 
-/// The rule of the lines of a sum. Where it needs a key, the faults are `KeyFileTooLong` and `CannotRead`
-/// of its file, `KeyLength` (RFC 2104, 2; RFC 7693, 2.1 and 3.3) and `OutOfMemory`.
+/// The rule of the lines of a sum. If it needs a key, the faults are `KeyFileTooLong` and `CannotRead` for
+/// its file, `KeyLength` (RFC 2104, 2; RFC 7693, 2.1 and 3.3) and `OutOfMemory`.
 pub(crate) fn rule_of<'n, T: Tree>(
     alloc: Global,
     sum: Sum<'n>,
@@ -49,7 +49,7 @@ pub(crate) fn rule_of<'n, T: Tree>(
     }
 }
 
-/// What makes tags under a key, which is read and judged here, with the faults of `rule_of`.
+/// What makes tags under a key. The key is read and checked here, with the faults of `rule_of`.
 pub(crate) fn keyed_of<'n, T: Tree>(
     alloc: Global,
     tagging: Tagging,
@@ -75,7 +75,7 @@ pub(crate) fn keyed_of<'n, T: Tree>(
     }
 }
 
-// Whether the function takes a key of this length: under an empty one BLAKE2 is a hash.
+// Whether the function takes a key of this length: BLAKE2 with an empty key is a plain hash.
 fn takes(mac: Mac, key: &[u8]) -> bool
     ensures { result ≡ takes_key mac key.now }
 {
@@ -128,7 +128,7 @@ fn key_in<'n, T: Tree>(alloc: Global, name: &'n str, tree: &mut T) -> Result<Vec
     answer
 }
 
-// Reads the whole of a key file. Its buffer is not on the stack while a file is hashed.
+// Reads a whole key file. Its buffer is not on the stack while a file is hashed.
 #[inline(never)]
 fn read_key<'n, F: Feed>(alloc: Global, name: &'n str, feed: &mut F) -> Result<Vec<u8>, Fault<'n>>
     ensures key { IfSome (F.remaining feed.old) (λ bytes. MatchResult result

@@ -26,10 +26,10 @@ use words::Tag;
 const OUTPUT_LIMIT: usize = 16320;
 
 impl<'i, 't, 'o, L: Feed, T: Tree, W: Sink> Session<'i, 't, 'o, L, T, W> {
-    /// Prints the key that is derived of a file (RFC 5869, 2; BLAKE3's derive_key): its digits and LF, or
-    /// nothing but its bytes. Answers 0; `-` is a file's name here. The faults are `CannotRead` and
-    /// `TooLong` of the file, `Usage` where the salt or the info is longer than the hash takes, which a
-    /// command line is too short for, `CannotWrite` and `OutOfMemory`.
+    /// Prints the key that is derived from a file (RFC 5869, 2; BLAKE3's derive_key): its digits and LF, or
+    /// only its bytes. Answers 0; `-` is a file's name here. The faults are `CannotRead` and `TooLong` for
+    /// the file, `Usage` if the salt or the info is longer than the hash takes (a command line is too short
+    /// for that), `CannotWrite` and `OutOfMemory`.
     pub fn print_key<'n>(
         &mut self,
         derivation: &Derivation<'n>,
@@ -145,15 +145,15 @@ impl<'i, 't, 'o, L: Feed, T: Tree, W: Sink> Session<'i, 't, 'o, L, T, W> {
     }
 }
 
-// What is printed behind a key.
+// What is printed after a key.
 fn line_end(is_raw: bool) -> &'static [u8]
     ensures { result.now ≡ printing.line_end is_raw }
 {
     if is_raw { b"" } else { b"\n" }
 }
 
-// Writes the key that is expanded of a pseudorandom key. Its buffer is not on the
-// stack while a file is hashed.
+// Writes the key that is expanded from a pseudorandom key. Its buffer is not on the stack while a file is
+// hashed.
 #[inline(never)]
 fn write_expanded<H: BlockHash, W: Sink>(
     hkdf: &Hkdf,

@@ -6,8 +6,8 @@ pub use laws::{join_laws, keyed_laws, visible_laws};
 pub use session::{Session, Streams, session_laws};
 pub use visible::write_visible;
 
-// A call on the feed of a name, which it is handed last: standard input for `-`, and else the file of the name
-// from a position on, which is opened before and closed after.
+// Calls a function on the feed of a name, as its last argument: standard input for `-`, otherwise the file
+// with the name from a position on, which is opened before the call and closed after it.
 macro_rules! read_named {
     ($session:ident, $name:expr, $position:expr, $function:ident($($argument:expr),*)) => {{
         if $name == "-" {

@@ -1,4 +1,4 @@
-// A digest or tag that is yet to be printed or compared.
+// A digest or tag that is to be printed or compared.
 
 ghost use Rattle.std.specs.Prelude.{◌≡◌, ◌+◌, ◌-◌, ◌^◌, ◌≤◌, ◌↔◌, IsTrue, length};
 ghost use Rattle.b3.specs.Bytes.{slice};
@@ -16,14 +16,14 @@ use words::Tag;
 /// Bytes of a digest or tag.
 #[derive(Drop)]
 pub(crate) enum Made {
-    /// These.
+    /// These bytes.
     Tag(Tag),
-    /// So many bytes of an output of BLAKE3, from its position on.
+    /// This many bytes of an output of BLAKE3, from its position on.
     Output(Output, u64),
 }
 
 impl Made {
-    /// The bytes, where they are no more than a tag may have.
+    /// The bytes, if there are no more than a tag may have.
     pub(crate) fn into_tag(self) -> Tag
         requires has { HasBytes self }
         requires few { made_len self ≤ 64 }
@@ -42,7 +42,7 @@ impl Made {
     }
 }
 
-/// Writes the bytes as they are, or the line of their digits and a name.
+/// Writes the bytes themselves, or the line of their digits and a name.
 pub(crate) fn write_made<W: Sink>(
     made: Made,
     is_raw: bool,
@@ -58,7 +58,7 @@ pub(crate) fn write_made<W: Sink>(
     }
 }
 
-/// Whether they are these bytes.
+/// Whether the bytes are those that are wanted.
 pub(crate) fn is_made(made: Made, wanted: &[u8]) -> bool
     requires { HasBytes made }
     ensures { IsWanted wanted.now (made_bytes made) result }
@@ -74,7 +74,7 @@ pub(crate) fn is_made(made: Made, wanted: &[u8]) -> bool
     }
 }
 
-// Whether the next bytes of an output are these, piece by piece.
+// Whether the next bytes of an output are these, compared piece by piece.
 fn is_output(mut output: Output, wanted: &[u8]) -> bool
     requires { output_position output + length wanted.now ≤ 2 ^ 64 - 1 }
     ensures { IsWanted wanted.now (slice (output_root output) (output_position output) (length wanted.now)) result }
@@ -90,7 +90,7 @@ fn is_output(mut output: Output, wanted: &[u8]) -> bool
     true
 }
 
-// The same of so few bytes that they are one piece, behind which the output then stands.
+// Compares one piece, and moves the output past it.
 fn is_next(output: &mut Output, wanted: &[u8]) -> bool
     requires few { length wanted.now ≤ PIECE }
     requires within { output_position output.old + length wanted.now ≤ 2 ^ 64 - 1 }

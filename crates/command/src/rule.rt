@@ -1,4 +1,4 @@
-// By what rule the line of a file is made.
+// The rule by which the line of a file is made.
 
 ghost use Rattle.std.specs.Prelude.{◌≡◌, ◌≤◌, true};
 ghost use Rattle.task.specs.inside.Possible.{mac_len};
@@ -6,14 +6,14 @@ ghost use Rattle.command.specs.inside.Keys.{takes_key};
 
 use task::{Hashing, Tagging};
 
-/// How the line of a file is made: of its digest, or of its tag under a key.
+/// How the line of a file is made: from its digest, or from its tag under a key.
 #[derive(Drop)]
 pub(crate) enum Rule {
     Digest(Hashing),
     Tag(Keyed),
 }
 
-/// What is printed of a tag, and a key that its function takes.
+/// What is printed for a tag, and a key that its function takes.
 #[derive(Drop)]
 pub(crate) struct Keyed {
     pub(crate) tagging: Tagging,
@@ -21,7 +21,7 @@ pub(crate) struct Keyed {
     ghost takes: { takes_key tagging.mac key.items ≡ true },
 }
 
-/// One whose tags have at most 64 bytes, as those of a list have.
+/// A rule for tags of at most 64 bytes, such as those of a list.
 #[derive(Drop)]
 pub(crate) struct ShortKeyed {
     pub(crate) keyed: Keyed,

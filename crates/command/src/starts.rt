@@ -18,11 +18,10 @@ use sumlist::Tree;
 use task::PartLength;
 
 impl<'i, 't, 'o, L: Feed, T: Tree, W: Sink> Session<'i, 't, 'o, L, T, W> {
-    /// Prints the number of the first chunk, of 1,024 bytes, of each part of a file, a line for each, where
-    /// each part but the last has so many chunks; an empty file has one part. Answers 0; `-` is a file's
-    /// name here. No size is asked for: the file is opened at a few positions, and a byte is read there.
-    /// Nothing is written before that is done. The faults are `CannotRead`, `CannotWrite` and
-    /// `OutOfMemory`.
+    /// Prints the number of the first chunk, of 1,024 bytes, of each part of a file, one per line. Each part
+    /// but the last has `parts.chunks` chunks; an empty file has one part. Answers 0; `-` is a file's name
+    /// here. The file is not asked for its size: it is opened at a few positions, and a byte is read there.
+    /// Nothing is written before that is done. The faults are `CannotRead`, `CannotWrite` and `OutOfMemory`.
     pub fn print_starts<'n>(&mut self, parts: PartLength, name: &'n str) -> Result<u8, Fault<'n>>
         ensures run { DoesRun (λ bytes files. StartsRuns parts.chunks name.entry.now files) (λ notes. notes ≡ [])
             result (⟦<Self as Streams>⟧.seen self.old) (⟦<Self as Streams>⟧.seen self.new) }
@@ -37,8 +36,8 @@ impl<'i, 't, 'o, L: Feed, T: Tree, W: Sink> Session<'i, 't, 'o, L, T, W> {
     }
 }
 
-// How many parts of so many chunks the file has. A part begins where the file has a byte, and none behind
-// a place without one, so the last is found by halves.
+// How many parts of this many chunks the file has. A part begins where the file has a byte, and no part
+// begins after a place without one, so the last is found by bisection.
 fn part_count<'n, T: Tree>(chunks: u64, name: &'n str, tree: &mut T) -> Result<u64, Fault<'n>>
     requires { IsPartLength chunks }
     ensures count { IfSome (T.files tree.old)
@@ -78,7 +77,7 @@ fn has_byte<'n, T: Tree>(name: &'n str, position: u64, tree: &mut T) -> Result<b
     answer
 }
 
-/// Whether the feed of this name gives one byte more.
+/// Whether the feed with this name gives one more byte.
 pub(crate) fn gives_byte<'n, F: Feed>(name: &'n str, feed: &mut F) -> Result<bool, Fault<'n>>
     ensures byte { IfSome (F.remaining feed.old) (λ bytes. TellsByte name.entry.now 0 (Some bytes) result) }
     ensures counted { F.failure_count feed.new
@@ -91,7 +90,7 @@ pub(crate) fn gives_byte<'n, F: Feed>(name: &'n str, feed: &mut F) -> Result<boo
     }
 }
 
-// Writes the first chunk of each of so many parts, a line for each.
+// Writes the first chunk of each of this many parts, one per line.
 fn write_starts<W: Sink>(chunks: u64, count: u64, out: &mut W) -> Result<(), WriteFailed>
     requires { chunks * count < 2 ^ 64 }
     ensures { Writes result (W.shown out.old) (W.shown out.new) (start_lines chunks count) }

@@ -1,4 +1,4 @@
-// The command `part` with `--verify`: whether the parts that lines tell are those of a file.
+// The command `part` with `--verify`: whether the parts that lines describe are those of a file.
 
 ghost use Rattle.std.specs.Prelude.{◌≡◌, ◌≤◌, ◌+◌, ◌*◌, ◌++◌, ◌∷◌, ℕ, [], true, length, IfOk, IfSome, IsErrOf, Some};
 ghost use Rattle.std.specs.Prelude.{◌⊎◌, if◌then◌else◌, nat_lt};
@@ -28,12 +28,12 @@ use source::{Feed, Sink, WriteFailed, write_pieces};
 use sumlist::{Tree, Verdict, write_verdict};
 
 impl<'i, 't, 'o, L: Feed, T: Tree, W: Sink> Session<'i, 't, 'o, L, T, W> {
-    /// Prints of each part that the lines of the file `parts` tell, one behind the other from the first chunk
-    /// on, whether it is that of the file of a name. Answers 0 where all are and the file ends with the last
-    /// one, and 1 where one is not. Both are read once and side by side; `-` is a file of parts. The faults
-    /// are `CannotRead` of either, `BadLine` with the first line that tells no part behind those before it,
-    /// `BytesBehind` where the file does not end with the last part, `CannotWrite` and `OutOfMemory`, which
-    /// comes before either is opened.
+    /// Prints, for each part that the lines of the file `parts` describe, one after another from the first
+    /// chunk on, whether it is that of the file `name`. Answers 0 if all are and the file ends with the last
+    /// one, and 1 if one is not. Both are read once and side by side; `-` is a file of parts. The faults are
+    /// `CannotRead` for either, `BadLine` for the first line that describes no part after those before it,
+    /// `BytesBehind` if the file does not end with the last part, `CannotWrite`, and `OutOfMemory`, which
+    /// comes before anything is printed.
     pub fn print_verified<'n>(&mut self, parts: &'n str, name: &'n str) -> Result<u8, Fault<'n>>
         ensures run { DoesRun (λ bytes files. VerifyRuns parts.entry.now name.entry.now files bytes)
             (λ notes. notes ≡ [])
@@ -51,7 +51,7 @@ impl<'i, 't, 'o, L: Feed, T: Tree, W: Sink> Session<'i, 't, 'o, L, T, W> {
         answer
     }
 
-    // The same by the lines that a feed gives.
+    // Prints this by the lines that a feed gives.
     fn verify_by<'n, P: Feed>(
         &mut self,
         run: &mut [u8],
@@ -78,7 +78,7 @@ impl<'i, 't, 'o, L: Feed, T: Tree, W: Sink> Session<'i, 't, 'o, L, T, W> {
     }
 }
 
-// Writes of each part that the lines of a feed tell whether it is that of another feed.
+// Writes, for each part that the lines of a feed describe, whether it is that of another feed.
 fn verify_feed<'n, P: Feed, F: Feed, W: Sink>(
     run: &mut [u8],
     parts: &'n str,
@@ -110,7 +110,7 @@ fn verify_feed<'n, P: Feed, F: Feed, W: Sink>(
     }
 }
 
-// The verdict on the part that is told next, where nothing is read of what has ended.
+// The verdict on the part that is described next; nothing is read of a feed that has ended.
 fn next_verdict<'n, F: Feed>(
     told: &PartValue,
     has_ended: bool,
@@ -154,7 +154,7 @@ fn read_verdict<'n, F: Feed>(
     Ok(verdict_of(told, &found))
 }
 
-// The least power of two of chunks that has room for a part.
+// The least power of two of chunks with room for a part.
 fn room_of(part: &PartValue) -> u64
     ensures { IsRoomOf part.now result }
 {
@@ -162,7 +162,7 @@ fn room_of(part: &PartValue) -> u64
     chunks.next_power_of_two()
 }
 
-// The verdict on a part, by the part of as many of its bytes as there are.
+// The verdict on a part, given the part of as many of its bytes as there are.
 fn verdict_of(told: &PartValue, found: &PartValue) -> Verdict
     ensures { result ≡ (if nat_lt found.now.len told.now.len then Missing
         else same_value told.now.value found.now.value) }
@@ -186,14 +186,14 @@ fn status_of(verdict: Verdict) -> u8
     }
 }
 
-// Whether it says that the bytes end before the part.
+// Whether a verdict says that the bytes end before the part does.
 fn is_missing(verdict: Verdict) -> bool
     ensures { result ≡ is_missing verdict }
 {
     matches!(verdict, Verdict::Missing)
 }
 
-// The status of a run at the end of the lines, where the feed of this name has to end too.
+// The status of a run at the end of the lines; the feed with this name has to end too.
 fn status_at_end<'n, F: Feed>(status: u8, name: &'n str, feed: &mut F) -> Result<u8, Fault<'n>>
     ensures end { IfSome (F.remaining feed.old) (λ rest. EndsWith status name.entry.now rest result) }
     ensures counted { F.failure_count feed.new
@@ -207,7 +207,7 @@ fn status_at_end<'n, F: Feed>(status: u8, name: &'n str, feed: &mut F) -> Result
     }
 }
 
-// Writes a verdict behind the numbers of its part.
+// Writes a verdict after the numbers of its part.
 fn write_told<W: Sink>(told: &PartValue, verdict: Verdict, out: &mut W) -> Result<(), WriteFailed>
     ensures { Writes result (W.shown out.old) (W.shown out.new)
         (decimal told.now.first_chunk ++ 32 ∷ (decimal told.now.len ++ verdict_text verdict)) }

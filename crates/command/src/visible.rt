@@ -1,4 +1,4 @@
-// Names as messages on standard error tell them.
+// Names as they appear in messages on standard error.
 
 ghost use Rattle.std.specs.Prelude.{◌≡◌, ◌++◌};
 ghost use Rattle.hex.specs.Hex.{encode_lower};
@@ -9,9 +9,9 @@ ghost use Rattle.command.specs.Visible.{visible, visible_char};
 use crate::output::write_digits;
 use source::{Sink, WriteFailed, write_all};
 
-/// Writes a name, whatever it is, as a text of one line without a command to a terminal: in the escaped
-/// form of lists, and beside it each other control character as `\xHH`, and each character that
-/// separates lines or sets the direction of a text as `\u{HHHH}`.
+/// Writes any name as a text of one line without a command to a terminal: in the escaped form of lists, with
+/// each other control character as `\xHH`, and each character that separates lines or sets the direction of a
+/// text as `\u{HHHH}`.
 pub fn write_visible<W: Sink>(name: &str, out: &mut W) -> Result<(), WriteFailed>
     ensures { Writes result (W.shown out.old) (W.shown out.new) (visible name.now) }
 {
@@ -36,8 +36,8 @@ fn write_char<W: Sink>(character: char, out: &mut W) -> Result<(), WriteFailed>
     }
 }
 
-// Whether a character separates lines, or marks, embeds, overrides or isolates the direction of a text,
-// or ends that.
+// Whether a character separates lines, or marks, embeds, overrides or isolates the direction of a text, or
+// ends such a direction.
 fn is_layout(character: char) -> bool
     ensures { result ≡ spec.is_layout character }
 {

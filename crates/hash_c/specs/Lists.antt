@@ -14,7 +14,7 @@ use Rattle.hash_c.specs.declared.statuses.TheConstants.{SUMS_NO_VERDICT, SUMS_OK
 abbrev pub IsNoHash : ℕ → Type 0
 IsNoHash hash = (hash ≡ 0) ⊎ (5 < hash)
 
--- the line of an entry was written, or the first reason why not is answered, and nothing was
+-- the line of an entry was written; or the first reason for a refusal is answered, and nothing was written
 pub record WritesLine (hash : ℕ) (is_tagged : Bool) (digest name old new : List ℕ) (status : ℕ) : Type 0 where
   pub line : status ≡ SUMS_OK → (alg : Alg) × IsAlg hash (length digest) alg × HasLine is_tagged alg name
       × (new ≡ line_text is_tagged (record { name = name; alg = alg; tag = digest }))
@@ -34,7 +34,7 @@ pub record WritesLine (hash : ℕ) (is_tagged : Bool) (digest name old new : Lis
 abbrev pub CanStand : List ℕ → Type 0
 CanStand name = IsUtf8 name × (length name ≤ line_limit)
 
--- the line of a report was written, or the first reason why not is answered, and nothing was
+-- the line of a report was written; or the first reason for a refusal is answered, and nothing was written
 pub record WritesReport (number : ℕ) (name old new : List ℕ) (status : ℕ) : Type 0 where
   pub line : status ≡ SUMS_OK → (verdict : Verdict) × (number ≡ verdict_number verdict) × CanStand name
       × (new ≡ escaped name ++ verdict_text verdict)

@@ -25,11 +25,11 @@ piece_status (Some pieces.DigestLength) = SUMS_DIGEST_LENGTH
 piece_status (Some pieces.PieceLength) = SUMS_PIECE_LENGTH
 piece_status (Some pieces.OutputLength) = SUMS_OUTPUT_LENGTH
 
--- of a key, where the hash function has inputs of at most `limit` bytes
+-- of a key, if the hash function has inputs of at most `limit` bytes
 abbrev pub key_status : (limit key_length : ℕ) → ℕ
 key_status limit key_length = if nat_lt limit key_length then SUMS_KEY_LENGTH else SUMS_OK
 
--- of a message that would have n bytes, where it may have at most `limit`
+-- of a message that would have n bytes, if it may have at most `limit`
 abbrev pub input_status : (limit n : ℕ) → ℕ
 input_status limit n = if nat_lt limit n then SUMS_INPUT_TOO_LONG else SUMS_OK
 
@@ -37,7 +37,7 @@ input_status limit n = if nat_lt limit n then SUMS_INPUT_TOO_LONG else SUMS_OK
 abbrev pub output_status : (position n : ℕ) → ℕ
 output_status position n = if nat_lt (2 ^ 64 - 1) (position + n) then SUMS_END_OF_OUTPUT else SUMS_OK
 
--- of a digest of n bytes, where the message was begun for one of `wanted`
+-- of a digest of n bytes, if the message was begun for one of `wanted`
 abbrev pub length_status : (wanted n : ℕ) → ℕ
 length_status wanted n = if nat_eq wanted n then SUMS_OK else SUMS_DIGEST_LENGTH
 
@@ -45,24 +45,24 @@ length_status wanted n = if nat_eq wanted n then SUMS_OK else SUMS_DIGEST_LENGTH
 abbrev pub tag_status : (out n : ℕ) → ℕ
 tag_status out n = if nat_lt n (out / 2) || nat_lt out n then SUMS_DIGEST_LENGTH else SUMS_OK
 
--- of a key and a text of HMAC, where the hash function has blocks of `block` bytes and inputs of at most `limit`
+-- of a key and a text of HMAC, if the hash function has blocks of `block` bytes and inputs of at most `limit`
 abbrev pub keyed_status : (block limit key_length text_length : ℕ) → ℕ
 keyed_status block limit key_length text_length =
     key_status limit key_length otherwise input_status (limit - block) text_length
 
--- of the first n bytes of an HMAC, where the hash function has digests of `out` bytes
+-- of the first n bytes of an HMAC, if the hash function has digests of `out` bytes
 abbrev pub hmac_status : (block out limit n key_length text_length : ℕ) → ℕ
 hmac_status block out limit n key_length text_length =
     tag_status out n otherwise keyed_status block limit key_length text_length
 
--- of n bytes of HKDF-Expand, whose key has at least the bytes of a digest
+-- of n bytes of HKDF-Expand, for which the key is at least as long as a digest
 abbrev pub expand_status : (block out limit n key_length info_length : ℕ) → ℕ
 expand_status block out limit n key_length info_length =
     if nat_lt key_length out || nat_lt limit key_length then SUMS_KEY_LENGTH
     else if nat_lt (255 * out) n then SUMS_END_OF_OUTPUT
     else input_status limit (block + out + info_length + 1)
 
--- of n bytes of HKDF: those of its first step, and then those of its second, whose key is a digest
+-- of n bytes of HKDF: of its first step, and then of its second, for which the key is a digest
 abbrev pub hkdf_status : (block out limit n material_length salt_length info_length : ℕ) → ℕ
 hkdf_status block out limit n material_length salt_length info_length =
     keyed_status block limit salt_length material_length otherwise expand_status block out limit n out info_length

@@ -11,9 +11,9 @@ use crate::tags::status_of;
 use blake2::{Blake2b, Blake2s};
 use words::Absorb;
 
-/// Fills `out` with the BLAKE2b digest of `input` of its length (RFC 7693, section 3.3), under a key of
-/// up to 64 bytes, which may be empty: `SUMS_DIGEST_LENGTH` where `out` has none or more than 64 bytes,
-/// and else `SUMS_KEY_LENGTH` where the key is too long.
+/// Fills `out` with the BLAKE2b digest of `input` of its length (RFC 7693, section 3.3), under a key of at
+/// most 64 bytes, which may be empty: `SUMS_DIGEST_LENGTH` if `out` has none or more than 64 bytes, else
+/// `SUMS_KEY_LENGTH` if the key is too long.
 #[unsafe(no_mangle)]
 pub extern "C" fn sums_blake2b(out: &mut [u8], input: &[u8], key: &[u8]) -> u32
     ensures status { result ≡ parameter_status (parameter_fault 64 (length out.old) (length key.now)) }
@@ -24,7 +24,7 @@ pub extern "C" fn sums_blake2b(out: &mut [u8], input: &[u8], key: &[u8]) -> u32
     sums_blake2b_salted(out, input, key, &[0; 16], &[0; 16])
 }
 
-/// The same with a salt and a personalization (RFC 7693, section 2.5).
+/// As `sums_blake2b`, with a salt and a personalization (RFC 7693, section 2.5).
 #[unsafe(no_mangle)]
 pub extern "C" fn sums_blake2b_salted(
     out: &mut [u8],
@@ -47,9 +47,9 @@ pub extern "C" fn sums_blake2b_salted(
     SUMS_OK
 }
 
-/// Fills `out` with the BLAKE2s digest of `input` of its length (RFC 7693, section 3.3), under a key of
-/// up to 32 bytes, which may be empty: `SUMS_DIGEST_LENGTH` where `out` has none or more than 32 bytes,
-/// and else `SUMS_KEY_LENGTH` where the key is too long.
+/// Fills `out` with the BLAKE2s digest of `input` of its length (RFC 7693, section 3.3), under a key of at
+/// most 32 bytes, which may be empty: `SUMS_DIGEST_LENGTH` if `out` has none or more than 32 bytes, else
+/// `SUMS_KEY_LENGTH` if the key is too long.
 #[unsafe(no_mangle)]
 pub extern "C" fn sums_blake2s(out: &mut [u8], input: &[u8], key: &[u8]) -> u32
     ensures status { result ≡ parameter_status (parameter_fault 32 (length out.old) (length key.now)) }
@@ -60,7 +60,7 @@ pub extern "C" fn sums_blake2s(out: &mut [u8], input: &[u8], key: &[u8]) -> u32
     sums_blake2s_salted(out, input, key, &[0; 8], &[0; 8])
 }
 
-/// The same with a salt and a personalization (RFC 7693, section 2.5).
+/// As `sums_blake2s`, with a salt and a personalization (RFC 7693, section 2.5).
 #[unsafe(no_mangle)]
 pub extern "C" fn sums_blake2s_salted(
     out: &mut [u8],

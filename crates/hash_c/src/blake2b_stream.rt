@@ -12,9 +12,9 @@ use crate::statuses::{SUMS_NOT_BEGUN, SUMS_OK};
 use crate::tags::{state_status, status_of, tag_into};
 use blake2::{Blake2b, Blake2bState};
 
-/// Begins a message, for a BLAKE2b digest of `digest_len` bytes under a key of up to 64 bytes, which
-/// may be empty (RFC 7693, section 3.3): `SUMS_DIGEST_LENGTH` where `digest_len` is 0 or above 64, and
-/// else `SUMS_KEY_LENGTH` where the key is too long.
+/// Begins a message, for a BLAKE2b digest of `digest_len` bytes under a key of at most 64 bytes, which may be
+/// empty (RFC 7693, section 3.3): `SUMS_DIGEST_LENGTH` if `digest_len` is 0 or above 64, else
+/// `SUMS_KEY_LENGTH` if the key is too long.
 #[unsafe(no_mangle)]
 pub extern "C" fn sums_blake2b_init(state: &mut Blake2bState, digest_len: usize, key: &[u8]) -> u32
     ensures status { result ≡ parameter_status (parameter_fault 64 digest_len (length key.now)) }
@@ -24,7 +24,7 @@ pub extern "C" fn sums_blake2b_init(state: &mut Blake2bState, digest_len: usize,
     sums_blake2b_init_salted(state, digest_len, key, &[0; 16], &[0; 16])
 }
 
-/// The same with a salt and a personalization (RFC 7693, section 2.5).
+/// As `sums_blake2b_init`, with a salt and a personalization (RFC 7693, section 2.5).
 #[unsafe(no_mangle)]
 pub extern "C" fn sums_blake2b_init_salted(
     state: &mut Blake2bState,
@@ -47,8 +47,8 @@ pub extern "C" fn sums_blake2b_init_salted(
     }
 }
 
-/// Adds a piece to the message: `SUMS_NOT_BEGUN` where `state` was never begun, and else
-/// `SUMS_INPUT_TOO_LONG` where the message would be longer than 2^128 - 1 bytes, less 128 under a key.
+/// Adds a piece to the message: `SUMS_NOT_BEGUN` if `state` was never begun, else `SUMS_INPUT_TOO_LONG` if
+/// the message would be longer than 2^128 - 1 bytes, less 128 under a key.
 #[unsafe(no_mangle)]
 pub extern "C" fn sums_blake2b_update(state: &mut Blake2bState, piece: &[u8]) -> u32
     ensures status { (p : Parameters) (m : List ℕ) → StateHolds2b state.old p m
@@ -64,9 +64,9 @@ pub extern "C" fn sums_blake2b_update(state: &mut Blake2bState, piece: &[u8]) ->
     }
 }
 
-/// Fills `out` with the digest of the message (RFC 7693, section 3.3): `SUMS_NOT_BEGUN` where `state`
-/// was never begun, and else `SUMS_DIGEST_LENGTH` where `out` has not as many bytes as were told at the
-/// beginning. The message can go on.
+/// Fills `out` with the digest of the message (RFC 7693, section 3.3): `SUMS_NOT_BEGUN` if `state` was never
+/// begun, else `SUMS_DIGEST_LENGTH` if `out` does not have the length given at the beginning. The message can
+/// go on.
 #[unsafe(no_mangle)]
 pub extern "C" fn sums_blake2b_finish(state: &Blake2bState, out: &mut [u8]) -> u32
     ensures status { (p : Parameters) (m : List ℕ) → StateHolds2b state.now p m

@@ -9,8 +9,8 @@ use crate::statuses::{SUMS_END_OF_OUTPUT, SUMS_OK};
 use b3::Blake3;
 use words::Absorb;
 
-/// Fills `out` with the bytes of the hasher's output from `position` on: `SUMS_END_OF_OUTPUT` where
-/// they would end after position 2^64 - 1 (the BLAKE3 paper, section 2.6).
+/// Fills `out` with the bytes of the hasher's output from `position` on: `SUMS_END_OF_OUTPUT` if they would
+/// end after position 2^64 - 1 (the BLAKE3 paper, section 2.6).
 pub fn output_into(hasher: &Blake3, position: u64, out: &mut [u8]) -> u32
     ensures status { result ≡ output_status position (length out.old) }
     ensures bytes { (m : List ℕ) → ⟦<Blake3 as Absorb>⟧.holds hasher.now m → result ≡ SUMS_OK
@@ -25,8 +25,8 @@ pub fn output_into(hasher: &Blake3, position: u64, out: &mut [u8]) -> u32
     }
 }
 
-/// Fills `out` with the bytes of BLAKE3's hash of `input` from `position` on (the BLAKE3 paper,
-/// sections 2.3 and 2.6): `SUMS_END_OF_OUTPUT` where they would end after position 2^64 - 1.
+/// Fills `out` with the bytes of BLAKE3's hash of `input` from `position` on (the BLAKE3 paper, sections 2.3
+/// and 2.6): `SUMS_END_OF_OUTPUT` if they would end after position 2^64 - 1.
 #[unsafe(no_mangle)]
 pub extern "C" fn sums_blake3(out: &mut [u8], position: u64, input: &[u8]) -> u32
     ensures status { result ≡ output_status position (length out.old) }
@@ -48,7 +48,7 @@ pub extern "C" fn sums_blake3_hash(out: &mut [u8; 32], input: &[u8])
     hasher.output().fill(out).unwrap();
 }
 
-/// Fills `out` with the bytes of `sums_blake3` under a key of 32 bytes.
+/// As `sums_blake3`, under a key of 32 bytes.
 #[unsafe(no_mangle)]
 pub extern "C" fn sums_blake3_keyed(
     out: &mut [u8],
@@ -65,8 +65,8 @@ pub extern "C" fn sums_blake3_keyed(
     output_into(&hasher, position, out)
 }
 
-/// Fills `out` in the same way with what is derived from key material under a context, a text that is meant for one use
-/// alone.
+/// Fills `out` in the same way with bytes derived from key material under a context, a text that is meant for
+/// one use only.
 #[unsafe(no_mangle)]
 pub extern "C" fn sums_blake3_derive(
     out: &mut [u8],

@@ -36,7 +36,7 @@ pub extern "C" fn sums_blake3_init_derive(state: &mut Blake3State, context: &[u8
     state.save(&Blake3::derive(context));
 }
 
-/// Begins a message anew, in the mode of the one before and under its key or context: `SUMS_NOT_BEGUN` where
+/// Begins a message anew, in the mode of the one before and under its key or context: `SUMS_NOT_BEGUN` if
 /// `state` was never begun.
 #[unsafe(no_mangle)]
 pub extern "C" fn sums_blake3_reset(state: &mut Blake3State) -> u32
@@ -53,8 +53,8 @@ pub extern "C" fn sums_blake3_reset(state: &mut Blake3State) -> u32
     SUMS_OK
 }
 
-/// Adds a piece to the message: `SUMS_NOT_BEGUN` where `state` was never begun, and else
-/// `SUMS_INPUT_TOO_LONG` where the message would be longer than 2^64 - 1 bytes.
+/// Adds a piece to the message: `SUMS_NOT_BEGUN` if `state` was never begun, else `SUMS_INPUT_TOO_LONG` if
+/// the message would be longer than 2^64 - 1 bytes.
 #[unsafe(no_mangle)]
 pub extern "C" fn sums_blake3_update(state: &mut Blake3State, piece: &[u8]) -> u32
     ensures status { (p m : List ℕ) → StateHolds state.old p m
@@ -76,9 +76,8 @@ pub extern "C" fn sums_blake3_update(state: &mut Blake3State, piece: &[u8]) -> u
     }
 }
 
-/// Fills `out` with the bytes of the message's output from `position` on: `SUMS_NOT_BEGUN` where
-/// `state` was never begun, and else `SUMS_END_OF_OUTPUT` where they would end after position 2^64 - 1.
-/// The message can go on.
+/// Fills `out` with the bytes of the message's output from `position` on: `SUMS_NOT_BEGUN` if `state` was
+/// never begun, else `SUMS_END_OF_OUTPUT` if they would end after position 2^64 - 1. The message can go on.
 #[unsafe(no_mangle)]
 pub extern "C" fn sums_blake3_output(state: &Blake3State, position: u64, out: &mut [u8]) -> u32
     ensures status { (p m : List ℕ) → StateHolds state.now p m

@@ -12,7 +12,7 @@ use kdf::{ExpandFault, Extract, expand};
 use mac::{Blake2b512, Blake2s256, BlockHash, Sha256Stream, Sha512Stream};
 use words::{Absorb, Tag};
 
-// The pseudorandom key of the material under a salt, or the status of what is refused.
+// The pseudorandom key of the material under a salt, or the status of the refusal.
 fn extracted<H: BlockHash>(material: &[u8], salt: &[u8]) -> Result<Tag, u32>
     ensures { MatchResult result
         (λ prk. (keyed_status H.BLOCK H.LIMIT (length salt.now) (length material.now) ≡ SUMS_OK)
@@ -30,7 +30,7 @@ fn extracted<H: BlockHash>(material: &[u8], salt: &[u8]) -> Result<Tag, u32>
     Ok(extract.finish())
 }
 
-// Fills `prk`, which has as many bytes as a digest, with the pseudorandom key.
+// Fills `prk`, which is as long as a digest, with the pseudorandom key.
 fn extract_into<H: BlockHash>(prk: &mut [u8], material: &[u8], salt: &[u8]) -> u32
     requires { length prk.old ≡ H.OUT }
     ensures status { result ≡ keyed_status H.BLOCK H.LIMIT (length salt.now) (length material.now) }
@@ -47,7 +47,7 @@ fn extract_into<H: BlockHash>(prk: &mut [u8], material: &[u8], salt: &[u8]) -> u
     }
 }
 
-// Fills `out` with keying material of a pseudorandom key.
+// Fills `out` with keying material from a pseudorandom key.
 fn expand_into<H: BlockHash>(out: &mut [u8], prk: &[u8], info: &[u8]) -> u32
     ensures status { result
         ≡ expand_status H.BLOCK H.OUT H.LIMIT (length out.old) (length prk.now) (length info.now) }
@@ -64,7 +64,7 @@ fn expand_into<H: BlockHash>(out: &mut [u8], prk: &[u8], info: &[u8]) -> u32
     }
 }
 
-// Fills `out` with keying material of what `material` is under a salt.
+// Fills `out` with keying material from `material` under a salt.
 fn hkdf_into<H: BlockHash>(out: &mut [u8], material: &[u8], salt: &[u8], info: &[u8]) -> u32
     ensures status { result ≡ hkdf_status H.BLOCK H.OUT H.LIMIT (length out.old)
         (length material.now) (length salt.now) (length info.now) }
@@ -78,11 +78,11 @@ fn hkdf_into<H: BlockHash>(out: &mut [u8], material: &[u8], salt: &[u8], info: &
     }
 }
 
-/// Fills `out` with keying material derived from `material` under a salt, bound to `info`: HKDF over
-/// SHA-256 (RFC 5869, section 2), where an empty salt stands for none. `SUMS_KEY_LENGTH` where the salt
-/// is longer than 2^61 - 1 bytes, else `SUMS_INPUT_TOO_LONG` where the material is longer than that
-/// less a block of 64, else `SUMS_END_OF_OUTPUT` where `out` has more than 8160 bytes, and else
-/// `SUMS_INPUT_TOO_LONG` where `info` is longer than 2^61 - 98 bytes.
+/// Fills `out` with keying material derived from `material` under a salt, bound to `info`: HKDF over SHA-256
+/// (RFC 5869, section 2); an empty salt stands for none. `SUMS_KEY_LENGTH` if the salt is longer than
+/// 2^61 - 1 bytes, else `SUMS_INPUT_TOO_LONG` if the material is longer than that less a block of 64, else
+/// `SUMS_END_OF_OUTPUT` if `out` has more than 8160 bytes, else `SUMS_INPUT_TOO_LONG` if `info` is longer
+/// than 2^61 - 98 bytes.
 #[unsafe(no_mangle)]
 pub extern "C" fn sums_hkdf_sha256(out: &mut [u8], material: &[u8], salt: &[u8], info: &[u8]) -> u32
     ensures status { result ≡ hkdf_status 64 32 (2 ^ 61 - 1) (length out.old)
@@ -106,9 +106,9 @@ pub extern "C" fn sums_hkdf_extract_sha256(prk: &mut [u8; 32], material: &[u8], 
     extract_into::<Sha256Stream>(prk, material, salt)
 }
 
-/// Fills `out` with keying material of a pseudorandom key: HKDF-Expand over SHA-256 (RFC 5869, section
-/// 2.3). `SUMS_KEY_LENGTH` where the key has fewer than 32 bytes or more than 2^61 - 1;
-/// `SUMS_END_OF_OUTPUT` and `SUMS_INPUT_TOO_LONG` as in `sums_hkdf_sha256`.
+/// Fills `out` with keying material from a pseudorandom key: HKDF-Expand over SHA-256 (RFC 5869, section
+/// 2.3). `SUMS_KEY_LENGTH` if the key has fewer than 32 bytes or more than 2^61 - 1; `SUMS_END_OF_OUTPUT` and
+/// `SUMS_INPUT_TOO_LONG` as in `sums_hkdf_sha256`.
 #[unsafe(no_mangle)]
 pub extern "C" fn sums_hkdf_expand_sha256(out: &mut [u8], prk: &[u8], info: &[u8]) -> u32
     ensures status { result

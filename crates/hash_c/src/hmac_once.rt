@@ -33,10 +33,10 @@ fn hmac_into<H: BlockHash>(out: &mut [u8], input: &[u8], key: &[u8]) -> u32
     SUMS_OK
 }
 
-/// Fills `out` with the first bytes of the HMAC of `input` under `key` over SHA-256 (RFC 2104, sections
-/// 2 and 5): `SUMS_DIGEST_LENGTH` where `out` has fewer than 16 bytes or more than 32, else
-/// `SUMS_KEY_LENGTH` where the key is longer than 2^61 - 1 bytes, and else `SUMS_INPUT_TOO_LONG` where
-/// `input` is longer than that less a block of 64.
+/// Fills `out` with the first bytes of the HMAC of `input` under `key` over SHA-256 (RFC 2104, sections 2 and
+/// 5): `SUMS_DIGEST_LENGTH` if `out` has fewer than 16 bytes or more than 32, else `SUMS_KEY_LENGTH` if the
+/// key is longer than 2^61 - 1 bytes, else `SUMS_INPUT_TOO_LONG` if `input` is longer than that less a block
+/// of 64.
 #[unsafe(no_mangle)]
 pub extern "C" fn sums_hmac_sha256(out: &mut [u8], input: &[u8], key: &[u8]) -> u32
     ensures status { result
@@ -47,7 +47,7 @@ pub extern "C" fn sums_hmac_sha256(out: &mut [u8], input: &[u8], key: &[u8]) -> 
     hmac_into::<Sha256Stream>(out, input, key)
 }
 
-/// The same over SHA-512: `out` has 32 to 64 bytes, and blocks have 128. No slice is too long.
+/// As `sums_hmac_sha256`, over SHA-512: `out` has 32 to 64 bytes, and blocks have 128. No slice is too long.
 #[unsafe(no_mangle)]
 pub extern "C" fn sums_hmac_sha512(out: &mut [u8], input: &[u8], key: &[u8]) -> u32
     ensures status { result
@@ -58,7 +58,8 @@ pub extern "C" fn sums_hmac_sha512(out: &mut [u8], input: &[u8], key: &[u8]) -> 
     hmac_into::<Sha512Stream>(out, input, key)
 }
 
-/// The same over BLAKE2b with digests of 64 bytes: `out` has 32 to 64 bytes. No slice is too long.
+/// As `sums_hmac_sha256`, over BLAKE2b with digests of 64 bytes: `out` has 32 to 64 bytes. No slice is too
+/// long.
 #[unsafe(no_mangle)]
 pub extern "C" fn sums_hmac_blake2b(out: &mut [u8], input: &[u8], key: &[u8]) -> u32
     ensures status { result
@@ -69,7 +70,8 @@ pub extern "C" fn sums_hmac_blake2b(out: &mut [u8], input: &[u8], key: &[u8]) ->
     hmac_into::<Blake2b512>(out, input, key)
 }
 
-/// The same over BLAKE2s with digests of 32 bytes: `out` has 16 to 32 bytes. No slice is too long.
+/// As `sums_hmac_sha256`, over BLAKE2s with digests of 32 bytes: `out` has 16 to 32 bytes. No slice is too
+/// long.
 #[unsafe(no_mangle)]
 pub extern "C" fn sums_hmac_blake2s(out: &mut [u8], input: &[u8], key: &[u8]) -> u32
     ensures status { result

@@ -61,8 +61,8 @@ pub struct HmacSha256State {
     outer: Sha256State,
 }
 
-/// Begins the HMAC of a text under `key` over SHA-256: `SUMS_KEY_LENGTH` where the key is longer than
-/// 2^61 - 1 bytes.
+/// Begins the HMAC of a text under `key` over SHA-256: `SUMS_KEY_LENGTH` if the key is longer than 2^61 - 1
+/// bytes.
 #[unsafe(no_mangle)]
 pub extern "C" fn sums_hmac_sha256_init(state: &mut HmacSha256State, key: &[u8]) -> u32
     ensures status { result ≡ key_status (2 ^ 61 - 1) (length key.now) }
@@ -72,8 +72,8 @@ pub extern "C" fn sums_hmac_sha256_init(state: &mut HmacSha256State, key: &[u8])
     begin::<Sha256Stream, Sha256State>(&mut state.inner, &mut state.outer, key)
 }
 
-/// Adds a piece to the text: `SUMS_NOT_BEGUN` where `state` was never begun, and else
-/// `SUMS_INPUT_TOO_LONG` where the text would be longer than 2^61 - 65 bytes.
+/// Adds a piece to the text: `SUMS_NOT_BEGUN` if `state` was never begun, else `SUMS_INPUT_TOO_LONG` if the
+/// text would be longer than 2^61 - 65 bytes.
 #[unsafe(no_mangle)]
 pub extern "C" fn sums_hmac_sha256_update(state: &mut HmacSha256State, piece: &[u8]) -> u32
     ensures status { (k m : List ℕ) → IsMac256 state.old k m
@@ -86,9 +86,8 @@ pub extern "C" fn sums_hmac_sha256_update(state: &mut HmacSha256State, piece: &[
     update_state::<Sha256Stream, Sha256State>(&mut state.inner, piece)
 }
 
-/// Fills `out` with the first bytes of the tag (RFC 2104, section 5): `SUMS_NOT_BEGUN` where `state`
-/// was never begun, and else `SUMS_DIGEST_LENGTH` where `out` has fewer than 16 bytes or more than 32.
-/// The text can go on.
+/// Fills `out` with the first bytes of the tag (RFC 2104, section 5): `SUMS_NOT_BEGUN` if `state` was never
+/// begun, else `SUMS_DIGEST_LENGTH` if `out` has fewer than 16 bytes or more than 32. The text can go on.
 #[unsafe(no_mangle)]
 pub extern "C" fn sums_hmac_sha256_finish(state: &HmacSha256State, out: &mut [u8]) -> u32
     ensures status { (k m : List ℕ) → IsMac256 state.now k m → result ≡ tag_status 32 (length out.old) }
@@ -109,8 +108,8 @@ pub struct HmacSha512State {
     outer: Sha512State,
 }
 
-/// Begins the HMAC of a text under `key` over SHA-512: `SUMS_KEY_LENGTH` where the key is longer than
-/// 2^125 - 1 bytes.
+/// Begins the HMAC of a text under `key` over SHA-512: `SUMS_KEY_LENGTH` if the key is longer than 2^125 - 1
+/// bytes.
 #[unsafe(no_mangle)]
 pub extern "C" fn sums_hmac_sha512_init(state: &mut HmacSha512State, key: &[u8]) -> u32
     ensures status { result ≡ key_status (2 ^ 125 - 1) (length key.now) }
@@ -120,8 +119,8 @@ pub extern "C" fn sums_hmac_sha512_init(state: &mut HmacSha512State, key: &[u8])
     begin::<Sha512Stream, Sha512State>(&mut state.inner, &mut state.outer, key)
 }
 
-/// Adds a piece to the text: `SUMS_NOT_BEGUN` where `state` was never begun, and else
-/// `SUMS_INPUT_TOO_LONG` where the text would be longer than 2^125 - 129 bytes.
+/// Adds a piece to the text: `SUMS_NOT_BEGUN` if `state` was never begun, else `SUMS_INPUT_TOO_LONG` if the
+/// text would be longer than 2^125 - 129 bytes.
 #[unsafe(no_mangle)]
 pub extern "C" fn sums_hmac_sha512_update(state: &mut HmacSha512State, piece: &[u8]) -> u32
     ensures status { (k m : List ℕ) → IsMac512 state.old k m
@@ -134,9 +133,8 @@ pub extern "C" fn sums_hmac_sha512_update(state: &mut HmacSha512State, piece: &[
     update_state::<Sha512Stream, Sha512State>(&mut state.inner, piece)
 }
 
-/// Fills `out` with the first bytes of the tag (RFC 2104, section 5): `SUMS_NOT_BEGUN` where `state`
-/// was never begun, and else `SUMS_DIGEST_LENGTH` where `out` has fewer than 32 bytes or more than 64.
-/// The text can go on.
+/// Fills `out` with the first bytes of the tag (RFC 2104, section 5): `SUMS_NOT_BEGUN` if `state` was never
+/// begun, else `SUMS_DIGEST_LENGTH` if `out` has fewer than 32 bytes or more than 64. The text can go on.
 #[unsafe(no_mangle)]
 pub extern "C" fn sums_hmac_sha512_finish(state: &HmacSha512State, out: &mut [u8]) -> u32
     ensures status { (k m : List ℕ) → IsMac512 state.now k m → result ≡ tag_status 64 (length out.old) }
@@ -157,8 +155,8 @@ pub struct HmacBlake2bState {
     outer: Blake2bState,
 }
 
-/// Begins the HMAC of a text under `key` over BLAKE2b with digests of 64 bytes: `SUMS_KEY_LENGTH` where
-/// the key is longer than 2^128 - 1 bytes.
+/// Begins the HMAC of a text under `key` over BLAKE2b with digests of 64 bytes: `SUMS_KEY_LENGTH` if the key
+/// is longer than 2^128 - 1 bytes.
 #[unsafe(no_mangle)]
 pub extern "C" fn sums_hmac_blake2b_init(state: &mut HmacBlake2bState, key: &[u8]) -> u32
     ensures status { result ≡ key_status (2 ^ 128 - 1) (length key.now) }
@@ -169,8 +167,8 @@ pub extern "C" fn sums_hmac_blake2b_init(state: &mut HmacBlake2bState, key: &[u8
     begin::<Blake2b512, Blake2bState>(&mut state.inner, &mut state.outer, key)
 }
 
-/// Adds a piece to the text: `SUMS_NOT_BEGUN` where `state` was never begun, and else
-/// `SUMS_INPUT_TOO_LONG` where the text would be longer than 2^128 - 129 bytes.
+/// Adds a piece to the text: `SUMS_NOT_BEGUN` if `state` was never begun, else `SUMS_INPUT_TOO_LONG` if the
+/// text would be longer than 2^128 - 129 bytes.
 #[unsafe(no_mangle)]
 pub extern "C" fn sums_hmac_blake2b_update(state: &mut HmacBlake2bState, piece: &[u8]) -> u32
     ensures status { (k m : List ℕ) → IsMac2b state.old k m
@@ -183,9 +181,8 @@ pub extern "C" fn sums_hmac_blake2b_update(state: &mut HmacBlake2bState, piece: 
     update_state::<Blake2b512, Blake2bState>(&mut state.inner, piece)
 }
 
-/// Fills `out` with the first bytes of the tag (RFC 2104, section 5): `SUMS_NOT_BEGUN` where `state`
-/// was never begun, and else `SUMS_DIGEST_LENGTH` where `out` has fewer than 32 bytes or more than 64.
-/// The text can go on.
+/// Fills `out` with the first bytes of the tag (RFC 2104, section 5): `SUMS_NOT_BEGUN` if `state` was never
+/// begun, else `SUMS_DIGEST_LENGTH` if `out` has fewer than 32 bytes or more than 64. The text can go on.
 #[unsafe(no_mangle)]
 pub extern "C" fn sums_hmac_blake2b_finish(state: &HmacBlake2bState, out: &mut [u8]) -> u32
     ensures status { (k m : List ℕ) → IsMac2b state.now k m → result ≡ tag_status 64 (length out.old) }
@@ -206,8 +203,8 @@ pub struct HmacBlake2sState {
     outer: Blake2sState,
 }
 
-/// Begins the HMAC of a text under `key` over BLAKE2s with digests of 32 bytes: `SUMS_KEY_LENGTH` where
-/// the key is longer than 2^64 - 1 bytes.
+/// Begins the HMAC of a text under `key` over BLAKE2s with digests of 32 bytes: `SUMS_KEY_LENGTH` if the key
+/// is longer than 2^64 - 1 bytes.
 #[unsafe(no_mangle)]
 pub extern "C" fn sums_hmac_blake2s_init(state: &mut HmacBlake2sState, key: &[u8]) -> u32
     ensures status { result ≡ key_status (2 ^ 64 - 1) (length key.now) }
@@ -218,8 +215,8 @@ pub extern "C" fn sums_hmac_blake2s_init(state: &mut HmacBlake2sState, key: &[u8
     begin::<Blake2s256, Blake2sState>(&mut state.inner, &mut state.outer, key)
 }
 
-/// Adds a piece to the text: `SUMS_NOT_BEGUN` where `state` was never begun, and else
-/// `SUMS_INPUT_TOO_LONG` where the text would be longer than 2^64 - 65 bytes.
+/// Adds a piece to the text: `SUMS_NOT_BEGUN` if `state` was never begun, else `SUMS_INPUT_TOO_LONG` if the
+/// text would be longer than 2^64 - 65 bytes.
 #[unsafe(no_mangle)]
 pub extern "C" fn sums_hmac_blake2s_update(state: &mut HmacBlake2sState, piece: &[u8]) -> u32
     ensures status { (k m : List ℕ) → IsMac2s state.old k m
@@ -232,9 +229,8 @@ pub extern "C" fn sums_hmac_blake2s_update(state: &mut HmacBlake2sState, piece: 
     update_state::<Blake2s256, Blake2sState>(&mut state.inner, piece)
 }
 
-/// Fills `out` with the first bytes of the tag (RFC 2104, section 5): `SUMS_NOT_BEGUN` where `state`
-/// was never begun, and else `SUMS_DIGEST_LENGTH` where `out` has fewer than 16 bytes or more than 32.
-/// The text can go on.
+/// Fills `out` with the first bytes of the tag (RFC 2104, section 5): `SUMS_NOT_BEGUN` if `state` was never
+/// begun, else `SUMS_DIGEST_LENGTH` if `out` has fewer than 16 bytes or more than 32. The text can go on.
 #[unsafe(no_mangle)]
 pub extern "C" fn sums_hmac_blake2s_finish(state: &HmacBlake2sState, out: &mut [u8]) -> u32
     ensures status { (k m : List ℕ) → IsMac2s state.now k m → result ≡ tag_status 32 (length out.old) }

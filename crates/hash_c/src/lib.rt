@@ -1,7 +1,7 @@
 //! The hashers for callers that are not Rattle: each call is one function of a static library.
 //!
-//! A slice is a pointer and then a length in bytes. A status of `SUMS_OK` says that all was done; any
-//! other says why nothing was, and then what the caller lent is as it was.
+//! A slice is a pointer and then a length in bytes. The status `SUMS_OK` says that all is done; any other
+//! says why nothing was, and then what the caller lent is unchanged.
 #![tactic(auto, unfolding(crate::specs::Statuses::parameter_status, crate::specs::inside::Streams::fault_status))]
 
 mod blake2_once;

@@ -17,8 +17,9 @@ use listing::{alg_numbered, verdict_numbered};
 use source::Alg;
 use sumlist::{FillFault, entry_len, fill_entry, fill_verdict, verdict_len};
 
-/// How many bytes the line of an entry has, with its LF: with a digest of so many bytes of the hash of this number,
-/// tagged unless that is 0, and of this name. 0 if there is no such hash, digest or line.
+/// The length in bytes of the line of an entry, with its LF: for the hash with this number, a digest of
+/// `digest_len` bytes, and this name; tagged unless `is_tagged` is 0. 0 if there is no such hash, digest or
+/// line.
 #[unsafe(no_mangle)]
 pub extern "C" fn sums_list_line_length(
     hash: u32,
@@ -39,8 +40,8 @@ pub extern "C" fn sums_list_line_length(
 }
 
 /// Fills `out` with the line of an entry, and its LF: `SUMS_NO_HASH` if no hash has this number, else
-/// `SUMS_DIGEST_LENGTH` if it has no digests of that length, else `SUMS_NO_LINE` if the name has no line, and else
-/// `SUMS_OUTPUT_LENGTH` if the line has another length than `out`.
+/// `SUMS_DIGEST_LENGTH` if it has no digests of that length, else `SUMS_NO_LINE` if the name has no line,
+/// else `SUMS_OUTPUT_LENGTH` if the line is not as long as `out`.
 #[unsafe(no_mangle)]
 pub extern "C" fn sums_list_line(
     out: &mut [u8],
@@ -63,7 +64,7 @@ pub extern "C" fn sums_list_line(
     }
 }
 
-// The algorithm of the hash of this number, whose digests have so many bytes, or the status if there is none.
+// The algorithm of the hash with this number and digests of this length, or the status if there is none.
 fn alg_of(hash: u32, digest_len: usize) -> Result<Alg, u32>
     ensures { MatchResult result (λ alg. IsAlg hash digest_len alg)
         (λ status. ((status ≡ SUMS_NO_HASH) × IsNoHash hash) ⊎ ((status ≡ SUMS_DIGEST_LENGTH)
@@ -78,8 +79,8 @@ fn alg_of(hash: u32, digest_len: usize) -> Result<Alg, u32>
     }
 }
 
-/// How many bytes the line of a report has, with its LF, that gives this name the verdict of this number. 0 if there is
-/// no such verdict or line.
+/// The length in bytes of the report's line for this name and the verdict with this number, with its LF. 0 if
+/// there is no such verdict or line.
 #[unsafe(no_mangle)]
 pub extern "C" fn sums_list_report_length(verdict: u32, name: &[u8]) -> usize
     ensures line { (v : Verdict) → verdict ≡ verdict_number v → CanStand name.now
@@ -93,8 +94,8 @@ pub extern "C" fn sums_list_report_length(verdict: u32, name: &[u8]) -> usize
 }
 
 /// Fills `out` with the line of a report, and its LF: `SUMS_NO_VERDICT` if no verdict has this number, else
-/// `SUMS_NO_LINE` if the name is not UTF-8 or longer than a line may be, and else `SUMS_OUTPUT_LENGTH` if the line has
-/// another length than `out`.
+/// `SUMS_NO_LINE` if the name is not UTF-8 or longer than a line may be, else `SUMS_OUTPUT_LENGTH` if the
+/// line is not as long as `out`.
 #[unsafe(no_mangle)]
 pub extern "C" fn sums_list_report(out: &mut [u8], verdict: u32, name: &[u8]) -> u32
     ensures { WritesReport verdict name.now out.old out.new result }

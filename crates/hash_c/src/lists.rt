@@ -12,8 +12,8 @@ ghost use Rattle.hash_c.specs.declared.statuses.TheConstants.{SUMS_NO_HASH, SUMS
 use crate::statuses::{SUMS_INPUT_TOO_LONG, SUMS_NO_HASH, SUMS_NOT_BEGUN, SUMS_OK};
 use listing::{ListFault, ListLine, ListState, kind_numbered};
 
-/// Begins a list whose untagged lines are of the hash of this number, or of none for 0: `SUMS_NO_HASH` if no hash has
-/// the number.
+/// Begins a list with untagged lines of the hash with this number, or of no hash for 0: `SUMS_NO_HASH` if no
+/// hash has the number.
 #[unsafe(no_mangle)]
 pub extern "C" fn sums_list_init(state: &mut ListState, hash: u32) -> u32
     ensures begun { (kind : Option Kind) → hash ≡ number_of kind
@@ -28,9 +28,9 @@ pub extern "C" fn sums_list_init(state: &mut ListState, hash: u32) -> u32
     SUMS_OK
 }
 
-/// Reads a piece of the list up to its first LF, with it, and what the line means that ends there; or all of the piece,
-/// if it has no LF, and then no line has ended. `SUMS_NOT_BEGUN` if `state` was never begun, and else
-/// `SUMS_INPUT_TOO_LONG` if 2^64 - 1 lines have ended.
+/// Reads a piece of the list up to and including its first LF, and what the line that ends there means.
+/// Without LF it reads the whole piece, and no line has ended. `SUMS_NOT_BEGUN` if `state` was never begun,
+/// else `SUMS_INPUT_TOO_LONG` if 2^64 - 1 lines have ended.
 #[unsafe(no_mangle)]
 pub extern "C" fn sums_list_read(state: &mut ListState, line: &mut ListLine, piece: &[u8]) -> u32
     ensures read { (kind : Option Kind) (n : ℕ) (begun : List ℕ) → ListHolds state.old kind n begun

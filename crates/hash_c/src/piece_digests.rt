@@ -1,4 +1,4 @@
-// The digests of the pieces of a buffer, one behind the other.
+// The digests of the pieces of a buffer, one after another.
 
 ghost use Rattle.std.specs.Prelude.{◌≡◌, ◌≢◌, [], Some, MatchResult, length};
 ghost use Rattle.sha2.specs.Sha256.{sha256};
@@ -27,9 +27,10 @@ fn status_of(outcome: Result<(), Fault>) -> u32
     }
 }
 
-/// Fills `out` with the SHA-256 digests (FIPS 180-4, section 6.2) of the pieces of `piece_len` bytes that `input` is
-/// cut into, one behind the other; the last piece may be shorter, and no bytes have no piece. `SUMS_PIECE_LENGTH`
-/// where `piece_len` is 0, and else `SUMS_OUTPUT_LENGTH` where `out` has other than 32 bytes a piece.
+/// Fills `out` with the SHA-256 digests (FIPS 180-4, section 6.2) of the pieces of `piece_len` bytes that
+/// `input` is cut into, one after another; the last piece may be shorter, and an empty `input` has no pieces.
+/// `SUMS_PIECE_LENGTH` if `piece_len` is 0, else `SUMS_OUTPUT_LENGTH` if `out` does not have 32 bytes per
+/// piece.
 #[unsafe(no_mangle)]
 #[tactic(auto, unfolding(crate::specs::Statuses::piece_status))]
 pub extern "C" fn sums_sha256_pieces(out: &mut [u8], input: &[u8], piece_len: usize) -> u32
@@ -40,9 +41,10 @@ pub extern "C" fn sums_sha256_pieces(out: &mut [u8], input: &[u8], piece_len: us
     status_of(pieces::sha256(input, piece_len, out))
 }
 
-/// Fills `out` with the SHA-512 digests (FIPS 180-4, section 6.4) of the pieces of `piece_len` bytes that `input` is
-/// cut into, one behind the other; the last piece may be shorter, and no bytes have no piece. `SUMS_PIECE_LENGTH`
-/// where `piece_len` is 0, and else `SUMS_OUTPUT_LENGTH` where `out` has other than 64 bytes a piece.
+/// Fills `out` with the SHA-512 digests (FIPS 180-4, section 6.4) of the pieces of `piece_len` bytes that
+/// `input` is cut into, one after another; the last piece may be shorter, and an empty `input` has no pieces.
+/// `SUMS_PIECE_LENGTH` if `piece_len` is 0, else `SUMS_OUTPUT_LENGTH` if `out` does not have 64 bytes per
+/// piece.
 #[unsafe(no_mangle)]
 #[tactic(auto, unfolding(crate::specs::Statuses::piece_status))]
 pub extern "C" fn sums_sha512_pieces(out: &mut [u8], input: &[u8], piece_len: usize) -> u32
@@ -53,10 +55,11 @@ pub extern "C" fn sums_sha512_pieces(out: &mut [u8], input: &[u8], piece_len: us
     status_of(pieces::sha512(input, piece_len, out))
 }
 
-/// Fills `out` with the BLAKE2b digests of `digest_len` bytes, without a key (RFC 7693, section 3.3), of the pieces of
-/// `piece_len` bytes that `input` is cut into, one behind the other; the last piece may be shorter, and no bytes have
-/// no piece. `SUMS_DIGEST_LENGTH` where `digest_len` is 0 or above 64, else `SUMS_PIECE_LENGTH` where `piece_len` is
-/// 0, and else `SUMS_OUTPUT_LENGTH` where `out` has other than `digest_len` bytes a piece.
+/// Fills `out` with the BLAKE2b digests of `digest_len` bytes, without a key (RFC 7693, section 3.3), of the
+/// pieces of `piece_len` bytes that `input` is cut into, one after another; the last piece may be shorter,
+/// and an empty `input` has no pieces. `SUMS_DIGEST_LENGTH` if `digest_len` is 0 or above 64, else
+/// `SUMS_PIECE_LENGTH` if `piece_len` is 0, else `SUMS_OUTPUT_LENGTH` if `out` does not have `digest_len`
+/// bytes per piece.
 #[unsafe(no_mangle)]
 #[tactic(auto, unfolding(crate::specs::Statuses::piece_status))]
 pub extern "C" fn sums_blake2b_pieces(
@@ -74,10 +77,11 @@ pub extern "C" fn sums_blake2b_pieces(
     status_of(pieces::blake2b(digest_len, input, piece_len, out))
 }
 
-/// Fills `out` with the BLAKE2s digests of `digest_len` bytes, without a key (RFC 7693, section 3.3), of the pieces of
-/// `piece_len` bytes that `input` is cut into, one behind the other; the last piece may be shorter, and no bytes have
-/// no piece. `SUMS_DIGEST_LENGTH` where `digest_len` is 0 or above 32, else `SUMS_PIECE_LENGTH` where `piece_len` is
-/// 0, and else `SUMS_OUTPUT_LENGTH` where `out` has other than `digest_len` bytes a piece.
+/// Fills `out` with the BLAKE2s digests of `digest_len` bytes, without a key (RFC 7693, section 3.3), of the
+/// pieces of `piece_len` bytes that `input` is cut into, one after another; the last piece may be shorter,
+/// and an empty `input` has no pieces. `SUMS_DIGEST_LENGTH` if `digest_len` is 0 or above 32, else
+/// `SUMS_PIECE_LENGTH` if `piece_len` is 0, else `SUMS_OUTPUT_LENGTH` if `out` does not have `digest_len`
+/// bytes per piece.
 #[unsafe(no_mangle)]
 #[tactic(auto, unfolding(crate::specs::Statuses::piece_status))]
 pub extern "C" fn sums_blake2s_pieces(
@@ -95,10 +99,10 @@ pub extern "C" fn sums_blake2s_pieces(
     status_of(pieces::blake2s(digest_len, input, piece_len, out))
 }
 
-/// Fills `out` with BLAKE3's hashes of 32 bytes (the BLAKE3 paper, sections 2.3 and 2.6) of the pieces of `piece_len`
-/// bytes that `input` is cut into, one behind the other; the last piece may be shorter, and no bytes have no piece.
-/// `SUMS_PIECE_LENGTH` where `piece_len` is 0, and else `SUMS_OUTPUT_LENGTH` where `out` has other than 32 bytes a
-/// piece.
+/// Fills `out` with BLAKE3's hashes of 32 bytes (the BLAKE3 paper, sections 2.3 and 2.6) of the pieces of
+/// `piece_len` bytes that `input` is cut into, one after another; the last piece may be shorter, and an empty
+/// `input` has no pieces. `SUMS_PIECE_LENGTH` if `piece_len` is 0, else `SUMS_OUTPUT_LENGTH` if `out` does
+/// not have 32 bytes per piece.
 #[unsafe(no_mangle)]
 #[tactic(auto, unfolding(crate::specs::Statuses::piece_status))]
 pub extern "C" fn sums_blake3_pieces(out: &mut [u8], input: &[u8], piece_len: usize) -> u32

@@ -20,8 +20,8 @@ pub extern "C" fn sums_sha256_init(state: &mut Sha256State)
     Sha256State::begin(state);
 }
 
-/// Adds a piece to the message: `SUMS_NOT_BEGUN` where `state` was never begun, and else
-/// `SUMS_INPUT_TOO_LONG` where the message would be longer than 2^61 - 1 bytes.
+/// Adds a piece to the message: `SUMS_NOT_BEGUN` if `state` was never begun, else `SUMS_INPUT_TOO_LONG` if
+/// the message would be longer than 2^61 - 1 bytes.
 #[unsafe(no_mangle)]
 pub extern "C" fn sums_sha256_update(state: &mut Sha256State, piece: &[u8]) -> u32
     ensures status { (m : List ℕ) → StateHolds256 state.old m
@@ -34,8 +34,8 @@ pub extern "C" fn sums_sha256_update(state: &mut Sha256State, piece: &[u8]) -> u
     update_state::<Sha256Stream, Sha256State>(state, piece)
 }
 
-/// Fills `out` with the SHA-256 digest of the message (FIPS 180-4, section 6.2): `SUMS_NOT_BEGUN` where
-/// `state` was never begun. The message can go on.
+/// Fills `out` with the SHA-256 digest of the message (FIPS 180-4, section 6.2): `SUMS_NOT_BEGUN` if `state`
+/// was never begun. The message can go on.
 #[unsafe(no_mangle)]
 pub extern "C" fn sums_sha256_finish(state: &Sha256State, out: &mut [u8; 32]) -> u32
     ensures status { (m : List ℕ) → StateHolds256 state.now m → result ≡ SUMS_OK }
@@ -54,8 +54,8 @@ pub extern "C" fn sums_sha512_init(state: &mut Sha512State)
     Sha512State::begin(state);
 }
 
-/// Adds a piece to the message: `SUMS_NOT_BEGUN` where `state` was never begun, and else
-/// `SUMS_INPUT_TOO_LONG` where the message would be longer than 2^125 - 1 bytes.
+/// Adds a piece to the message: `SUMS_NOT_BEGUN` if `state` was never begun, else `SUMS_INPUT_TOO_LONG` if
+/// the message would be longer than 2^125 - 1 bytes.
 #[unsafe(no_mangle)]
 pub extern "C" fn sums_sha512_update(state: &mut Sha512State, piece: &[u8]) -> u32
     ensures status { (m : List ℕ) → StateHolds512 state.old m
@@ -68,8 +68,8 @@ pub extern "C" fn sums_sha512_update(state: &mut Sha512State, piece: &[u8]) -> u
     update_state::<Sha512Stream, Sha512State>(state, piece)
 }
 
-/// Fills `out` with the SHA-512 digest of the message (FIPS 180-4, section 6.4): `SUMS_NOT_BEGUN` where
-/// `state` was never begun. The message can go on.
+/// Fills `out` with the SHA-512 digest of the message (FIPS 180-4, section 6.4): `SUMS_NOT_BEGUN` if `state`
+/// was never begun. The message can go on.
 #[unsafe(no_mangle)]
 pub extern "C" fn sums_sha512_finish(state: &Sha512State, out: &mut [u8; 64]) -> u32
     ensures status { (m : List ℕ) → StateHolds512 state.now m → result ≡ SUMS_OK }

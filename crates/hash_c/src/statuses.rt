@@ -1,4 +1,4 @@
-// The statuses that the calls answer, by their names in the header of C.
+// The statuses that the calls answer, with their names in the C header.
 
 ghost use Rattle.std.specs.Prelude.{◌≡◌};
 
@@ -23,7 +23,7 @@ pub const SUMS_END_OF_OUTPUT: u32 = 5;
 /// A piece has 0 bytes.
 pub const SUMS_PIECE_LENGTH: u32 = 6;
 
-/// The output has another length than the digests of the pieces together, or than the line.
+/// The output is not as long as the digests of all pieces, or as the line.
 pub const SUMS_OUTPUT_LENGTH: u32 = 7;
 
 /// No hash has that number.
@@ -35,7 +35,7 @@ pub const SUMS_NO_LINE: u32 = 9;
 /// No verdict has that number.
 pub const SUMS_NO_VERDICT: u32 = 10;
 
-// Does nothing. Its contract says the number of each status, by which a caller in C knows it.
+// Does nothing. Its contract gives the number of each status, by which a caller in C knows it.
 fn status_laws()
     ensures ok { SUMS_OK ≡ 0 }
     ensures digest_length { SUMS_DIGEST_LENGTH ≡ 1 }

@@ -20,7 +20,7 @@ pub fn status_of(fault: ParameterFault) -> u32
     }
 }
 
-/// The number of a refused piece.
+/// The number of a refusal of a piece.
 pub fn state_status(fault: StateFault) -> u32
     ensures { result ≡ fault_status fault }
 {
@@ -30,7 +30,7 @@ pub fn state_status(fault: StateFault) -> u32
     }
 }
 
-/// Fills `out` with a tag: `SUMS_DIGEST_LENGTH` where it has another length.
+/// Fills `out` with a tag: `SUMS_DIGEST_LENGTH` if it has another length.
 pub fn tag_into(tag: &Tag, out: &mut [u8]) -> u32
     ensures status { result ≡ length_status (length tag.now) (length out.old) }
     ensures tag { result ≡ SUMS_OK → out.new ≡ tag.now }

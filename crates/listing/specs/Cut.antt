@@ -2,7 +2,7 @@
 use Rattle.std.specs.Prelude.{◌≡◌, ◌≢◌, ℕ, List, [], ◌∷◌, ◌++◌, Contains}
 use Rattle.sumlist.specs.Lines.{lines}
 
--- a line ends at the first LF, and the others are those of the rest
+-- a line ends at the first LF, and the other lines are those of the rest
 abbrev pub EndsAtLf : Type 0
 EndsAtLf = (line rest : List ℕ) → (Contains line 10 → ⊥) → lines (line ++ 10 ∷ rest) ≡ line ∷ lines rest
 
@@ -10,6 +10,6 @@ EndsAtLf = (line rest : List ℕ) → (Contains line 10 → ⊥) → lines (line
 abbrev pub LastLine : Type 0
 LastLine = (line : List ℕ) → line ≢ [] → (Contains line 10 → ⊥) → lines line ≡ line ∷ []
 
--- and no bytes none
+-- no bytes have no line
 abbrev pub NoLines : Type 0
 NoLines = lines [] ≡ []

@@ -8,7 +8,7 @@ use Rattle.sumlist.specs.declared.kind.Kind.TheVariants.{Sha256, Sha512, Blake2b
 use Rattle.sumlist.specs.declared.verdict.Verdict.{Verdict}
 use Rattle.sumlist.specs.declared.verdict.Verdict.TheVariants.{Matches, Differs, Missing, Unreadable, TooLong}
 
--- the number of a hash, and 0 for none
+-- the number of a hash, or 0 for none
 abbrev pub number_of : Option Kind → ℕ
 number_of None = 0
 number_of (Some Sha256) = 1
@@ -17,7 +17,7 @@ number_of (Some Blake2b) = 3
 number_of (Some Blake2s) = 4
 number_of (Some Blake3) = 5
 
--- the algorithm of the hash of this number whose digests have so many bytes
+-- the algorithm of the hash with this number and digests of this length
 abbrev pub IsAlg : (hash len : ℕ) → Alg → Type 0
 IsAlg hash len alg = (hash ≡ number_of (Some (alg_kind alg))) × IsInRange alg × (digest_len alg ≡ len)
 

@@ -1,4 +1,4 @@
--- What a piece of a list, or its end, makes of what was read of it before (docs/FORMAT.md, Grammar).
+-- What a call that reads a piece of a list, or ends it, makes of what was read before (docs/FORMAT.md, Grammar).
 use Rattle.std.specs.Prelude.{◌≡◌, ◌≢◌, ◌≤◌, ◌+◌, ◌++◌, ◌∷◌, ℕ, List, Option, Contains, length}
 use Rattle.sumlist.specs.declared.kind.Kind.{Kind}
 use Rattle.listing.specs.Line.{Means}
@@ -6,11 +6,11 @@ use Rattle.listing.specs.declared.line.ListLine.{ListLine}
 use Rattle.listing.specs.declared.line.TheConstants.{LINE_NONE}
 use Rattle.listing.specs.declared.state.ListState.{ListState}
 
--- the mark of one of the hashes, or of none; what is held of a line may be anything
+-- the mark of one of the hashes, or of none; the part of a line that is held may be anything
 abbrev pub IsBegun : ListState → Type 0
 IsBegun s = (1 ≤ s.mark) × (s.mark ≤ 6)
 
--- a line of these bytes has ended, after n others
+-- a line of these bytes has ended, after n other lines
 pub record EndsLine (kind : Option Kind) (n : ℕ) (text : List ℕ) (l : ListLine) : Type 0 where
   pub number : l.number ≡ n + 1
   pub means : Means text kind l

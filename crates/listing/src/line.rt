@@ -15,10 +15,10 @@ pub const LINE_NONE: u32 = 0;
 /// The line is empty or a comment.
 pub const LINE_SKIPPED: u32 = 1;
 
-/// The line is neither skipped nor spells an entry.
+/// The line is not skipped, and spells no entry.
 pub const LINE_MALFORMED: u32 = 2;
 
-/// The line is malformed only because its kind is missing: with some other kind it would spell an entry.
+/// The line is malformed only because its kind is missing: with another kind it would spell an entry.
 pub const LINE_UNTAGGED: u32 = 3;
 
 /// The line spells an entry.
@@ -32,17 +32,17 @@ pub struct ListLine {
     pub number: u64,
     /// How many bytes of the piece were read.
     pub taken: u64,
-    /// What the line is: one of the five above.
+    /// What the line is: one of the five constants above.
     pub kind: u32,
-    /// Of an entry, the number of its hash.
+    /// For an entry, the number of its hash.
     pub hash: u32,
-    /// Of an entry, how many bytes its digest has.
+    /// For an entry, the length of its digest in bytes.
     pub digest_len: u32,
-    /// Of an entry, how many bytes its name has.
+    /// For an entry, the length of its name in bytes.
     pub name_len: u32,
-    /// Of an entry, at the front, its digest.
+    /// For an entry, its digest, at the front.
     pub digest: [u8; 64],
-    /// Of an entry, at the front, its name, unescaped.
+    /// For an entry, its name, unescaped, at the front.
     pub name: [u8; 65536],
 }
 
@@ -77,7 +77,7 @@ pub(crate) fn read_line(text: &[u8], kind: Option<Kind>, line: &mut ListLine)
     }
 }
 
-// Writes the numbers of an entry of this algorithm, tag and name.
+// Writes the numbers of an entry with this algorithm, tag and name.
 fn put_entry(alg: Alg, tag: &Tag, name: NameText, line: &mut ListLine)
     requires { (n : List ℕ) × (name_of name.is_escaped name.text.now ≡ Some n) × (length n ≤ 65536) }
     ensures entry { (n : List ℕ) → name_of name.entry.is_escaped name.entry.text.now ≡ Some n

@@ -8,7 +8,7 @@ ghost use Rattle.source.specs.declared.alg.Alg.{Alg};
 use source::Alg;
 use sumlist::{Kind, Verdict};
 
-/// The number of a hash, and 0 for none.
+/// The number of a hash, or 0 for none.
 pub fn kind_number(kind: Option<Kind>) -> u32
     ensures value { result ≡ number_of kind }
     ensures bound { result ≤ 5 }
@@ -23,7 +23,7 @@ pub fn kind_number(kind: Option<Kind>) -> u32
     }
 }
 
-/// The hash of this number, or none for 0, if there is one.
+/// The hash with this number (`Some(None)` for 0), or `None` if there is none.
 pub fn kind_numbered(number: u32) -> Option<Option<Kind>>
     ensures { MatchOption result (5 < number) (λ kind. number ≡ number_of kind) }
 {
@@ -38,7 +38,7 @@ pub fn kind_numbered(number: u32) -> Option<Option<Kind>>
     }
 }
 
-/// The algorithm of the hash of this number whose digests have so many bytes, if there is one.
+/// The algorithm of the hash with this number and digests of `len` bytes, if there is one.
 pub fn alg_numbered(number: u32, len: usize) -> Option<Alg>
     ensures { MatchOption result ((alg : Alg) → IsAlg number len alg → ⊥) (λ alg. IsAlg number len alg) }
 {
@@ -57,7 +57,7 @@ pub fn alg_numbered(number: u32, len: usize) -> Option<Alg>
     }
 }
 
-/// The verdict of this number, if there is one.
+/// The verdict with this number, if there is one.
 pub fn verdict_numbered(number: u32) -> Option<Verdict>
     ensures { MatchOption result ((verdict : Verdict) → number ≡ verdict_number verdict → ⊥)
         (λ verdict. number ≡ verdict_number verdict) }

@@ -14,35 +14,35 @@ use crate::line::{LINE_MALFORMED, LINE_NONE, ListLine, read_line};
 use crate::numbers::{kind_number, kind_numbered};
 use sumlist::{Kind, LINE_LIMIT, split_at_byte};
 
-// As many bytes as a line may have.
+// The most bytes that a line may have.
 const MOST: u64 = 65_536;
 
 /// Why a piece of a list was not read.
 #[derive(Clone, Copy, Debug, PartialEq, Eq, Drop)]
 pub enum ListFault {
-    /// These are the numbers of no list.
+    /// These numbers are not the state of a list.
     NotBegun,
     /// The list has more than 2^64 - 1 lines.
     TooLong,
 }
 
-/// A list that is read in pieces, as plain numbers of a fixed layout. Whatever this memory holds, a call refuses it or
-/// takes it for some list, and reads nothing outside it. It holds no pointer and may be copied. It is for the memory of
-/// one process, and no format: its fields can change.
+/// A list that is read in pieces, as plain numbers of a fixed layout. Whatever this memory holds, a call
+/// refuses it or takes it for some list, and reads nothing outside it. It holds no pointer and may be copied.
+/// It is for the memory of one process, not a format: its fields can change.
 #[repr(C)]
 #[derive(Clone, Copy)]
 pub struct ListState {
     // how many lines have ended
     lines: u64,
-    // how many bytes of the next one are held, or more than a line may have
+    // how many bytes of the next line are held, or a number above the limit of a line
     held: u64,
-    // one more than the number of the hash of untagged lines, and 0 if the list was never begun
+    // the number of the hash of untagged lines, plus one; 0 if the list was never begun
     mark: u64,
     line: [u8; 65536],
 }
 
 impl ListState {
-    /// Zeros, which are no list's.
+    /// Zeros, which are the state of no list.
     pub fn zeros() -> ListState
         ensures { result.mark ≡ 0 }
     {
@@ -54,7 +54,7 @@ impl ListState {
         }
     }
 
-    /// Begins a list whose untagged lines have this kind. Without one they are malformed.
+    /// Begins a list whose untagged lines have this kind. Without a kind they are malformed.
     pub fn begin(&mut self, kind: Option<Kind>)
         ensures { ListHolds self.new kind 0 [] }
     {
@@ -63,15 +63,15 @@ impl ListState {
         self.mark = 1 + u64::from(kind_number(kind));
     }
 
-    /// Whether these can be the numbers of a list.
+    /// Whether these numbers can be the state of a list.
     pub fn is_begun(&self) -> bool
         ensures { IsTrue result ↔ IsBegun self.now }
     {
         1 <= self.mark && self.mark <= 6
     }
 
-    /// Reads the piece up to its first LF, with it, and what the line means that ends there; or all of the piece, if it
-    /// has no LF, and then no line has ended.
+    /// Reads the piece up to and including its first LF, and what the line that ends there means. Without LF
+    /// it reads the whole piece, and no line has ended.
     pub fn read(&mut self, piece: &[u8], line: &mut ListLine) -> Result<(), ListFault>
         ensures read { OnOk result ((k : Option Kind) (n : ℕ) (b : List ℕ) → ListHolds self.old k n b
             → ReadsPiece k n b piece.now line.new) }
@@ -94,8 +94,8 @@ impl ListState {
         Ok(())
     }
 
-    /// Ends the list: reads the last line, if no LF ended it. A list that goes on after that begins with a line of its
-    /// own.
+    /// Ends the list: reads the last line, if no LF ended it. If the list goes on after that, it begins with
+    /// a new line.
     pub fn end(&mut self, line: &mut ListLine) -> Result<(), ListFault>
         ensures none { OnOk result ((k : Option Kind) (n : ℕ) → ListHolds self.old k n []
             → (line.new.kind ≡ LINE_NONE) × ListHolds self.new k n []) }
@@ -118,7 +118,7 @@ impl ListState {
         Ok(())
     }
 
-    // Refuses the numbers of no list, and those of one that can have no line more.
+    // Refuses numbers that are not the state of a list, and a list that can have no further line.
     fn takes_line(&self) -> Result<(), ListFault>
         ensures going { OnOk result (IsBegun self.now × (self.now.lines < 2 ^ 64 - 1)) }
         ensures not_begun { IsErrOf result ListFault.NotBegun ↔ (IsBegun self.now → ⊥) }
@@ -133,7 +133,7 @@ impl ListState {
         Ok(())
     }
 
-    // Ends the line that has begun with these bytes, and reads it.
+    // Ends the begun line with these bytes, and reads it.
     fn end_line(&mut self, front: &[u8], line: &mut ListLine)
         requires begun { IsBegun self.old }
         requires few { self.old.lines < 2 ^ 64 - 1 }
@@ -165,7 +165,7 @@ impl ListState {
         }
     }
 
-    // Reads the line whose bytes are held.
+    // Reads the line that is held.
     fn read_held(&self, line: &mut ListLine)
         requires { IsBegun self.now }
         ensures means { (k : Option Kind) (b : List ℕ) → self.now.mark ≡ 1 + number_of k → IsKept (held self.now) b
@@ -179,7 +179,7 @@ impl ListState {
         }
     }
 
-    // The hash of its untagged lines.
+    // The hash of the untagged lines.
     fn kind(&self) -> Option<Kind>
         requires { IsBegun self.now }
         ensures { self.now.mark ≡ 1 + number_of result }
@@ -187,7 +187,7 @@ impl ListState {
         kind_numbered((self.mark - 1) as u32).unwrap()
     }
 
-    // Holds a piece more of the line.
+    // Holds one more piece of the line.
     fn keep(&mut self, piece: &[u8])
         ensures held { held self.new ≡ held_after (held self.old) piece.now }
         ensures same { (self.new.mark ≡ self.old.mark) × (self.new.lines ≡ self.old.lines) }

@@ -1,4 +1,4 @@
-// What stands in the way of joining parts.
+// Why parts cannot be joined.
 
 ghost use Rattle.std.specs.Prelude.{◌≡◌};
 ghost use Rattle.partlist.specs.declared.fault.JoinFault.TheVariants.{Read};
@@ -12,13 +12,13 @@ pub enum PartFault {
     /// It is not spelt as `write_part` spells a part.
     #[error("not a part")]
     NotAPart,
-    /// The part begins behind the place where the parts before it end.
+    /// The part begins after the place where the parts before it end.
     #[error("bytes are missing before it")]
     BytesMissing,
     /// The part begins before that place.
     #[error("begins before the part before it ends")]
     Overlaps,
-    /// The part begins at that place, and the part before it has not a power of two of full chunks.
+    /// The part begins at that place, but the part before it is not a power of two of full chunks.
     #[error("the part before it is not whole")]
     NotWhole,
 }
@@ -29,7 +29,7 @@ pub enum JoinFault {
     /// A read failed.
     #[error("a read failed")]
     Read,
-    /// The line of this number, the first being 1, is wrong.
+    /// The line with this number, the first being 1, is wrong.
     #[error("line {0}: {1}")]
     Line(u64, PartFault),
 }
@@ -42,16 +42,16 @@ impl From<ReadFailed> for JoinFault {
     }
 }
 
-/// Why parts that were joined are no whole message.
+/// Why joined parts are no whole message.
 #[derive(Clone, Copy, Debug, PartialEq, Eq, Drop, Error)]
 pub enum EndFault {
-    /// There are none.
+    /// There are no parts.
     #[error("no parts")]
     NoParts,
-    /// There is one, whose chaining value tells nothing of the root.
+    /// There is only one part, and its chaining value does not determine the root.
     #[error("one part alone")]
     Alone,
-    /// They have so many bytes, which are not as many as were asked for.
+    /// They have this many bytes, which is not what was asked for.
     #[error("the parts end after {0} bytes")]
     EndsAfter(u64),
 }

@@ -1,4 +1,4 @@
-// Parts that lines tell, joined in the order in which they come.
+// Parts that lines describe, joined in the order in which they come.
 
 ghost use Rattle.std.specs.Prelude.{◌≡◌, ℕ, ◌+◌, ◌-◌, ◌*◌, ◌<◌, ◌≤◌, List, [], ◌∷◌, ◌++◌, length, MatchResult};
 ghost use Rattle.std.specs.Prelude.{MatchOption, None, Some};
@@ -21,15 +21,15 @@ use arrayvec::ArrayVec;
 use b3::{CHUNK_LEN, Mode, NotNext, Output, PartValue, Row};
 use source::Feed;
 
-// No line of a part is longer.
+// No line of a part is longer than this.
 pub(crate) const PART_LINE_LIMIT: usize = 256;
 
-/// Parts of one message under the mode `Hash`, each of which begins where the one before it ends, from
-/// the first chunk on. It holds at most 54 chaining values, however many parts there were.
+/// Parts of one message under the mode `Hash`, each beginning where the one before it ends, from the first
+/// chunk on. It holds at most 54 chaining values, however many parts there were.
 #[derive(Drop)]
 pub struct Joiner {
     row: Option<Row>,
-    // how many parts that are
+    // how many parts there are
     parts: u64,
     ghost few: { parts ≤ most_parts row },
 }
@@ -49,7 +49,7 @@ impl Joiner {
         }
     }
 
-    /// How many bytes the parts have.
+    /// How many bytes the parts have together.
     pub fn count(&self) -> u64
         ensures { (parts : List PartValue) → HasJoined self.now parts → result ≡ bytes_of parts }
     {
@@ -59,7 +59,7 @@ impl Joiner {
         }
     }
 
-    /// Joins the part that comes next. A part that does not is refused, and nothing changes.
+    /// Joins the next part. A part that does not follow is refused, and nothing changes.
     pub fn add(&mut self, part: PartValue) -> Result<(), PartFault>
         ensures added { (parts : List PartValue) → HasJoined self.old parts → MatchResult result
             (λ _. HasJoined self.new (parts ++ part ∷ []))
@@ -87,10 +87,10 @@ impl Joiner {
         Ok(())
     }
 
-    /// Joins the parts that all lines of a feed tell, one after the other, with the first behind the
-    /// parts that were joined before. LF ends a line, and at the end of the feed it may be left out. It
-    /// ends at the first line that is wrong, and then the lines before it were joined; where a read
-    /// failed, those whose LF was read. Of the feed it keeps one read of 4,096 bytes and one line.
+    /// Joins the parts that all lines of a feed describe, one after another, after the parts that were joined
+    /// before. LF ends a line; the last line may lack it. It ends at the first wrong line, and the lines
+    /// before it have then been joined; if a read failed, those whose LF was read. It keeps one read of 4,096
+    /// bytes of the feed, and one line.
     pub fn add_lines<F: Feed>(&mut self, feed: &mut F) -> Result<(), JoinFault>
         ensures joined { IfSome (F.remaining feed.old) (λ text. (parts : List PartValue) → HasJoined self.old parts
             → MatchResult result
@@ -116,10 +116,10 @@ impl Joiner {
         }
     }
 
-    /// Joins the part that the next line of a feed tells behind those that were joined before, and answers
-    /// it, or `None` where no line is left. A line that can't be joined is refused by its number, where each
-    /// part before it had a line, and then nothing changes but the reader, which goes on behind that line, or
-    /// in it where it is longer than any part's. After a failed read what was read of a line is lost.
+    /// Joins the part that the next line of a feed describes to those joined before, and answers it, or
+    /// `None` if no line is left. A line that cannot be joined is refused with its number, if each part
+    /// before it had a line. Then nothing changes but the reader, which is after that line, or within it if
+    /// it is longer than the line of any part. After a failed read, what was read of a line is lost.
     pub fn add_next<F: Feed>(
         &mut self,
         reader: &mut PartReader,
@@ -148,14 +148,14 @@ impl Joiner {
         }
     }
 
-    // What is wrong with the line behind those that were joined.
+    // What is wrong with the line after those that were joined.
     fn fault_of_next(&self, fault: PartFault) -> JoinFault
         ensures { result ≡ Line (joined_count self.now + 1) fault }
     {
         JoinFault::Line(self.parts + 1, fault)
     }
 
-    // Joins the part that the line tells, and answers it.
+    // Joins the part that the line describes, and answers it.
     fn add_told(&mut self, line: &[u8]) -> Result<PartValue, PartFault>
         ensures added { (parts : List PartValue) → HasJoined self.old parts → MatchResult result
             (λ part. TellsPart line.now part × HasJoined self.new (parts ++ part ∷ []))
@@ -171,9 +171,9 @@ impl Joiner {
         Ok(part)
     }
 
-    /// The output of the message that the parts are all of, at position 0. It is refused exactly where
-    /// there are no parts, or one alone, or their bytes are not as many as were asked for, if any were:
-    /// so, and in no other way, a missing end is noticed.
+    /// The output of the message that consists of the parts, at position 0. It is refused exactly if there
+    /// are no parts, or only one, or they have not as many bytes as were asked for, if any were. Nothing else
+    /// notices a missing end.
     pub fn output(&self, bytes: Option<u64>) -> Result<Output, EndFault>
         ensures root { (parts : List PartValue) → HasJoined self.now parts → MatchResult result
             (λ output. (1 < length parts) × IsAsked bytes (bytes_of parts)
@@ -194,7 +194,7 @@ impl Joiner {
     }
 }
 
-// Holds these bytes of a line too, if it is not longer than the line of a part then.
+// Holds these bytes of a line too, unless it would then be longer than the line of any part.
 pub(crate) fn hold(bytes: &[u8], held: &mut ArrayVec<u8, PART_LINE_LIMIT>) -> Result<(), PartFault>
     ensures held { OnOk result ((held.new.items ≡ held.old.items ++ bytes.now)
         × (array_vec_len held.new ≡ array_vec_len held.old + length bytes.now)) }

@@ -1,4 +1,4 @@
-//! Lines that tell parts of a file, which were hashed apart, by their chaining values.
+//! Lines that describe parts of a file, hashed separately, by their chaining values.
 #![tactic(auto)]
 
 pub use fault::{EndFault, JoinFault, PartFault};

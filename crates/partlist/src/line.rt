@@ -14,8 +14,8 @@ use sumlist::split_at_byte;
 
 const HEAD: [u8; 19] = *b"sums-part-1 blake3 ";
 
-/// Writes the part's one line, with its LF: `sums-part-1 blake3 FIRST LENGTH VALUE`, the number of
-/// its first chunk and that of its bytes in decimal, and the chaining value in 64 lower-case digits.
+/// Writes the part's one line, with its LF: `sums-part-1 blake3 FIRST LENGTH VALUE`, the numbers of its first
+/// chunk and of its bytes in decimal, and the chaining value in 64 lower-case digits.
 pub fn write_part<W: Sink>(part: &PartValue, out: &mut W) -> Result<(), WriteFailed>
     ensures { Writes result (W.shown out.old) (W.shown out.new)
         (part_line part.now.first_chunk part.now.len (word_bytes 4 part.now.value) ++ 10 ∷ []) }
@@ -35,8 +35,8 @@ fn digits_of(part: &PartValue) -> [u8; 64]
     digits
 }
 
-/// The part that a line tells, which has no LF. A line that is spelt otherwise than `write_part`
-/// spells a part tells none, and neither does one of bytes that cannot stand where it says.
+/// The part that a line without its LF describes. There is none if `write_part` would not spell the part so,
+/// or if its bytes cannot stand where the line says.
 pub fn parse_part(line: &[u8]) -> Option<PartValue>
     ensures { MatchOption result
         ((first len : ℕ) (value : List ℕ) → LineTells line.now first len value → ⊥)
@@ -50,7 +50,7 @@ pub fn parse_part(line: &[u8]) -> Option<PartValue>
     PartValue::of_bytes(first, len, &value).ok()
 }
 
-// A number and a space, and what stands after them.
+// A number and a space, and what follows them.
 fn cut_number(text: &[u8]) -> Option<(u64, &[u8])>
     ensures { MatchOption result
         ((n : ℕ) (rest : List ℕ) → n < 2 ^ 64 → text.now ≡ decimal n ++ 32 ∷ rest → ⊥)
@@ -73,7 +73,7 @@ fn number_of(digits: &[u8]) -> Option<u64>
     }
 }
 
-// The number that digits spell, however they do.
+// The number that digits spell, in whatever form.
 fn read_number(digits: &[u8]) -> Option<u64>
     ensures { (n : ℕ) → n < 2 ^ 64 → digits.now ≡ decimal n → result ≡ Some n }
 {

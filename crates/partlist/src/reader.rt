@@ -15,22 +15,22 @@ use arrayvec::ArrayVec;
 use source::{Feed, ReadFailed};
 use sumlist::split_at_byte;
 
-/// Reads the lines of parts that a feed gives, one after the other. It keeps one read of 4,096 bytes and one
+/// Reads the lines of parts that a feed gives, one after another. It keeps one read of 4,096 bytes and one
 /// line.
 #[derive(Drop)]
 pub struct PartReader {
     buffer: [u8; 4096],
-    // what is ahead of what was read
+    // what has been read and is yet to be taken
     start: usize,
     end: usize,
-    // what came of the line
+    // what has been taken of the line
     held: ArrayVec<u8, PART_LINE_LIMIT>,
     ghost order: { start ≤ end },
     ghost within: { end ≤ 4096 },
     ghost size: { length buffer ≡ 4096 },
 }
 
-// What comes next of a feed: a line that may be a part's, one that is too long for that, or nothing.
+// What comes next in a feed: a line that may be a part's, one that is too long for that, or nothing.
 #[derive(Clone, Copy)]
 pub(crate) enum Found {
     Line,
@@ -60,7 +60,7 @@ impl PartReader {
         self.held.as_slice()
     }
 
-    // Reads the next line. LF ends it, and at the end of the feed it may be left out.
+    // Reads the next line. LF ends it; the last line may lack it.
     pub(crate) fn read_line<F: Feed>(&mut self, feed: &mut F) -> Result<Found, ReadFailed>
         ensures found { IfOk result (λ found. IfSome (F.remaining feed.old) (λ bytes. (left : List ℕ)
             × (F.remaining feed.new ≡ Some left)
@@ -84,7 +84,7 @@ impl PartReader {
         }
     }
 
-    // Reads more where nothing is ahead, and answers whether something is then.
+    // Reads more if nothing is ahead, and answers whether something is ahead now.
     fn has_more<F: Feed>(&mut self, feed: &mut F) -> Result<bool, ReadFailed>
         ensures ahead { IfOk result (λ has. IfSome (F.remaining feed.old)
             (IsAhead has (ahead self.old) (ahead self.new) (F.remaining feed.new))) }
@@ -105,7 +105,7 @@ impl PartReader {
         Ok(count > 0)
     }
 
-    // What was found where the feed has ended.
+    // What was found when the feed has ended.
     fn found_at_end(&self) -> Found
         requires { HasNo 10 self.now.held.items }
         ensures { IsFound result self.now.held.items self.now.held.items [] }
@@ -117,7 +117,7 @@ impl PartReader {
         }
     }
 
-    // Holds what is ahead up to its first LF, without that, and answers whether there was one.
+    // Holds what is ahead up to its first LF, without that LF, and answers whether there was one.
     fn take(&mut self) -> Result<bool, PartFault>
         requires { array_vec_len self.old.held ≤ 256 }
         ensures line { TakesLine self.old.held.items (ahead self.old) self.new.held.items (ahead self.new) result }

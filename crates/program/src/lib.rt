@@ -25,16 +25,16 @@ use task::{Names, Task, TaskFault, UsageFault};
 /// Why words ask for no task.
 #[derive(Debug, Drop)]
 pub enum NoTask {
-    /// They are wrong, or ask for help or the version: `clap`'s error tells which.
+    /// They are wrong, or ask for help or the version: `clap`'s error says which.
     Words(Error),
-    /// A setting of their request is at fault.
+    /// A setting of their request has a fault.
     Usage(UsageFault),
     /// Memory ran out.
     OutOfMemory,
 }
 
-/// One whole run over the words, the program's own name first, with the standard streams and the
-/// files: it answers the status. After a write to `err` that fails the rest of its line is dropped.
+/// One whole run over the words, starting with the program's own name, with the standard streams and the
+/// files: it answers the status. If a write to `err` fails, the rest of its line is dropped.
 pub fn run<L: Feed, T: Tree, W: Sink, E: Sink>(
     alloc: Global,
     words: &[&str],
@@ -59,7 +59,7 @@ pub fn run<L: Feed, T: Tree, W: Sink, E: Sink>(
     )
 }
 
-/// The task that words ask for which `line` has read.
+/// The task that words ask for, after `line` has read them.
 pub fn task_of<'a>(alloc: Global, read: Result<Request<'a>, WordsFault>) -> Result<Task<'a>, NoTask>
     ensures { (words : List Text) → IsRead words read.entry → IsJudged words result }
 {
@@ -74,7 +74,7 @@ pub fn task_of<'a>(alloc: Global, read: Result<Request<'a>, WordsFault>) -> Resu
     }
 }
 
-/// The run of words whose task is known, as `run` does it.
+/// The run of words with a known task, as `run` does it.
 pub fn run_task<L: Feed, T: Tree, W: Sink, E: Sink>(
     alloc: Global,
     judged: Result<Task<'_>, NoTask>,
@@ -162,7 +162,7 @@ fn do_task<'n, 'i, 't, 'o, L: Feed, T: Tree, W: Sink, E: Sink>(
     }
 }
 
-// Prints the text of help and of the version, and tells that of what is wrong with the words.
+// Prints the text of help or the version, or reports what is wrong with the words.
 fn print_clap<W: Sink, E: Sink>(error: &Error, text: &str, out: &mut W, err: &mut E) -> u8
     ensures { (run : Run) × ClapRuns (kind_of error.now) text.now run × (run.failures ≡ [])
         × Runs run result (W.shown out.old) (W.shown out.new) (E.shown err.old) (E.shown err.new) }

@@ -1,5 +1,5 @@
--- The command line of the program, as what a parse by `clap` reads of it. `clap` judges which options there are, which
--- of them take a value or a number, what has to be there, and the names of `-a`.
+-- The command line of the program, as `clap` parses it. `clap` judges which options there are, which of them take a
+-- value or a number, which are required, and the names of `-a`.
 use Rattle.std.specs.Prelude.{◌≡◌, ◌≢◌, Bool, true, false, List, [], ◌∷◌, Option, Some, Result, MatchResult, codes}
 use Rattle.std.specs.Prelude.{◌++◌, fold, map, slice_get, take}
 use Rattle.std.specs.Borrow.{Bor}
@@ -39,7 +39,7 @@ number rule = record rule { parser = Some (vp.Unsigned 0 18446744073709551615) }
 abbrev pub algorithm : NameList → Rule
 algorithm names = record (letter (codes "a")) { parser = Some (vp.Names names) }
 
--- what has to be there
+-- an option or argument that is required
 abbrev pub required : Rule → Rule
 required rule = record rule { required = true }
 
@@ -47,7 +47,7 @@ required rule = record rule { required = true }
 abbrev pub file : Rule
 file = record (new_rule (codes "file")) { value_names = 1 }
 
--- any number of them
+-- any number of FILEs or LISTs
 abbrev pub files : Rule
 files = record file { action = Some Append }
 
@@ -55,7 +55,7 @@ files = record file { action = Some Append }
 abbrev pub command : Text → List Rule → App
 command name = fold with_rule (new_app name)
 
--- the six commands: `names` are those of ALG, `macs` those of MAC, and `both` those of either
+-- the six commands: `names` are the names that ALG takes, `macs` those of MAC, and `both` those that `check` takes
 abbrev pub commands : NameList → NameList → NameList → List App
 commands names macs both = command (codes "hash") (required (algorithm names) ∷ number (letter (codes "l"))
     ∷ number (option (codes "seek")) ∷ number (option (codes "parts")) ∷ option (codes "salt")
@@ -76,13 +76,13 @@ commands names macs both = command (codes "hash") (required (algorithm names) �
     ∷ number (letter (codes "l")) ∷ number (option (codes "seek")) ∷ option (codes "verify") ∷ flag (codes "progress")
     ∷ files ∷ []) ∷ []
 
--- the program's command alone
+-- the program's command on its own
 abbrev pub program_app : App
 program_app = record (new_app (codes "sums")) {
   top = record (new_app (codes "sums")).top { subcommand_required = true; has_version = true };
 }
 
--- the same with the six below it
+-- the program's command with the six commands below it
 unfoldable pub sums_app : NameList → NameList → NameList → App
 sums_app names macs both = fold (λ whole below. with_subcommand whole below.top) program_app (commands names macs both)
 
@@ -90,7 +90,7 @@ sums_app names macs both = fold (λ whole below. with_subcommand whole below.top
 abbrev pub Given : Type 0
 Given = Text × List Row
 
--- a request as what the words gave
+-- a request as what the words give
 abbrev pub given_of : Request → Given
 given_of r = (r.command.now, rows_of (found_of r.matches))
 
@@ -107,8 +107,8 @@ abbrev pub mac_names : List Text
 mac_names = codes "hmac-sha256" ∷ codes "hmac-sha512" ∷ codes "hmac-blake2b" ∷ codes "hmac-blake2s"
     ∷ codes "blake2b" ∷ codes "blake2s" ∷ codes "blake3" ∷ []
 
--- how the words are read: as what they give, or with a fault of theirs; `-a` takes the names of the hashes, that of
--- `mac` those of MAC, and that of `check` the hashes and HMAC over them
+-- how the words are read: as what they give, or with one of their faults; `-a` takes the names of the hashes, for `mac`
+-- those of MAC, and for `check` the hashes and HMAC over them
 abbrev pub AreRead : List Text → Result Given ErrorKind → Type 0
 AreRead words read = (names : NameList) × (macs : NameList) × (both : NameList)
     × (map (λ n. n.now) names.now ≡ map (λ k. k.0) kinds) × (map (λ n. n.now) macs.now ≡ mac_names)
@@ -116,6 +116,6 @@ AreRead words read = (names : NameList) × (macs : NameList) × (both : NameList
     × let app = sums_app names macs both in MatchResult read (λ given. (fault_of app words ≡ [])
     × (subcommand_of app words ≡ Some given)) (λ kind. IsAmong kind (fault_of app words))
 
--- words that are wrong, and no call for help or the version
+-- words that are wrong, and do not ask for help or the version
 abbrev pub IsWrong : ErrorKind → Type 0
 IsWrong kind = (kind ≢ clap.DisplayHelp) × (kind ≢ clap.DisplayVersion)

@@ -17,7 +17,7 @@ use sumlist::Kind;
 pub enum WordsFault {
     /// Memory ran out.
     OutOfMemory,
-    /// The words are wrong, or ask for help or the version: `clap`'s error tells which.
+    /// The words are wrong, or ask for help or the version: `clap`'s error says which.
     Words(Error),
 }
 
@@ -44,7 +44,7 @@ impl<'a> Request<'a> {
         self.command
     }
 
-    /// The text of an option or argument, the first one, where it was given.
+    /// The first text of an option or argument, if it was given.
     pub fn text(&self, id: &str) -> Option<&'a str>
         ensures { option_map (λ t. t.now) result ≡ text_of id.now (given_of self.now) }
     {
@@ -61,7 +61,7 @@ impl<'a> Request<'a> {
         }
     }
 
-    /// All texts of an option or argument, in their order, where it was given.
+    /// All texts of an option or argument, in their order, if it was given.
     pub fn texts<'m>(&'m self, id: &str) -> Option<&'m [&'a str]>
         ensures { option_map (λ s. map (λ t. t.now) s.now) result ≡ all_of id.now (given_of self.now).1 }
     {
@@ -79,7 +79,7 @@ pub(crate) static MACS: [&str; 7] = [
     "blake3",
 ];
 
-// The names of the hashes, and of HMAC over them.
+// The names of the hashes, and of HMAC over four of them.
 static BOTH: [&str; 9] = [
     "sha256",
     "sha512",
@@ -92,8 +92,8 @@ static BOTH: [&str; 9] = [
     "hmac-blake2s",
 ];
 
-/// Reads the words of the command line, the program's own name first, as `clap` reads them for the
-/// program's command. What that takes of the stack is given back before anything is hashed.
+/// Reads the words of the command line, starting with the program's own name, as `clap` reads them for the
+/// program's command. The stack that this takes is given back before anything is hashed.
 #[inline(never)]
 pub fn line<'a>(alloc: Global, words: &'a [&'a str]) -> Result<Request<'a>, WordsFault>
     ensures request { IfOk result (λ r. AreRead (map (λ w. w.now) words.entry.now) (Ok (given_of r))) }

@@ -11,7 +11,7 @@ use Rattle.sumlist.specs.Kinds.{alg_kind}
 use Rattle.sumlist.specs.Lines.{line_limit}
 use Rattle.sumlist.specs.Tagged.{IsLabel}
 
--- bytes that can be a line: no LF among them, and not too many
+-- bytes that can be a line: no LF among them, and no more than the limit
 abbrev pub IsLine : List ℕ → Type 0
 IsLine line = (Contains line 10 → ⊥) × (length line ≤ line_limit)
 
@@ -19,7 +19,7 @@ IsLine line = (Contains line 10 → ⊥) × (length line ≤ line_limit)
 abbrev pub core : List ℕ → List ℕ
 core line = if slice_index line (length line - 1) == 13 then take (length line - 1) line else line
 
--- a line that says nothing: it is empty or a comment, which begins with `#`
+-- a line that states nothing: it is empty or a comment, which begins with `#`
 abbrev pub IsSkipped : List ℕ → Type 0
 IsSkipped line = IsLine line × ((core line ≡ []) ⊎ (slice_index (core line) 0 ≡ 35))
 
@@ -27,8 +27,8 @@ IsSkipped line = IsLine line × ((core line ≡ []) ⊎ (slice_index (core line)
 abbrev pub SpellsTag : Alg → List ℕ → List ℕ → Type 0
 SpellsTag alg tag digits = IsInRange alg × (length digits ≡ 2 * digest_len alg) × (decode_of digits ≡ Ok tag)
 
--- digits, a space, a space or `*`, and a body, where the kind and the number of digits tell the algorithm, and without
--- a kind there are no such texts; or a label, which names the algorithm, a body in brackets, and digits
+-- digits, a space, a space or `*`, and a body; the kind and the number of digits determine the algorithm, and without a
+-- kind there are no such texts. Or a label, which names the algorithm, a body in brackets, and digits
 abbrev pub HasForm : List ℕ → Option Kind → Alg → List ℕ → List ℕ → Type 0
 HasForm text kind alg tag body = (digits : List ℕ) × SpellsTag alg tag digits
     × (((kind ≡ Some (alg_kind alg)) × (mark : ℕ) × ((mark ≡ 32) ⊎ (mark ≡ 42)) × (text ≡ digits ++ 32 ∷ mark ∷ body))
@@ -48,10 +48,10 @@ pub record Spells (line : List ℕ) (kind : Option Kind) (e : Listing) : Type 0 
   pub is_entry : IsEntry e
   pub form : Says (core line) kind e
 
--- a line that is neither skipped nor spells an entry
+-- a line that is not skipped, and spells no entry
 abbrev pub IsMalformed : List ℕ → Option Kind → Type 0
 IsMalformed line kind = (IsSkipped line → ⊥) × ((e : Listing) → Spells line kind e → ⊥)
 
--- a line that is malformed only for want of its kind: of some other kind it would spell an entry
+-- a line that is malformed only because its kind is missing: with another kind it would spell an entry
 abbrev pub IsUntagged : List ℕ → Option Kind → Type 0
 IsUntagged line kind = IsMalformed line kind × (other : Kind) × (e : Listing) × Spells line (Some other) e

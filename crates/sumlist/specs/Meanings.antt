@@ -1,15 +1,15 @@
--- Each line means one thing (docs/FORMAT.md, Grammar).
+-- Each line has one meaning (docs/FORMAT.md, Grammar).
 use Rattle.std.specs.Prelude.{◌⊎◌, ◌≡◌, ℕ, List, Option}
 use Rattle.sumlist.specs.Entry.{Listing}
 use Rattle.sumlist.specs.Line.{IsMalformed, IsSkipped, Spells}
 use Rattle.sumlist.specs.declared.kind.Kind.{Kind}
 
--- a line is skipped, spells an entry and no other, or is malformed
+-- a line is skipped, spells one entry and no other, or is malformed
 abbrev pub OneMeaning : Type 0
 OneMeaning = (line : List ℕ) (kind : Option Kind) → IsSkipped line
     ⊎ (((e : Listing) × Spells line kind e × ((d : Listing) → Spells line kind d → d ≡ e)) ⊎ IsMalformed line kind)
 
--- and no two of these
+-- no line is two of these
 abbrev pub NoOtherMeaning : Type 0
 NoOtherMeaning = (line : List ℕ) (kind : Option Kind) → (IsSkipped line → IsMalformed line kind → ⊥)
     × ((e : Listing) → Spells line kind e → (IsSkipped line → ⊥) × (IsMalformed line kind → ⊥))

@@ -1,17 +1,17 @@
--- Where nothing failed, a list has one report.
+-- If nothing failed, a list has exactly one report.
 use Rattle.std.specs.Prelude.{◌≡◌, ℕ, ◌-◌, ◌<◌, ◌^◌, List}
 use Rattle.source.specs.Counts.{count_after}
 use Rattle.sumlist.specs.Report.{AllAllowed, Files, Meaning, Outcome, unreadable_count}
 
--- outcomes for all lines, of which none is unreadable
+-- outcomes for all lines, none of them unreadable
 abbrev pub AllSettled : Files → Meaning → List (List ℕ) → List Outcome → Type 0
 AllSettled files m lines outcomes = AllAllowed files m lines outcomes × (unreadable_count outcomes ≡ 0)
 
--- any lines have such outcomes, and no others
+-- any lines have such outcomes, and only one sequence of them
 abbrev pub OneSettled : Type 0
 OneSettled = (files : Files) (m : Meaning) (lines : List (List ℕ)) → (os : List Outcome)
     × AllSettled files m lines os × ((ps : List Outcome) → AllSettled files m lines ps → os ≡ ps)
 
--- a tree that counted no failure tells of no unreadable file
+-- a tree that counted no failure has had no unreadable file
 abbrev pub NoneCounted : Type 0
 NoneCounted = (n k : ℕ) → n < 2 ^ 64 - 1 → count_after n k ≡ n → k ≡ 0

@@ -9,7 +9,8 @@ use Rattle.sumlist.specs.Escape.{escaped, lead}
 use Rattle.sumlist.specs.Entry.{Listing}
 use Rattle.sumlist.specs.Kinds.{label_of}
 
--- a label that names an algorithm: the written one, or that of BLAKE2 with the number of a whole tag's bits too
+-- a label that names an algorithm: the written one, or for a whole tag of BLAKE2 also the one with the number of its
+-- bits
 abbrev pub IsLabel : List ℕ → Alg → Type 0
 IsLabel label (Blake2b n) = (label ≡ label_of (Blake2b n)) ⊎ (label ≡ codes "BLAKE2b-" ++ decimal (8 * n))
 IsLabel label (Blake2s n) = (label ≡ label_of (Blake2s n)) ⊎ (label ≡ codes "BLAKE2s-" ++ decimal (8 * n))
@@ -24,6 +25,6 @@ tagged_line e =
 abbrev pub tagged : Listing → List ℕ
 tagged e = tagged_line e ++ 10 ∷ []
 
--- how long the tagged line of an algorithm and a name is
+-- the length of the tagged line of an algorithm and a name
 abbrev pub tagged_len : Alg → List ℕ → ℕ
 tagged_len alg name = length (lead name) + length (label_of alg) + 2 + length (escaped name) + 4 + 2 * digest_len alg

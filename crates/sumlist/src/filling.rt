@@ -1,4 +1,4 @@
-// Lines that are written into memory that is lent for them.
+// Lines that are written into the caller's memory.
 
 ghost use Rattle.std.specs.Prelude.{◌≡◌, ◌≤◌, ◌+◌, ◌*◌, ◌++◌, length, take, IsTrue, MatchOption, IsUtf8};
 ghost use Rattle.source.specs.Digest.{IsInRange};
@@ -21,8 +21,8 @@ use source::Alg;
 use thiserror::Error;
 use words::Tag;
 
-/// How many bytes the line of an entry of this algorithm and name has, tagged or not, with its LF, or `None` if there
-/// is no such line: the name is not UTF-8, is empty, holds NUL, or is too long.
+/// The length in bytes of the line of an entry with this algorithm and name, tagged or not, with its LF, or
+/// `None` if there is no such line: the name is not UTF-8, is empty, holds NUL, or is too long.
 pub fn entry_len(alg: Alg, is_tagged: bool, name: &[u8]) -> Option<usize>
     requires { IsInRange alg }
     ensures { MatchOption result (HasLine is_tagged alg name.now → ⊥)
@@ -55,21 +55,21 @@ fn counted(alg: Alg, is_tagged: bool, name: &str) -> usize
     }
 }
 
-/// Why a line was not written. Nothing was.
+/// Why a line was not written. Then nothing was.
 #[derive(Clone, Copy, Debug, PartialEq, Eq, Drop, Error)]
 pub enum FillFault {
-    /// The tag has another length than those of the algorithm.
+    /// The tag is not as long as those of the algorithm.
     #[error("bad tag")]
     BadTag,
     /// The name has no such line.
     #[error("no line")]
     NoLine,
-    /// The line has another length than the memory for it.
+    /// The line is not as long as the memory for it.
     #[error("another length")]
     Length,
 }
 
-/// Fills `out` with the line of an entry of this algorithm, name and tag, tagged or not, and its LF.
+/// Fills `out` with the line of an entry with this algorithm, name and tag, tagged or not, and its LF.
 pub fn fill_entry(
     alg: Alg,
     is_tagged: bool,
@@ -125,8 +125,8 @@ fn fill_line(alg: Alg, is_tagged: bool, name: &str, tag: &Tag, out: &mut [u8])
     }
 }
 
-/// How many bytes a report's line of this name and verdict has, with its LF, or `None` if the name is not UTF-8 or
-/// longer than a line may be.
+/// The length in bytes of a report's line for this name and verdict, with its LF, or `None` if the name is
+/// not UTF-8 or longer than a line may be.
 pub fn verdict_len(name: &[u8], verdict: Verdict) -> Option<usize>
     ensures { MatchOption result (IsUtf8 name.now × (length name.now ≤ line_limit) → ⊥)
         (λ n. IsUtf8 name.now × (length name.now ≤ line_limit)
@@ -138,7 +138,7 @@ pub fn verdict_len(name: &[u8], verdict: Verdict) -> Option<usize>
     Some(escaped_len(name) + verdict_text(verdict).len())
 }
 
-/// Fills `out` with a report's line of this name and verdict.
+/// Fills `out` with a report's line for this name and verdict.
 pub fn fill_verdict(name: &str, verdict: Verdict, out: &mut [u8])
     requires { length out.old ≡ length (escaped name.now ++ verdict_text_of verdict) }
     ensures { out.new ≡ escaped name.now ++ verdict_text_of verdict }
@@ -156,7 +156,7 @@ fn fill_between(before: &[&[u8]], name: &str, after: &[&[u8]], out: &mut [u8])
     put_pieces(out, at, after);
 }
 
-// Writes these bytes from a place on, and answers the place behind them.
+// Writes these bytes from a place on, and answers the place after them.
 fn put(out: &mut [u8], at: usize, bytes: &[u8]) -> usize
     requires { at + length bytes.now ≤ length out.old }
     ensures end { result ≡ at + length bytes.now }
@@ -167,7 +167,7 @@ fn put(out: &mut [u8], at: usize, bytes: &[u8]) -> usize
     end
 }
 
-// The same of pieces, one after another.
+// Writes pieces in this way, one after another.
 fn put_pieces(out: &mut [u8], at: usize, pieces: &[&[u8]]) -> usize
     requires { at + length (joined pieces.now) ≤ length out.old }
     ensures end { result ≡ at + length (joined pieces.now) }
@@ -180,7 +180,7 @@ fn put_pieces(out: &mut [u8], at: usize, pieces: &[&[u8]]) -> usize
     end
 }
 
-// The same of the escaped form of a name, the bytes between two escapes in one piece.
+// Writes the escaped form of a name in this way; the bytes between two escapes go in one piece.
 fn put_escaped(out: &mut [u8], at: usize, name: &[u8]) -> usize
     requires { at + length (escaped name.now) ≤ length out.old }
     ensures end { result ≡ at + length (escaped name.now) }

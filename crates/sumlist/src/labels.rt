@@ -1,4 +1,4 @@
-// What texts that name their algorithm are made of: a label, and the end behind a body.
+// The elements of texts that name their algorithm: a label, and the end after a body.
 
 ghost use Rattle.std.specs.Prelude.{◌≡◌, ℕ, ◌*◌, ◌+◌, ◌<◌, ◌≤◌, ◌↔◌, ◌++◌, IsTrue, MatchOption, length};
 ghost use Rattle.std.specs.Fmt.{decimal};
@@ -20,7 +20,7 @@ pub(crate) fn digits_of(alg: Alg) -> usize
     2 * alg.digest_len()
 }
 
-// The label of an algorithm, and the number of the tag's bits where it ends in one.
+// The label of an algorithm, and the number of the tag's bits if it ends in one.
 pub(crate) fn label(alg: Alg, number: &mut Buffer) -> (&'static str, &str)
     requires { IsInRange alg }
     ensures value { result.0.now ++ result.1.now ≡ label_of alg }
@@ -33,7 +33,7 @@ pub(crate) fn label(alg: Alg, number: &mut Buffer) -> (&'static str, &str)
     }
 }
 
-// What stands before the last `) = `, behind which there are so many digits, and the digits.
+// What stands before the last `) = ` that this many digits follow, and the digits.
 pub(crate) fn cut_end(rest: &[u8], digits: usize) -> Option<(&[u8], &[u8])>
     requires { digits ≤ 128 }
     ensures { MatchOption result (NotEnded rest.now digits)
@@ -67,7 +67,8 @@ pub(crate) fn label_alg(label: &[u8]) -> Option<Alg>
     None
 }
 
-// How many bytes a tag has, up to a bound, whose number of bits stands behind the front, without a leading zero.
+// The length of a tag in bytes, up to a bound, if its number of bits follows the front, without a leading
+// zero.
 fn find_number(label: &[u8], front: &[u8], most: usize) -> Option<usize>
     requires { most ≤ 64 }
     ensures { MatchOption result (NotNumbered label.now front.now most)

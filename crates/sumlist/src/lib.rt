@@ -1,5 +1,5 @@
-//! Lists of digests, as `sha256sum` and its like, `b2sum` and `b3sum` write them, with `--tag` or
-//! without: their lines, the files that they name, and reports on them.
+//! Lists of digests, as `sha256sum` and similar tools, `b2sum` and `b3sum` write them, with or without
+//! `--tag`: their lines, the files that they name, and reports on them.
 //!
 //! ```rust
 //! use sumlist::{Kind, Line, parse_line};
@@ -27,7 +27,7 @@ pub use map::map_laws;
 pub use memory::MemoryTree;
 pub use name_reader::NameReader;
 pub use report::{write_summary, write_verdict};
-/// Why a text was not written whole. What was written is a beginning of it.
+/// Why a text was not written whole: a beginning of it was written.
 pub use source::WriteFailed as WriteFault;
 pub use summary::Summary;
 pub use tagging::{TaggedFault, write_tagged, write_tagged_line};

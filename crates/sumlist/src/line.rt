@@ -18,7 +18,7 @@ use std::alloc::{AllocError, Global};
 use thiserror::Error;
 use words::Tag;
 
-/// What a line says.
+/// What a line states.
 #[derive(Drop)]
 pub enum Line {
     /// Nothing: the line is empty or a comment, which begins with `#`.
@@ -27,23 +27,23 @@ pub enum Line {
     Entry(Entry),
 }
 
-/// What a line says, with the name as it stands there.
+/// What a line states, with the name as it is written there.
 #[derive(Drop)]
 pub enum Said<'a> {
     /// Nothing: the line is empty or a comment.
     Skipped,
-    /// The line is neither skipped nor spells an entry.
+    /// The line is not skipped, and spells no entry.
     Malformed,
-    /// The line is malformed only because its kind is missing: with some other kind it would spell an entry.
+    /// The line is malformed only because its kind is missing: with another kind it would spell an entry.
     Untagged,
-    /// That the file of a name has a digest.
+    /// That a file has a digest.
     Entry(Alg, Tag, NameText<'a>),
 }
 
-/// Why a line gives nothing.
+/// Why a line states nothing.
 #[derive(Clone, Copy, Debug, PartialEq, Eq, Drop, Error)]
 pub enum LineFault {
-    /// The line is neither skipped nor spells an entry.
+    /// The line is not skipped, and spells no entry.
     #[error("malformed line")]
     Malformed,
     /// A growth for the name was refused.
@@ -59,22 +59,22 @@ impl From<AllocError> for LineFault {
     }
 }
 
-/// Reads one line of a list, which is handed in without its LF; one CR at its end is left out. It has at
-/// most 65,536 bytes, and one of two forms:
+/// Reads one line of a list, handed in without its LF; one CR at its end is ignored. It has at most 65,536
+/// bytes, and one of two forms:
 ///
-/// - the digits of a digest, a space, a space or `*`, and the name, where the number of digits and the
-///   kind name the algorithm;
-/// - `LABEL (name) = digits`, where the label names the algorithm, whatever the kind is.
+/// - the digits of a digest, a space, a space or `*`, and the name; the number of digits and the kind
+///   determine the algorithm;
+/// - `LABEL (name) = digits`; the label determines the algorithm, whatever the kind is.
 ///
-/// Where it begins with a backslash, `\\`, `\n` and `\r` in its name stand for a backslash, LF and CR, and
-/// any other backslash is malformed. Only the name of an entry takes memory.
+/// If the line begins with a backslash, `\\`, `\n` and `\r` in its name stand for a backslash, LF and CR,
+/// and any other backslash is malformed. Only the name of an entry takes memory.
 pub fn parse_line(alloc: Global, line: &[u8], kind: Kind) -> Result<Line, LineFault>
     ensures { Answers line.now (Some kind) result }
 {
     read_line(alloc, line, Some(kind))
 }
 
-/// Reads one line as `parse_line` does, but builds no name, so that it takes no memory. Without a kind untagged
+/// Reads one line as `parse_line` does, but builds no name, so it takes no memory. Without a kind, untagged
 /// lines are malformed.
 pub fn split_line(line: &[u8], kind: Option<Kind>) -> Said<'_>
     ensures { IsSaid line.now kind result }
@@ -92,7 +92,7 @@ pub fn split_line(line: &[u8], kind: Option<Kind>) -> Said<'_>
     }
 }
 
-// Whether a malformed line lacks its kind alone.
+// Whether a malformed line lacks only its kind.
 fn malformed_said<'a>(line: &[u8], kind: Option<Kind>) -> Said<'a>
     requires { IsMalformed line.now kind }
     ensures { IsSaid line.now kind result }
@@ -104,7 +104,8 @@ fn malformed_said<'a>(line: &[u8], kind: Option<Kind>) -> Said<'a>
     }
 }
 
-/// The same of a list whose untagged lines have this kind; without one they are malformed.
+/// Reads one line in this way, in a list whose untagged lines have this kind; without a kind they are
+/// malformed.
 pub(crate) fn read_line(alloc: Global, line: &[u8], kind: Option<Kind>) -> Result<Line, LineFault>
     ensures { Answers line.now kind result }
 {
@@ -118,13 +119,12 @@ pub(crate) fn read_line(alloc: Global, line: &[u8], kind: Option<Kind>) -> Resul
     }
 }
 
-/// Whether a malformed line is so only for want of its kind: of some other kind it would spell an entry.
-/// Nothing grows.
+/// Whether a malformed line lacks only its kind: with another kind it would spell an entry. Nothing grows.
 pub(crate) fn needs_kind(line: &[u8], kind: Option<Kind>) -> bool
     requires { IsMalformed line.now kind }
     ensures { MatchBool result (IsUntagged line.now kind) (IsUntagged line.now kind → ⊥) }
 {
-    // BLAKE2b has digests of each length that those of another kind have
+    // BLAKE2b has digests of every length that those of another kind have
     is_line(line) && read_core(without_cr(line), Some(Kind::Blake2b)).is_some()
 }
 
@@ -149,7 +149,7 @@ fn is_blank(core: &[u8]) -> bool
     core.is_empty() || core[0] == b'#'
 }
 
-// The algorithm and tag of the entry that a core states, and the text that means its name.
+// The algorithm and tag of the entry that a core states, and the text that stands for its name.
 fn read_core(core: &[u8], kind: Option<Kind>) -> Option<(Alg, Tag, NameText<'_>)>
     requires { length core.now ≤ LINE_LIMIT }
     ensures { MatchOption result ((e : Listing) → IsStated kind core.now e → ⊥)
@@ -162,7 +162,7 @@ fn read_core(core: &[u8], kind: Option<Kind>) -> Option<(Alg, Tag, NameText<'_>)
     Some((alg, tag, given))
 }
 
-// Whether a core begins with the backslash of escaped lines, and the text without it.
+// Whether a core begins with the backslash of escaped lines, and the text without that backslash.
 fn unslash(core: &[u8]) -> (bool, &[u8])
     ensures core { (result.0 ≡ is_slashed core.now) × (result.1.now ≡ unslashed core.now) }
     ensures bound { length result.1.now ≤ length core.now }

@@ -8,7 +8,7 @@ use crate::fitting::LINE_LIMIT;
 use std::alloc::{AllocError, Global};
 use std::marker::Model;
 
-// The beginning of a line, or that it is longer than a line may be. Its memory never grows.
+// The beginning of a line, or the fact that it is longer than a line may be. Its memory never grows.
 #[derive(Drop)]
 pub(crate) struct LineBuffer {
     bytes: Vec<u8>,
@@ -51,7 +51,7 @@ impl LineBuffer {
         }
     }
 
-    // Whether no byte came since the last clear.
+    // Whether no byte has come since the last clear.
     pub(crate) fn is_empty(&self) -> bool
         ensures { IsTrue result ↔ (self.now ≡ Some []) }
     {
@@ -66,7 +66,7 @@ impl LineBuffer {
         self.is_overlong = false;
     }
 
-    // A piece more of the line.
+    // Adds a piece of the line.
     pub(crate) fn append(&mut self, piece: &[u8])
         ensures { self.new ≡ held_after self.old piece.now }
     {

@@ -1,4 +1,4 @@
-// A lent map as files.
+// A borrowed map as files.
 
 ghost use Rattle.std.specs.Prelude.{◌≡◌, Some, IfErr, false};
 ghost use Rattle.sumlist.specs.Named.{map_content};
@@ -8,8 +8,7 @@ use crate::{OpenFault, Tree};
 use source::Feed;
 use std::collections::BTreeMap;
 
-/// The files of a map from names to contents. No open and no read of them fails, and it takes no
-/// memory.
+/// The files of a map from names to contents. Opening and reading them never fails, and takes no memory.
 impl<'a> Tree for &'a BTreeMap<String, Vec<u8>> {
     type F = &'a [u8];
 
@@ -48,8 +47,8 @@ impl<'a> Tree for &'a BTreeMap<String, Vec<u8>> {
     fn close(&mut self, _feed: &'a [u8]) {}
 }
 
-/// Does nothing. Its contract says what each map tells as files: their contents, that none has failed, that it
-/// counts no opens, and that none wants memory.
+/// Does nothing. Its contract says what each map is as files: their contents, that none has failed, that it
+/// counts no opens, and that no open needs memory.
 pub fn map_laws<'a>(files: &'a BTreeMap<String, Vec<u8>>)
     ensures told { ⟦<&'a BTreeMap<String, Vec<u8>> as Tree>⟧.files files.entry ≡ Some (map_content files.now) }
     ensures failures { ⟦<&'a BTreeMap<String, Vec<u8>> as Tree>⟧.failure_count files.entry ≡ 0 }

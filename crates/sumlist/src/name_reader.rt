@@ -13,11 +13,11 @@ use std::alloc::{AllocError, Global};
 use std::marker::Model;
 
 /// Names that are separated by NUL, as `find -print0` writes them, read one by one. It keeps one read of
-/// 4,096 bytes, and of a name at most 65,536 bytes, whatever comes.
+/// 4,096 bytes, and at most 65,536 bytes of a name, whatever comes.
 #[derive(Drop)]
 pub struct NameReader {
     pieces: PieceReader,
-    // the first, which is the last
+    // the first fault, which is also the last
     fault: Option<SourceFault>,
 }
 
@@ -31,7 +31,7 @@ impl Model for NameReader {
 }
 
 impl NameReader {
-    /// No name yet, and nothing read. This is the only growth.
+    /// No name yet, and nothing read. Memory grows only here.
     pub fn new(alloc: Global) -> Result<NameReader, AllocError>
         ensures { IfOk result (λ reader. reader ≡ record { ahead = []; name = Some []; fault = None }) }
     {
@@ -41,10 +41,9 @@ impl NameReader {
         })
     }
 
-    /// Reads the next name, and answers whether there was one: a last name needs no NUL behind it. A
-    /// name that is longer than 65,536 bytes is passed over, and not kept. `TooLong` comes exactly where
-    /// more than 2^64 - 1 bytes were read for one name. A fault is final: each further call answers it
-    /// again, and reads nothing.
+    /// Reads the next name, and answers whether there was one; the last name needs no NUL after it. A name
+    /// longer than 65,536 bytes is skipped, and not kept. `TooLong` comes exactly if more than 2^64 - 1 bytes
+    /// were read for one name. A fault is final: each further call answers it again, and reads nothing.
     pub fn next<F: Feed>(&mut self, feed: &mut F) -> Result<bool, SourceFault>
         ensures name { IfOk result (λ found. IfSome (F.remaining feed.old) (λ bytes.
             (left : List ℕ) × (F.remaining feed.new ≡ Some left)
@@ -53,7 +52,7 @@ impl NameReader {
         ensures again { IfSome self.old.fault (λ fault. (result ≡ Err fault) × (self.new ≡ self.old)
             × (feed.new ≡ feed.old)) }
 
-        // When a first fault comes.
+        // When a fault first comes.
         ensures too_long { self.old.fault ≡ None → IsErrOf result SourceFault.TooLong
             → IfSome (F.remaining feed.old) (λ bytes. 2 ^ 64 - 1 < length (self.old.ahead ++ bytes)) }
         ensures gave { self.old.fault ≡ None → IfSome (F.remaining feed.old) (λ _. (given : List ℕ)

@@ -12,19 +12,19 @@ use source::{Feed, ReadFailed, SourceFault};
 use std::alloc::{AllocError, Global};
 use std::marker::Model;
 
-// One read of 4,096 bytes, and of a piece at most 65,536 bytes, whatever comes. A piece that came in one
-// read is not copied.
+// Keeps one read of 4,096 bytes, and at most 65,536 bytes of a piece, whatever comes. A piece that came in
+// one read is not copied.
 #[derive(Drop)]
 pub(crate) struct PieceReader {
     buffer: [u8; 4096],
-    // what is ahead
+    // what is read and yet to be taken
     start: usize,
     end: usize,
     // where the last piece lies, if it is whole in the buffer
     is_whole: bool,
     from: usize,
     len: usize,
-    // what is kept of it otherwise
+    // what is kept of the piece otherwise
     held: LineBuffer,
     // how many bytes were read
     total: u64,
@@ -46,7 +46,7 @@ impl Model for PieceReader {
 }
 
 impl PieceReader {
-    // No piece yet, and nothing read. This is the only growth.
+    // No piece yet, and nothing read. Memory grows only here.
     pub(crate) fn new(alloc: Global) -> Result<PieceReader, AllocError>
         ensures { IfOk result (λ reader. reader ≡ none_taken) }
     {
@@ -63,7 +63,7 @@ impl PieceReader {
         })
     }
 
-    // Counts from here on the bytes that are read, with those that are ahead.
+    // Restarts the count of bytes read at those that are ahead.
     pub(crate) fn count_anew(&mut self)
         ensures ahead { self.new.ahead ≡ self.old.ahead }
         ensures kept { self.new.kept ≡ self.old.kept }
@@ -72,9 +72,9 @@ impl PieceReader {
         self.total = (self.end - self.start) as u64;
     }
 
-    // Reads the next piece that ends at this byte, and answers whether there was one: at the end of the feed
-    // a last piece needs no end. A piece that is longer than 65,536 bytes is passed over, and not kept.
-    // `TooLong` comes exactly where the bytes that were read become more than 2^64 - 1.
+    // Reads the next piece that ends at this byte, and answers whether there was one; the last piece may lack
+    // the byte. A piece longer than 65,536 bytes is skipped, and not kept. `TooLong` comes exactly if the
+    // count of bytes read exceeds 2^64 - 1.
     pub(crate) fn next<F: Feed>(&mut self, end: u8, feed: &mut F) -> Result<bool, SourceFault>
         ensures piece { IfOk result (λ found. IfSome (F.remaining feed.old) (λ bytes.
             (left : List ℕ) × (F.remaining feed.new ≡ Some left)
@@ -102,7 +102,7 @@ impl PieceReader {
         }
     }
 
-    // Reads more, where nothing is ahead, and answers whether there was more.
+    // Reads more if nothing is ahead, and answers whether there was more.
     fn fill<F: Feed>(&mut self, feed: &mut F) -> Result<bool, SourceFault>
         requires { self.old.is_whole ≡ false }
         ensures kept { (self.new.kept ≡ self.old.kept) × (self.new.is_whole ≡ false) }
@@ -155,7 +155,7 @@ impl PieceReader {
         }
     }
 
-    // Takes what is ahead up to the first byte of this value, with it, or all where there is none.
+    // Takes what is ahead up to and including the first byte of this value, or all if there is none.
     fn take(&mut self, end: u8) -> bool
         requires { self.old.is_whole ≡ false }
         ensures { IsTaken end result self.old self.new }

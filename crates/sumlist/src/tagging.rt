@@ -29,8 +29,8 @@ pub enum TaggedFault {
     TooLong,
 }
 
-/// Writes the entry's one tagged line, with its LF: `LABEL (name) = digits`, the name in its escaped form
-/// and the digits in lower case, behind a backslash where the name needs escapes. It takes no memory.
+/// Writes the entry's one tagged line, with its LF: `LABEL (name) = digits`, the name in its escaped form and
+/// the digits in lower case, after a backslash if the name needs escapes. It takes no memory.
 pub fn write_tagged<W: Sink>(entry: &Entry, out: &mut W) -> Result<(), TaggedFault>
     ensures writes { WritesTagged result entry.now (W.shown out.old) (W.shown out.new) }
     ensures spells { OnOk result ((kind : Option Kind) → Spells (tagged_line entry.now) kind entry.now) }
@@ -44,8 +44,8 @@ pub fn write_tagged<W: Sink>(entry: &Entry, out: &mut W) -> Result<(), TaggedFau
     }
 }
 
-/// Writes the tagged line of an entry of this algorithm, name and tag, with its LF, however long it is. The name
-/// is lent, so no memory is taken.
+/// Writes the tagged line of an entry with this algorithm, name and tag, and its LF, however long it is. The
+/// name is borrowed, so no memory is taken.
 pub fn write_tagged_line<W: Sink>(
     alg: Alg,
     name: &str,

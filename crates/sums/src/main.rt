@@ -28,11 +28,11 @@ use std::process::ExitCode;
 use sumlist::FileTree;
 use watched::{Watched, WatchedTree};
 
-// No line of a list or a report is longer.
+// No line of a list or a report is longer than this.
 const LINE_ROOM: usize = 131_200;
 
-// No fault that tells of a word is longer: Linux takes none of more than 131,072 bytes, and four bytes
-// at most tell one of them.
+// No fault that quotes a word is longer than this: Linux takes no word of more than 131,072 bytes, and each
+// of them is printed as at most four.
 const FAULT_ROOM: usize = 524_800;
 
 fn main(rt: HostRuntime) -> ExitCode {
@@ -42,8 +42,8 @@ fn main(rt: HostRuntime) -> ExitCode {
     }
 }
 
-// Runs with a buffer of a line before each of the two streams: whole lines go out, each in one
-// write. Both are made before anything is read. Each erases the line that shows what is read.
+// Runs with a line buffer before each of the two streams: whole lines go out, each in one write. Both buffers
+// are made before anything is read. Each erases the line of `--progress`.
 fn run_lines(rt: &HostRuntime) -> io::Result<u8> {
     let _held = closed_streams(rt)?;
     let progress = Progress::new(*rt);
@@ -59,8 +59,8 @@ fn run_lines(rt: &HostRuntime) -> io::Result<u8> {
     Ok(status)
 }
 
-// Opens a folder in place of each of the three streams that is closed: it can be neither read nor written, as the
-// stream, and no file that is opened later is taken for it.
+// Opens a folder in place of each of the three streams that is closed. Like the closed stream, it can be
+// neither read nor written, and no file that is opened later takes its number.
 fn closed_streams(rt: &HostRuntime) -> io::Result<Vec<File>> {
     let mut held = Vec::new(rt.alloc());
     for _ in 0..3 {
@@ -72,7 +72,8 @@ fn closed_streams(rt: &HostRuntime) -> io::Result<Vec<File>> {
     Ok(held)
 }
 
-// The status of a run, by whether standard output took the rest of what was printed. A run of status 3 has told why.
+// The status of a run, given whether standard output took the rest of what was printed. A run with status 3
+// has reported why.
 fn end_of<E: Sink>(status: u8, is_flushed: bool, err: &mut E) -> u8
     ensures taken { is_flushed ≡ true → (result ≡ status) × (E.shown err.new ≡ E.shown err.old) }
     ensures told { status ≡ 3 → (result ≡ 3) × (E.shown err.new ≡ E.shown err.old) }
@@ -86,7 +87,7 @@ fn end_of<E: Sink>(status: u8, is_flushed: bool, err: &mut E) -> u8
     }
 }
 
-// Tells that memory ran out, in one write too, and answers the status.
+// Reports that memory ran out, also in one write, and answers the status.
 fn tell_without_memory(rt: &HostRuntime) -> u8 {
     let mut buffer = [0; 64];
     let mut line = FixedSink::new(&mut buffer);
@@ -132,7 +133,8 @@ fn run_words<W: Sink, E: Sink>(
     }
 }
 
-// Whether the words that were read make a request with the flag: a file of its name, behind `--`, is none.
+// Whether the words that were read make a request with the flag; a file with its name, after `--`, is no
+// flag.
 fn asks_for_progress(read: &Result<Request<'_>, WordsFault>) -> bool
     ensures { (words : List Text) → IsRead words read.now → (read.now ≢ Err OutOfMemory) → IsAsked result words }
 {
@@ -142,7 +144,7 @@ fn asks_for_progress(read: &Result<Request<'_>, WordsFault>) -> bool
     }
 }
 
-// Tells why the process's words are not to be had, by the kind of the system's error. Answers the status.
+// Reports why the process's words cannot be had, by the kind of the system's error. Answers the status.
 fn tell_words<E: Sink>(kind: ErrorKind, err: &mut E) -> u8
     ensures memory { kind ≡ ErrorKind.OutOfMemory
         → (result ≡ 3) × Tells (E.shown err.old) (E.shown err.new) (codes "sums: out of memory\n") }

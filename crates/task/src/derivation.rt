@@ -14,16 +14,16 @@ use request::Request;
 use std::alloc::Global;
 use sumlist::Kind;
 
-/// How a key is derived of its material.
+/// How a key is derived from its material.
 #[derive(Debug, Drop)]
 pub enum Derivation<'a> {
     /// By HKDF.
     Hkdf(Hkdf),
-    /// By BLAKE3's own derivation: a key of so many bytes, at least one.
+    /// By BLAKE3's own derivation: a key of at least one byte.
     Blake3 { context: &'a str, length: u64 },
 }
 
-/// HKDF (RFC 5869) over a hash: a key of so many bytes, at most 255 times the hash's digest.
+/// HKDF (RFC 5869) over a hash: a key of at most 255 times the length of the hash's digest.
 #[derive(Debug, Drop)]
 pub struct Hkdf {
     pub hash: HmacHash,
@@ -36,7 +36,7 @@ pub struct Hkdf {
 impl<'a> Derivation<'a> {
     ghost use Rattle.task.specs.inside.Views.{derivation_shown};
 
-    /// The derivation that a request of `kdf` names, or the first fault of its settings.
+    /// The derivation that a `kdf` request names, or the first fault of its settings.
     pub(crate) fn of(alloc: Global, request: &Request<'a>) -> Result<Derivation<'a>, TaskFault>
         ensures { IsAsDefined derivation_shown (derivation_of (given_of request.now)) result }
     {

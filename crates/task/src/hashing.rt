@@ -1,4 +1,4 @@
-// What `hash` is to print of a file.
+// What `hash` is to print for a file.
 
 ghost use Rattle.std.specs.Prelude.{◌≡◌, ◌≢◌, ◌+◌, ◌++◌, ◌∷◌, [], ◌≤◌, IfOk, IfSome, MatchOption, codes, map};
 ghost use Rattle.std.specs.Prelude.{option_map, unwrap_or};
@@ -22,7 +22,7 @@ use source::{Alg, BLAKE2B_LEN, BLAKE2S_LEN, BLAKE3_LEN};
 use std::alloc::Global;
 use sumlist::Kind;
 
-/// What is printed of a file: which bytes of which digest, and how.
+/// What is printed for a file: which bytes of which digest, and how.
 #[derive(Clone, Copy, Debug, PartialEq, Eq)]
 pub struct Requested {
     pub hash: Hash,
@@ -30,17 +30,17 @@ pub struct Requested {
     pub form: Form,
 }
 
-/// A hash, with what BLAKE2 takes besides its input: a salt and a personalization.
+/// A hash, and what BLAKE2 takes besides its input: a salt and a personalization.
 #[derive(Clone, Copy, Debug, PartialEq, Eq)]
 pub enum Hash {
-    /// One that takes nothing besides its input, with its longest digests.
+    /// A hash that takes nothing besides its input, with its longest digests.
     Whole(Kind),
     Blake2b([u8; 16], [u8; 16]),
     Blake2s([u8; 8], [u8; 8]),
     Blake3,
 }
 
-/// So many bytes of a digest, from a position on: at least one. All digests but BLAKE3's are whole.
+/// A stretch of a digest, from a position on: at least one byte. Digests other than BLAKE3's are whole.
 #[derive(Clone, Copy, Debug, PartialEq, Eq)]
 pub struct Stretch {
     pub position: u64,
@@ -52,13 +52,13 @@ pub struct Stretch {
 pub enum Form {
     /// In digits, on a line with the name.
     Plain,
-    /// The same, on a line that names the algorithm.
+    /// In digits, on a line that names the algorithm.
     Tagged,
-    /// As its bytes, and no line.
+    /// As raw bytes, without a line.
     Raw,
 }
 
-/// A digest that there is, and the chunks of the parts that files are hashed in, where that is asked for.
+/// A digest that exists, and the number of chunks in the parts in which files are hashed, if given.
 #[derive(Clone, Copy, Debug)]
 pub struct Hashing {
     pub requested: Requested,
@@ -68,7 +68,7 @@ pub struct Hashing {
 }
 
 impl Requested {
-    /// The algorithm that the entry of such a digest has.
+    /// The algorithm of an entry with such a digest.
     pub fn alg(self) -> Alg
         ensures value { result ≡ alg_of self.hash self.stretch.length }
         ensures range { HasDigest self → IsInRange result }
@@ -83,7 +83,7 @@ impl Requested {
 }
 
 impl Hashing {
-    /// What a request of `hash` has printed, or the first fault of its settings.
+    /// What a `hash` request prints, or the first fault of its settings.
     pub(crate) fn of(alloc: Global, request: &Request<'_>) -> Result<Hashing, TaskFault>
         ensures { IsAsDefined (λ h. h.requested) (spec.requested (given_of request.now)) result }
     {
@@ -104,8 +104,8 @@ impl Hashing {
     }
 }
 
-/// The digest or tag that a request compares with, of so many bytes, where it is given: it is that of one
-/// file, whose digits would be printed.
+/// The digest or tag of this length that a request compares with, if given: it is for one file, in the form
+/// of digits.
 pub(crate) fn wanted(
     alloc: Global,
     request: &Request<'_>,
@@ -122,7 +122,7 @@ pub(crate) fn wanted(
     Ok(Some(compared(alloc, request, text, length)?))
 }
 
-/// The same, where it may be that of several files.
+/// The digest or tag of this length, if given, which may be for several files.
 pub(crate) fn given_digest(
     alloc: Global,
     request: &Request<'_>,
@@ -137,7 +137,7 @@ pub(crate) fn given_digest(
     }
 }
 
-// The digest or tag that the digits of this text spell, of so many bytes.
+// The digest or tag of this length that the digits of this text spell.
 fn compared(
     alloc: Global,
     request: &Request<'_>,
@@ -151,7 +151,7 @@ fn compared(
     Ok(of_length(Setting::Verify, length, bytes)?)
 }
 
-// The digits in the text of `--verify`, before which the name of `-a` and a colon may stand.
+// The digits in the text of `--verify`, which the name of `-a` and a colon may precede.
 fn digits_of<'a>(request: &Request<'_>, text: &'a str) -> &'a [u8]
     ensures { result.now ≡ spec.digits_of (given_of request.now) text.now }
 {
@@ -161,14 +161,14 @@ fn digits_of<'a>(request: &Request<'_>, text: &'a str) -> &'a [u8]
     }
 }
 
-// The name that `-a` gives, or none.
+// The name that `-a` gives, or an empty text.
 fn algorithm_name<'a>(request: &Request<'a>) -> &'a str
     ensures { result.now ≡ unwrap_or (request_text (codes "a") (given_of request.now)) [] }
 {
     text_of(request, Setting::Algorithm).unwrap_or("")
 }
 
-// What stands behind this name and a colon, where a text begins so.
+// What follows this name and a colon, if a text begins with them.
 fn after_name<'a>(text: &'a [u8], name: &str) -> Option<&'a [u8]>
     ensures { MatchOption result ((rest : Text) → text.now ≢ name.now ++ 58 ∷ rest)
         (λ rest. text.now ≡ name.now ++ 58 ∷ rest.now) }
@@ -197,7 +197,7 @@ fn refused_others(request: &Request<'_>, kind: Kind) -> Result<(), UsageFault>
 }
 
 impl Form {
-    /// How a digest is printed. Refuses `--raw` beside `--tag` and of several files.
+    /// How a digest is printed. Refuses `--raw` with `--tag`, and for several files.
     pub(crate) fn of(request: &Request<'_>) -> Result<Form, UsageFault>
         ensures { judged result ≡ spec.form_of (given_of request.now) }
     {
@@ -234,8 +234,8 @@ fn lengths(kind: Kind, form: Form) -> (u64, u64)
     }
 }
 
-// How long a digest is without `-l`, at least `least` and at most `most`: the digits of `--verify` say how
-// long one of BLAKE2 is.
+// The length of a digest without `-l`, at least `least` and at most `most`: for BLAKE2 the digits of
+// `--verify` determine it.
 fn default_len(request: &Request<'_>, kind: Kind, least: u64, most: u64) -> u64
     ensures value { result ≡ spec.default_len kind (least, most) (given_of request.now) }
     ensures between { (form : Form) → (least, most) ≡ spec.lengths kind form
@@ -254,7 +254,7 @@ fn default_len(request: &Request<'_>, kind: Kind, least: u64, most: u64) -> u64
 }
 
 impl Hash {
-    // The hash of this name, with what BLAKE2 takes besides.
+    // The hash with this name, and what BLAKE2 takes besides its input.
     fn of(alloc: Global, request: &Request<'_>, kind: Kind) -> Result<Hash, TaskFault>
         ensures value { IsAsDefined (λ h. h) (spec.hash_of kind (given_of request.now)) result }
         ensures lengths { IfOk result (λ h. (form : Form) → lengths_of h form ≡ spec.lengths kind form) }
@@ -274,7 +274,7 @@ impl Hash {
     }
 }
 
-// The salt and the personalization. The digits of both are judged before the length of either.
+// The salt and the personalization. The digits of both are checked before the length of either.
 fn salts<const N: usize>(
     alloc: Global,
     request: &Request<'_>,
@@ -295,7 +295,7 @@ pub(crate) fn names_several(request: &Request<'_>) -> bool
     file_count(request) > 1 || request.text("files0-from").is_some()
 }
 
-/// The bytes of a digest that `-l` and `--seek` say, none of them behind the last one.
+/// The bytes of a digest that `-l` and `--seek` select, none of them after the last one.
 pub(crate) fn stretch_of(
     request: &Request<'_>,
     default: u64,
@@ -311,7 +311,7 @@ pub(crate) fn stretch_of(
     Ok(Stretch { position, length })
 }
 
-// Of how many chunks the parts are that files are hashed in, where that was asked for.
+// The number of chunks in the parts in which files are hashed, if given.
 fn parts_of(request: &Request<'_>) -> Result<Option<u64>, UsageFault>
     ensures value { judged result ≡ given (power_in 1024) (codes "parts") (given_of request.now) }
     ensures size { IfOk result (λ m. IfSome m IsPartSize) }

@@ -1,4 +1,4 @@
-//! What a run of `sums` is to do: the request that the words make, judged once (`Task::of`).
+//! What a run of `sums` is to do: the request that the words make, checked once (`Task::of`).
 #![tactic(auto)]
 
 pub use derivation::{Derivation, Hkdf};

@@ -1,4 +1,4 @@
-// The texts of settings as names, numbers and bytes, and which fault each can be.
+// The texts of settings as names, numbers and bytes, and the faults that each can have.
 
 ghost use Rattle.std.specs.Prelude.{◌≡◌, ◌≢◌, ◌≤◌, ◌++◌, ◌&&◌, Bool, Err, IfOk, IfSome, IsSomeAnd, MatchResult, Ok};
 ghost use Rattle.std.specs.Prelude.{codes, count_ones, if◌then◌else◌, length, map, nat_le, ok_or};
@@ -50,7 +50,7 @@ impl HmacHash {
     }
 }
 
-/// The text of a setting, where it was given.
+/// The text of a setting, if it was given.
 pub(crate) fn text_of<'a>(request: &Request<'a>, setting: Setting) -> Option<&'a str>
     ensures { option_map (λ t. t.now) result ≡ text_of (setting_name setting) (given_of request.now) }
 {
@@ -105,14 +105,14 @@ pub(crate) fn first_given(request: &Request<'_>, settings: &[Setting]) -> Option
     None
 }
 
-/// Refuses what is wrong, by this fault.
+/// Refuses what is wrong, with this fault.
 pub(crate) fn unless(is_wrong: bool, fault: UsageFault) -> Result<(), UsageFault>
     ensures { judged result ≡ spec.unless is_wrong (fault_text fault) }
 {
     if is_wrong { Err(fault) } else { Ok(()) }
 }
 
-/// The text of a setting that has to be there.
+/// The text of a setting that is required.
 pub(crate) fn needed<'a>(request: &Request<'a>, setting: Setting) -> Result<&'a str, UsageFault>
     ensures { seen (λ t. t.now) result ≡ ok_or (text_of (setting_name setting) (given_of request.now))
         (word (setting_name setting) ++ codes ": needed\n") }
@@ -137,7 +137,7 @@ pub(crate) fn number(
     Ok(given_number(request, setting, least, most)?.unwrap_or(default))
 }
 
-/// The number of a setting, at least `least` and at most `most`, where it was given.
+/// The number of a setting, at least `least` and at most `most`, if it was given.
 pub(crate) fn given_number(
     request: &Request<'_>,
     setting: Setting,
@@ -210,7 +210,7 @@ pub(crate) fn hexadecimal(
     }
 }
 
-/// The bytes that a setting's hexadecimal digits spell, where it was given.
+/// The bytes that a setting's hexadecimal digits spell, if it was given.
 pub(crate) fn given_bytes(
     alloc: Global,
     request: &Request<'_>,
@@ -225,7 +225,7 @@ pub(crate) fn given_bytes(
     }
 }
 
-/// The bytes of a setting, so many.
+/// The bytes of a setting, if there are `count` of them.
 pub(crate) fn of_length(setting: Setting, count: u64, bytes: Vec<u8>) -> Result<Vec<u8>, UsageFault>
     ensures { seen (λ v. v.items) result ≡ spec.sized count (setting_name setting) (Some bytes.items) }
 {
@@ -236,7 +236,7 @@ pub(crate) fn of_length(setting: Setting, count: u64, bytes: Vec<u8>) -> Result<
     }
 }
 
-/// The bytes of a setting that has `N` of them, zeros where it was not given.
+/// The bytes of a setting that has `N` of them, or zeros if it was not given.
 pub(crate) fn sized<const N: usize>(
     setting: Setting,
     bytes: Option<Vec<u8>>,

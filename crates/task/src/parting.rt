@@ -18,7 +18,7 @@ use crate::parameters::needed_kind;
 use request::Request;
 use sumlist::Kind;
 
-/// Where a part of a file begins, and how many chunks of 1,024 bytes it has at most, where that is said.
+/// Where a part of a file begins, and the most chunks that it has, if given.
 #[derive(Clone, Copy, Debug)]
 pub struct Place {
     pub first: u64,
@@ -27,7 +27,7 @@ pub struct Place {
     ghost room: { IfSome chunks (HasRoom first) } by { Prim.hlevel props },
 }
 
-/// How many chunks each part of a file has but the last: a power of two.
+/// How many chunks each part of a file has, except the last: a power of two.
 #[derive(Clone, Copy, Debug)]
 pub struct PartLength {
     pub chunks: u64,
@@ -36,7 +36,7 @@ pub struct PartLength {
     ghost power: { count_ones chunks ≡ 1 },
 }
 
-/// Bytes of the output of joined parts, and how many bytes the parts have to have, where that is said.
+/// Bytes of the output of joined parts, and how many bytes the parts must have, if given.
 #[derive(Clone, Copy, Debug)]
 pub struct Joining {
     pub stretch: Stretch,
@@ -44,7 +44,7 @@ pub struct Joining {
     ghost within: { stretch.position + stretch.length ≤ 2 ^ 64 - 1 },
 }
 
-/// Refuses each hash but BLAKE3, which alone has parts.
+/// Refuses every hash but BLAKE3, the only one with parts.
 pub(crate) fn names_blake3(request: &Request<'_>) -> Result<(), UsageFault>
     ensures { judged result ≡ names_blake3 (given_of request.now) }
 {
@@ -55,7 +55,7 @@ pub(crate) fn names_blake3(request: &Request<'_>) -> Result<(), UsageFault>
 }
 
 impl Place {
-    /// The place of a part from this chunk on, where there is room for so many chunks.
+    /// The place of a part from this chunk on, if there is room for this many chunks.
     pub(crate) fn of(first: u64, chunks: Option<u64>) -> Result<Place, UsageFault>
         requires first { first < 2 ^ 54 }
         requires chunks { IfSome chunks (λ n. (1 ≤ n) × (n ≤ 2 ^ 54)) }
@@ -71,7 +71,7 @@ impl Place {
     }
 }
 
-// Whether so many chunks can begin there as one subtree.
+// Whether this many chunks from there on can be one subtree.
 fn has_room(first: u64, chunks: u64) -> bool
     requires low { 1 ≤ chunks }
     requires high { chunks ≤ 2 ^ 54 }

@@ -16,10 +16,10 @@ use request::Request;
 use source::{BLAKE2B_LEN, BLAKE2S_LEN, BLAKE3_LEN};
 use std::alloc::Global;
 
-/// A keyed function, and the length in bytes of the tags that are printed.
+/// A keyed function, and the length in bytes of the tags that it prints.
 #[derive(Clone, Copy, Debug, PartialEq, Eq)]
 pub enum Mac {
-    /// HMAC over a hash, whose length is half of the hash's digest at least, and the whole at most.
+    /// HMAC over a hash, with at least half the length of the hash's digest and at most all of it.
     Hmac(HmacHash, usize),
     /// Keyed BLAKE2b, 1 to 64 bytes.
     Blake2b(usize),
@@ -29,17 +29,17 @@ pub enum Mac {
     Blake3(u64),
 }
 
-/// What is printed of a tag.
+/// What is printed for a tag.
 #[derive(Clone, Copy, Debug, PartialEq, Eq)]
 pub struct Tagging {
-    /// The function, with the length.
+    /// The function, with the length of the tag.
     pub mac: Mac,
-    /// The bytes of the tag alone are printed, and no line.
+    /// Only the bytes of the tag are printed, without a line.
     pub is_raw: bool,
     ghost has: { HasTag mac },
 }
 
-/// A keyed function with tags of at most 64 bytes, as those of a list have.
+/// A keyed function with tags of at most 64 bytes, such as those of a list.
 #[derive(Clone, Copy, Debug, PartialEq, Eq)]
 pub struct ShortMac {
     pub mac: Mac,
@@ -52,13 +52,13 @@ pub struct ShortMac {
 pub enum Key<'a> {
     /// These bytes.
     Given(Vec<u8>),
-    /// The bytes of the file of this name.
+    /// The bytes of the file with this name.
     File(&'a str),
 }
 
 impl Mac {
-    /// The keyed function that a request names, or the first fault of its settings. The tags of BLAKE3 have
-    /// at most `most` bytes.
+    /// The keyed function that a request names, or the first fault of its settings. Tags of BLAKE3 have at
+    /// most `most` bytes.
     pub(crate) fn of(request: &Request<'_>, most: u64) -> Result<Mac, UsageFault>
         requires { BLAKE3_LEN ≤ most }
         ensures value { seen (λ m. (m, mac_len m)) result ≡ mac_of most (given_of request.now) }
@@ -123,7 +123,7 @@ impl<'a> Key<'a> {
         Ok(Key::of(alloc, file, given))
     }
 
-    // The key of a file, where it is named, or these bytes.
+    // The key in the file, if one is named, otherwise these bytes.
     fn of(alloc: Global, file: Option<&'a str>, given: Option<Vec<u8>>) -> Key<'a>
         ensures { key_shown result
             ≡ option_map_or (λ f. in_file f.now) file.entry (these (unwrap_or (option_map (λ v. v.items) given) [])) }
