@@ -1,7 +1,8 @@
 -- The lines that are printed of tags are a list of them, each of which is OK.
-use Rattle.std.proofs.Common.{◌≡◌, ◌∙◌, ℕ, ◌≤◌, List, [], ◌∷◌, ◌++◌, length, Option, Some, None, ap, false, inl, refl, sym}
+use Rattle.std.proofs.Common.{◌≡◌, ◌∙◌, ℕ, ◌*◌, ◌≤◌, List, [], ◌∷◌, ◌++◌, length, Option, Some, None, ap, false, inl, refl}
 use Rattle.std.specs.Prelude.{All, IsSomeAnd, flat_map, map}
 use Rattle.std.proofs.Common.{append_assoc}
+use Rattle.std.proofs.lemmas.List.Elements.{All-head, All-tail}
 use Rattle.request.specs.CommandLine.{Text}
 use Rattle.source.specs.declared.alg.Alg.TheVariants.{Blake2b}
 use Rattle.sumlist.specs.Entry.{IsEntry, Listing, written_line}
@@ -21,38 +22,43 @@ module _ (digits limit : ℕ) (f : List ℕ → List ℕ) (n : ℕ) (files : Fil
   abbrev rule : LineRule
   rule = tag_line false digits limit f
 
-  entry_of : Text → List ℕ → Listing
+  abbrev entry_of : Text → List ℕ → Listing
   entry_of name m = record { name = name; alg = Blake2b n; tag = f m }
 
-  -- a line and those behind it
+  -- a line, and those after it
   cut : (name : Text) (m rest : List ℕ) → IsEntry (entry_of name m)
       → lines (line_beside name (f m) ++ rest) ≡ written_line (entry_of name m) ∷ lines rest
   cut name m rest i =
       let line = written_line (entry_of name m) in
-      ap lines (simp append_assoc)
-      ∙ lines-ended line rest (HasNo-from_none 10 line (written_spells (entry_of name m) i).is_line.0)
+      let same : line_beside name (f m) ++ rest ≡ line ++ 10 ∷ rest = simp append_assoc refl in
+      ap lines same ∙ lines-ended line rest (HasNo-from_none 10 line (written_spells (entry_of name m) i).is_line.0)
 
-  pub all_ok : (names : List Text) → All (IsTagged rule n files) names → AllAllowed files (keyed n limit f)
-      (lines (flat_map (line_of_file rule files) names)) (map (λ name. told name Matches) names)
-  all_ok [] all = tt
-  all_ok (name ∷ names) all = with_content (files name) refl all.0
-    where
-      with_content : (content : Option (List ℕ)) → files name ≡ content → IsSomeAnd content (λ m. (length m ≤ limit)
-          × IsEntry (entry_of name m)) → AllAllowed files (keyed n limit f)
-          (lines (flat_map (line_of_file rule files) (name ∷ names))) (map (λ name. told name Matches) (name ∷ names))
-      with_content None is h = absurd h
-      with_content (Some m) is (fits, i) = rw (is, cut name m (flat_map (line_of_file rule files) names) i) (
+  abbrev AllOk : List Text → Type 0
+  AllOk names = AllAllowed files (keyed n limit f) (lines (flat_map (line_of_file rule files) names))
+      (map (λ name. told name Matches) names)
+
+  next_ok : (name : Text) (names : List Text) (content : Option (List ℕ)) → files name ≡ content
+      → IsSomeAnd content (λ m. (length m ≤ limit) × IsEntry (entry_of name m)) → AllOk names → AllOk (name ∷ names)
+  next_ok name names None is h rest = absurd h
+  next_ok name names (Some m) is (fits, i) rest =
+      rw (is, cut name m (flat_map (line_of_file rule files) names) i) (
         (
           entry_of name m,
           (written_untagged _ i, written_spells _ i, i.sized.1),
           refl,
           rw is (matches (limit, f) (f m) m fits refl),
         ),
-        all_ok names all.1,
+        rest,
       )
 
+  pub all_ok : (names : List Text) → All (IsTagged rule n files) names → AllOk names
+  all_ok [] all = tt
+  all_ok (name ∷ names) all =
+      let Here = IsTagged rule n files in
+      next_ok name names (files name) refl (All-head Here name names all) (all_ok names (All-tail Here name names all))
+
 pub tags_ok : TagsAreOk
-tags_ok (mac.Hmac h k) key n files names all = all_ok _ _ _ n files names all
-tags_ok (mac.Blake2b k) key n files names all = all_ok _ _ _ n files names all
-tags_ok (mac.Blake2s k) key n files names all = all_ok _ _ _ n files names all
-tags_ok (mac.Blake3 k) key n files names all = all_ok _ _ _ n files names all
+tags_ok (mac.Hmac h k) key n files names all = all_ok (2 * k) _ _ n files names all
+tags_ok (mac.Blake2b k) key n files names all = all_ok (2 * k) _ _ n files names all
+tags_ok (mac.Blake2s k) key n files names all = all_ok (2 * k) _ _ n files names all
+tags_ok (mac.Blake3 k) key n files names all = all_ok 64 _ _ n files names all

@@ -1,7 +1,7 @@
 -- The rule of the lines that a command prints, as the code holds it, and how it is had.
 use Rattle.std.specs.Prelude.{◌⊎◌, ◌≡◌, ⊤, Bool, true, false, List, Option, None, ℕ, IsSome}
 use Rattle.request.specs.CommandLine.{Text}
-use Rattle.sumlist.specs.Report.{Files, Meaning, keyed, unkeyed}
+use Rattle.sumlist.specs.Report.{Files, Meaning, keyed as under_key, unkeyed}
 use Rattle.sumlist.specs.declared.entries.Entries.{Entries}
 use Rattle.sumlist.specs.inside.Stepped.{meaning_of}
 use Rattle.task.specs.Tasks.{Sum, digests, tags}
@@ -42,7 +42,7 @@ meaning = meaning_of (λ k. (keyed_line k.keyed).limit) (λ k. (keyed_line k.key
 abbrev pub EntriesRun : TaskEntries → Bool → Files → List Text → List ℕ → Run → Type 0
 EntriesRun (Digests kind) is_summed files lists input = ListsRun (unkeyed kind) is_summed files lists input
 EntriesRun (Tags short key) is_summed files lists input = SumRuns (tags short.mac false (key_shown key)) files
-    (λ l. ListsRun (keyed (mac_len short.mac) l.limit l.bytes) is_summed files lists input)
+    (λ l. ListsRun (under_key (mac_len short.mac) l.limit l.bytes) is_summed files lists input)
 
 -- how often a file is opened for the key of their entries
 abbrev pub entries_opens : TaskEntries → ℕ
