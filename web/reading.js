@@ -36,17 +36,27 @@ function wholeFile(file) {
   });
 }
 
-/** Rejects where a file is gone, and where the browser tells that it has changed. */
-export async function look(file) {
-  if (!file.size) await wholeFile(file);
-  else if (!(await file.slice(file.size - 1, file.size).arrayBuffer()).byteLength) throw new Changed();
+/** Whether a file is read in pieces. After it was read it is only looked at: a short one is read anew each time. */
+export const isLong = (file) => file.size > WHOLE;
+
+const areSame = (one, two) => one.length === two.length && one.every((it, at) => it === two[at]);
+
+/** Rejects if a file is gone, if the browser reports a change, and if a short one no longer has the bytes `held`. */
+export async function look(file, held = null) {
+  if (isLong(file)) {
+    const last = await file.slice(file.size - 1, file.size).arrayBuffer();
+    if (!last.byteLength) throw new Changed();
+  } else {
+    const bytes = new Uint8Array(await wholeFile(file));
+    if (held && !areSame(bytes, held)) throw new Changed();
+  }
 }
 
 /** The bytes of a file, piece by piece. A piece is gone when the next one is asked for. */
 export async function* piecesOfFile(file) {
   const stamp = () => `${file.size} ${file.lastModified}`;
   const before = stamp();
-  if (file.size > WHOLE) {
+  if (isLong(file)) {
     yield* piecesOfBlob(file);
     await look(file);
   } else {
@@ -61,7 +71,7 @@ export async function* piecesOfFile(file) {
 
 async function isThere(file) {
   try {
-    await (file.size <= WHOLE ? wholeFile(file) : look(file));
+    await look(file);
     return true;
   } catch {
     return false;
@@ -70,8 +80,7 @@ async function isThere(file) {
 
 async function areEqual(one, two, begin, end) {
   const read = async (file) => new Uint8Array(await file.slice(begin, end).arrayBuffer());
-  const [first, second] = await Promise.all([read(one), read(two)]);
-  return first.length === second.length && first.every((it, at) => it === second[at]);
+  return areSame(...(await Promise.all([read(one), read(two)])));
 }
 
 /** Whether two files have the same bytes at both ends, as far as the shorter one goes. */
@@ -91,7 +100,7 @@ async function contradicts(before, now, mayCompare) {
   if (isAlike) return mayCompare && !(await haveSameEnds(before, now));
   if (!(await isThere(before))) return false;
   // what is read as a whole has its size for certain
-  return !now || (now.size !== before.size && before.size <= WHOLE) || !(await haveSameEnds(before, now));
+  return !now || (now.size !== before.size && !isLong(before)) || !(await haveSameEnds(before, now));
 }
 
 /**

@@ -24,6 +24,13 @@ def later(path, data):
     os.utime(path, (stamp, stamp))
 
 
+def kept(path, data):
+    """Writes a file anew, with the time that it had."""
+    stamp = path.stat().st_mtime_ns
+    path.write_bytes(data)
+    os.utime(path, ns=(stamp, stamp))
+
+
 def rows_of(page):
     return page.done()["rows"]
 
@@ -176,6 +183,30 @@ def try_gone(page, work):
     harness.same("a file that has grown", page.judged(1)["rows"], ["grown: UNREADABLE"])
 
 
+def try_unreported(page, work):
+    """Changes that leave the time, which browsers do not report: a short file is read anew whatever is added."""
+    path, other = made(work, "unreported/f", b"good"), made(work, "some", b"some")
+    listed = made(work, "unreported/SHA256SUMS", list_of(("f", b"good")))
+    for what, data, result in (("of one size", b"evil", "FAILED"), ("that is longer", b"good again", "UNREADABLE")):
+        kept(path, b"good")
+        page.anew()
+        page.folder(path.parent)
+        page.judged(2)
+        kept(path, data)
+        page.files(other)
+        harness.same(f"a file by then {what}", page.judged(3)["rows"], [f"f: {result}", "some: NOT LISTED"])
+    kept(path, b"good")
+    page.anew()
+    page.folder(path.parent)
+    harness.same("a list", page.judged(2)["state"], "ok")
+    kept(listed, list_of(("f", b"evil")))
+    page.paste(list_of(("unreported/f", b"good")).decode())
+    shown = page.done()
+    is_told = any("SHA256SUMS: it has changed since it was added" in it for it in shown["notes"])
+    harness.same("a list that is another one by then", (shown["verdict"], shown["state"], is_told),
+        ("2 files: OK", "", True))
+
+
 def try_below(page, work):
     """Each list counts from one folder, and rows say which list they are of."""
     for version, data in (("v1", b"good"), ("v2", b"bad!")):
@@ -300,6 +331,7 @@ def try_meant(page, work, program):
     try_same_folders(page, work)
     try_again(page, work)
     try_readings(page, work)
+    try_unreported(page, work)
     try_below(page, work)
     try_pairs(page, work, program)
     try_order(page, work)
