@@ -94,6 +94,27 @@ def try_same_folders(page, work):
     harness.same("a folder is removed", page.judged(3)["things"], ["dist", "dist (3)"])
 
 
+def try_two_again(page, work):
+    """Of two folders of one name the one that is added again is replaced, after the other one has changed."""
+    first, second = made(work, "first/twin/a", b"evil"), made(work, "second/twin/a", b"good")
+    for path in (first, second):
+        made(path.parent, "SHA256SUMS", list_of(("a", b"good")))
+    for path in (second, second.parent / "SHA256SUMS"):
+        later(path, path.read_bytes())
+    page.anew()
+    page.folder(first.parent)
+    page.done()
+    page.folder(second.parent)
+    page.judged(4)
+    later(first, b"evil and more")
+    later(first.parent / "SHA256SUMS", list_of(("a", b"evil and more"), ("a", b"good")))
+    page.folder(second.parent)
+    shown = page.judged(4)
+    named = [f"{row} by {by}" for row, by in zip(shown["rows"], shown["by"])]
+    harness.same("two folders of a name, and the second again", named,
+        ["a: UNREADABLE by twin/SHA256SUMS", "a: OK by twin (2)/SHA256SUMS"])
+
+
 def try_again(page, work):
     """A folder that is added again replaces all that it had, and a file too."""
     folder = work / "again"
@@ -329,6 +350,7 @@ def try_meant(page, work, program):
     """All of these, in one browser."""
     try_same_names(page, work)
     try_same_folders(page, work)
+    try_two_again(page, work)
     try_again(page, work)
     try_readings(page, work)
     try_unreported(page, work)
