@@ -132,6 +132,7 @@ export class Places {
     const labels = new Set(this.#loose.flatMap((it) => [...it.items.values()].map(({ label }) => label)));
     for (const item of place.items.values()) {
       for (let count = 2; labels.has(item.label); count++) item.label = `${item.path} (${count})`;
+      labels.add(item.label);
     }
     this.#all.push(place);
   }

@@ -115,6 +115,17 @@ def try_two_again(page, work):
         ["a: UNREADABLE by twin/SHA256SUMS", "a: OK by twin (2)/SHA256SUMS"])
 
 
+def try_leading(page, work):
+    """A folder whose name begins with a backslash, which Chromium gives as one that begins with a slash."""
+    made(work, "\\lead/SHA256SUMS", list_of(("app.tgz", b"good"), ("b", b"b")))
+    made(work, "\\lead/b", b"b")
+    made(work, "beside/app.tgz", b"good")
+    page.anew()
+    page.folder(work / "beside")
+    page.folder(work / "\\lead")
+    harness.same("a list in such a folder", page.judged(3)["rows"][:2], ["app.tgz: MISSING", "b: OK"])
+
+
 def try_again(page, work):
     """A folder that is added again replaces all that it had, and a file too."""
     folder = work / "again"
@@ -351,6 +362,7 @@ def try_meant(page, work, program):
     try_same_names(page, work)
     try_same_folders(page, work)
     try_two_again(page, work)
+    try_leading(page, work)
     try_again(page, work)
     try_readings(page, work)
     try_unreported(page, work)
