@@ -5,7 +5,7 @@ import { readList } from './lists.js';
 import { lastPart, shown } from './names.js';
 import { pastedDigest } from './pasted.js';
 import { Place, Places } from './places.js';
-import { faultOf, isAgain } from './reading.js';
+import { FATE, fateOf, faultOf } from './reading.js';
 import { fromUtf16, isUtf16, looksLikeList } from './texts.js';
 import { TITLES } from './functions.js';
 import { MALFORMED } from './entries.js';
@@ -19,12 +19,22 @@ const BYTES_SEEN = 2 ** 16; // bytes
 const MOST_TOLD = 200; // things
 const MOST_UNREAD = 3;
 
-const filesOf = (place) => new Map([...place.items].filter(([, it]) => it.file).map(([path, it]) => [path, it.file]));
 const readBytes = async (blob) => new Uint8Array(await blob.arrayBuffer());
 
 /** Whether bytes hold an entry, or would as UTF-8, of which the list then speaks. */
 function holdsEntries(library, bytes) {
   return looksLikeList(library, bytes) || (isUtf16(bytes) && looksLikeList(library, fromUtf16(bytes)));
+}
+
+/**
+ * Of what was added before, what is added again: what is the same, or else what has changed, if that is one thing, and
+ * what is gone.
+ */
+async function addedAgain(things, now) {
+  const those = new Map(Object.values(FATE).map((it) => [it, []]));
+  for (const it of things) those.get(await fateOf(it.filesByPath, now.filesByPath)).push(it);
+  const [same, changed, gone] = [FATE.same, FATE.changed, FATE.gone].map((it) => those.get(it));
+  return same.length ? same : [...(changed.length === 1 ? changed : []), ...gone];
 }
 
 export class Added {
@@ -64,8 +74,7 @@ export class Added {
 
   async #addFolder(place) {
     const before = this.places.folders(place.name).filter((it) => it.selection !== place.selection);
-    let replaced = null;
-    for (const it of before) replaced ??= (await isAgain(filesOf(it), filesOf(place))) ? it : null;
+    const [replaced = null] = await addedAgain(before, place);
     this.places.addFolder(place, replaced);
     const [name, label] = [shown(place.name), shown(place.label)];
     if (replaced) this.#say(`The folder ${label} was added again: all that it had before is replaced.`);
@@ -85,10 +94,9 @@ export class Added {
     const place = new Place('', selection);
     for (const { path, file } of loose) place.add(path, file);
     const replaced = [];
-    for (const [path, file] of filesOf(place)) {
-      for (const item of this.places.loose(path)) {
-        if (item.file && (await isAgain(new Map([[path, item.file]]), new Map([[path, file]])))) replaced.push(item);
-      }
+    for (const item of [...place.items.values()].filter((it) => it.file)) {
+      const before = this.places.loose(item.path).filter((it) => it.file);
+      replaced.push(...(await addedAgain(before, item)));
     }
     this.places.addLoose(place, replaced);
     this.#forgetGone();

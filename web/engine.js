@@ -4,7 +4,7 @@ import { Added } from './added.js';
 import { keyOf } from './functions.js';
 import { shown } from './names.js';
 import { jobsOf, RESULT, rowsOf, settle, settleOpen } from './plan.js';
-import { faultOf, look, piecesOfFile } from './reading.js';
+import { faultOf, isLong, look, piecesOfFile } from './reading.js';
 import { counts, plural, told, verdictOf } from './verdict.js';
 import { View } from './view.js';
 import { writtenList } from './written.js';
@@ -110,19 +110,21 @@ export class Engine {
     if (this.#queue.length) throw INTERRUPTED;
   }
 
-  /** Settles what was read before, for the same lists, where the file is still what was read; and looks at lists. */
+  /** Settles long files that were read before, for the same lists, if they are still there; and looks at lists. */
   async #lookAgain(run) {
-    const known = run.jobs.filter((it) => it.item.reading?.purpose === purposeOf(it));
+    const known = run.jobs.filter((it) => isLong(it.item.file) && it.item.reading?.purpose === purposeOf(it));
     const lists = run.lists.filter((it) => it.item && !it.fault);
     const looks = [
       ...known.map((job) => ({ file: job.item.file, done: (fault) => this.#done(run, job, fault) })),
-      ...lists.map((list) => ({ file: list.item.file, done: (fault) => this.#listDone(run, list, fault) })),
+      ...lists.map((list) => ({
+        file: list.item.file, held: list.bytes, done: (fault) => this.#listDone(run, list, fault),
+      })),
     ];
     for (let at = 0; at < looks.length; at += AT_ONCE) {
       this.#goOn();
-      await Promise.all(looks.slice(at, at + AT_ONCE).map(async ({ file, done }) => {
+      await Promise.all(looks.slice(at, at + AT_ONCE).map(async ({ file, held, done }) => {
         try {
-          await look(file);
+          await look(file, held);
           done();
         } catch (error) {
           done(faultOf(error));

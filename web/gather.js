@@ -3,10 +3,14 @@
 
 const CLOSED = 'the browser could not read it';
 
-/** The path of a file below the folder that was chosen. Its own name keeps a backslash, which its path may not. */
-function pathOf(file) {
-  const path = file.webkitRelativePath;
-  return path.slice(path.indexOf('/') + 1, path.length - file.name.length) + file.name;
+/**
+ * The folder that was chosen, and the path of a file below it. The file's own name keeps a backslash. The name of a
+ * folder may not, so that of the one that was chosen may begin with a slash.
+ */
+function partsOf(file) {
+  const above = file.webkitRelativePath.slice(0, -file.name.length);
+  const [name] = /^\/*[^/]*/.exec(above);
+  return { name, path: above.slice(name.length + 1) + file.name };
 }
 
 /** What an input has, which is emptied, so that a file that has changed can be added again. */
@@ -16,9 +20,9 @@ export function chosen(input) {
   const loose = files.filter((it) => !it.webkitRelativePath).map((file) => ({ path: file.name, file }));
   const folders = new Map();
   for (const file of files.filter((it) => it.webkitRelativePath)) {
-    const name = file.webkitRelativePath.split('/', 1)[0];
+    const { name, path } = partsOf(file);
     if (!folders.has(name)) folders.set(name, { name, files: [], closed: [] });
-    folders.get(name).files.push({ path: pathOf(file), file });
+    folders.get(name).files.push({ path, file });
   }
   return { loose, folders: [...folders.values()] };
 }

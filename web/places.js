@@ -10,13 +10,22 @@ const NO_FILE = 'it is no file';
 
 const faulty = (fault, about = null) => ({ item: null, fault, about });
 
-/** A file that was added, or two of one path: these have a fault in place of the file. */
+/** A file that was added, or the files of one path: these have a fault, and none of them is judged. */
 class Item {
   fault = '';
 
   constructor(place, path, file) {
-    Object.assign(this, { place, path, file });
+    Object.assign(this, { place, path, file, files: [file] });
     this.label = path;
+  }
+
+  addTwin(file) {
+    this.files.push(file);
+    Object.assign(this, { file: null, fault: TWICE });
+  }
+
+  get filesByPath() {
+    return new Map([[this.path, this.files]]);
   }
 
   /** What it is called: with the folder that was added, or with a number, where another has the name. */
@@ -40,9 +49,13 @@ export class Place {
     Object.assign(this, { name, selection, label: name, isFolder: name !== '' });
   }
 
+  get filesByPath() {
+    return new Map([...this.items].map(([path, { files }]) => [path, files]));
+  }
+
   add(path, file) {
     const before = this.items.get(path);
-    if (before) Object.assign(before, { file: null, fault: TWICE });
+    if (before) before.addTwin(file);
     else this.items.set(path, new Item(this, path, file));
     for (const folder of foldersOf(path)) this.folders.add(folder);
   }
@@ -119,6 +132,7 @@ export class Places {
     const labels = new Set(this.#loose.flatMap((it) => [...it.items.values()].map(({ label }) => label)));
     for (const item of place.items.values()) {
       for (let count = 2; labels.has(item.label); count++) item.label = `${item.path} (${count})`;
+      labels.add(item.label);
     }
     this.#all.push(place);
   }

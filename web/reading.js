@@ -10,11 +10,13 @@ const PATIENCE = 10000; // milliseconds for a file that says to be empty, which 
 
 class Changed extends Error {}
 
+const isGone = (error) => ['NotFoundError', 'AbortError'].includes(error?.name);
+
 /** What is said of a file that was not read to its end. */
 export function faultOf(error) {
   const again = 'since it was added: add it again';
   if (error instanceof Changed) return `it has changed ${again}`;
-  if (error?.name === 'NotFoundError' || error?.name === 'AbortError') return `it is gone, or has changed, ${again}`;
+  if (isGone(error)) return `it is gone, or has changed, ${again}`;
   if (error?.name === 'NotReadableError' || error?.message === 'the file has changed') {
     return `it has changed ${again}. Or it may not be read`;
   }
@@ -36,17 +38,27 @@ function wholeFile(file) {
   });
 }
 
-/** Rejects where a file is gone, and where the browser tells that it has changed. */
-export async function look(file) {
-  if (!file.size) await wholeFile(file);
-  else if (!(await file.slice(file.size - 1, file.size).arrayBuffer()).byteLength) throw new Changed();
+/** Whether a file is read in pieces. After it was read it is only looked at: a short one is read anew each time. */
+export const isLong = (file) => file.size > WHOLE;
+
+const areSame = (one, two) => one.length === two.length && one.every((it, at) => it === two[at]);
+
+/** Rejects if a file is gone, if the browser reports a change, and if a short one no longer has the bytes `held`. */
+export async function look(file, held = null) {
+  if (isLong(file)) {
+    const last = await file.slice(file.size - 1, file.size).arrayBuffer();
+    if (!last.byteLength) throw new Changed();
+  } else {
+    const bytes = new Uint8Array(await wholeFile(file));
+    if (held && !areSame(bytes, held)) throw new Changed();
+  }
 }
 
 /** The bytes of a file, piece by piece. A piece is gone when the next one is asked for. */
 export async function* piecesOfFile(file) {
   const stamp = () => `${file.size} ${file.lastModified}`;
   const before = stamp();
-  if (file.size > WHOLE) {
+  if (isLong(file)) {
     yield* piecesOfBlob(file);
     await look(file);
   } else {
@@ -57,21 +69,14 @@ export async function* piecesOfFile(file) {
   if (stamp() !== before) throw new Changed();
 }
 
-// ---- whether what is added now is what was added before
+// ---- what has become of what was added before
 
-async function isThere(file) {
-  try {
-    await (file.size <= WHOLE ? wholeFile(file) : look(file));
-    return true;
-  } catch {
-    return false;
-  }
-}
+/** A file is among those that are added now; still there and not among them; no longer what it was; or gone. */
+export const FATE = { same: 'same', other: 'other', changed: 'changed', gone: 'gone' };
 
 async function areEqual(one, two, begin, end) {
   const read = async (file) => new Uint8Array(await file.slice(begin, end).arrayBuffer());
-  const [first, second] = await Promise.all([read(one), read(two)]);
-  return first.length === second.length && first.every((it, at) => it === second[at]);
+  return areSame(...(await Promise.all([read(one), read(two)])));
 }
 
 /** Whether two files have the same bytes at both ends, as far as the shorter one goes. */
@@ -85,23 +90,36 @@ async function haveSameEnds(one, two) {
   }
 }
 
-/** Whether a file, as it is now, is another one than that which has its path by now, if any. */
-async function contradicts(before, now, mayCompare) {
+/** The fate of a file, beside one that has its path now, if any. */
+async function fateBeside(before, now, mayCompare) {
   const isAlike = now && now.size === before.size && now.lastModified === before.lastModified;
-  if (isAlike) return mayCompare && !(await haveSameEnds(before, now));
-  if (!(await isThere(before))) return false;
+  if (isAlike && (!mayCompare || (await haveSameEnds(before, now)))) return FATE.same;
+  try {
+    await look(before);
+  } catch (error) {
+    return isGone(error) ? FATE.gone : FATE.changed;
+  }
   // what is read as a whole has its size for certain
-  return !now || (now.size !== before.size && before.size <= WHOLE) || !(await haveSameEnds(before, now));
+  const mayBeSame = now && !isAlike && (now.size === before.size || isLong(before));
+  return mayBeSame && (await haveSameEnds(before, now)) ? FATE.same : FATE.other;
 }
 
-/**
- * Whether files that are added now, by their paths, are those that were added before, as they are by now. They are not
- * where one of these is still there, and not among those of now, or with other bytes.
- */
-export async function isAgain(before, now) {
-  let compared = 0;
-  for (const [path, file] of before) {
-    if (await contradicts(file, now.get(path), compared++ < MOST_COMPARED)) return false;
+async function fateAmong(before, files, mayCompare) {
+  for (const now of files) {
+    const fate = await fateBeside(before, now, mayCompare);
+    if (fate !== FATE.other) return fate;
   }
-  return true;
+  return FATE.other;
+}
+
+/** The fate of files by their paths, beside those of now: `other` if one has that, `same` or `gone` if all have it. */
+export async function fateOf(before, now) {
+  const all = new Set();
+  let compared = 0;
+  for (const [path, files] of before) {
+    for (const file of files) all.add(await fateAmong(file, now.get(path) ?? [null], compared++ < MOST_COMPARED));
+    if (all.has(FATE.other)) return FATE.other;
+  }
+  const [one = FATE.gone] = all;
+  return all.size > 1 ? FATE.changed : one;
 }

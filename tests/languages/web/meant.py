@@ -24,6 +24,13 @@ def later(path, data):
     os.utime(path, (stamp, stamp))
 
 
+def kept(path, data):
+    """Writes a file anew, with the time that it had."""
+    stamp = path.stat().st_mtime_ns
+    path.write_bytes(data)
+    os.utime(path, ns=(stamp, stamp))
+
+
 def rows_of(page):
     return page.done()["rows"]
 
@@ -85,6 +92,38 @@ def try_same_folders(page, work):
     harness.judge("a list that names what another folder has", "a: MISSING by dist (3)/SHA256SUMS" in named, named)
     page.press("Remove dist (2)")
     harness.same("a folder is removed", page.judged(3)["things"], ["dist", "dist (3)"])
+
+
+def try_two_again(page, work):
+    """Of two folders of one name the one that is added again is replaced, after the other one has changed."""
+    first, second = made(work, "first/twin/a", b"evil"), made(work, "second/twin/a", b"good")
+    for path in (first, second):
+        made(path.parent, "SHA256SUMS", list_of(("a", b"good")))
+    for path in (second, second.parent / "SHA256SUMS"):
+        later(path, path.read_bytes())
+    page.anew()
+    page.folder(first.parent)
+    page.done()
+    page.folder(second.parent)
+    page.judged(4)
+    later(first, b"evil and more")
+    later(first.parent / "SHA256SUMS", list_of(("a", b"evil and more"), ("a", b"good")))
+    page.folder(second.parent)
+    shown = page.judged(4)
+    named = [f"{row} by {by}" for row, by in zip(shown["rows"], shown["by"])]
+    harness.same("two folders of a name, and the second again", named,
+        ["a: UNREADABLE by twin/SHA256SUMS", "a: OK by twin (2)/SHA256SUMS"])
+
+
+def try_leading(page, work):
+    """A folder whose name begins with a backslash, which Chromium gives as one that begins with a slash."""
+    made(work, "\\lead/SHA256SUMS", list_of(("app.tgz", b"good"), ("b", b"b")))
+    made(work, "\\lead/b", b"b")
+    made(work, "beside/app.tgz", b"good")
+    page.anew()
+    page.folder(work / "beside")
+    page.folder(work / "\\lead")
+    harness.same("a list in such a folder", page.judged(3)["rows"][:2], ["app.tgz: MISSING", "b: OK"])
 
 
 def try_again(page, work):
@@ -174,6 +213,30 @@ def try_gone(page, work):
     later(grown, b"grown more")
     page.paste(sha256(b"grown"))
     harness.same("a file that has grown", page.judged(1)["rows"], ["grown: UNREADABLE"])
+
+
+def try_unreported(page, work):
+    """Changes that leave the time, which browsers do not report: a short file is read anew whatever is added."""
+    path, other = made(work, "unreported/f", b"good"), made(work, "some", b"some")
+    listed = made(work, "unreported/SHA256SUMS", list_of(("f", b"good")))
+    for what, data, result in (("of one size", b"evil", "FAILED"), ("that is longer", b"good again", "UNREADABLE")):
+        kept(path, b"good")
+        page.anew()
+        page.folder(path.parent)
+        page.judged(2)
+        kept(path, data)
+        page.files(other)
+        harness.same(f"a file by then {what}", page.judged(3)["rows"], [f"f: {result}", "some: NOT LISTED"])
+    kept(path, b"good")
+    page.anew()
+    page.folder(path.parent)
+    harness.same("a list", page.judged(2)["state"], "ok")
+    kept(listed, list_of(("f", b"evil")))
+    page.paste(list_of(("unreported/f", b"good")).decode())
+    shown = page.done()
+    is_told = any("SHA256SUMS: it has changed since it was added" in it for it in shown["notes"])
+    harness.same("a list that is another one by then", (shown["verdict"], shown["state"], is_told),
+        ("2 files: OK", "", True))
 
 
 def try_below(page, work):
@@ -298,8 +361,11 @@ def try_meant(page, work, program):
     """All of these, in one browser."""
     try_same_names(page, work)
     try_same_folders(page, work)
+    try_two_again(page, work)
+    try_leading(page, work)
     try_again(page, work)
     try_readings(page, work)
+    try_unreported(page, work)
     try_below(page, work)
     try_pairs(page, work, program)
     try_order(page, work)
