@@ -15,5 +15,6 @@ pub mod Report
 pub mod Tally
 pub mod Checked
 pub mod Settled
+pub mod Shared
 pub mod Keyed
 pub mod inside

@@ -3,6 +3,7 @@
 ghost use Rattle.sumlist.specs.Meanings.{NoOtherMeaning, OneMeaning};
 ghost use Rattle.sumlist.specs.Keyed.{WrittenIsOk};
 ghost use Rattle.sumlist.specs.Settled.{NoneCounted, OneSettled};
+ghost use Rattle.sumlist.specs.Shared.{AreInTurn};
 
 /// Does nothing. Its contract says what the lines of lists mean: each is skipped, or spells an entry, or is
 /// malformed; no line spells two entries, and one that is skipped or malformed spells none.
@@ -17,6 +18,11 @@ pub fn line_laws()
 pub fn report_laws()
     ensures one { OneSettled }
     ensures none { NoneCounted }
+{}
+
+/// Does nothing. Its contract says that things in a row are those of their shares, one of each in turn.
+pub fn share_laws<A>()
+    ensures { AreInTurn A }
 {}
 
 /// Does nothing. Its contract says that the line which is written of a name and the tag of a file's bytes is
