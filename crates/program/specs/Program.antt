@@ -20,10 +20,9 @@ use Rattle.command.specs.Verifying.{VerifyRuns}
 
 -- the run of a task
 abbrev pub TaskRuns : Asked → Files → List ℕ → Run → Type 0
-TaskRuns (prints_lines sum (these found) share) files input =
-    SumRuns sum files (λ l. LinesGiven share l files found input)
-TaskRuns (prints_lines sum (in_file list) share) files input =
-    SumRuns sum files (λ l. LinesListed share l files list (content_of list input files))
+TaskRuns (prints_lines sum (these found) s) files input = SumRuns sum files (λ l. LinesGiven s l files found input)
+TaskRuns (prints_lines sum (in_file list) s) files input =
+    SumRuns sum files (λ l. LinesListed s l files list (content_of list input files))
 TaskRuns (prints_line sum wanted name file) files input =
     SumRuns sum files (λ l. LineRuns wanted l name file input files)
 TaskRuns (derives derived is_raw name) files input = KdfRuns derived is_raw name files
@@ -36,10 +35,9 @@ TaskRuns (joins stretch bytes wanted name lists) files input = JoinRuns stretch 
 
 -- how many files it opens at most: a list, and each of what it names, included; of a share its own
 abbrev pub most_opens : Asked → Files → List ℕ → ℕ
-most_opens (prints_lines sum (these found) share) files input =
-    key_opens sum + sum_by opens_of (every share.others share.waiting found)
-most_opens (prints_lines sum (in_file list) share) files input = key_opens sum + (opens_of list
-    + length (option_map_or (λ bytes. every share.others share.waiting (names bytes)) (content_of list input files) []))
+most_opens (prints_lines sum (these found) s) files input = key_opens sum + sum_by opens_of (every s.others s.waiting found)
+most_opens (prints_lines sum (in_file list) s) files input = key_opens sum + (opens_of list
+    + length (option_map_or (λ bytes. every s.others s.waiting (names bytes)) (content_of list input files) []))
 most_opens (prints_line sum wanted name file) files input = key_opens sum + opens_of file
 most_opens (derives derived is_raw name) files input = 1
 most_opens (checks entries is_summed lists) files input = entries_opens entries

@@ -1,6 +1,6 @@
 -- What a share takes.
-use Rattle.std.proofs.Common.{◌≡◌, ◌≢◌, ◌∙◌, ℕ, ◌+◌, ◌-◌, ◌*◌, ◌≤◌, suc, zero, List, [], ◌∷◌}
-use Rattle.std.proofs.Common.{length, refl, ap, arith}
+use Rattle.std.proofs.Common.{◌≡◌, ◌≢◌, ◌∙◌, ℕ, ◌+◌, ◌-◌, ◌*◌, suc, zero, List, [], ◌∷◌}
+use Rattle.std.proofs.Common.{map, refl, ap, arith}
 use Rattle.std.specs.List.{slice_get}
 use Rattle.sumlist.specs.Shared.{every}
 
@@ -9,16 +9,11 @@ pub every-later : {A : Type 0} (n k : ℕ) (x : A) (xs : List A) → k ≢ 0 →
 every-later n zero x xs some = absurd (some refl)
 every-later n (suc k) x xs some = ap (λ j. every n j xs) (omega arith)
 
--- of one share there is all
-pub every-whole : {A : Type 0} (xs : List A) → every 0 0 xs ≡ xs
-every-whole [] = refl
-every-whole (x ∷ xs) = ap (λ ys. x ∷ ys) (every-whole xs)
-
--- there are no more than of all
-pub every-most : {A : Type 0} (n k : ℕ) (xs : List A) → length (every n k xs) ≤ length xs
-every-most n k [] = omega arith
-every-most n zero (x ∷ xs) = let most = every-most n n xs in omega (arith, most)
-every-most n (suc k) (x ∷ xs) = let most = every-most n k xs in omega (arith, most)
+-- it is the same of what is made of each
+pub every-map : {A B : Type 0} (f : A → B) (n k : ℕ) (xs : List A) → every n k (map f xs) ≡ map f (every n k xs)
+every-map f n k [] = refl
+every-map f n zero (x ∷ xs) = ap (λ ys. f x ∷ ys) (every-map f n n xs)
+every-map f n (suc k) (x ∷ xs) = every-map f n k xs
 
 after_it : (n i : ℕ) → suc (n + (n + 1) * i) ≡ 0 + (n + 1) * (suc i)
 after_it n i = omega arith

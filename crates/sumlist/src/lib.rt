@@ -27,8 +27,8 @@ pub use map::map_laws;
 pub use memory::MemoryTree;
 pub use name_reader::NameReader;
 pub use report::{write_summary, write_verdict};
-/// Why a text was not written whole. What was written is a beginning of it.
 pub use share::Share;
+/// Why a text was not written whole. What was written is a beginning of it.
 pub use source::WriteFailed as WriteFault;
 pub use summary::Summary;
 pub use tagging::{TaggedFault, write_tagged, write_tagged_line};

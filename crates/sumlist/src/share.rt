@@ -1,6 +1,6 @@
 // A share of what a run goes through one after another.
 
-ghost use Rattle.std.specs.Prelude.{◌≡◌, ◌+◌, ◌-◌, ◌==◌, ◌<◌, MatchOption, if◌then◌else◌};
+ghost use Rattle.std.specs.Prelude.{◌≡◌, ◌-◌, ◌==◌, if◌then◌else◌};
 
 /// Which of the things are done that a run goes through: one, and then none of as many as there are other
 /// shares. Where there are no others, that is all of them.
@@ -21,21 +21,6 @@ impl Share {
         Share {
             others: 0,
             waiting: 0,
-        }
-    }
-
-    /// The share of this number, the first being 0, of so many, if there is one.
-    pub fn of(number: u64, count: u64) -> Option<Share>
-        ensures { MatchOption result (number < count → ⊥)
-            (λ share. (number < count) × (share.waiting ≡ number) × (share.others + 1 ≡ count)) }
-    {
-        if number < count {
-            Some(Share {
-                others: count - 1,
-                waiting: number,
-            })
-        } else {
-            None
         }
     }
 

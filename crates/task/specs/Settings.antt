@@ -1,9 +1,8 @@
 -- What the text of a setting says, or what is told of it. A setting goes by its name on the command line, and a fault
 -- is the text that tells it.
-use Rattle.std.specs.Prelude.{◌++◌, ℕ, ◌-◌, ◌^◌, ◌==◌, ◌&&◌, Bool, List, [], ◌∷◌, if◌then◌else◌, nat_le, nat_lt, length}
+use Rattle.std.specs.Prelude.{◌++◌, ℕ, ◌==◌, ◌&&◌, Bool, List, [], ◌∷◌, if◌then◌else◌, nat_le, nat_lt, length}
 use Rattle.std.specs.Prelude.{Option, Some, None, Result, Ok, Err, codes, count_ones, is_some, ok_or, replicate}
 use Rattle.std.specs.Prelude.{unwrap_or}
-use Rattle.std.specs.List.{after_first, before_first}
 use Rattle.std.specs.Map.{lookup}
 use Rattle.std.specs.Option.{option_map_or}
 use Rattle.std.specs.Result.{result_map_both}
@@ -11,7 +10,6 @@ use Rattle.std.specs.Str.{all_ascii_digits, bytes_eq}
 use Rattle.std.specs.Str.Parse.{digits_value, without_leading_plus}
 use Rattle.request.specs.CommandLine.{Given, Text, all_of, text_of}
 use Rattle.hex.specs.Hex.{decode_of}
-use Rattle.sumlist.specs.declared.share.Share.{Share}
 
 infixl 10 ◌>>=◌
 -- the second step, where the first one has no fault
@@ -78,13 +76,6 @@ hexadecimal s t = result_map_both (λ bytes. bytes) (λ _. word s ++ codes ": no
 -- the number of a setting, or its default
 abbrev pub number : ℕ → ℕ → ℕ → Text → Given → Result ℕ Text
 number default least most s g = given (number_in least most) s g >>= (λ n. Ok (unwrap_or n default))
-
--- as a share: of so many, the number behind a slash, the one of the number before it, the first being 0
-abbrev pub share_in : Text → Text → Result Share Text
-share_in s t = do
-  n ← number_in 1 (2 ^ 64 - 1) s (after_first (λ b. b == 47) t)
-  k ← number_in 0 (n - 1) s (before_first (λ b. b == 47) t)
-  Ok (record { others = n - 1; waiting = k })
 
 -- the bytes of a setting that has so many of them, zeros where it was not given
 abbrev pub sized : ℕ → Text → Option (List ℕ) → Result (List ℕ) Text

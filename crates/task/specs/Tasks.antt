@@ -1,11 +1,11 @@
 -- What a request asks for, or the first fault of its settings: the commands in the order of the manual page.
-use Rattle.std.specs.Prelude.{ℕ, ◌-◌, ◌*◌, ◌/◌, ◌%◌, ◌^◌, ◌&&◌, ◌||◌, Bool, false, List, [], ◌∷◌, Option}
+use Rattle.std.specs.Prelude.{ℕ, ◌-◌, ◌*◌, ◌/◌, ◌%◌, ◌^◌, ◌==◌, ◌&&◌, ◌||◌, Bool, false, List, [], ◌∷◌, Option}
 use Rattle.std.specs.Prelude.{Result, Ok, Err, codes, is_some, length, nat_lt, not, ok_or, unwrap_or}
 use Rattle.std.specs.Prelude.{if◌then◌else◌}
 use Rattle.std.specs.Map.{lookup}
 use Rattle.std.specs.Bool.{beq}
 use Rattle.std.specs.Int.{leading_zeros, w64}
-use Rattle.std.specs.List.{list_any}
+use Rattle.std.specs.List.{after_first, before_first, list_any}
 use Rattle.std.specs.Option.{option_map_or}
 use Rattle.std.specs.Str.{bytes_eq}
 use Rattle.request.specs.CommandLine.{Given, Text, has_flag, text_of}
@@ -18,7 +18,7 @@ use Rattle.sumlist.specs.declared.kind.Kind.TheVariants as kind
 use Rattle.sumlist.specs.declared.share.Share.{Share}
 use Rattle.task.specs.Hashing.{compared, form_of, names_several, requested, stretch_of, wanted}
 use Rattle.task.specs.Settings.{◌>>=◌, ◌>>◌, absent, file_or_input, files, given, hexadecimal, named, names_or_input}
-use Rattle.task.specs.Settings.{needed, not_for, number, number_in, out_of_range, power_in, share_in, text, unless}
+use Rattle.task.specs.Settings.{needed, not_for, number, number_in, out_of_range, power_in, text, unless}
 use Rattle.task.specs.declared.hashing.Requested.{Requested}
 use Rattle.task.specs.declared.hashing.Stretch.{Stretch}
 use Rattle.task.specs.declared.parameters.HmacHash.{HmacHash}
@@ -59,19 +59,17 @@ pub data Asked : Type 0 where
   verifies : Text → Text → Asked
   joins : Stretch → Option ℕ → Option (List ℕ) → Text → List Text → Asked
 
--- whether a file is standard input that is named by words, or for want of them
-abbrev pub reads_input : Given → Bool
-reads_input g = not (is_some (text_of (codes "files0-from") g))
-    && list_any (λ name. bytes_eq name (codes "-")) (names_or_input g)
-
--- the share of these files of which a sum is printed, or all of them: none is standard input, which other shares would
--- not have, and nothing is compared
+-- the share of these files of which a sum is printed, or all of them: of as many as the number behind a slash, the one
+-- of the number before it, the first being 0. None is standard input, which other shares would not have
 abbrev pub share_of : Bool → Given → Result Share Text
-share_of is_compared g = given (λ s t. do
+share_of is_compared g = option_map_or (λ t. do
   unless (has_flag (codes "raw") g) (codes "--share: not with --raw\n")
   unless is_compared (codes "--share: not with --verify\n")
-  unless (reads_input g) (codes "--share: not of standard input\n")
-  share_in s t) (codes "share") g >>= (λ share. Ok (unwrap_or share (record { others = 0; waiting = 0 })))
+  unless (not (is_some (text_of (codes "files0-from") g)) && list_any (λ name. bytes_eq name (codes "-"))
+      (names_or_input g)) (codes "--share: not of standard input\n")
+  n ← number_in 1 (2 ^ 64 - 1) (codes "share") (after_first (λ b. b == 47) t)
+  k ← number_in 0 (n - 1) (codes "share") (before_first (λ b. b == 47) t)
+  Ok (record { others = n - 1; waiting = k })) (text_of (codes "share") g) (Ok (record { others = 0; waiting = 0 }))
 
 -- the same of a sum of so many bytes: files are named by words, or in a file; one whose sum is compared, or that has a
 -- name, is the only one

@@ -5,9 +5,9 @@ ghost use Rattle.std.specs.List.{list_any};
 ghost use Rattle.std.specs.Str.{bytes_eq};
 ghost use Rattle.request.specs.CommandLine.{given_of, text_of};
 ghost use Rattle.task.specs.Settings as spec;
-ghost use Rattle.task.specs.Settings.{share_in};
 ghost use Rattle.task.specs.Tasks as tasks;
 ghost use Rattle.task.specs.inside.Seen.{judged};
+ghost use Rattle.task.specs.inside.Steps as steps;
 
 use crate::fault::{Setting, UsageFault};
 use crate::parameters::{number_in, text_of, unless};
@@ -29,7 +29,7 @@ pub(crate) fn share_of(request: &Request<'_>, is_compared: bool) -> Result<Share
 
 // The share that a text tells: a number, a slash, and of how many it is one.
 fn share_in(text: &str) -> Result<Share, UsageFault>
-    ensures { judged result ≡ share_in (codes "share") text.now }
+    ensures { judged result ≡ steps.share_in text.now }
 {
     let Some((number, count)) = text.split_once('/') else {
         return Err(UsageFault::OutOfRange(Setting::Share));
@@ -44,7 +44,7 @@ fn share_in(text: &str) -> Result<Share, UsageFault>
 
 // Whether one of the files that words name is standard input, which is the file where they name none.
 fn reads_input(request: &Request<'_>) -> bool
-    ensures { result ≡ tasks.reads_input (given_of request.now) }
+    ensures { result ≡ steps.reads_input (given_of request.now) }
 {
     request.text("files0-from").is_none() && names_input(request)
 }
