@@ -52,6 +52,7 @@ FULL = [
     ("names from a file", "hash -a blake3 --files0-from mixed-names"),
     ("tags of two files", "mac -a hmac-sha256 --key-file key20 abc.txt empty"),
     ("tags of names from a file", "mac -a blake2s --key 00 --files0-from mixed-names"),
+    ("an empty line of a share", "hash -a sha256 --share 0/2 none"),
 ]
 # What a full standard error has no effect on: the words, the status and standard output.
 UNTOLD = [
@@ -97,6 +98,13 @@ UNREAD = [
     ("part -a blake3 --verify empty", 1, b"", b"-: cannot read\n"),
     ("join -a blake3", 1, b"", b"-: cannot read\n"),
     ("join -a blake3 chunk.0 -", 1, b"", b"-: cannot read\n"),
+]
+# What a share answers where `this` is a pipe with a name: the words, the status and standard output.
+SHARED = [
+    ("hash -a sha256 --share 0/2 this abc.txt", 1, b"\n"),
+    ("hash -a sha256 --share 1/2 abc.txt this", 1, b"\n"),
+    ("hash -a sha256 --share 0/2 --files0-from this", 1, b""),
+    ("mac -a blake2s --share 0/2 --key-file this abc.txt", 1, b""),
 ]
 LONG = b"x" * 300_000
 # How many seconds a run has whose files are pipes, and the number of the user that has no files.
@@ -196,6 +204,16 @@ def named_pipes():
     same("a pipe has no positions", behind, (1, b"", CANNOT_READ))
     listed = of_pipe(LONG, ["part", "-a", "blake3", "--list", "--chunks", "1", "this"])
     same("a pipe has no parts to list", listed, (1, b"", CANNOT_READ))
+
+
+def pipes_of_shares():
+    """A share opens no pipe, of which other shares would miss what it reads. Where there is one share alone, it does."""
+    for words, status, out in SHARED:
+        same(f"{words}, a pipe", of_pipe(b"abc.txt\0", words.split()), (status, out, CANNOT_READ))
+    passed_over = "hash -a sha256 --share 1/2 this abc.txt"
+    same(f"{passed_over}, a pipe", of_pipe(LONG, passed_over.split()), (0, ABC + b"  abc.txt\n", b""))
+    alone = "hash -a sha256 --share 0/1 --files0-from this"
+    same(f"{alone}, a pipe", of_pipe(b"abc.txt\0", alone.split()), (0, ABC + b"  abc.txt\n", b""))
 
 
 def of_pipe(content, words, given=b""):
@@ -341,6 +359,7 @@ with harness.folder():
     names_of_find()
     rest_of_input()
     named_pipes()
+    pipes_of_shares()
     files_of_another_user()
     near_names()
     terminals()

@@ -8,6 +8,8 @@ pub mod Going
 pub mod Given
 pub mod Sizes
 pub mod Naming
+pub mod Shared
+pub mod Sharing
 pub mod Outputs
 pub mod Comparing
 pub mod Tagging

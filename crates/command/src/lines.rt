@@ -6,13 +6,14 @@ ghost use Rattle.std.specs.Prelude.{IfOk, IfSome, IsErr, IsErrOf, IsOk, MatchRes
 ghost use Rattle.std.specs.List.{sum_by};
 ghost use Rattle.source.specs.Counts.{count_after};
 ghost use Rattle.source.specs.Written.{Writes};
+ghost use Rattle.sumlist.specs.Shared.{every};
 ghost use Rattle.task.specs.inside.Possible.{IsPartSize};
 ghost use Rattle.task.specs.inside.Views.{sum_shown};
 ghost use Rattle.command.specs.Hashing.{LinesGiven};
 ghost use Rattle.command.specs.Keying.{LineRuns, SumRuns};
 ghost use Rattle.command.specs.Lines.{FitsPlace, key_opens, opens_of};
 ghost use Rattle.command.specs.Run.{TellsAll};
-ghost use Rattle.command.specs.inside.Hashed.{PrintsName, Settles};
+ghost use Rattle.command.specs.inside.Hashed.{PassesOver, PrintsName, Settles};
 ghost use Rattle.command.specs.inside.Keys.{HasBytes, MakesOf, PrintsAnswer, made_bytes};
 ghost use Rattle.command.specs.inside.Reading.{Leaves, Reads, failed};
 ghost use Rattle.command.specs.inside.Rules.{IsSized, TakesRoom, WantsRoom, line_by};
@@ -29,35 +30,38 @@ use crate::rule::Rule;
 use crate::session::{Session, Streams, open_file};
 use crate::tags::{tag_digits, tag_of_feed};
 use crate::verifying::{print_verdict, slice_of};
-use source::{Feed, Sink, WriteFailed};
+use source::{Feed, Sink, WriteFailed, write_all};
 use std::alloc::{AllocError, Global};
-use sumlist::Tree;
+use sumlist::{Share, Tree};
 use task::Sum;
 
 impl<'i, 't, 'o, L: Feed, T: Tree, W: Sink> Session<'i, 't, 'o, L, T, W> {
-    /// Prints the line of each file, and goes on with the next after a file that can't be read or
-    /// named, which is told on `err`. Answers the status: 1 where one had no line, else 0. A key is read
+    /// Prints the line of each file in a share of them, and goes on with the next after a file that can't be
+    /// read or named, which is told on `err`: where there are other shares, an empty line stands for its own.
+    /// Answers the status: 1 where one had no line, else 0. A key is read
     /// and judged first, once: the faults are `KeyFileTooLong`, `KeyLength` and `CannotRead` of its file.
     /// Then come `CannotWrite` and `OutOfMemory`, after which no further file is read.
     pub fn print_lines<'n, E: Sink>(
         &mut self,
         sum: Sum<'n>,
         names: &[&'n str],
+        share: Share,
         err: &mut E,
     ) -> Result<u8, Fault<'n>>
         ensures run { DoesRun (λ bytes files. SumRuns (sum_shown sum.entry) files
-            (λ l. LinesGiven l files (map (λ n. n.now) names.entry.now) bytes))
+            (λ l. LinesGiven share l files (map (λ n. n.now) names.entry.now) bytes))
             (λ notes. TellsAll (E.shown err.old) (E.shown err.new) notes)
             result (⟦<Self as Streams>⟧.seen self.old) (⟦<Self as Streams>⟧.seen self.new) }
         ensures opens { OpensAtMost
-            (key_opens (sum_shown sum.entry) + sum_by opens_of (map (λ n. n.now) names.entry.now))
+            (key_opens (sum_shown sum.entry)
+            + sum_by opens_of (every share.others share.waiting (map (λ n. n.now) names.entry.now)))
             (⟦<Self as Streams>⟧.seen self.old) (⟦<Self as Streams>⟧.seen self.new) }
         ensures same { SameStreams self.old self.new }
         ensures memory { IsErrOf result Fault.OutOfMemory
             → WantsRoom sum.entry ⊎ (T.wants_memory ≡ true) }
     {
         let rule = rule_of(self.alloc, sum, self.tree)?;
-        self.print_each(&rule, names, err)
+        self.print_each(&rule, names, share, err)
     }
 
     /// Prints the line of a file under a name, or where a digest or tag is wanted whether it is the file's,
@@ -85,26 +89,31 @@ impl<'i, 't, 'o, L: Feed, T: Tree, W: Sink> Session<'i, 't, 'o, L, T, W> {
         self.print_compared(&rule, slice_of(&wanted), name, file)
     }
 
-    // Prints the line of each file by a rule.
+    // Prints the line of each file in a share of them by a rule.
     fn print_each<'n, E: Sink>(
         &mut self,
         rule: &Rule,
         names: &[&'n str],
+        share: Share,
         err: &mut E,
     ) -> Result<u8, Fault<'n>>
         ensures run { DoesRun (λ bytes files.
-            LinesGiven (line_by rule.now) files (map (λ n. n.now) names.entry.now) bytes)
+            LinesGiven share (line_by rule.now) files (map (λ n. n.now) names.entry.now) bytes)
             (λ notes. TellsAll (E.shown err.old) (E.shown err.new) notes)
             result (⟦<Self as Streams>⟧.seen self.old) (⟦<Self as Streams>⟧.seen self.new) }
-        ensures opens { OpensAtMost (sum_by opens_of (map (λ n. n.now) names.entry.now))
+        ensures opens { OpensAtMost
+            (sum_by opens_of (every share.others share.waiting (map (λ n. n.now) names.entry.now)))
             (⟦<Self as Streams>⟧.seen self.old) (⟦<Self as Streams>⟧.seen self.new) }
         ensures same { SameStreams self.old self.new }
         ensures memory { IsErrOf result Fault.OutOfMemory
             → TakesRoom rule.now ⊎ (T.wants_memory ≡ true) }
     {
+        let mut left = share;
         let mut status: u8 = 0;
         for name in names {
-            status = status.max(self.print_one(rule, name, err)?);
+            if left.takes_next() {
+                status = status.max(self.print_one(rule, name, share, err)?);
+            }
         }
         Ok(status)
     }
@@ -115,9 +124,10 @@ impl<'i, 't, 'o, L: Feed, T: Tree, W: Sink> Session<'i, 't, 'o, L, T, W> {
         &mut self,
         rule: &Rule,
         name: &str,
+        share: Share,
         err: &mut E,
     ) -> Result<u8, Fault<'f>>
-        ensures name { PrintsName (line_by rule.now) name.entry.now result
+        ensures name { PrintsName share (line_by rule.now) name.entry.now result
             (⟦<Self as Streams>⟧.seen self.old) (⟦<Self as Streams>⟧.seen self.new)
             (E.shown err.old) (E.shown err.new) }
         ensures opens { OpensAtMost (opens_of name.entry.now) (⟦<Self as Streams>⟧.seen self.old)
@@ -128,7 +138,7 @@ impl<'i, 't, 'o, L: Feed, T: Tree, W: Sink> Session<'i, 't, 'o, L, T, W> {
     {
         match self.print_compared(rule, None, name, name) {
             Ok(status) => Ok(status),
-            Err(fault) => settle(err, fault),
+            Err(fault) => settle(err, pass_over(share, fault, self.out)),
         }
     }
 
@@ -194,6 +204,21 @@ impl<'i, 't, 'o, L: Feed, T: Tree, W: Sink> Session<'i, 't, 'o, L, T, W> {
             return made_of_feed(rule, run.as_mut_slice(), name, self.input);
         }
         made_of_named(rule, run.as_mut_slice(), name, self.tree)
+    }
+}
+
+/// Hands on the fault of a name. Where there are other shares, an empty line stands for the one of the name,
+/// so that each name of a share has one: the fault is `CannotWrite` where that is not written.
+pub(crate) fn pass_over<'f, W: Sink>(share: Share, fault: Fault<'f>, out: &mut W) -> Fault<'f>
+    ensures passes { PassesOver share fault.entry result (W.shown out.old) (W.shown out.new) }
+    ensures memory { result ≡ Fault.OutOfMemory → fault.entry ≡ Fault.OutOfMemory }
+{
+    if share.others == 0 || fault.status() != 1 {
+        return fault;
+    }
+    match write_all(out, b"\n") {
+        Ok(()) => fault,
+        Err(WriteFailed) => Fault::CannotWrite,
     }
 }
 

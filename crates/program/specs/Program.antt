@@ -5,6 +5,7 @@ use Rattle.source.specs.Written.{Shown}
 use Rattle.sumlist.specs.Lines.{lines}
 use Rattle.sumlist.specs.Naming.{names}
 use Rattle.sumlist.specs.Report.{Files, keyed, unkeyed}
+use Rattle.sumlist.specs.Shared.{every}
 use Rattle.request.specs.CommandLine.{AreRead, ErrorKind, Given, IsWrong, Text}
 use Rattle.task.specs.Tasks.{Asked, asked, checks, checks_tags, derives, in_file, joins, prints_line, prints_lines}
 use Rattle.task.specs.Tasks.{prints_part, prints_parts, prints_starts, tags, these, verifies}
@@ -19,9 +20,9 @@ use Rattle.command.specs.Verifying.{VerifyRuns}
 
 -- the run of a task
 abbrev pub TaskRuns : Asked → Files → List ℕ → Run → Type 0
-TaskRuns (prints_lines sum (these found)) files input = SumRuns sum files (λ l. LinesGiven l files found input)
-TaskRuns (prints_lines sum (in_file list)) files input =
-    SumRuns sum files (λ l. LinesListed l files list (content_of list input files))
+TaskRuns (prints_lines sum (these found) s) files input = SumRuns sum files (λ l. LinesGiven s l files found input)
+TaskRuns (prints_lines sum (in_file list) s) files input =
+    SumRuns sum files (λ l. LinesListed s l files list (content_of list input files))
 TaskRuns (prints_line sum wanted name file) files input =
     SumRuns sum files (λ l. LineRuns wanted l name file input files)
 TaskRuns (derives derived is_raw name) files input = KdfRuns derived is_raw name files
@@ -34,11 +35,11 @@ TaskRuns (prints_parts chunks name) files input = EachRuns chunks name files inp
 TaskRuns (verifies parts name) files input = VerifyRuns parts name files input
 TaskRuns (joins stretch bytes wanted name lists) files input = JoinRuns stretch bytes wanted name lists files input
 
--- how many files it opens at most: a list, and each of what it names, included
+-- how many files it opens at most: a list, and each of what it names, included; of a share its own
 abbrev pub most_opens : Asked → Files → List ℕ → ℕ
-most_opens (prints_lines sum (these found)) files input = key_opens sum + sum_by opens_of found
-most_opens (prints_lines sum (in_file list)) files input =
-    key_opens sum + (opens_of list + length (option_map_or names (content_of list input files) []))
+most_opens (prints_lines sum (these found) s) files input = key_opens sum + sum_by opens_of (every s.others s.waiting found)
+most_opens (prints_lines sum (in_file list) s) files input = key_opens sum + (opens_of list
+    + length (option_map_or (λ bytes. every s.others s.waiting (names bytes)) (content_of list input files) []))
 most_opens (prints_line sum wanted name file) files input = key_opens sum + opens_of file
 most_opens (derives derived is_raw name) files input = 1
 most_opens (checks kind is_summed lists) files input =

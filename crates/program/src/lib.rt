@@ -129,9 +129,9 @@ fn do_task<'n, 'i, 't, 'o, L: Feed, T: Tree, W: Sink, E: Sink>(
     ensures same { SameStreams session.old session.new }
 {
     match task {
-        Task::Lines { sum, names } => match names {
-            Names::Given(files) => session.print_lines(sum, files.as_slice(), err),
-            Names::From(list) => session.print_lines_from(sum, list, err),
+        Task::Lines { sum, names, share } => match names {
+            Names::Given(files) => session.print_lines(sum, files.as_slice(), share, err),
+            Names::From(list) => session.print_lines_from(sum, list, share, err),
         },
         Task::Line {
             sum,

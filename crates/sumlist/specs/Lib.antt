@@ -15,4 +15,5 @@ pub mod Report
 pub mod Tally
 pub mod Checked
 pub mod Settled
+pub mod Shared
 pub mod inside

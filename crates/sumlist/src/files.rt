@@ -23,6 +23,8 @@ pub struct FileTree<'r, R: Files> {
     rt: &'r R,
     // what gives each of its bytes once, and is read beside the files
     taken: Option<Metadata>,
+    // other runs read the same files
+    is_shared: bool,
     failures: u64,
 }
 
@@ -36,6 +38,7 @@ impl<'r, R: Files> FileTree<'r, R> {
         FileTree {
             rt,
             taken: None,
+            is_shared: false,
             failures: 0,
         }
     }
@@ -50,7 +53,24 @@ impl<'r, R: Files> FileTree<'r, R> {
         FileTree {
             rt,
             taken: rt.metadata(name).ok().filter(gives_once),
+            is_shared: false,
             failures: 0,
+        }
+    }
+
+    /// The same beside other runs that read the same files. Opening a pipe or a terminal is `Failed`: what is read of
+    /// it here would be missing in the others.
+    pub fn shared(self) -> FileTree<'r, R>
+        ensures untold { ⟦<FileTree<'r, R> as Tree>⟧.files result ≡ None }
+        ensures failures { ⟦<FileTree<'r, R> as Tree>⟧.failure_count result
+            ≡ ⟦<FileTree<'r, R> as Tree>⟧.failure_count self.entry }
+        ensures opens { ⟦<FileTree<'r, R> as Tree>⟧.opens result ≡ 0 }
+    {
+        FileTree {
+            rt: self.rt,
+            taken: self.taken,
+            is_shared: true,
+            failures: self.failures,
         }
     }
 
@@ -63,6 +83,11 @@ impl<'r, R: Files> FileTree<'r, R> {
             Ok(file) => is_same((file.dev(), file.ino()), (taken.dev(), taken.ino())),
             Err(_) => false,
         }
+    }
+
+    // Whether the others would miss what is read of the file of this name.
+    fn is_lost(&self, name: &str) -> bool {
+        self.is_shared && self.rt.metadata(name).ok().filter(gives_once).is_some()
     }
 
     // Hands on what an open came to, and counts it where it failed.
@@ -88,7 +113,7 @@ impl<'r, R: Files> Tree for FileTree<'r, R> {
     ghost files = { λ _. None };
 
     fn open_at(&mut self, name: &str, position: u64) -> Result<Self::F, OpenFault> {
-        if self.is_taken(name) {
+        if self.is_taken(name) || self.is_lost(name) {
             return self.counted(Err(OpenFault::Failed));
         }
         let opened = File::open(self.rt, name);

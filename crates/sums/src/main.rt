@@ -113,9 +113,9 @@ fn run_words<W: Sink, E: Sink>(
             let read = line(alloc, texts.as_slice());
             let is_shown = asks_for_progress(&read);
             let judged = task_of(alloc, read);
-            let (keeps_input, most) = match &judged {
-                Ok(task) => (task.keeps_input(), task.most_read()),
-                Err(_) => (false, None),
+            let (keeps_input, is_shared, most) = match &judged {
+                Ok(task) => (task.keeps_input(), task.is_shared(), task.most_read()),
+                Err(_) => (false, false, None),
             };
             if is_shown {
                 progress.begin(most);
@@ -126,6 +126,7 @@ fn run_words<W: Sink, E: Sink>(
             } else {
                 FileTree::new(rt)
             };
+            let files = if is_shared { files.shared() } else { files };
             let mut tree = WatchedTree::new(files, progress);
             run_task(alloc, judged, &mut input, &mut tree, out, err)
         }

@@ -5,6 +5,7 @@ use Rattle.hex.specs.Hex.{decode_pairs}
 use Rattle.request.proofs.ExampleWords.{clap_on_literals, subcommand_of}
 use Rattle.request.specs.CommandLine.{NameList, Text, sums_app}
 use Rattle.sumlist.specs.declared.kind.Kind.TheVariants as kind
+use Rattle.sumlist.specs.declared.share.Share.{Share}
 use Rattle.task.specs.Tasks.{Asked, asked, checks, checks_tags, digests, in_file, joins, least_power, prints_line}
 use Rattle.task.specs.Tasks.{prints_lines, tags, these, verifies}
 use Rattle.task.specs.declared.hashing.Form.TheVariants.{Plain}
@@ -16,11 +17,15 @@ abbrev Asks : List Text → Result Asked Text → Type 0
 Asks words answer = (names macs both : NameList)
     → option_map asked (subcommand_of (sums_app names macs both) (codes "sums" ∷ words)) ≡ Some answer
 
+-- all of a run
+abbrev whole : Share
+whole = record { others = 0; waiting = 0 }
+
 hash_file : Asks (codes "hash" ∷ codes "-asha256" ∷ codes "f" ∷ []) (Ok (prints_lines (digests (record {
   hash = Whole kind.Sha256;
   stretch = record { position = 0; length = 32 };
   form = Plain;
-})) (these (codes "f" ∷ []))))
+})) (these (codes "f" ∷ [])) whole))
 unfolding clap_on_literals sums_app
 hash_file names macs both = refl
 
@@ -56,12 +61,12 @@ unfolding clap_on_literals sums_app decode_pairs
 mac_after_its_name names macs both = refl
 
 mac_key : Asks (codes "mac" ∷ codes "-ablake2b" ∷ codes "--key-file" ∷ codes "k" ∷ codes "f" ∷ [])
-    (Ok (prints_lines (tags (Blake2b 64) false (in_file (codes "k"))) (these (codes "f" ∷ []))))
+    (Ok (prints_lines (tags (Blake2b 64) false (in_file (codes "k"))) (these (codes "f" ∷ [])) whole))
 unfolding clap_on_literals sums_app
 mac_key names macs both = refl
 
 mac_listed : Asks (codes "mac" ∷ codes "-ablake2s" ∷ codes "--key-file=k" ∷ codes "--files0-from=l" ∷ [])
-    (Ok (prints_lines (tags (Blake2s 32) false (in_file (codes "k"))) (in_file (codes "l"))))
+    (Ok (prints_lines (tags (Blake2s 32) false (in_file (codes "k"))) (in_file (codes "l")) whole))
 unfolding clap_on_literals sums_app
 mac_listed names macs both = refl
 
@@ -153,3 +158,27 @@ part_verify_each : Asks (codes "part" ∷ codes "-ablake3" ∷ codes "--each=3" 
     (Err (codes "--each: not with --verify\n"))
 unfolding clap_on_literals sums_app
 part_verify_each names macs both = refl
+
+hash_share : Asks (codes "hash" ∷ codes "-asha256" ∷ codes "--share=2/3" ∷ codes "f" ∷ [])
+    (Ok (prints_lines (digests (record {
+      hash = Whole kind.Sha256;
+      stretch = record { position = 0; length = 32 };
+      form = Plain;
+    })) (these (codes "f" ∷ [])) (record { others = 2; waiting = 2 })))
+unfolding clap_on_literals sums_app
+hash_share names macs both = refl
+
+hash_share_behind : Asks (codes "hash" ∷ codes "-asha256" ∷ codes "--share=3/3" ∷ codes "f" ∷ [])
+    (Err (codes "--share: out of range\n"))
+unfolding clap_on_literals sums_app
+hash_share_behind names macs both = refl
+
+hash_share_input : Asks (codes "hash" ∷ codes "-asha256" ∷ codes "--share=0/3" ∷ [])
+    (Err (codes "--share: not of standard input\n"))
+unfolding clap_on_literals sums_app
+hash_share_input names macs both = refl
+
+mac_share_raw : Asks (codes "mac" ∷ codes "-ablake2s" ∷ codes "--key-file=k" ∷ codes "--raw" ∷ codes "--share=9"
+    ∷ codes "f" ∷ []) (Err (codes "--share: not with --raw\n"))
+unfolding clap_on_literals sums_app
+mac_share_raw names macs both = refl

@@ -1,10 +1,11 @@
 -- What a request asks for, or the first fault of its settings: the commands in the order of the manual page.
-use Rattle.std.specs.Prelude.{ℕ, ◌-◌, ◌*◌, ◌/◌, ◌%◌, ◌^◌, ◌&&◌, ◌||◌, Bool, false, List, [], ◌∷◌, Option}
+use Rattle.std.specs.Prelude.{ℕ, ◌-◌, ◌*◌, ◌/◌, ◌%◌, ◌^◌, ◌==◌, ◌&&◌, ◌||◌, Bool, false, List, [], ◌∷◌, Option}
 use Rattle.std.specs.Prelude.{Result, Ok, Err, codes, is_some, length, nat_lt, not, ok_or, unwrap_or, zip}
 use Rattle.std.specs.Prelude.{if◌then◌else◌}
 use Rattle.std.specs.Map.{lookup}
 use Rattle.std.specs.Bool.{beq}
 use Rattle.std.specs.Int.{leading_zeros, w64}
+use Rattle.std.specs.List.{after_first, before_first, list_any}
 use Rattle.std.specs.Option.{option_map_or}
 use Rattle.std.specs.Str.{bytes_eq}
 use Rattle.request.specs.CommandLine.{Given, Text, has_flag, mac_names, text_of}
@@ -14,6 +15,7 @@ use Rattle.source.specs.declared.alg.Alg.TheVariants as alg
 use Rattle.sumlist.specs.Kinds.{kinds, longest}
 use Rattle.sumlist.specs.declared.kind.Kind.{Kind}
 use Rattle.sumlist.specs.declared.kind.Kind.TheVariants as kind
+use Rattle.sumlist.specs.declared.share.Share.{Share}
 use Rattle.task.specs.Hashing.{compared, form_of, names_several, requested, stretch_of, wanted}
 use Rattle.task.specs.Settings.{◌>>=◌, ◌>>◌, absent, file_or_input, files, given, hexadecimal, named, names_or_input}
 use Rattle.task.specs.Settings.{needed, not_for, number, number_in, out_of_range, power_in, text, unless}
@@ -41,7 +43,7 @@ pub data Sum : Type 0 where
 
 -- what a run is to do
 pub data Asked : Type 0 where
-  prints_lines : Sum → Source (List Text) → Asked
+  prints_lines : Sum → Source (List Text) → Share → Asked
   prints_line : Sum → Option (List ℕ) → Text → Text → Asked
   derives : Derived → Bool → Text → Asked
   checks : Option Kind → Bool → List Text → Asked
@@ -52,6 +54,18 @@ pub data Asked : Type 0 where
   verifies : Text → Text → Asked
   joins : Stretch → Option ℕ → Option (List ℕ) → Text → List Text → Asked
 
+-- the share of these files of which a sum is printed, or all of them: of as many as the number behind a slash, the one
+-- of the number before it, the first being 0. None is standard input, which other shares would not have
+abbrev pub share_of : Bool → Given → Result Share Text
+share_of is_compared g = option_map_or (λ t. do
+  unless (has_flag (codes "raw") g) (codes "--share: not with --raw\n")
+  unless is_compared (codes "--share: not with --verify\n")
+  unless (not (is_some (text_of (codes "files0-from") g)) && list_any (λ name. bytes_eq name (codes "-"))
+      (names_or_input g)) (codes "--share: not of standard input\n")
+  n ← number_in 1 (2 ^ 64 - 1) (codes "share") (after_first (λ b. b == 47) t)
+  k ← number_in 0 (n - 1) (codes "share") (before_first (λ b. b == 47) t)
+  Ok (record { others = n - 1; waiting = k })) (text_of (codes "share") g) (Ok (record { others = 0; waiting = 0 }))
+
 -- the same of a sum of so many bytes: files are named by words, or in a file; one whose sum is compared, or that has a
 -- name, is the only one
 abbrev pub of_files : Sum → ℕ → Given → Result Asked Text
@@ -61,10 +75,11 @@ of_files sum n g = do
   unless (is_some (text_of (codes "name") g) && (names_several g || not (bytes_eq (file_or_input g) (codes "-"))))
       (codes "--name: standard input only\n")
   bytes ← wanted n g
+  share ← share_of (is_some bytes) g
   Ok (if is_some (text_of (codes "name") g) || is_some bytes
       then prints_line sum bytes (unwrap_or (text_of (codes "name") g) (file_or_input g)) (file_or_input g)
       else prints_lines sum
-      (option_map_or (λ list. in_file list) (text_of (codes "files0-from") g) (these (names_or_input g))))
+      (option_map_or (λ list. in_file list) (text_of (codes "files0-from") g) (these (names_or_input g))) share)
 
 -- that of `hash`
 abbrev pub hash : Given → Result Asked Text

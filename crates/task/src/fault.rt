@@ -46,6 +46,8 @@ pub enum Setting {
     Starts,
     /// `--each`.
     Each,
+    /// `--share`.
+    Share,
 }
 
 /// What is wrong with a request.
@@ -136,6 +138,7 @@ impl Setting {
             Setting::Name => "--name",
             Setting::Starts => "--list",
             Setting::Each => "--each",
+            Setting::Share => "--share",
         }
     }
 
@@ -162,6 +165,7 @@ impl Setting {
             Setting::Name => "name",
             Setting::Starts => "list",
             Setting::Each => "each",
+            Setting::Share => "share",
         }
     }
 }

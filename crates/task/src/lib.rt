@@ -14,5 +14,6 @@ mod fault;
 mod hashing;
 mod parameters;
 mod parting;
+mod sharing;
 mod tagging;
 mod tasks;

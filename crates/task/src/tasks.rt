@@ -24,12 +24,13 @@ use crate::parameters::{
     absent, file_count, first_given, given_number, needed, number, power_in, unless,
 };
 use crate::parting::{Joining, PartLength, Place, names_blake3};
+use crate::sharing::share_of;
 use crate::tagging::{Key, Mac, ShortMac, Tagging};
 use b3::MOST_CHUNKS;
 use request::Request;
 use source::BLAKE3_LEN;
 use std::alloc::{AllocError, Global};
-use sumlist::Kind;
+use sumlist::{Kind, Share};
 
 // The tags in a list have at most so many bytes.
 const LISTED_LEN: u64 = 64;
@@ -70,10 +71,11 @@ pub enum Entries<'a> {
 /// are used.
 #[derive(Debug, Drop)]
 pub enum Task<'a> {
-    /// Print this of each file.
+    /// Print this of each file in a share of them.
     Lines {
         sum: Sum<'a>,
         names: Names<'a>,
+        share: Share,
     },
     /// Print this of one file under this name, or whether it is what is wanted, of as many bytes.
     Line {
@@ -144,7 +146,7 @@ impl<'a> Task<'a> {
         ensures { result ≡ reading.keeps_input (task_shown self.now) }
     {
         match self {
-            Task::Lines { sum, names } => match names {
+            Task::Lines { sum, names, .. } => match names {
                 Names::Given(files) => sum.has_key_file() && have_input(files.as_slice()),
                 Names::From(list) => *list == "-",
             },
@@ -163,6 +165,16 @@ impl<'a> Task<'a> {
             Task::Part { place, .. } => place.chunks?.checked_mul(1024),
             Task::Starts { parts, .. } => parts.chunks.checked_mul(1024),
             _ => None,
+        }
+    }
+
+    /// Whether other runs do the other shares, and read the same files.
+    pub fn is_shared(&self) -> bool
+        ensures { result ≡ reading.is_shared (task_shown self.now) }
+    {
+        match self {
+            Task::Lines { share, .. } => share.others > 0,
+            _ => false,
         }
     }
 }
@@ -212,6 +224,7 @@ fn of_files<'a>(
         UsageFault::InputOnly(Setting::Name),
     )?;
     let wanted = wanted(alloc, request, length)?;
+    let share = share_of(request, wanted.is_some())?;
     let name = request.text("name");
     if name.is_some() || wanted.is_some() {
         let file = file_or_input(request);
@@ -223,7 +236,7 @@ fn of_files<'a>(
         });
     }
     let names = Names::of(alloc, request)?;
-    Ok(Task::Lines { sum, names })
+    Ok(Task::Lines { sum, names, share })
 }
 
 // Whether files are named both by words and in a file.

@@ -20,8 +20,8 @@ have_input names = list_any (λ name. bytes_eq name (codes "-")) names
 -- standard input is read beside files that must not take its bytes: it is a list of names, or one of those of digests,
 -- the file of which parts are told, or a message under a key from a file
 abbrev pub keeps_input : Asked → Bool
-keeps_input (prints_lines sum (in_file list)) = bytes_eq list (codes "-")
-keeps_input (prints_lines sum (these names)) = has_key_file sum && have_input names
+keeps_input (prints_lines sum (in_file list) share) = bytes_eq list (codes "-")
+keeps_input (prints_lines sum (these names) share) = has_key_file sum && have_input names
 keeps_input (prints_line sum wanted name file) = has_key_file sum && bytes_eq file (codes "-")
 keeps_input (verifies parts file) = bytes_eq file (codes "-")
 keeps_input (checks kind is_summed lists) = have_input lists
@@ -37,3 +37,8 @@ abbrev pub most_read : Asked → Option ℕ
 most_read (prints_part first chunks name) = option_and_then bytes_of chunks
 most_read (prints_starts chunks name) = bytes_of chunks
 most_read task = None
+
+-- other runs do the other shares, and read the same files
+abbrev pub is_shared : Asked → Bool
+is_shared (prints_lines sum names share) = nat_lt 0 share.others
+is_shared task = false

@@ -1,10 +1,13 @@
--- The first steps of the commands, which are functions of the code.
-use Rattle.std.specs.Prelude.{ℕ, ◌||◌, Bool, List, [], ◌∷◌, Result, Ok, codes, if◌then◌else◌, is_some, ok_or}
+-- Steps of the commands, which are functions of the code.
+use Rattle.std.specs.Prelude.{ℕ, ◌-◌, ◌^◌, ◌==◌, ◌&&◌, ◌||◌, Bool, List, [], ◌∷◌, Result, Ok, codes}
+use Rattle.std.specs.Prelude.{if◌then◌else◌, is_some, not, ok_or}
+use Rattle.std.specs.List.{after_first, before_first, list_any}
 use Rattle.std.specs.Map.{lookup}
 use Rattle.std.specs.Str.{bytes_eq}
 use Rattle.request.specs.CommandLine.{Given, Text, text_of}
 use Rattle.sumlist.specs.Kinds.{kinds}
-use Rattle.task.specs.Settings.{◌>>=◌, ◌>>◌, absent, given, named, needed, not_for}
+use Rattle.sumlist.specs.declared.share.Share.{Share}
+use Rattle.task.specs.Settings.{◌>>=◌, ◌>>◌, absent, given, named, names_or_input, needed, not_for, number_in}
 use Rattle.task.specs.Tasks.{Asked, Derived, checks, checks_tags, derived, has_parts, macs, one_key, under_key}
 use Rattle.task.specs.declared.tagging.Mac.{Mac}
 
@@ -27,3 +30,15 @@ derivation_of g = needed (named kinds) (codes "a") g >>= derived g
 -- that a request of `part` or `join` is for BLAKE3
 abbrev pub names_blake3 : Given → Result (Unit {0}) Text
 names_blake3 g = needed (named kinds) (codes "a") g >>= has_parts
+
+-- whether a file is standard input that is named by words, or for want of them
+abbrev pub reads_input : Given → Bool
+reads_input g = not (is_some (text_of (codes "files0-from") g))
+    && list_any (λ name. bytes_eq name (codes "-")) (names_or_input g)
+
+-- the share that a text spells
+abbrev pub share_in : Text → Result Share Text
+share_in t = do
+  n ← number_in 1 (2 ^ 64 - 1) (codes "share") (after_first (λ b. b == 47) t)
+  k ← number_in 0 (n - 1) (codes "share") (before_first (λ b. b == 47) t)
+  Ok (record { others = n - 1; waiting = k })

@@ -31,6 +31,7 @@ setting_name setting.Bytes = codes "bytes"
 setting_name setting.Name = codes "name"
 setting_name setting.Starts = codes "list"
 setting_name setting.Each = codes "each"
+setting_name setting.Share = codes "share"
 
 -- what a fault is told of, a setting or nothing alone, and what is said of it
 abbrev pub usage_texts : UsageFault → Text × Text

@@ -48,7 +48,7 @@ derivation_shown (derivation.Hkdf by) =
 derivation_shown (derivation.Blake3 context n) = by_blake3 context.now n
 
 abbrev pub task_shown : Task → Asked
-task_shown (code.Lines sum names) = prints_lines (sum_shown sum) (names_shown names)
+task_shown (code.Lines sum names share) = prints_lines (sum_shown sum) (names_shown names) share
 task_shown (code.Line sum wanted name content) =
     prints_line (sum_shown sum) (option_map (λ v. v.items) wanted) name.now content.now
 task_shown (code.Part place name) = prints_part place.first place.chunks name.now

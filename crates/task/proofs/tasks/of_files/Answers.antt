@@ -1,11 +1,12 @@
-use Rattle.std.proofs.Common.{◌≡◌, ℕ, Bool, true, false, Ok, Err, ap, codes, length, sym}
-use Rattle.std.specs.Prelude.{◌&&◌, ◌||◌, is_some, nat_lt, not}
+use Rattle.std.proofs.Common.{◌≡◌, ◌∙◌, ℕ, List, Bool, true, false, Option, Some, None, Ok, Err, ap, codes, length}
+use Rattle.std.proofs.Common.{refl, sym}
+use Rattle.std.specs.Prelude.{◌&&◌, ◌||◌, is_some, nat_lt, not, option_map}
 use Rattle.std.specs.Str.{bytes_eq}
 use Rattle.std.proofs.lemmas.Result.{err_from_is_err_and}
 use Rattle.request.specs.CommandLine.{Given, Text, given_of, text_of}
-use Rattle.task.specs.Hashing.{names_several}
+use Rattle.task.specs.Hashing.{names_several, wanted}
 use Rattle.task.specs.Settings.{file_or_input, files, unless}
-use Rattle.task.specs.Tasks.{Sum, of_files}
+use Rattle.task.specs.Tasks.{Sum, of_files, share_of}
 use Rattle.task.specs.inside.Texts.{fault_text}
 use Rattle.task.specs.inside.Views.{sum_shown}
 use Rattle.task.proofs.tasks.of_files.Goals as goal
@@ -28,3 +29,31 @@ returns-in_err-unless-2 c =
     rw (e.1, e.2) (useless (sum_shown c.args.sum) c.args.length (given_of c.args.request.now) c.has_two_sources.result
     c.has_useless_name.result (fault_text c.in_err-unless-2.field-0.0) c.has_two_sources.ensures
     c.has_useless_name.ensures (sym c.in_ok-unless.ensures) (sym c.in_err-unless-2.ensures))
+
+-- a setting that is not wrong
+right : (a : Bool) (fault : Text) → Ok tt ≡ unless a fault → a ≡ false
+right true fault p = cc
+right false fault p = refl
+
+is_some-mapped : {A B : Type 0} (f : A → B) (x : Option A) → is_some (option_map f x) ≡ is_some x
+is_some-mapped f None = refl
+is_some-mapped f (Some x) = refl
+
+-- there is no such share
+no_share : (sum : Sum) (n : ℕ) (g : Given) (bytes : Option (List ℕ)) (fault : Text)
+    → (is_some (text_of (codes "files0-from") g) && nat_lt 0 (length (files g))) ≡ false
+    → (is_some (text_of (codes "name") g) && (names_several g || not (bytes_eq (file_or_input g) (codes "-")))) ≡ false
+    → wanted n g ≡ Ok bytes → share_of (is_some bytes) g ≡ Err fault → of_files sum n g ≡ Err fault
+no_share sum n g bytes fault a b c d = rw (a, b, c, d) refl
+
+pub returns-in_err-share : goal.returns-in_err-share
+returns-in_err-share c =
+    let g = given_of c.args.request.now in
+    let residual = c.from_residual-in_err-share in
+    let e = err_from_is_err_and residual.result residual.ensures.1 in
+    let given = option_map (λ v. v.items) c.in_ok-wanted.wanted in
+    let is = is_some-mapped (λ v. v.items) c.in_ok-wanted.wanted in
+    rw (e.1, e.2) (no_share (sum_shown c.args.sum) c.args.length g given (fault_text c.in_err-share.field-0.0)
+    (sym c.has_two_sources.ensures ∙ right _ _ c.in_ok-unless.ensures)
+    (sym c.has_useless_name.ensures ∙ right _ _ c.in_ok-unless-2.ensures) c.in_ok-wanted.ensures
+    (ap (λ b. share_of b g) (is ∙ sym c.is_some.ensures) ∙ sym c.in_err-share.ensures))

@@ -8,13 +8,15 @@ use Rattle.task.specs.inside.Views.{sum_shown}
 
 pub returns-in_err-rule-clause-run : goal.returns-in_err-rule-clause-run
 returns-in_err-rule-clause-run g c =
-    sum_refused (sum_shown c.args.sum) (λ l bytes files. LinesGiven l files (map (λ n. n.now) c.args.names.now) bytes)
+    sum_refused (sum_shown c.args.sum)
+    (λ l bytes files. LinesGiven c.args.share l files (map (λ n. n.now) c.args.names.now) bytes)
     (TellsAll (g.E.Sink.shown c.args.err.now) (g.E.Sink.shown c.args.err.now)) _ _ c.in_err-rule.field-0.0 _ _ _ _ _ _ _
     c.from_residual.ensures.1 refl refl refl c.in_err-rule.ensures.rule c.in_err-rule.ensures.counted
 
 pub returns-clause-run : goal.returns-clause-run
 returns-clause-run g c =
-    sum_had (sum_shown c.args.sum) (λ l bytes files. LinesGiven l files (map (λ n. n.now) c.args.names.now) bytes)
+    sum_had (sum_shown c.args.sum)
+    (λ l bytes files. LinesGiven c.args.share l files (map (λ n. n.now) c.args.names.now) bytes)
     (TellsAll (g.E.Sink.shown c.args.err.now) (g.E.Sink.shown c.print_each.new.err)) _ _ _ _
     (line_by c.in_ok-rule.rule) _ _ _ _ _ _ _ _ _ _
     refl c.rule_of.ensures.files refl refl c.in_ok-rule.ensures.rule c.in_ok-rule.ensures.counted

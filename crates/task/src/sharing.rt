@@ -1,0 +1,59 @@
+// Which share of a run is asked for.
+
+ghost use Rattle.std.specs.Prelude.{◌≡◌, codes};
+ghost use Rattle.std.specs.List.{list_any};
+ghost use Rattle.std.specs.Str.{bytes_eq};
+ghost use Rattle.request.specs.CommandLine.{given_of, text_of};
+ghost use Rattle.task.specs.Settings as spec;
+ghost use Rattle.task.specs.Tasks as tasks;
+ghost use Rattle.task.specs.inside.Seen.{judged};
+ghost use Rattle.task.specs.inside.Steps as steps;
+
+use crate::fault::{Setting, UsageFault};
+use crate::parameters::{number_in, text_of, unless};
+use request::Request;
+use sumlist::Share;
+
+/// The share of the files of which a sum is printed, or all of them.
+pub(crate) fn share_of(request: &Request<'_>, is_compared: bool) -> Result<Share, UsageFault>
+    ensures { judged result ≡ tasks.share_of is_compared (given_of request.now) }
+{
+    let Some(text) = text_of(request, Setting::Share) else {
+        return Ok(Share::whole());
+    };
+    unless(request.has("raw"), UsageFault::NotWithRaw(Setting::Share))?;
+    unless(is_compared, UsageFault::NotWithVerify(Setting::Share))?;
+    unless(reads_input(request), UsageFault::FileOnly(Setting::Share))?;
+    share_in(text)
+}
+
+// The share that a text tells: a number, a slash, and of how many it is one.
+fn share_in(text: &str) -> Result<Share, UsageFault>
+    ensures { judged result ≡ steps.share_in text.now }
+{
+    let Some((number, count)) = text.split_once('/') else {
+        return Err(UsageFault::OutOfRange(Setting::Share));
+    };
+    let count = number_in(Setting::Share, 1, u64::MAX, count)?;
+    let number = number_in(Setting::Share, 0, count - 1, number)?;
+    Ok(Share {
+        others: count - 1,
+        waiting: number,
+    })
+}
+
+// Whether one of the files that words name is standard input, which is the file where they name none.
+fn reads_input(request: &Request<'_>) -> bool
+    ensures { result ≡ steps.reads_input (given_of request.now) }
+{
+    request.text("files0-from").is_none() && names_input(request)
+}
+
+fn names_input(request: &Request<'_>) -> bool
+    ensures { result ≡ list_any (λ name. bytes_eq name (codes "-")) (spec.names_or_input (given_of request.now)) }
+{
+    match request.texts("file") {
+        Some(files) => files.is_empty() || files.contains(&"-"),
+        None => true,
+    }
+}
