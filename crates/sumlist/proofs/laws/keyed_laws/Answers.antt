@@ -1,4 +1,4 @@
-use Rattle.sumlist.proofs.Common.{arith, inl, refl}
+use Rattle.sumlist.proofs.Common.{refl}
 use Rattle.sumlist.proofs.Deciding.{matches}
 use Rattle.sumlist.proofs.Spelling.{written_spells, written_untagged}
 use Rattle.sumlist.proofs.laws.keyed_laws.Goals as goal
