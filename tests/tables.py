@@ -108,7 +108,7 @@ OTHERS = [name for name in HASHES if name != "blake3"]
 
 VALUES = {name: each["abc"].encode() for name, each in HASHES.items()}
 VALUES["algorithms"] = ", ".join(HASHES).encode()
-VALUES.update((cells["name"], cells["text"].removesuffix("N").encode()) for _, cells in table("messages.tsv"))
+VALUES.update((cells["name"], re.split(r"\bN\b", cells["text"])[0].encode()) for _, cells in table("messages.tsv"))
 for _, cells in table("values.tsv"):
     VALUES[cells["name"]] = text(cells["value"])
 

@@ -19,14 +19,16 @@ fn lines_of(report: &Report) -> Result<Vec<(u64, String)>, Refusal> {
 }
 
 /// What it says of the list behind that.
-fn hint(report: &Report, hash: Hash) -> Option<&'static str> {
-    let is_blake = matches!(hash, Hash::Blake2b | Hash::Blake2s | Hash::Blake3);
+fn hint(report: &Report) -> Option<&'static str> {
+    let is_all = |verdict| report.malformed.is_empty() && report.count(verdict) == report.entries.len();
     if report.untagged {
         Some("digests of another length than those of -a")
     } else if report.entries.is_empty() && report.malformed.is_empty() {
         Some("no entries")
-    } else if is_blake && report.malformed.is_empty() && report.count(Verdict::Failed) == report.entries.len() {
+    } else if is_all(Verdict::Failed) {
         Some("all FAILED, untagged lines may need another -a")
+    } else if is_all(Verdict::Missing) {
+        Some("all MISSING, names count from the current folder")
     } else {
         None
     }
@@ -51,7 +53,7 @@ fn check(hash: Hash, wants_summary: bool) -> Result<bool, Box<dyn Error>> {
             report.skipped
         );
     }
-    if let Some(text) = hint(&report, hash) {
+    if let Some(text) = hint(&report) {
         eprintln!("sums: -: {text}");
     }
     let is_clean = report.is_ok() || lines.is_empty();

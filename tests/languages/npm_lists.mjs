@@ -28,12 +28,11 @@ function piecesOf(bytes, size) {
 }
 
 /** What standard error says of a list, the first that fits. */
-function remarkOf(rows, hash) {
+function remarkOf(rows) {
   if (rows.some((it) => it.untagged)) return 'digests of another length than those of -a';
   if (!rows.length) return 'no entries';
-  const isOfAnyLength = ['blake2b', 'blake2s', 'blake3'].includes(hash);
-  const isFailed = isOfAnyLength && rows.every((it) => it.verdict === 'FAILED');
-  return isFailed ? 'all FAILED, untagged lines may need another -a' : null;
+  if (rows.every((it) => it.verdict === 'FAILED')) return 'all FAILED, untagged lines may need another -a';
+  return rows.every((it) => it.verdict === 'MISSING') ? 'all MISSING, names count from the current folder' : null;
 }
 
 /** The lines of a list by itself, in the form of rows. */
@@ -48,7 +47,7 @@ async function checked({ words, given, short }) {
   const { ok, rows, summary } = await check(list, (name) => createReadStream(name), { hash });
   deepEqual(linesOf(pieces, hash), rows.map(({ verdict, actual, error, ...line }) => line));
   const numbers = Object.entries(NAMED).map(([key, named]) => `${summary[key]} ${named}`);
-  const remark = remarkOf(rows, hash);
+  const remark = remarkOf(rows);
   const err = [
     ...(words.includes('--summary') ? [`sums: ${numbers.join(', ')}\n`] : []),
     ...(remark ? [`sums: -: ${remark}\n`] : []),

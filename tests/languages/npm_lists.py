@@ -9,6 +9,7 @@ usage: tests/languages/npm_lists.py PROGRAM PACKAGE [LINES]    PACKAGE is the fo
 import base64
 import json
 import os
+import re
 import runpy
 import shutil
 import subprocess
@@ -18,8 +19,18 @@ sys.path.append(os.path.join(os.path.dirname(os.path.realpath(__file__)), ".."))
 sys.path.append(os.path.join(os.path.dirname(os.path.realpath(__file__)), "../program"))
 
 import harness
+import tables
 
 STANDS_IN = f"{harness.HERE}/languages/npm_lists.mjs"
+
+
+# what is said of malformed lines, of which the package tells only whether they are untagged
+LOOKS = b"|".join(re.escape(tables.text(f"{{{name}}}")) for name in ("MD5", "SHA-1", "mark", "no name", "other -a"))
+
+
+def seen(run):
+    """A run without what is said of malformed lines."""
+    return run._replace(err=re.sub(rb"(?m)^sums: -: (?:%b)\n" % LOOKS, b"", run.err))
 
 
 class Package:
@@ -51,7 +62,8 @@ class Package:
         node.stdin.flush()
         answer = json.loads(node.stdout.readline())
         run = harness.Run(answer["status"], answer["out"].encode(), answer["err"].encode())
-        harness.same("beside the program", run, self.run_program(self.program, words, given))
+        program = self.run_program(self.program, words, given)
+        harness.same("beside the program", seen(run), seen(program))
         return run
 
     def end(self):
@@ -75,7 +87,7 @@ def main():
     stand_in = Package(harness.program(), package)
     harness.run = stand_in.run
     try:
-        statuses = [ran("random_lists.py", *(lines or ["5000"])), ran("lists.py", "digests")]
+        statuses = [ran("random_lists.py", "digests", *(lines or ["5000"])), ran("lists.py", "digests")]
     finally:
         stand_in.end()
     return 1 if any(statuses) else 0

@@ -127,12 +127,12 @@ static void take(sums_list_state *state, sums_list_entry *line, const uint8_t *b
 
 // What `sums check` says of a list behind its report.
 static void hint(const char *list, uint32_t hash) {
-    unsigned long others = counts[MALFORMED] + counts[SUMS_VERDICT_MISSING] + counts[SUMS_VERDICT_UNREADABLE];
+    unsigned long failed = counts[SUMS_VERDICT_FAILED], missing = counts[SUMS_VERDICT_MISSING];
     const char *text = NULL;
-    if (lacks_hash) text = hash ? "digests of another length than those of -a" : "untagged lines need -a";
-    else if (!counts[SUMS_VERDICT_OK] && !others)
-        text = !counts[SUMS_VERDICT_FAILED] ? "no entries"
-            : hash >= SUMS_BLAKE2B ? "all FAILED, untagged lines may need another -a" : NULL;
+    if (lacks_hash) text = "digests of another length than those of -a";
+    else if (!counts[SUMS_VERDICT_OK] && !counts[SUMS_VERDICT_UNREADABLE] && !counts[MALFORMED])
+        text = !failed ? missing ? "all MISSING, names count from the current folder" : "no entries"
+            : missing || !hash ? NULL : "all FAILED, untagged lines may need another -a";
     if (text) fprintf(stderr, "sums: %s: %s\n", list, text);
 }
 

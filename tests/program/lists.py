@@ -4,7 +4,8 @@ built program on rows of data, with reads as they come and with reads and writes
 Digests are hashlib's, and for BLAKE3 those of its official vectors and of b3sum; tags are hmac's and hashlib's, and for
 BLAKE3 those of tests/standards.py. Random lists under keys come last (tests/program/random_lists.py).
 usage: tests/program/lists.py PROGRAM
-       tests/program/lists.py PROGRAM digests    without keys: what stands in the place of the program takes none
+       tests/program/lists.py PROGRAM digests    without keys: what stands in the place of the program takes none, and
+           tells of a malformed line only whether it is untagged
 """
 
 import hashlib
@@ -25,6 +26,7 @@ from random_lists import TAGS, Keyed
 SIZES = (1, 7, 4096)
 
 settings = {}
+takes_keys = True
 
 
 def run(*words, given=b""):
@@ -38,21 +40,17 @@ def sized(name):
 
 # The numbers of a summary, in its order.
 OUTCOMES = ("OK", "failed", "missing", "unreadable", "too long", "malformed", "skipped")
-# What is told of a list beside its report.
-EMPTY, OTHER, FAILED = map(tables.text, ("{no entries}", "{other -a}", "{all failed}"))
-TAGGED_LINES, OTHER_KEY = map(tables.text, ("{tagged}", "{other key}"))
 
 
-def check(name, alg, given, report, numbers=None, hint=b""):
-    """Checks a list of digests by this hash, or of tags; with --summary where its numbers are named. What has no report
-    has no entries."""
+def check(name, alg, given, report, numbers=None):
+    """Checks a list of digests by this hash, or of tags; with --summary where its numbers are named. What is said of it
+    then is what tests/program/random_lists.py finds."""
     told = b""
     words = ["check", *(alg.words() if isinstance(alg, Keyed) else ["-a", alg]), "-"]
     if numbers is not None:
         words.insert(-1, "--summary")
         told = ("sums: " + ", ".join(f"{n} {what}" for n, what in zip(numbers, OUTCOMES)) + "\n").encode()
-    if hint or not report:
-        told += b"sums: -: " + (hint or EMPTY) + b"\n"
+    told += random_lists.report(given.removesuffix(b"\n").split(b"\n") if given else [], alg, takes_keys)[2]
     status = 0 if all(line.endswith(b": OK") for line in report.split(b"\n")[:-1]) else 1
     same(sized(name), run(*words, given=given), (status, report, told))
 
@@ -204,7 +202,7 @@ def lines():
         line = before + SHA256_ABC + after
         for ending, end in (("", b""), (" and an LF", b"\n")):
             check(about + ending, "sha256", line + end, reported(meaning))
-    check("two digits more", "sha256", b"00" + SHA256_ABC + b"  abc.txt\n", reported(MALFORMED), hint=OTHER)
+    check("two digits more", "sha256", b"00" + SHA256_ABC + b"  abc.txt\n", reported(MALFORMED))
     upper = SHA256_ABC.upper() + b"  abc.txt\n"
     check("digits in upper case", "sha256", upper, b"abc.txt: OK\n", (1, 0, 0, 0, 0, 0, 0))
     for line, meaning in LINES_WITHOUT_DIGITS:
@@ -220,13 +218,11 @@ def sizes():
         for size in range(67):
             digits = digest_of_abc(alg, size)
             right = b"line 1: MALFORMED\n" if digits is None else b"abc.txt: OK\n"
-            hint = OTHER if digits is None and 0 < size <= 64 else b""
             digits = digits or b"aF" * size
             digits = digits[:size].upper() + digits[size:]
-            check(f"{alg} of {size} bytes", alg, digits + b"  abc.txt\n", right, hint=hint)
+            check(f"{alg} of {size} bytes", alg, digits + b"  abc.txt\n", right)
             check(f"{alg} of {size} bytes and a digit", alg, digits + b"0  abc.txt\n", b"line 1: MALFORMED\n")
-    other = b"50  abc.txt\n"
-    check("a shorter digest is another function's", "blake2s", other, b"abc.txt: FAILED\n", hint=FAILED)
+    check("a shorter digest is another function's", "blake2s", b"50  abc.txt\n", b"abc.txt: FAILED\n")
 
 
 def longest_lines():
@@ -352,18 +348,16 @@ def keyed_lines():
     """The lines of a list of digests with a tag in the place of each: the tagged ones are malformed."""
     digits = digits_under(ABC_UNDER)
     for about, before, after, meaning in LINES:
-        is_tagged = before.endswith(b" = ")
-        report, hint = reported(MALFORMED if is_tagged else meaning), TAGGED_LINES + b"1" if is_tagged else b""
+        report = reported(MALFORMED if before.endswith(b" = ") else meaning)
         for ending, end in (("", b""), (" and an LF", b"\n"), (" and a CR LF", b"\r\n")):
             if end != b"\r\n" or not after.endswith((b"\r", b"\\")):
-                check(f"{about}{ending}, under a key", ABC_UNDER, before + digits + after + end, report, hint=hint)
+                check(f"{about}{ending}, under a key", ABC_UNDER, before + digits + after + end, report)
     upper = digits.upper() + b"  abc.txt\n"
     check("digits in upper case, under a key", ABC_UNDER, upper, b"abc.txt: OK\n", (1, 0, 0, 0, 0, 0, 0))
     for line, meaning in LINES_WITHOUT_DIGITS:
         check(f"{line!r}, under a key", ABC_UNDER, line + b"\n", reported(meaning))
-    for before, digits, meaning in TAGGED:
-        hint = b"" if meaning == MALFORMED else TAGGED_LINES + b"1"
-        check(f"{before!r} under a key", ABC_UNDER, before + digits, reported(MALFORMED), hint=hint)
+    for before, digits, _ in TAGGED:
+        check(f"{before!r} under a key", ABC_UNDER, before + digits, reported(MALFORMED))
 
 
 def keyed_sizes():
@@ -394,15 +388,15 @@ def keyed_lists():
         + b"SHA256 (abc.txt) = " + SHA256_ABC + b"\n# end\n" + other + b"  empty\r\n" + SHA256_ABC + b" *abc.txt")
     report = (b"abc.txt: OK\nabc.txt: FAILED\nnone.txt: MISSING\nline 4: MALFORMED\nline 5: MALFORMED\nempty: OK\n"
         + b"abc.txt: FAILED\n")
-    check("each outcome under a key", ABC_UNDER, each, report, (2, 2, 1, 0, 0, 2, 1), TAGGED_LINES + b"1")
-    check("digests under a key", ABC_UNDER, SHA256_ABC + b"  abc.txt\n", b"abc.txt: FAILED\n", hint=OTHER_KEY)
+    check("each outcome under a key", ABC_UNDER, each, report, (2, 2, 1, 0, 0, 2, 1))
+    check("digests under a key", ABC_UNDER, SHA256_ABC + b"  abc.txt\n", b"abc.txt: FAILED\n")
     check("a list of comments under a key", ABC_UNDER, b"\n# a\n#", b"", (0, 0, 0, 0, 0, 0, 3))
     for name, content in (("first list", each), ("second list", good + b"  abc.txt\n"), ("the key", KEY)):
         with open(name, "wb") as file:
             file.write(content)
     answer = run("check", "-a", "hmac-sha256", "--key-file", "the key", "second list", "first list", "-", given=each)
     wanted = b"abc.txt: OK\n" + b"".join(report.replace(b"line ", list + b": line ") for list in (b"first list", b"-"))
-    told = b"".join(b"sums: %b: %b1\n" % (list, TAGGED_LINES) for list in (b"first list", b"-"))
+    told = b"".join(b"sums: %b: %b1\n" % (list, random_lists.TAGGED) for list in (b"first list", b"-"))
     same(sized("several lists under a key"), answer, (1, wanted, told))
 
 
@@ -428,7 +422,7 @@ def random_tags():
 
 
 def main():
-    global program, settings
+    global program, settings, takes_keys
     program, takes_keys = harness.program(), harness.arguments(1)[1:] != ["digests"]
     rows = [lines, longest_lines, lists, both_forms, ends, written]
     if takes_keys:

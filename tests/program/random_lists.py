@@ -2,6 +2,7 @@
 """Checks random lists by the program and by a second, plain reading of docs/FORMAT.md in this file,
 and compares reports, statuses and what is said of a list. No part of tools/test.
 usage: tests/program/random_lists.py PROGRAM [LINES] [SEED]    LINES is 200,000 where it is not named
+       tests/program/random_lists.py PROGRAM digests [LINES] [SEED]    what stands in the place of the program
        tests/program/random_lists.py PROGRAM keys [LISTS] [SEED]    lists of tags, each under a random key: the tags are
            those of Python's hmac and hashlib, and of tests/standards.py; LISTS is 10,000 where it is not named
 """
@@ -38,8 +39,12 @@ NAMES = [
 LABELS = {each["label"]: (name, int(each["most"])) for name, each in tables.HASHES.items()}
 LENGTHS = {name: range(int(each["least"]), int(each["most"]) + 1) for name, each in tables.HASHES.items()}
 # What is said of a list beside its report.
-EMPTY, OTHER, FAILED = map(tables.text, ("{no entries}", "{other -a}", "{all failed}"))
+EMPTY, OTHER, FAILED, MISSING = map(tables.text, ("{no entries}", "{other -a}", "{all failed}", "{all missing}"))
 TAGGED, OTHER_KEY = map(tables.text, ("{tagged}", "{other key}"))
+MD5, SHA_1, MARK, NO_NAME, UNTAGGED = map(tables.text, ("{MD5}", "{SHA-1}", "{mark}", "{no name}", "{need -a}"))
+# What is said of a malformed line, by how it begins, and by the digits of a digest that is none of its list.
+LOOKS = [(rb"MD5 \(.*", MD5), (rb"SHA1 \(.*", SHA_1), (rb"\xef\xbb\xbf.*", MARK), (rb"[0-9a-fA-F]+[ \t\r\f]*", NO_NAME)]
+DIGESTS = {32: MD5, 40: SHA_1}
 # the fewest and the most bytes of a tag in a list, and those without -l
 TAGS = {
     "hmac-sha256": (16, 32, 32), "hmac-sha512": (32, 64, 64), "hmac-blake2b": (32, 64, 64),
@@ -162,17 +167,17 @@ def verdict_of(name, algorithm, digits):
     return b"OK" if digest(algorithm, len(digits) // 2, content) == digits else b"FAILED"
 
 
-def report(lines, kind):
-    """What a check of a list answers: its status, its report, and what is said of the list."""
-    out, verdicts, others = [], set(), 0
+def report(lines, kind, has_looks=True):
+    """What a check of a list answers: its status, its report, and what is said of the list. What stands in the place of
+    the program can tell of a malformed line only whether it is untagged."""
+    out, verdicts, others = [], set(), []
     for number, line in enumerate(lines, 1):
         answer = parsed(line, kind)
         if answer[0] == "skipped":
             continue
         if answer[0] == "malformed":
             told, verdict = b"line %d" % number, b"MALFORMED"
-            # BLAKE2b has digests as long as those of each other hash; under a key other entries are tagged ones
-            others += parsed(line, None if isinstance(kind, Keyed) else "blake2b")[0] == "entry"
+            others += look(line, kind) if has_looks else untagged(line)
         else:
             _, name, algorithm, digits = answer
             told, verdict = escaped(name), verdict_of(name, algorithm, digits)
@@ -181,16 +186,42 @@ def report(lines, kind):
     return int(verdicts - {b"OK"} != set()), b"".join(out), said(verdicts, others, kind)
 
 
+def untagged(line):
+    """The same of a line of another length."""
+    return [OTHER] if parsed(line, "blake2b")[0] == "entry" else []
+
+
+def look(line, kind):
+    """What is said of a malformed line, in a list of one text or of none. Under a key other entries are tagged ones. And
+    BLAKE2b has digests as long as those of each other hash."""
+    if isinstance(kind, Keyed):
+        return [TAGGED] if parsed(line, None)[0] == "entry" else []
+    for pattern, text in LOOKS:
+        if len(line) <= LONGEST_LINE and re.fullmatch(pattern, line, re.DOTALL):
+            return [text]
+    meant = parsed(line, "blake2b")
+    if meant[0] != "entry":
+        return []
+    count = len(meant[3])
+    return [DIGESTS.get(count) or (OTHER if kind else UNTAGGED + b"%d digits fit %b" % (count, fitting(count)))]
+
+
+def fitting(count):
+    """The hashes with digests of so many digits, as a sentence names them."""
+    names = [name for name, lengths in LENGTHS.items() if count // 2 in lengths]
+    return b" or ".join(", ".join(each).encode() for each in (names[:-1], names[-1:]) if each)
+
+
 def said(verdicts, others, kind):
     """What is said of a list, the first that fits."""
     if others:
-        text = TAGGED + b"%d" % others if isinstance(kind, Keyed) else OTHER
+        text = TAGGED + b"%d" % len(others) if isinstance(kind, Keyed) else others[0]
     elif not verdicts:
         text = EMPTY
-    elif verdicts == {b"FAILED"} and isinstance(kind, Keyed):
-        text = OTHER_KEY
-    elif verdicts == {b"FAILED"} and kind in ("blake2b", "blake2s", "blake3"):
-        text = FAILED
+    elif verdicts == {b"FAILED"} and kind:
+        text = OTHER_KEY if isinstance(kind, Keyed) else FAILED
+    elif verdicts == {b"MISSING"}:
+        text = MISSING
     else:
         return b""
     return b"sums: -: " + text + b"\n"
@@ -248,6 +279,8 @@ def random_line(source, kind, files):
     chance = source.random()
     if chance < 0.03:
         return source.choice([b"", b"# a comment", b"\r", b"#"])
+    if chance < 0.06:
+        line = source.choice([b"MD5 (" + line, b"SHA1 (" + line, b"\xef\xbb\xbf" + line, line.split(b" ")[0]])
     while source.random() < 0.5:
         line = mutated(source, line) if line else b"x"
     return line.replace(b"\n", b"")[: LONGEST_LINE + 2]
@@ -307,6 +340,8 @@ def main():
     if numbers[:1] == ["keys"]:
         count, seed, *_ = [*map(int, numbers[1:]), *[10_000, random.randrange(2**32)][len(numbers) - 1:]]
         return of_keys(program, count, seed)
+    has_looks = numbers[:1] != ["digests"]
+    numbers = numbers[not has_looks:]
     wanted = int(numbers[0]) if numbers else 200_000
     seed = int(numbers[1]) if len(numbers) > 1 else random.randrange(2**32)
     print(f"tests/program/random_lists.py: {wanted} lines, seed {seed}")
@@ -314,15 +349,17 @@ def main():
     with harness.folder():
         files = make_files(source)
         while done < wanted:
-            kind = source.choice(list(LENGTHS))
-            lines = [random_line(source, kind, files) for _ in range(LINES_A_LIST)]
-            run = harness.run(program, ["check", "-a", kind, "-"], b"".join(line + b"\n" for line in lines))
-            wanted_run = report(lines, kind)
+            kind = source.choice([*LENGTHS, *([None] if has_looks else [])])
+            count = source.choice([1, 2, LINES_A_LIST])
+            lines = [random_line(source, kind or "blake2b", files) for _ in range(count)]
+            words = ["check", *(["-a", kind] if kind else []), "-"]
+            run = harness.run(program, words, b"".join(line + b"\n" for line in lines))
+            wanted_run = report(lines, kind, has_looks)
             if run != wanted_run:
                 differences += 1
                 pairs = zip((run.out + run.err).split(b"\n"), (wanted_run[1] + wanted_run[2]).split(b"\n"))
                 first = next((pair for pair in pairs if pair[0] != pair[1]), None)
-                print(f"list {done // LINES_A_LIST}, {kind}: {first}")
+                print(f"the list after {done} lines, {kind}: {first}")
             done += len(lines)
     print(f"tests/program/random_lists.py: {done} lines, {differences} lists with a difference")
     return 1 if differences else 0

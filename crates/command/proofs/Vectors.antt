@@ -8,6 +8,7 @@ use Rattle.hex.specs.Hex.{encode_with}
 use Rattle.command.specs.inside.Cutting.{part_count, start_lines}
 use Rattle.sumlist.specs.Report.{Meaning, foreign, keyed, malformed, no_lines, report_from, skipped, summary_of, told, unkeyed}
 use Rattle.sumlist.specs.declared.kind.Kind.TheVariants.{Blake2b, Blake2s, Blake3, Sha256}
+use Rattle.sumlist.specs.declared.look.Look.TheVariants.{Digest, Marked, Nameless}
 use Rattle.sumlist.specs.declared.summary.Summary.{Summary}
 use Rattle.sumlist.specs.declared.verdict.Verdict.TheVariants.{Differs, Missing}
 use Rattle.command.specs.inside.Faults.{hinted, noted}
@@ -68,14 +69,14 @@ unfolding digits
 starts_of_all = refl
 
 -- a list that is not there, and behind it one with an untagged line, of which the numbers are told
-followed_example : (let numbers : Summary = record no_lines { malformed = 1; foreign = 1 } in
-    let list : Run = record (prints (report_from (Some (codes "l")) 1 (foreign ∷ [])) 1) {
+followed_example : (let numbers : Summary = record no_lines { malformed = 1; foreign = 1; look = Some (Digest 64) } in
+    let list : Run = record (prints (report_from (Some (codes "l")) 1 (foreign (Digest 64) ∷ [])) 1) {
       notes = noted true (Some (codes "l")) numbers ++ hinted (codes "l") (unkeyed None) numbers;
     } in followed (stops (of_name (codes "none") (codes ": cannot read\n"))) (followed list (prints [] 0)))
     ≡ record (prints (codes "l: line 1: MALFORMED\n") 1) {
       notes = codes "sums: none: cannot read\n"
           ∷ codes "sums: l: 0 OK, 0 failed, 0 missing, 0 unreadable, 0 too long, 1 malformed, 0 skipped\n"
-          ∷ codes "sums: l: untagged lines need -a\n" ∷ [];
+          ∷ codes "sums: l: untagged lines need -a; 128 digits fit sha512 or blake2b\n" ∷ [];
     }
 unfolding visible chars digits encode_utf8 report_from
 followed_example = refl
@@ -90,31 +91,62 @@ unfolding summary_of
 hinted_none = refl
 
 -- a line of another kind, beside one that is FAILED
-hinted_kind : hinted (codes "-") (unkeyed (Some Blake3)) (summary_of (foreign ∷ told (codes "a") Differs ∷ []))
+hinted_kind : hinted (codes "-") (unkeyed (Some Blake3))
+    (summary_of (foreign (Digest 1) ∷ told (codes "a") Differs ∷ []))
     ≡ codes "sums: -: digests of another length than those of -a\n" ∷ []
 unfolding visible chars encode_utf8 summary_of
 hinted_kind = refl
 
--- lines that are FAILED, with skipped ones: under BLAKE2 and BLAKE3, where no line has another outcome
+-- of several lines with a look the first is told, with and without a kind
+hinted_md5 : hinted (codes "-") (unkeyed (Some Sha256))
+    (summary_of (malformed ∷ foreign (Digest 16) ∷ foreign Marked ∷ foreign (Digest 64) ∷ []))
+    ≡ codes "sums: -: looks like MD5, which sums does not have\n" ∷ []
+unfolding visible chars encode_utf8 summary_of
+hinted_md5 = refl
+
+hinted_sha1 : hinted (codes "-") (unkeyed None) (summary_of (foreign (Digest 20) ∷ foreign (Digest 16) ∷ []))
+    ≡ codes "sums: -: looks like SHA-1, which sums does not have\n" ∷ []
+unfolding visible chars encode_utf8 summary_of
+hinted_sha1 = refl
+
+hinted_mark : hinted (codes "-") (unkeyed None) (summary_of (foreign Marked ∷ foreign (Digest 32) ∷ []))
+    ≡ codes "sums: -: a line begins with a byte order mark\n" ∷ []
+unfolding visible chars encode_utf8 summary_of
+hinted_mark = refl
+
+hinted_nameless : hinted (codes "-") (unkeyed (Some Sha256)) (summary_of (foreign Nameless ∷ []))
+    ≡ codes "sums: -: a line has digits and no name\n" ∷ []
+unfolding visible chars encode_utf8 summary_of
+hinted_nameless = refl
+
+-- lines that are FAILED, with skipped ones, where no line has another outcome
 hinted_failed : hinted (codes "-") (unkeyed (Some Blake2s)) (summary_of (told (codes "a") Differs ∷ skipped ∷ []))
     ≡ codes "sums: -: all FAILED, untagged lines may need another -a\n" ∷ []
 unfolding visible chars encode_utf8 summary_of
 hinted_failed = refl
 
-hinted_sha : hinted (codes "-") (unkeyed (Some Sha256)) (summary_of (told (codes "a") Differs ∷ [])) ≡ []
+-- but not without a kind
+hinted_tagged_lines : hinted (codes "-") (unkeyed None) (summary_of (told (codes "a") Differs ∷ [])) ≡ []
 unfolding summary_of
-hinted_sha = refl
+hinted_tagged_lines = refl
 
-hinted_missing : hinted (codes "-") (unkeyed (Some Blake2b))
+hinted_both : hinted (codes "-") (unkeyed (Some Blake2b))
     (summary_of (told (codes "a") Differs ∷ told (codes "b") Missing ∷ [])) ≡ []
 unfolding summary_of
+hinted_both = refl
+
+-- lines that are MISSING
+hinted_missing : hinted (codes "-") (unkeyed None) (summary_of (skipped ∷ told (codes "a") Missing ∷ []))
+    ≡ codes "sums: -: all MISSING, names count from the current folder\n" ∷ []
+unfolding visible chars encode_utf8 summary_of
 hinted_missing = refl
 
 -- tags of one byte, whatever makes them: tagged lines are counted
 abbrev tags : Meaning
 tags = keyed 1 0 (λ m. m)
 
-hinted_tagged : hinted (codes "-") tags (summary_of (foreign ∷ told (codes "a") Differs ∷ foreign ∷ []))
+hinted_tagged : hinted (codes "-") tags
+    (summary_of (foreign (Digest 32) ∷ told (codes "a") Differs ∷ foreign (Digest 20) ∷ []))
     ≡ codes "sums: -: tagged lines, which anyone can make: 2\n" ∷ []
 unfolding visible chars digits encode_utf8 summary_of
 hinted_tagged = refl

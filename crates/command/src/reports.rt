@@ -1,22 +1,22 @@
 // The command `check`: the reports on lists.
 
 ghost use Rattle.std.specs.Prelude.{◌≡◌, ◌≤◌, ◌+◌, ◌++◌, ◌∷◌, [], map, IfSome, MatchOption, Some, codes, true};
-ghost use Rattle.std.specs.Prelude.{MatchResult, false, if◌then◌else◌, option_map};
-ghost use Rattle.std.specs.Option.{option_map_or};
+ghost use Rattle.std.specs.Prelude.{MatchResult, None, false, ℕ, if◌then◌else◌, option_map};
 ghost use Rattle.std.specs.List.{sum_by};
 ghost use Rattle.source.specs.Counts.{count_after};
 ghost use Rattle.source.specs.Written.{Writes};
 ghost use Rattle.sumlist.specs.Lines.{lines};
+ghost use Rattle.sumlist.specs.Report.{unkeyed};
 ghost use Rattle.sumlist.specs.Tally.{summary_text};
 ghost use Rattle.std.specs.Fmt.{decimal};
 ghost use Rattle.task.specs.Tasks.{tags};
 ghost use Rattle.task.specs.inside.Views.{key_shown};
 ghost use Rattle.command.specs.Checking as spec;
-ghost use Rattle.command.specs.Checking.{ListRuns, ListsRun, foreign_hint, has_lengths, hints};
+ghost use Rattle.command.specs.Checking.{ListRuns, ListsRun, foreign_hint, hints};
 ghost use Rattle.command.specs.Visible.{visible};
 ghost use Rattle.command.specs.Lines.{content_of, is_input, opens_of};
 ghost use Rattle.command.specs.Run.{TellsAll};
-ghost use Rattle.command.specs.inside.Faults.{hinted_of, noted_of, of_check, heading};
+ghost use Rattle.command.specs.inside.Faults.{heading, hinted_of, noted_of, of_check};
 ghost use Rattle.command.specs.inside.Listing.{ListTaken};
 ghost use Rattle.command.specs.inside.Reading.{Leaves, failed};
 ghost use Rattle.command.specs.inside.Reported.{PrintsReport};
@@ -26,16 +26,15 @@ ghost use Rattle.command.specs.inside.Seen.{IfTold, OpensAtMost, DoesRun, opens_
 ghost use Rattle.command.specs.inside.Troubles.{trouble_of};
 ghost use Rattle.command.specs.inside.Streams.{SameStreams};
 
-use crate::fault::{Fault, write_of};
+use crate::fault::{Fault, write_number, write_of};
 use crate::keying::keyed_of;
 use crate::lines::settle;
 use crate::rule::ShortKeyed;
 use crate::session::{Session, Streams, open_file};
 use crate::visible::write_visible;
-use itoa::Buffer;
-use source::{Feed, Sink, WriteFailed, write_all, write_pieces};
+use source::{Feed, Sink, WriteFailed, write_all};
 use std::alloc::Global;
-use sumlist::{CheckFault, Kind, Summary, Tree, check_list, write_summary};
+use sumlist::{CheckFault, Kind, Look, Summary, Tree, check_list, write_summary};
 use task::{Entries, Key, ShortMac, Tagging};
 
 impl<'i, 't, 'o, L: Feed, T: Tree, W: Sink> Session<'i, 't, 'o, L, T, W> {
@@ -43,11 +42,10 @@ impl<'i, 't, 'o, L: Feed, T: Tree, W: Sink> Session<'i, 't, 'o, L, T, W> {
     /// end, which is told on `err`. A key is read and judged first, once: the faults are
     /// `KeyFileTooLong`, `KeyLength` and `CannotRead` of its file. Of several lists, a malformed line is told
     /// with its list's name. Where it is asked for, tells how many lines of each list had each outcome. Tells
-    /// what the report of a list does not say: that malformed lines would be entries of another list, that all
-    /// lines are skipped, or that all others are FAILED, where another hash may have digests as long. Answers 0
-    /// where every line that is not skipped is OK, else 1. Then come the faults `CannotWrite` and
-    /// `OutOfMemory`, after which no further list is read; what was written before is a beginning of the
-    /// reports.
+    /// what the report of a list does not say: what malformed lines look like, that all lines are skipped, or
+    /// that all others are FAILED, as those of another hash are, or MISSING. Answers 0 where every line that is
+    /// not skipped is OK, else 1. Then come the faults `CannotWrite` and `OutOfMemory`, after which no further
+    /// list is read; what was written before is a beginning of the reports.
     pub fn print_reports<'n, E: Sink>(
         &mut self,
         entries: Entries<'n>,
@@ -274,16 +272,16 @@ fn hint<E: Sink>(
     let Ok(summary) = answer else {
         return;
     };
-    if summary.foreign > 0 {
-        let _ = write_foreign(name, entries, summary.foreign, err);
+    if let Some(look) = summary.look {
+        let _ = write_foreign(name, entries, look, summary.foreign, err);
     } else if let Some(hint) = hint_of(entries, summary) {
         let _ = write_hint(name, hint, err);
     }
 }
 
-// What there is to tell of a list without an entry of another list.
+// What there is to tell of a list of whose malformed lines nothing can be told.
 fn hint_of(entries: &sumlist::Entries<'_, ShortKeyed>, summary: &Summary) -> Option<&'static str>
-    requires { summary.now.foreign ≡ 0 }
+    requires { summary.now.look ≡ None }
     ensures { MatchOption result (hints (meaning entries.now) summary.now ≡ [])
         (λ hint. hints (meaning entries.now) summary.now ≡ hint.now ∷ []) }
 {
@@ -291,6 +289,8 @@ fn hint_of(entries: &sumlist::Entries<'_, ShortKeyed>, summary: &Summary) -> Opt
         Some(": no entries\n")
     } else if summary.is_all_failed() {
         failed_hint(entries)
+    } else if summary.is_all_missing() {
+        Some(": all MISSING, names count from the current folder\n")
     } else {
         None
     }
@@ -301,52 +301,91 @@ fn failed_hint(entries: &sumlist::Entries<'_, ShortKeyed>) -> Option<&'static st
         (λ hint. spec.failed_hint (meaning entries.now) ≡ hint.now ∷ []) }
 {
     match entries {
-        sumlist::Entries::Digests(kind) if has_lengths(*kind) => {
+        sumlist::Entries::Digests(None) => None,
+        sumlist::Entries::Digests(Some(_)) => {
             Some(": all FAILED, untagged lines may need another -a\n")
         }
-        sumlist::Entries::Digests(_) => None,
         sumlist::Entries::Tags(_, _) => Some(": all FAILED, -a or the key may be another\n"),
     }
 }
 
-// Whether it is a hash with digests of several lengths: one of theirs may be as long as another hash's.
-fn has_lengths(kind: Option<Kind>) -> bool
-    ensures { result ≡ option_map_or has_lengths kind false }
-{
-    matches!(kind, Some(Kind::Blake2b | Kind::Blake2s | Kind::Blake3))
-}
-
-// Tells of the entries of another list, so many.
+// Tells what malformed lines look like, of which there are so many.
 fn write_foreign<E: Sink>(
     name: &str,
     entries: &sumlist::Entries<'_, ShortKeyed>,
+    look: Look,
     count: u64,
     err: &mut E,
 ) -> Result<(), WriteFailed>
     ensures { Writes result (E.shown err.old) (E.shown err.new)
-        (codes "sums: " ++ (visible name.now ++ foreign_hint (meaning entries.now) count)) }
+        (codes "sums: " ++ (visible name.now ++ foreign_hint (meaning entries.now) look count)) }
 {
     match entries {
-        sumlist::Entries::Digests(None) => write_hint(name, ": untagged lines need -a\n", err),
-        sumlist::Entries::Digests(Some(_)) => {
-            write_hint(name, ": digests of another length than those of -a\n", err)
+        sumlist::Entries::Digests(kind) => write_look(name, *kind, look, err),
+        sumlist::Entries::Tags(_, _) => {
+            write_count(
+                name,
+                ": tagged lines, which anyone can make: ",
+                count,
+                "\n",
+                err,
+            )
         }
-        sumlist::Entries::Tags(_, _) => write_tagged(name, count, err),
     }
 }
 
-fn write_tagged<E: Sink>(name: &str, count: u64, err: &mut E) -> Result<(), WriteFailed>
-    ensures { Writes result (E.shown err.old) (E.shown err.new) (codes "sums: "
-        ++ (visible name.now ++ (codes ": tagged lines, which anyone can make: " ++ (decimal count ++ 10 ∷ [])))) }
+fn write_look<E: Sink>(
+    name: &str,
+    kind: Option<Kind>,
+    look: Look,
+    err: &mut E,
+) -> Result<(), WriteFailed>
+    ensures { (count : ℕ) → Writes result (E.shown err.old) (E.shown err.new)
+        (codes "sums: " ++ (visible name.now ++ foreign_hint (unkeyed kind) look count)) }
 {
-    let mut digits = Buffer::new();
-    let digits = digits.format(count).as_bytes();
+    match look {
+        Look::Marked => write_hint(name, ": a line begins with a byte order mark\n", err),
+        Look::Nameless => write_hint(name, ": a line has digits and no name\n", err),
+        Look::Digest(16) => write_hint(name, ": looks like MD5, which sums does not have\n", err),
+        Look::Digest(20) => {
+            write_hint(name, ": looks like SHA-1, which sums does not have\n", err)
+        }
+        Look::Digest(_) if kind.is_some() => {
+            write_hint(name, ": digests of another length than those of -a\n", err)
+        }
+        Look::Digest(len) => {
+            let count = 2 * u64::from(len);
+            write_count(name, ": untagged lines need -a; ", count, fitting(len), err)
+        }
+    }
+}
+
+// The hashes that untagged digests of so many bytes are of.
+fn fitting(len: u8) -> &'static str
+    ensures { result.now ≡ spec.fitting len }
+{
+    match len {
+        32 => " digits fit sha256, blake2b, blake2s or blake3\n",
+        64 => " digits fit sha512 or blake2b\n",
+        0..=31 => " digits fit blake2b or blake2s\n",
+        _ => " digits fit blake2b\n",
+    }
+}
+
+// Tells a hint with a number in it.
+fn write_count<E: Sink>(
+    name: &str,
+    front: &str,
+    count: u64,
+    rest: &str,
+    err: &mut E,
+) -> Result<(), WriteFailed>
+    ensures { Writes result (E.shown err.old) (E.shown err.new)
+        (codes "sums: " ++ (visible name.now ++ (front.now ++ (decimal count ++ rest.now)))) }
+{
     write_all(err, b"sums: ")?;
     write_visible(name, err)?;
-    write_pieces(
-        err,
-        &[b": tagged lines, which anyone can make: ", digits, b"\n"],
-    )
+    write_number(err, front, count, rest)
 }
 
 fn write_hint<E: Sink>(name: &str, hint: &str, err: &mut E) -> Result<(), WriteFailed>

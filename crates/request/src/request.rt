@@ -69,7 +69,8 @@ impl<'a> Request<'a> {
     }
 }
 
-pub(crate) static MACS: [&str; 7] = [
+// The names of the keyed functions.
+static MACS: [&str; 7] = [
     "hmac-sha256",
     "hmac-sha512",
     "hmac-blake2b",

@@ -1,11 +1,9 @@
 // What is said of words that are refused: the text of `clap`, with tips of the program's own. Those of `clap` are
 // names that look alike, whether or not they mean the same.
 
-use crate::request::MACS;
 use clap::Error;
 use clap::error::ErrorKind;
 use std::alloc::{AllocError, Global};
-use sumlist::Kind;
 
 const TIP: &str = "\n\n  tip: ";
 
@@ -117,17 +115,14 @@ fn quoted(text: &str) -> &str {
     rest.split_once('\'').unwrap_or((rest, "")).0
 }
 
-// Of a value that `-a` does not take: the name that has its letters and digits, in small letters.
+// Of a value that `-a` does not take: the possible one that has its letters and digits, in small letters.
 fn push_value(alloc: Global, text: &mut String, said: &str) -> Result<(), AllocError> {
     let value = letters(alloc, quoted(said))?;
-    let names = if said.contains("' for '-a <MAC>'") {
-        MACS.as_slice()
-    } else {
-        Kind::names()
-    };
-    for name in names {
-        if letters(alloc, name)?.as_slice() == value.as_slice() {
-            write!(text, "{TIP}a similar value exists: '{name}'")?;
+    if let Some((names, _)) = parted(said, "[possible values: ").1.split_once(']') {
+        for name in names.split(", ") {
+            if letters(alloc, name)?.as_slice() == value.as_slice() {
+                write!(text, "{TIP}a similar value exists: '{name}'")?;
+            }
         }
     }
     Ok(())

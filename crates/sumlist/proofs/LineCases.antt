@@ -26,7 +26,7 @@ name_cases digits name = either_by _ (Decides-like _
     (Decides-and _ _ (Decides-not _ (is_member-Decides Decides-eqb name 0))
     (Decides-ltb (length (lead name) + digits + 2 + length (escaped name)) 65537)))))
 
-line_is : (line : List ℕ) → Either (IsLine line)
+pub line_is : (line : List ℕ) → Either (IsLine line)
 line_is line = either_by _ (Decides-like _ (λ p. (p.0, omega (arith, p.1)))
     (λ l. (l.0, let within = l.1 in omega (arith, within)))
     (Decides-and _ _ (Decides-not _ (is_member-Decides Decides-eqb line 10)) (Decides-ltb (length line) 65537)))
@@ -99,7 +99,7 @@ says_any k kind e sized (inr s) =
 
 -- a line that spells an entry of some kind spells one of BLAKE2b
 pub spells_any : (line : List ℕ) (kind : Kind) (e : Listing) → Spells line (Some kind) e
-    → (d : Listing) × Spells line (Some Blake2b) d
+    → (d : Listing) × Spells line (Some Blake2b) d × (d.tag ≡ e.tag)
 spells_any line kind e s =
     let f = says_any (core line) kind e s.is_entry.sized s.form in (
       record e { alg = f.0 },
@@ -109,6 +109,7 @@ spells_any line kind e s =
         is_entry = record { text = s.is_entry.text; fits = s.is_entry.fits; sized = f.1; bytes = s.is_entry.bytes };
         form = f.2;
       },
+      refl,
     )
 
 untagged_if : (line : List ℕ) (kind : Option Kind) (e : Listing) → IsMalformed line kind
@@ -132,8 +133,8 @@ module _ (line : List ℕ) (kind : Option Kind) (k : List ℕ) (is : k ≡ core 
   more : IsBlank k → false ≡ true
   more blank = absurd (m.0 (l, subst IsBlank is blank))
 
-  pub untagged_stated : (e : Listing) → IsStated (Some Blake2b) k e → IsUntagged line kind
-  untagged_stated e s = untagged_if line kind e m (spells_if line (Some Blake2b) k is more l e s)
+  pub stated_any : (e : Listing) → IsStated (Some Blake2b) k e → Spells line (Some Blake2b) e
+  stated_any e s = spells_if line (Some Blake2b) k is more l e s
 
   pub untagged_unstated : ((e : Listing) → IsStated (Some Blake2b) k e → ⊥) → IsUntagged line kind → ⊥
   untagged_unstated none = untagged_none line kind (λ e s. none e (stated_if line (Some Blake2b) k is more e s))

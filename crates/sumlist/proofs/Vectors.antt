@@ -4,7 +4,8 @@ use Rattle.sumlist.proofs.Common.{malformed, told, foreign, HasForm, label_of, t
 use Rattle.std.specs.Fmt.{digits}
 use Rattle.hex.specs.Hex.{encode_with, decode_pairs}
 use Rattle.source.specs.declared.alg.Alg.TheVariants.{Blake2b, Blake2s}
-use Rattle.sumlist.specs.Report.{report_from}
+use Rattle.sumlist.specs.Report.{look_of, report_from}
+use Rattle.sumlist.specs.declared.look.Look.TheVariants.{Digest, Marked, Nameless}
 use Rattle.sumlist.proofs.Reading.{labelled_form}
 
 -- BLAKE2b of "abc" with a digest of one byte, under a name with a backslash and an LF
@@ -41,7 +42,7 @@ labelled_example =
 lines_example : lines (97 ∷ 10 ∷ 10 ∷ 98 ∷ 10 ∷ []) ≡ (97 ∷ []) ∷ [] ∷ (98 ∷ []) ∷ []
 lines_example = refl
 
-report_example : report_from None 1 (skipped ∷ malformed ∷ told (codes "x") Missing ∷ foreign ∷ [])
+report_example : report_from None 1 (skipped ∷ malformed ∷ told (codes "x") Missing ∷ foreign (Digest 16) ∷ [])
     ≡ codes "line 2: MALFORMED" ++ 10 ∷ codes "x: MISSING" ++ 10 ∷ codes "line 4: MALFORMED" ++ 10 ∷ []
 unfolding digits report_from
 report_example = refl
@@ -51,3 +52,22 @@ named_example : report_from (Some (97 ∷ 10 ∷ [])) 1 (told (codes "x") Missin
     ≡ codes "x: MISSING" ++ 10 ∷ codes "a\\n: line 2: MALFORMED" ++ 10 ∷ []
 unfolding digits report_from
 named_example = refl
+
+-- what lines look like by their bytes
+look_of_md5 : look_of (codes "MD5 (a) = 00") ≡ Some (Digest 16)
+look_of_md5 = refl
+
+look_of_sha1 : look_of (codes "SHA1 (a) = 00") ≡ Some (Digest 20)
+look_of_sha1 = refl
+
+look_of_mark : look_of (239 ∷ 187 ∷ 191 ∷ codes "00  a") ≡ Some Marked
+look_of_mark = refl
+
+look_of_digits : look_of (codes "0aF9  " ++ 13 ∷ []) ≡ Some Nameless
+look_of_digits = refl
+
+look_of_blanks : look_of (codes "  " ++ 13 ∷ []) ≡ None
+look_of_blanks = refl
+
+look_of_a_name : look_of (codes "00 a") ≡ None
+look_of_a_name = refl

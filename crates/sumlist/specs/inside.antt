@@ -15,4 +15,5 @@ pub mod Marks
 pub mod Stepped
 pub mod Moved
 pub mod Said
+pub mod Looks
 pub mod Filling

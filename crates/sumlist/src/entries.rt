@@ -1,15 +1,18 @@
 // What the entries of a list are, and how its lines are read.
 
-ghost use Rattle.std.specs.Prelude.{ℕ, List, Err, MatchBool, None, IfSome};
+ghost use Rattle.std.specs.Prelude.{◌≡◌, ℕ, List, Err, MatchOption, None, IfSome, length};
 ghost use Rattle.source.specs.Digest.{digest, input_limit};
 ghost use Rattle.source.specs.Faults.{PumpCounts};
 ghost use Rattle.sumlist.specs.Entry.{Listing};
 ghost use Rattle.sumlist.specs.Line.{Spells};
 ghost use Rattle.sumlist.specs.Report.{IsEntryIn, keyed};
 ghost use Rattle.sumlist.specs.declared.line.LineFault.TheVariants as fault;
+ghost use Rattle.sumlist.specs.declared.look.Look.TheVariants.{Digest};
+ghost use Rattle.sumlist.specs.inside.Looks.{IsLook};
 ghost use Rattle.sumlist.specs.inside.Stepped.{Makes, MarksMalformed, Reads, meaning_of};
 
-use crate::line::{Said, needs_kind, read_line, split_line};
+use crate::line::{Said, read_line, split_line};
+use crate::look::Look;
 use crate::summary::Mark;
 use crate::{Entry, Kind, Line, LineFault};
 use source::{AnyHash, Feed, SourceFault, digest_of};
@@ -67,14 +70,20 @@ impl<'k, M: MakesTag> Entries<'k, M> {
         requires { Reads (meaning_of M.limit M.makes self.now) line.now (Err fault.Malformed) }
         ensures { MarksMalformed (meaning_of M.limit M.makes self.now) line.now result }
     {
-        let is_foreign = match self {
-            Entries::Digests(kind) => needs_kind(line, *kind),
-            Entries::Tags(_, _) => is_tagged(line),
-        };
-        if is_foreign {
-            Mark::Foreign
-        } else {
-            Mark::Malformed
+        match self.look_of(line) {
+            Some(look) => Mark::Foreign(look),
+            None => Mark::Malformed,
+        }
+    }
+
+    // What a malformed line looks like, if that can be told.
+    fn look_of(&self, line: &[u8]) -> Option<Look>
+        requires { Reads (meaning_of M.limit M.makes self.now) line.now (Err fault.Malformed) }
+        ensures { IsLook (meaning_of M.limit M.makes self.now) line.now result }
+    {
+        match self {
+            Entries::Digests(kind) => Look::of(line, *kind),
+            Entries::Tags(_, _) => tagged_look(line),
         }
     }
 }
@@ -83,7 +92,7 @@ impl<'k, M: MakesTag> Entries<'k, M> {
 fn read_tag(alloc: Global, line: &[u8], length: usize) -> Result<Line, LineFault>
     ensures { (limit : ℕ) (makes : List ℕ → List ℕ) → Reads (keyed length limit makes) line.now result }
 {
-    if is_tagged(line) {
+    if tagged_look(line).is_some() {
         return Err(LineFault::Malformed);
     }
     match read_line(alloc, line, Some(Kind::Blake2b))? {
@@ -98,9 +107,13 @@ fn read_tag(alloc: Global, line: &[u8], length: usize) -> Result<Line, LineFault
     }
 }
 
-// Whether the line spells an entry in a list of no kind: it is tagged.
-fn is_tagged(line: &[u8]) -> bool
-    ensures { MatchBool result ((e : Listing) × Spells line.now None e) ((e : Listing) → Spells line.now None e → ⊥) }
+// What a line looks like that spells an entry in a list of no kind: it is tagged.
+fn tagged_look(line: &[u8]) -> Option<Look>
+    ensures { MatchOption result ((e : Listing) → Spells line.now None e → ⊥)
+        (λ look. (e : Listing) × Spells line.now None e × (look ≡ Digest (length e.tag))) }
 {
-    matches!(split_line(line, None), Said::Entry(_, _, _))
+    match split_line(line, None) {
+        Said::Entry(_, tag, _) => Some(Look::Digest(tag.bytes().len() as u8)),
+        _ => None,
+    }
 }

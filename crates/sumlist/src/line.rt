@@ -6,6 +6,7 @@ ghost use Rattle.sumlist.specs.inside.Body.{name_of};
 ghost use Rattle.sumlist.specs.inside.Reading.{IsBlank, IsStated, is_slashed, unslashed};
 ghost use Rattle.sumlist.specs.Line.{IsLine, IsMalformed, IsUntagged, core as core_of};
 ghost use Rattle.sumlist.specs.Parsed.{Answers};
+ghost use Rattle.sumlist.specs.inside.Looks.{IsUntaggedOf};
 ghost use Rattle.sumlist.specs.inside.Said.{IsSaid};
 ghost use Rattle.sumlist.specs.declared.line.LineFault.TheVariants.{OutOfMemory};
 
@@ -119,16 +120,27 @@ pub(crate) fn read_line(alloc: Global, line: &[u8], kind: Option<Kind>) -> Resul
     }
 }
 
-/// Whether a malformed line lacks only its kind: with another kind it would spell an entry. Nothing grows.
-pub(crate) fn needs_kind(line: &[u8], kind: Option<Kind>) -> bool
+// Whether a malformed line is so only for want of its kind.
+fn needs_kind(line: &[u8], kind: Option<Kind>) -> bool
     requires { IsMalformed line.now kind }
     ensures { MatchBool result (IsUntagged line.now kind) (IsUntagged line.now kind → ⊥) }
 {
-    // BLAKE2b has digests of every length that those of another kind have
-    is_line(line) && read_core(without_cr(line), Some(Kind::Blake2b)).is_some()
+    is_line(line) && untagged_len(line, kind).is_some()
 }
 
-fn is_line(line: &[u8]) -> bool
+// How many bytes the digest has of a malformed line that is so only for want of its kind: of some other kind it would
+// spell an entry.
+pub(crate) fn untagged_len(line: &[u8], kind: Option<Kind>) -> Option<u8>
+    requires malformed { IsMalformed line.now kind }
+    requires line { IsLine line.now }
+    ensures { MatchOption result (IsUntagged line.now kind → ⊥) (IsUntaggedOf line.now) }
+{
+    // BLAKE2b has digests of each length that those of another kind have
+    let (_, tag, _) = read_core(without_cr(line), Some(Kind::Blake2b))?;
+    Some(tag.bytes().len() as u8)
+}
+
+pub(crate) fn is_line(line: &[u8]) -> bool
     ensures { IsTrue result ↔ IsLine line.now }
 {
     line.len() <= LINE_LIMIT && !line.contains(&b'\n')

@@ -11,14 +11,14 @@ use Rattle.sumlist.specs.Report.{Outcome, skipped, malformed, foreign, told, wit
 abbrev pub mark_of : Outcome → Mark
 mark_of skipped = Skipped
 mark_of malformed = Malformed
-mark_of foreign = Foreign
+mark_of (foreign look) = Foreign look
 mark_of (told name v) = Told v
 
 -- an outcome of this mark
 abbrev pub outcome_of : Mark → Outcome
 outcome_of Skipped = skipped
 outcome_of Malformed = malformed
-outcome_of Foreign = foreign
+outcome_of (Foreign look) = foreign look
 outcome_of (Told v) = told [] v
 
 -- one for the same verdict, else none
@@ -34,7 +34,7 @@ same v w = 0
 abbrev pub part : Mark → Mark → ℕ
 part Skipped Skipped = 1
 part Malformed Malformed = 1
-part Malformed Foreign = 1
+part Malformed (Foreign look) = 1
 part (Told v) (Told w) = same v w
 part m n = 0
 

@@ -44,7 +44,7 @@ Reads m line (Err fault.OutOfMemory) = ⊤
 -- the mark of a malformed line
 abbrev pub MarksMalformed : Meaning → List ℕ → Mark → Type 0
 MarksMalformed m line Malformed = Allowed (λ _. None) m line malformed
-MarksMalformed m line Foreign = IsForeign m line
+MarksMalformed m line (Foreign look) = IsForeign m line look
 MarksMalformed m line _ = ⊥
 
 -- a verdict that may stand for a digest or tag whose name has this content, or none

@@ -1,6 +1,5 @@
 use Rattle.std.proofs.Common.{◌≡◌, Bool, MatchBool, MatchOption, None, Option, Some}
 use Rattle.std.specs.Prelude.{is_some}
-use Rattle.sumlist.proofs.LineCases.{untagged_stated, untagged_unstated}
 use Rattle.sumlist.proofs.line.needs_kind.Goals as goal
 
 by_some : {A P X Y : Type 0} {Q : A → Type 0} (o : Option A) (b : Bool) → b ≡ is_some o → MatchOption o P Q
@@ -10,7 +9,5 @@ by_some (Some a) b is found none some = rw is (some a found)
 
 pub returns-then-is_line : goal.returns-then-is_line
 returns-then-is_line c =
-    let l = c.is_line.ensures.0 c.if-is_line.true in
-    by_some _ _ c.is_some.ensures c.read_core.ensures
-    (untagged_unstated c.args.line.now c.args.kind _ c.without_cr.ensures l c.requires)
-    (λ p found. untagged_stated c.args.line.now c.args.kind _ c.without_cr.ensures l c.requires _ found.1)
+    by_some _ _ c.is_some.ensures c.untagged_len.ensures (λ none. none)
+    (λ n found. (c.requires, found.0, found.1, found.2))

@@ -1,7 +1,7 @@
 use Rattle.std.proofs.Common.{codes}
 use Rattle.source.proofs.Writing.{Failed-after, Failed-more, Writes-after, Writes-exit}
 use Rattle.command.specs.Visible.{visible}
-use Rattle.command.proofs.reports.write_tagged.Goals as goal
+use Rattle.command.proofs.reports.write_count.Goals as goal
 
 pub returns-in_err-write_all : goal.returns-in_err-write_all
 returns-in_err-write_all g c =
@@ -15,4 +15,4 @@ returns-in_err-write_visible g c =
 pub returns : goal.returns
 returns g c =
     Writes-after _ _ _ _ (codes "sums: ") _ c.in_ok-write_all.ensures (Writes-after _ _ _ _ (visible c.args.name.now) _
-    c.in_ok-write_visible.ensures (rw (c.as_bytes-digits.ensures.value, c.format.ensures.text) at c.write_pieces.ensures))
+    c.in_ok-write_visible.ensures c.write_number.ensures)
