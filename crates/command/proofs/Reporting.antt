@@ -45,7 +45,8 @@ runs_light is_summed files entries list name (Some bytes) run s runs is e = elim
 ]
 
 pub list_whole : (is_summed : Bool) (entries : Meaning) (are_named : Bool) (files : Files) (name : Text)
-    (input : List ℕ) (run : Run) (s : ℕ) → list_runs is_summed entries are_named files name input run → run.ending ≡ Ok s
+    (input : List ℕ) (run : Run) (s : ℕ) → list_runs is_summed entries are_named files name input run → run.ending
+    ≡ Ok s
     → s ≢ 3
 list_whole is_summed entries are_named files name input run s runs is =
     runs_light is_summed files entries (if are_named then Some name else None) name (content_of name input files) run s

@@ -1,5 +1,6 @@
 -- The lines that are printed of tags are a list of them, each of which is OK.
-use Rattle.std.proofs.Common.{◌≡◌, ◌∙◌, ℕ, ◌*◌, ◌≤◌, List, [], ◌∷◌, ◌++◌, length, Option, Some, None, ap, false, inl, refl}
+use Rattle.std.proofs.Common.{◌≡◌, ◌∙◌, ℕ, ◌*◌, ◌≤◌, List, [], ◌∷◌, ◌++◌, length, Option, Some, None, ap, false, inl}
+use Rattle.std.proofs.Common.{refl}
 use Rattle.std.specs.Prelude.{All, IsSomeAnd, flat_map, map}
 use Rattle.std.proofs.Common.{append_assoc}
 use Rattle.std.proofs.lemmas.List.Elements.{All-head, All-tail}

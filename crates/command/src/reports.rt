@@ -118,7 +118,8 @@ impl<'i, 't, 'o, L: Feed, T: Tree, W: Sink> Session<'i, 't, 'o, L, T, W> {
         name: &str,
         err: &mut E,
     ) -> Result<u8, Fault<'f>>
-        ensures report { PrintsReport is_summed (meaning entries.now) (option_map (λ n. n.now) title.entry) name.entry.now result
+        ensures report { PrintsReport is_summed (meaning entries.now)
+            (option_map (λ n. n.now) title.entry) name.entry.now result
             (⟦<Self as Streams>⟧.seen self.old) (⟦<Self as Streams>⟧.seen self.new)
             (E.shown err.old) (E.shown err.new) }
         ensures opens { IfTold (⟦<Self as Streams>⟧.seen self.old) (λ bytes files. OpensAtMost

@@ -37,7 +37,8 @@ TaskRuns (joins stretch bytes wanted name lists) files input = JoinRuns stretch 
 
 -- how many files it opens at most: a list, and each of what it names, included; of a share its own
 abbrev pub most_opens : Asked → Files → List ℕ → ℕ
-most_opens (prints_lines sum (these found) s) files input = key_opens sum + sum_by opens_of (every s.others s.waiting found)
+most_opens (prints_lines sum (these found) s) files input = key_opens sum + sum_by opens_of
+    (every s.others s.waiting found)
 most_opens (prints_lines sum (in_file list) s) files input = key_opens sum + (opens_of list
     + length (option_map_or (λ bytes. every s.others s.waiting (names bytes)) (content_of list input files) []))
 most_opens (prints_line sum wanted name file) files input = key_opens sum + opens_of file

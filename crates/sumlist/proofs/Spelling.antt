@@ -119,7 +119,8 @@ written_untagged e i =
       (
         s.not_skipped,
         λ d t. none-some d (sym (plain_unstated digits (escaped e.name) word (needs_escape e.name)
-            (core (written_line e)) (core_whole (written_line e) inner)) ∙ stated-is None (core (written_line e)) d t.form),
+            (core (written_line e)) (core_whole (written_line e) inner)) ∙ stated-is None
+            (core (written_line e)) d t.form),
       ),
       alg_kind e.alg,
       e,

@@ -89,7 +89,8 @@ module _ {rest : Option (List ℕ)} {known : Option Files} {k : Meaning} {name :
 
 -- no line is left
 pub checks-none : {rest : Option (List ℕ)} {known : Option Files} {k : Meaning} {name : Option (List ℕ)}
-    {ahead : List ℕ} {s : Summary} {n : ℕ} {c : Option (List ℕ)} → (ahead ≡ []) × IsAtEnd rest → Checks rest known k name ahead s (Ok s) n n c c
+    {ahead : List ℕ} {s : Summary} {n : ℕ} {c : Option (List ℕ)} → (ahead ≡ []) × IsAtEnd rest
+    → Checks rest known k name ahead s (Ok s) n n c c
 checks-none {rest = None} end = record { of = tt }
 checks-none {rest = Some bytes} {known} end = record { of = IfSome-all known (λ _. rw (end.0, end.1) rest-none) }
 
@@ -99,7 +100,8 @@ NextTaken kept rest ahead rest' ahead' = IfSome rest (λ bytes. (left : List ℕ
     × IsNextPiece 10 true kept (ahead ++ bytes) (ahead' ++ left))
 
 -- what the check of a line says, of which this is kept
-abbrev NextChecked : Option Files → Meaning → Option (List ℕ) → Option (List ℕ) → ℕ → Result Mark CheckFault → ℕ → ℕ → Option (List ℕ)
+abbrev NextChecked : Option Files → Meaning → Option (List ℕ) → Option (List ℕ) → ℕ → Result Mark CheckFault → ℕ → ℕ
+    → Option (List ℕ)
     → Option (List ℕ) → Type 0
 NextChecked known k name kept number r m n b c = IfSome known (λ files. (line : List ℕ) → IsKept kept line
     → LineChecked files k name line number r m n b c)

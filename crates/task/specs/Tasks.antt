@@ -156,14 +156,14 @@ kdf g = do
   material ← needed text (codes "ikm-file") g
   Ok (derives by (has_flag (codes "raw") g) material)
 
--- that of `check`: under a key the entries of lists are tags of at most 64 bytes; else digests, those of untagged lines by
--- this hash, if there is one, and any other name of `-a` is one of HMAC
+-- that of `check`: under a key the entries of lists are tags of at most 64 bytes; else digests, those of untagged
+-- lines by this hash, if there is one, and any other name of `-a` is one of HMAC
 abbrev pub check : Given → Result Asked Text
 check g = (if is_some (text_of (codes "key") g) || is_some (text_of (codes "key-file") g)
     then under_key 64 g >>= (λ k. Ok (checks_tags k.0 k.1 k.2)) else (do
-  kind ← given (λ s t. ok_or (lookup (bytes_eq t) kinds) one_key) (codes "a") g
-  absent not_for (codes "l" ∷ []) g
-  Ok (checks kind))) >>= (λ lists. Ok (lists (has_flag (codes "summary") g) (names_or_input g)))
+      kind ← given (λ s t. ok_or (lookup (bytes_eq t) kinds) one_key) (codes "a") g
+      absent not_for (codes "l" ∷ []) g
+      Ok (checks kind))) >>= (λ lists. Ok (lists (has_flag (codes "summary") g) (names_or_input g)))
 
 -- only BLAKE3 has parts
 abbrev pub has_parts : Kind → Result (Unit {0}) Text

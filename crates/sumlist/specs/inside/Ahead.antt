@@ -22,7 +22,8 @@ pub record RestChecked (files : Files) (m : Meaning) (name : Option (List ℕ)) 
 
 -- the lines of the bytes that are ahead and of those to come
 pub record Checks (rest : Option (List ℕ)) (known : Option Files) (m : Meaning) (name : Option (List ℕ))
-    (ahead : List ℕ) (s : Summary) (r : Result Summary CheckFault) (count_old count_new : ℕ) (old new : Option (List ℕ)) : Type 0 where
+    (ahead : List ℕ) (s : Summary) (r : Result Summary CheckFault) (count_old count_new : ℕ)
+    (old new : Option (List ℕ)) : Type 0 where
   pub of : IfSome rest (λ bytes. IfSome known (λ files.
       RestChecked files m name (lines (ahead ++ bytes)) s r count_old count_new old new))
 

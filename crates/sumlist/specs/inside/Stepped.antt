@@ -1,5 +1,6 @@
 -- What the check of one line did.
-use Rattle.std.specs.Prelude.{◌⊎◌, ◌≡◌, ◌≤◌, ◌<◌, ⊤, ℕ, List, None, Option, Result, Ok, Err, IsSome, MatchResult, length}
+use Rattle.std.specs.Prelude.{◌⊎◌, ◌≡◌, ◌≤◌, ◌<◌, ⊤, ℕ, List, None, Option, Result, Ok, Err, IsSome, MatchResult}
+use Rattle.std.specs.Prelude.{length}
 use Rattle.std.specs.Io.KnownBytes.{Appends}
 use Rattle.source.specs.Counts.{count_after, next_count}
 use Rattle.source.specs.Written.{AppendsPrefix}

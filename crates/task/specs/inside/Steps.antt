@@ -19,9 +19,9 @@ mac_of most g = needed (named (macs most)) (codes "a") g >>= (λ f. f g)
 abbrev pub entries : Given → Result (Bool → List Text → Asked) Text
 entries g = if is_some (text_of (codes "key") g) || is_some (text_of (codes "key-file") g)
     then under_key 64 g >>= (λ k. Ok (checks_tags k.0 k.1 k.2)) else (do
-  kind ← given (λ s t. ok_or (lookup (bytes_eq t) kinds) one_key) (codes "a") g
-  absent not_for (codes "l" ∷ []) g
-  Ok (checks kind))
+      kind ← given (λ s t. ok_or (lookup (bytes_eq t) kinds) one_key) (codes "a") g
+      absent not_for (codes "l" ∷ []) g
+      Ok (checks kind))
 
 -- how a request of `kdf` has a key derived
 abbrev pub derivation_of : Given → Result Derived Text

@@ -39,7 +39,8 @@ loop-checker-preserved g c =
     let gave = c.in_ok-step.ensures.gave in
     record {
       goes = λ r n d later.
-          i.goes r n d ((rw (i.counts.kept, i.counts.entries, i.counts.name) at c.in_ok-step.ensures.checked) r n d later);
+          i.goes r n d ((rw (i.counts.kept, i.counts.entries, i.counts.name) at c.in_ok-step.ensures.checked) r n d
+          later);
       read = i.read ++ gave.0;
       consumed = Consumes-trans _ _ _ _ _ i.consumed gave.1;
       opens = c.in_ok-step.ensures.opens _ i.opens;

@@ -1,4 +1,5 @@
-use Rattle.sumlist.proofs.Common.{◌++◌, ◌≡◌, ◌≤◌, Alg, IfSome, List, None, Ok, Err, Option, Result, Some, [], arith, digest}
+use Rattle.sumlist.proofs.Common.{◌++◌, ◌≡◌, ◌≤◌, Alg, IfSome, List, None, Ok, Err, Option, Result, Some, [], arith}
+use Rattle.sumlist.proofs.Common.{digest}
 use Rattle.sumlist.proofs.Common.{input_limit, length, ℕ}
 use Rattle.std.proofs.lemmas.Result.{IfOk-at_ok}
 use Rattle.std.specs.Prelude.{IfOk, IsErrOf, OnOk}
