@@ -27,6 +27,8 @@ ERRORS = {
 SIZES = (1, 7, 4096)
 ABOUT_A_BLOCK = (63, 64, 65)
 SUMMARY = rb"sums: (.+: )?\d+ OK, \d+ failed, \d+ missing, \d+ unreadable, \d+ too long, \d+ malformed, \d+ skipped"
+# what is said of a list of one file that is not there
+ALL_MISSING = rb"sums: .+: " + re.escape(tables.text("{all missing}"))
 
 
 def fault(call, error):
@@ -77,7 +79,8 @@ def complaint(usual, got, call, error):
     if got.status == 3 and not got.err.endswith((b"sums: cannot write\n", b"sums: out of memory\n")):
         return "status 3 without its fault"
     told = set(got.err.split(b"\n")) - set(usual.err.split(b"\n")) - {b""}
-    if not all(re.fullmatch(fault(call, error) + rb"|" + SUMMARY, line) for line in told):
+    kinds = [fault(call, error), SUMMARY, *([ALL_MISSING] if b": MISSING\n" in got.out else [])]
+    if not all(re.fullmatch(rb"|".join(kinds), line) for line in told):
         return "a fault that is another's"
     untold = set(usual.err.split(b"\n")) - set(got.err.split(b"\n"))
     # where the usual run tells a fault, the failed call's may come in its place
