@@ -141,8 +141,10 @@ pub check_opens : (first : Option (List ℕ)) (tree : Option Files) (entries : E
     (lists : List Text) (x y : ℕ) → IfSome first (λ bytes. IfSome tree (λ files. y ≤ x + (entries_opens entries
     + sum_by (λ list. opens_of list + length (option_map_or lines (content_of list bytes files) [])) lists)))
     → Opens first tree (entries_shown entries is_summed lists) x y
-check_opens first tree (Digests kind) is_summed lists x y h = h
-check_opens first tree (Tags short key) is_summed lists x y h = h
+check_opens None tree (Digests kind) is_summed lists x y most = tt
+check_opens (Some bytes) None (Digests kind) is_summed lists x y most = tt
+check_opens (Some bytes) (Some files) (Digests kind) is_summed lists x y most = omega (arith, most)
+check_opens first tree (Tags short key) is_summed lists x y most = most
 
 -- the run of a task is that of the request that asks for it
 requested : (r : Given) (task : Asked) (files : Files) (bytes : List ℕ) (run : Run) → asked r ≡ Ok task
