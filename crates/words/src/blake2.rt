@@ -7,8 +7,9 @@ use crate::rows::{round32, round64};
 use crate::tables::{IV32, IV64, SIGMA};
 use std::simd::{u32x4, u64x4};
 
-/// The working words before the first round: the chaining value and the initial value, with the count and the last
-/// block's mark worked in (RFC 7693, section 3.2). For words in lanes, `$splat` puts a word into each lane.
+/// The working words before the first round: the chaining value, and the initial value combined with the
+/// count and the last block's mark (RFC 7693, section 3.2). For words in lanes, `$splat` puts a word into
+/// each lane.
 #[macro_export]
 macro_rules! working {
     ($h:ident, $iv:ident, $low:ident, $high:ident, $last:ident $(, $splat:path)?) => {{
@@ -59,7 +60,7 @@ macro_rules! joined {
     }};
 }
 
-// A row of the chaining value, with the rows of the state from two places on xored in.
+// A row of the chaining value, xored with the rows of the state that begin at the two places.
 macro_rules! folded {
     ($row:ident, $h:ident, $v:ident, $i:literal, $j:literal) => {
         $h ^ $row::from_array([$v[$i], $v[$i + 1], $v[$i + 2], $v[$i + 3]])
@@ -103,8 +104,8 @@ fn rounds64(v: &mut [u64; 16], m: &[u64; 16])
     round64(v, m, &SIGMA[1]);
 }
 
-/// F of BLAKE2s: takes the block `m` into the chaining value `h`, where `t` bytes have come with
-/// this block, and `last` marks the last one (RFC 7693, section 3.2).
+/// F of BLAKE2s: takes the block `m` into the chaining value `h`. `t` is the number of input bytes up to
+/// and including this block, and `last` marks the last block (RFC 7693, section 3.2).
 #[tactic(auto, unfolding(crate::specs::Blake2::compress))]
 pub fn compress_2s(h: &mut [u32; 8], m: &[u32; 16], t: u64, last: bool)
     ensures { h.new ≡ compress blake2s h.old m.now t last }
@@ -120,8 +121,8 @@ pub fn compress_2s(h: &mut [u32; 8], m: &[u32; 16], t: u64, last: bool)
     high.copy_to_slice(&mut h[4..]);
 }
 
-/// F of BLAKE2b: takes the block `m` into the chaining value `h`, where `t` bytes have come with
-/// this block, and `last` marks the last one (RFC 7693, section 3.2).
+/// F of BLAKE2b: takes the block `m` into the chaining value `h`. `t` is the number of input bytes up to
+/// and including this block, and `last` marks the last block (RFC 7693, section 3.2).
 #[tactic(auto, unfolding(crate::specs::Blake2::compress))]
 pub fn compress_2b(h: &mut [u64; 8], m: &[u64; 16], t: u128, last: bool)
     ensures { h.new ≡ compress blake2b h.old m.now t last }

@@ -18,15 +18,16 @@ pub(crate) fn working(h: &[u32; 8], t: u64, b: u32, d: u32) -> [u32; 16]
     ]
 }
 
-/// The compression function of BLAKE3, all sixteen words of it: of the chaining value `h`, the
-/// block `m`, the counter `t`, the block's length `b` in bytes and the flags `d` (the BLAKE3 paper,
-/// section 2.2). A chaining value is the first eight words.
+/// All sixteen words of BLAKE3's compression function, for the chaining value `h`, the block `m`, the counter
+/// `t`, the block's length `b` in bytes and the flags `d` (the BLAKE3 paper, section 2.2). The first eight
+/// words are a chaining value.
 #[tactic(auto, unfolding(crate::specs::Blake3::compress3, crate::specs::Blake3::rounds3, crate::specs::Blake3::permuted_words, crate::specs::Mix::round))]
 pub fn compress_3(h: &[u32; 8], m: &[u32; 16], t: u64, b: u32, d: u32) -> [u32; 16]
     ensures { result ≡ compress3 h.now m.now t b d }
 {
     let mut v = working(h, t, b, d);
-    // The rounds stand here: in a function of their own the compiler would read each word of the block alone.
+    // The rounds are written out here: in a function of their own, the compiler would read each word of the
+    // block separately.
     round32(&mut v, m, &PERMUTED[0]);
     round32(&mut v, m, &PERMUTED[1]);
     round32(&mut v, m, &PERMUTED[2]);

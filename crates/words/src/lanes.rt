@@ -1,4 +1,5 @@
-// The compression function of BLAKE3 on eight inputs side by side: vectors of eight words, one lane each.
+// The compression function of BLAKE3 on eight inputs side by side, in vectors of eight words: each input has
+// one lane.
 
 ghost use Rattle.std.specs.Prelude.{◌≡◌, ℕ, ◌<◌, ◌+◌, ◌*◌, ◌/◌, ◌%◌, ◌^◌, slice_index, slice_index_or, [], ◌∷◌};
 ghost use Rattle.std.specs.Prelude.{take, drop, length, bit_xor, ◌≤◌, ◌++◌};
@@ -15,7 +16,7 @@ use crate::levels::level;
 use crate::tables::IV32;
 use std::simd::prelude::*;
 
-// f of the words at each of these places, of one list or of two.
+// f of the words at each of these places in one list or in two.
 macro_rules! each {
     ($f:path, [$($k:literal),*], $x:ident) => {
         [$($f($x[$k])),*]
@@ -25,7 +26,7 @@ macro_rules! each {
     };
 }
 
-// f of the words of two lists at each of these places, and behind that g of those of two others.
+// f of the words at each of these places in two lists, followed by g of those in two others.
 macro_rules! both {
     ([$($k:literal),*], $f:path, $x:ident, $y:ident, $g:path, $v:ident, $w:ident) => {
         [$($f($x[$k], $y[$k])),*, $($g($v[$k], $w[$k])),*]
@@ -37,8 +38,9 @@ pub mod long;
 pub mod mixing;
 pub mod two;
 
-// What `next_lanes` is called for, here and in `four`. All uses mean the same, but each has a copy of the code: the
-// function is too large for `inline(always)`, and the compiler puts it in line where a copy has one caller.
+// What `next_lanes` is used for, here and in `four`. All uses compute the same, but each has its own copy of
+// the code: the function is too large for `inline(always)`, and the compiler inlines a copy that has only one
+// caller.
 
 /// The use of `next_lanes` on the blocks of whole chunks.
 pub const CHUNKS: usize = 0;
@@ -46,13 +48,13 @@ pub const CHUNKS: usize = 0;
 /// Its use on parents, and on any eight inputs.
 pub const PARENTS: usize = 1;
 
-/// Its use on the blocks of messages of one chunk, but for their last.
+/// Its use on the blocks of messages of one chunk, except the last block.
 pub const BLOCKS: usize = 2;
 
-/// Its use on the last blocks of such messages.
+/// Its use on the last block of such messages.
 pub const LAST_BLOCKS: usize = 3;
 
-/// Where the bytes of eight words come from when they turn by 16 and by 8.
+/// Where the bytes of eight words come from when the words are rotated by 16 and by 8 bits.
 #[derive(Clone, Copy)]
 pub struct Turns {
     by_16: u8x32,
@@ -62,13 +64,14 @@ pub struct Turns {
 }
 
 impl Turns {
-    /// The places. A call, so that the compiler does not know them and leaves each turn as one shuffle.
+    /// The places. Not inlined, so that the compiler does not know them and keeps each rotation as one
+    /// shuffle.
     #[inline(never)]
     pub fn new() -> Turns {
         Turns::known()
     }
 
-    /// The same places, known to the compiler: it turns by what the processor level has.
+    /// The same places, known to the compiler, which rotates with what the processor level offers.
     #[inline(always)]
     pub fn known() -> Turns {
         Turns {
@@ -103,7 +106,7 @@ pub fn bytes_of(x: u32x8) -> u8x32
     x.to_le_bytes()
 }
 
-/// The words of bytes.
+/// The words of these bytes.
 #[inline(always)]
 pub fn words_of(x: u8x32) -> u32x8
     ensures { (i : ℕ) → i < 8 → slice_index result i ≡ number_l 256 (chunk (4 * i) 4 x) }
@@ -205,7 +208,7 @@ fn halves_high(a: u32x8, b: u32x8) -> u32x8
     a.shuffle(b, [4, 5, 6, 7, 12, 13, 14, 15])
 }
 
-// Rows for columns.
+// Turns rows into columns.
 #[inline(always)]
 fn transpose(r: [u32x8; 8]) -> [u32x8; 8]
     ensures { result ≡ transposed8 r }
@@ -247,7 +250,7 @@ fn quad(x: &[u8], y: &[u8], at: usize) -> u32x8
     four::joined(four::row(x, at), four::row(y, at))
 }
 
-// Four message words, of the quads of the lanes 0 and 4, 1 and 5, 2 and 6, 3 and 7.
+// Four message words, from the quads of lanes 0 and 4, 1 and 5, 2 and 6, and 3 and 7.
 #[inline(always)]
 fn quads(a: u32x8, b: u32x8, c: u32x8, d: u32x8) -> [u32x8; 4]
     ensures { result ≡ (slice_index a 0 ∷ slice_index b 0 ∷ slice_index c 0 ∷ slice_index d 0 ∷ slice_index a 4
@@ -281,14 +284,14 @@ pub(crate) fn block_at(bytes: &[u8], at: usize) -> &[u8]
     &bytes[at..at + 64]
 }
 
-// Four message words of eight blocks, of which each quad takes two, from byte `at` on.
+// Four message words of eight blocks, from byte `at` on; each quad takes two of the blocks.
 macro_rules! quads_at {
     ($at:literal, $($low:ident, $high:ident);*) => {
         quads($(quad($low, $high, $at)),*)
     };
 }
 
-/// The words of eight blocks, by lanes: lane i has those of the block that begins `at` bytes after its start.
+/// The words of eight blocks, by lanes: lane i has the block that begins `at` bytes after `starts[i]`.
 #[inline(always)]
 #[tactic(auto, unfolding(crate::specs::inside::Lanes::lane))]
 pub fn message_lanes(bytes: &[u8], starts: &[usize; 8], at: usize) -> [u32x8; 16]
@@ -331,7 +334,7 @@ fn first_half(r: [u32; 16]) -> u32x8
     u32x8::from_array([r[0], r[1], r[2], r[3], r[4], r[5], r[6], r[7]])
 }
 
-// The second half.
+// The second half of a row of sixteen words.
 #[inline(always)]
 fn second_half(r: [u32; 16]) -> u32x8
     ensures { result ≡ slice_index r 8 ∷ slice_index r 9 ∷ slice_index r 10 ∷ slice_index r 11 ∷ slice_index r 12
@@ -457,8 +460,8 @@ fn odd(a: u32x8, b: u32x8) -> u32x8
     a.shuffle(b, [1, 3, 5, 7, 9, 11, 13, 15])
 }
 
-/// The words of neighbours one after the other: in the first four lanes those of `left`, in the others
-/// those of `right`.
+/// The words of neighbours one after the other: the neighbours in `left` in the first four lanes, and those
+/// in `right` in the others.
 #[inline(always)]
 #[tactic(auto, unfolding(crate::specs::inside::Lanes::lane))]
 pub fn pair_lanes(left: [u32x8; 8], right: [u32x8; 8]) -> [u32x8; 16]

@@ -26,8 +26,9 @@ macro_rules! mixed_columns {
     }};
 }
 
-// G down the columns, and then down the diagonals. For these the rows but the second are turned, so
-// that each diagonal is a column; the second is the last that G makes, and turning it would cost time.
+// G down the columns, and then down the diagonals. For the diagonals, all rows but the second are turned, so
+// that each diagonal is a column. The second is not turned: G makes it last, so that turning it would cost
+// time.
 macro_rules! mixed_rows {
     ($row:ident, $mix:ident, $picked:ident, $v:ident, $m:ident, $s:ident) => {{
         let rows = [
@@ -80,8 +81,8 @@ pub(crate) fn rotated_xor32(x: u32x4, y: u32x4, r: u32) -> u32x4
     (z >> u32x4::splat(r)) | (z << u32x4::splat(32 - r))
 }
 
-// A word of m, taken out of its row of four: so the compiler makes picked words by shuffles of rows. Taken alone
-// each would be inserted alone, for which many processors have one unit.
+// A word of m, taken out of its row of four, so that the compiler makes picked words by shuffling rows.
+// Otherwise it would insert each word separately, for which many processors have only one unit.
 #[inline(always)]
 fn word32(m: &[u32; 16], i: usize) -> u32
     requires { i < 16 }
@@ -142,8 +143,8 @@ fn rotated_xor64(x: u64x4, y: u64x4, r: u64) -> u64x4
     (z >> u64x4::splat(r)) | (z << u64x4::splat(64 - r))
 }
 
-// A word of m, taken out of its row of four: so the compiler makes picked words by shuffles of rows. Taken alone
-// each would be inserted alone, for which many processors have one unit.
+// A word of m, taken out of its row of four, so that the compiler makes picked words by shuffling rows.
+// Otherwise it would insert each word separately, for which many processors have only one unit.
 #[inline(always)]
 fn word64(m: &[u64; 16], i: usize) -> u64
     requires { i < 16 }

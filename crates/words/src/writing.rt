@@ -24,7 +24,7 @@ pub fn bytes64(value: &[u64; 8]) -> [u8; 64]
     bytes
 }
 
-/// Writes `bytes` into the buffer from place `at` on. The caller sees to it that they fit.
+/// Writes `bytes` into the buffer from place `at` on. The caller has to ensure that they fit.
 pub fn write_at<const N: usize>(buffer: &mut [u8; N], at: usize, bytes: &[u8])
     requires { at + length bytes.now ≤ N }
     ensures front { take (at + length bytes.now) buffer.new ≡ take at buffer.old ++ bytes.now }

@@ -1,4 +1,4 @@
-//! The same on four inputs side by side, for the few chunks of a short message.
+//! The compression function of BLAKE3 on four inputs side by side, for the few chunks of a short message.
 
 ghost use Rattle.std.specs.Prelude.{◌≡◌, ℕ, ◌<◌, ◌+◌, ◌*◌, ◌/◌, ◌%◌, ◌^◌, slice_index, slice_index_or, [], ◌∷◌};
 ghost use Rattle.std.specs.Prelude.{drop, length, take, ◌≤◌};
@@ -15,7 +15,7 @@ use crate::rows::rotated_xor32;
 use crate::tables::IV32;
 use std::simd::prelude::*;
 
-// The places of four words among those of eight.
+// The places for four words, from those for eight.
 #[inline(always)]
 fn half(places: u8x32) -> u8x16
     ensures { result ≡ take 16 places }
@@ -31,7 +31,7 @@ fn bytes_of(x: u32x4) -> u8x16
     x.to_le_bytes()
 }
 
-// The words of bytes.
+// The words of these bytes.
 #[inline(always)]
 fn words_of(x: u8x16) -> u32x4
     ensures { (i : ℕ) → i < 4 → slice_index result i ≡ number_l 256 (chunk (4 * i) 4 x) }
@@ -165,7 +165,7 @@ fn pairs_high(a: u32x4, b: u32x4) -> u32x4
     a.shuffle(b, [2, 3, 6, 7])
 }
 
-// Rows for columns.
+// Turns rows into columns.
 #[inline(always)]
 fn transpose(r: [u32x4; 4]) -> [u32x4; 4]
     ensures { result ≡ lane4 0 r ∷ lane4 1 r ∷ lane4 2 r ∷ lane4 3 r ∷ [] }
@@ -192,7 +192,7 @@ pub(crate) fn row(block: &[u8], at: usize) -> u32x4
     words_of(load(block, at))
 }
 
-/// The words of four blocks, by lanes: lane i has those of the block that begins `at` bytes after its start.
+/// The words of four blocks, by lanes: lane i has the block that begins `at` bytes after `starts[i]`.
 #[inline(always)]
 #[tactic(auto, unfolding(crate::specs::inside::Lanes::lane))]
 pub fn message_lanes(bytes: &[u8], starts: &[usize; 4], at: usize) -> [u32x4; 16]
@@ -213,7 +213,7 @@ pub fn message_lanes(bytes: &[u8], starts: &[usize; 4], at: usize) -> [u32x4; 16
     ]
 }
 
-// Eight words of two vectors.
+// Two vectors of four words as one of eight.
 #[inline(always)]
 pub(crate) fn joined(x: u32x4, y: u32x4) -> u32x8
     ensures { result ≡ slice_index x 0 ∷ slice_index x 1 ∷ slice_index x 2 ∷ slice_index x 3
@@ -249,7 +249,7 @@ fn left(x: u32x8) -> u32x4
     x.swizzle([0, 1, 2, 3])
 }
 
-// The other four.
+// The last four of eight words.
 #[inline(always)]
 fn right(x: u32x8) -> u32x4
     ensures { result ≡ slice_index x 4 ∷ slice_index x 5 ∷ slice_index x 6 ∷ slice_index x 7 ∷ [] }
@@ -265,7 +265,7 @@ fn left_values(h: [u32x8; 8]) -> [u32x4; 8]
     each!(left, [0, 1, 2, 3, 4, 5, 6, 7], h)
 }
 
-// The other four.
+// The last four of eight lanes.
 #[inline(always)]
 fn right_values(h: [u32x8; 8]) -> [u32x4; 8]
     ensures { (i : ℕ) → i < 4 → lane8 i result ≡ lane8 (4 + i) h }
@@ -273,7 +273,7 @@ fn right_values(h: [u32x8; 8]) -> [u32x4; 8]
     each!(right, [0, 1, 2, 3, 4, 5, 6, 7], h)
 }
 
-// The same of message words.
+// The first four of eight lanes of message words.
 #[inline(always)]
 #[tactic(auto, unfolding(crate::specs::inside::Lanes::lane))]
 fn left_words(m: [u32x8; 16]) -> [u32x4; 16]
@@ -298,7 +298,7 @@ fn right_words(m: [u32x8; 16]) -> [u32x4; 16]
     )
 }
 
-/// Four lanes beside four others.
+/// Four lanes followed by four others.
 #[inline(always)]
 pub fn joined_lanes(l: [u32x4; 8], r: [u32x4; 8]) -> [u32x8; 8]
     ensures left { (i : ℕ) → i < 4 → lane8 i result ≡ lane8 i l }
@@ -307,8 +307,8 @@ pub fn joined_lanes(l: [u32x4; 8], r: [u32x4; 8]) -> [u32x8; 8]
     each!(joined, [0, 1, 2, 3, 4, 5, 6, 7], l, r)
 }
 
-/// The same in each of eight lanes: in four of them, and then in the others. It is faster where a vector of eight
-/// words takes two registers.
+/// The first eight words of `compress_3` in each of eight lanes: in four of them, and then in the others.
+/// This is faster if a vector of eight words takes two registers.
 #[inline(always)]
 pub(crate) fn next_fours(
     turns: Turns,

@@ -16,7 +16,7 @@ pub fn bytes_of(x: u64x4) -> u8x32
     x.to_le_bytes()
 }
 
-/// The words of bytes.
+/// The words of these bytes.
 #[inline(always)]
 pub fn words_of(x: u8x32) -> u64x4
     ensures { (i : ℕ) → i < 4 → slice_index result i ≡ number_l 256 (chunk (8 * i) 8 x) }
@@ -24,7 +24,7 @@ pub fn words_of(x: u8x32) -> u64x4
     u64x4::from_le_bytes(x)
 }
 
-// The bytes of words that turn by 32.
+// The bytes of words, each word turned by 32 bits.
 #[inline(always)]
 fn move32(x: u8x32) -> u8x32
     ensures { result ≡ turned_bytes 8 4 x }
@@ -35,7 +35,7 @@ fn move32(x: u8x32) -> u8x32
     ])
 }
 
-// The bytes of words that turn by 24.
+// The bytes of words, each word turned by 24 bits.
 #[inline(always)]
 fn move24(x: u8x32) -> u8x32
     ensures { result ≡ turned_bytes 8 3 x }
@@ -46,7 +46,7 @@ fn move24(x: u8x32) -> u8x32
     ])
 }
 
-// The bytes of words that turn by 16.
+// The bytes of words, each word turned by 16 bits.
 #[inline(always)]
 fn move16(x: u8x32) -> u8x32
     ensures { result ≡ turned_bytes 8 2 x }

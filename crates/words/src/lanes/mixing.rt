@@ -1,4 +1,5 @@
-//! The rounds of BLAKE2 and BLAKE3 on several inputs side by side: each word is a vector, with one lane for each input.
+//! The rounds of BLAKE2 and BLAKE3 on several inputs side by side: each word is a vector with one lane for
+//! each input.
 
 ghost use Rattle.std.specs.Prelude.{◌≡◌, ℕ, ◌<◌, ◌^◌, [], List, bit_xor, map, slice_index, take};
 ghost use Rattle.words.specs.Blake2.{blake2s, folded_halves, rounds};
@@ -11,10 +12,10 @@ use crate::tables::{PERMUTED, SIGMA};
 
 /// A vector of words, one in each lane.
 pub trait WordLanes: Copy {
-    /// What the turns take besides the words.
+    /// What the rotations need besides the words.
     type Turns: Copy;
 
-    // The hash whose words they are, the number of lanes, and the words in them.
+    // The hash that the words belong to, the number of lanes, and the words in them.
     ghost variant: { Variant };
 
     ghost count: { ℕ };
@@ -34,15 +35,15 @@ pub trait WordLanes: Copy {
     fn turn1(self, y: Self, turns: Self::Turns) -> Self
         ensures { OnLanes count (rotated_xor variant 0) (words self) (words y) (words result) };
 
-    /// The same by the second.
+    /// The words in each lane, xored and rotated right by the second rotation number.
     fn turn2(self, y: Self, turns: Self::Turns) -> Self
         ensures { OnLanes count (rotated_xor variant 1) (words self) (words y) (words result) };
 
-    /// The same by the third.
+    /// The words in each lane, xored and rotated right by the third rotation number.
     fn turn3(self, y: Self, turns: Self::Turns) -> Self
         ensures { OnLanes count (rotated_xor variant 2) (words self) (words y) (words result) };
 
-    /// The same by the fourth.
+    /// The words in each lane, xored and rotated right by the fourth rotation number.
     fn turn4(self, y: Self, turns: Self::Turns) -> Self
         ensures { OnLanes count (rotated_xor variant 3) (words self) (words y) (words result) };
 }
@@ -61,7 +62,7 @@ fn begin_mix<V: WordLanes>(turns: V::Turns, column: (V, V, V, V), x: V) -> (V, V
     (a, b, c, d)
 }
 
-// The second half of G, where the first was on `v`.
+// The second half of G, on a column that the first half made from `v`.
 #[inline(always)]
 fn end_mix<V: WordLanes>(turns: V::Turns, column: (V, V, V, V), y: V) -> (V, V, V, V)
     ensures { (i : ℕ) → i < V.count → (v : List ℕ) (x : ℕ)
@@ -85,8 +86,8 @@ pub(crate) fn mix<V: WordLanes>(turns: V::Turns, column: (V, V, V, V), x: V, y: 
     end_mix(turns, begin_mix(turns, column, x), y)
 }
 
-// A round under the schedule `s`: G down the columns, and then down the diagonals (RFC 7693, section 3.2). Four halves
-// of G stand side by side, since each step of one waits for the step before it.
+// A round under the schedule `s`: G down the columns, and then down the diagonals (RFC 7693, section 3.2).
+// Four halves of G are computed side by side, since each step of one has to wait for the step before it.
 #[inline(always)]
 #[tactic(auto, unfolding(crate::specs::inside::Lanes::lane))]
 fn round_by_halves<V: WordLanes>(
@@ -120,8 +121,8 @@ fn round_by_halves<V: WordLanes>(
     ]
 }
 
-// A round under the schedule `s`: G down the columns, and then down the diagonals (RFC 7693, section 3.2). One G
-// comes after the other, which keeps fewer vectors at hand.
+// A round under the schedule `s`: G down the columns, and then down the diagonals (RFC 7693, section 3.2).
+// The calls of G follow one another, so that fewer vectors are in use at a time.
 #[inline(always)]
 #[tactic(auto, unfolding(crate::specs::inside::Lanes::lane))]
 fn round_in_turn<V: WordLanes>(

@@ -1,5 +1,5 @@
-//! The same on two inputs in the halves of rows of eight words, for the two chunks of a short message, where half of
-//! four lanes would do nothing, and on two such pairs.
+//! The compression function of BLAKE3 on two inputs, in the halves of rows of eight words, for short messages
+//! of two chunks, which would leave two of four lanes idle; and on two such pairs.
 
 ghost use Rattle.std.specs.Prelude.{◌≡◌, ℕ, ◌<◌, ◌+◌, ◌*◌, slice_index, slice_index_or, [], ◌∷◌, take, drop, length, ◌≤◌};
 ghost use Rattle.words.specs.Blake2.{schedule, blake2s};
@@ -14,7 +14,7 @@ use crate::lanes::{Turns, block_at, halves_high, halves_low, high, low, quad};
 use crate::tables::IV32;
 use std::simd::prelude::*;
 
-// The seven rounds, each on the message words in its order.
+// The seven rounds, each on the message words in the order of that round.
 macro_rules! seven_rounds {
     ($round:ident, $permute:ident, $turns:ident, $v:ident, $m:ident) => {{
         let v = $round($turns, $v, $m);
@@ -58,8 +58,8 @@ fn turned_by_3(x: u32x8) -> u32x8
     x.swizzle([3, 0, 1, 2, 7, 4, 5, 6])
 }
 
-// One round: G down the columns, and then down the diagonals, which are columns of turned rows. The second row is the
-// last that G makes, and turning it would cost time.
+// One round: G down the columns, and then down the diagonals, which are columns of turned rows. The second
+// row is not turned: G makes it last, so that turning it would cost time.
 #[inline(always)]
 fn round_halves(turns: Turns, rows: [u32x8; 4], m: [u32x8; 4]) -> [u32x8; 4]
     ensures { (i : ℕ) → i < 2 → half16 i result ≡ round blake2s (half16 i rows) (half_message i m) (schedule 0) }
@@ -71,8 +71,8 @@ fn round_halves(turns: Turns, rows: [u32x8; 4], m: [u32x8; 4]) -> [u32x8; 4]
     [turned_by_1(a), b, turned_by_3(c), turned_by_2(d)]
 }
 
-// The message words in the order of the next round, a row each: seven shuffles, of which the first three gather what
-// no one shuffle of two rows can.
+// The message words in the order of the next round, as four rows: seven shuffles, of which the first three
+// gather what no single shuffle of two rows can.
 #[inline(always)]
 fn permuted(x: u32x8, y: u32x8, z: u32x8, w: u32x8) -> [u32x8; 4]
     ensures { (i : ℕ) → i < 2
@@ -140,7 +140,7 @@ pub fn next_halves(
     [a.xor(c), b.xor(d)]
 }
 
-// A round of two pairs in turn, since each step of one waits for the step before it.
+// A round on each of two pairs in turn, since each step on one pair has to wait for the step before it.
 #[inline(always)]
 fn round_pairs(turns: Turns, rows: [[u32x8; 4]; 2], m: [[u32x8; 4]; 2]) -> [[u32x8; 4]; 2]
     ensures { (k : ℕ) → k < 2 → (i : ℕ) → i < 2 → half16 i (slice_index_or result k [])
@@ -207,7 +207,7 @@ pub fn same_halves(h: &[u32; 8]) -> [u32x8; 2]
     ]
 }
 
-/// The words of two blocks, by halves: half i has those of the block that begins `at` bytes after its start.
+/// The words of two blocks, by halves: half i has the block that begins `at` bytes after `starts[i]`.
 #[inline(always)]
 pub fn message_halves(bytes: &[u8], starts: &[usize; 2], at: usize) -> [u32x8; 4]
     requires { (i : ℕ) → i < 2 → slice_index starts.now i + at + 64 ≤ length bytes.now }
