@@ -8,7 +8,7 @@ use Rattle.words.specs.Blake2.{compress}
 use Rattle.words.specs.Mix.{Variant}
 use Rattle.words.specs.Words.{words, word_bytes, padded}
 
--- what a digest is made under; salt and personalization have two words each
+-- the parameters of a digest; salt and personalization have two words each
 pub record Parameters : Type 0 where
   pub digest_length : ℕ
   pub key : List ℕ
@@ -41,7 +41,7 @@ unfoldable pub key_block : Variant → List ℕ → List ℕ
 key_block k [] = []
 key_block k (x ∷ xs) = padded (block_len k) (x ∷ xs)
 
--- all that is compressed: the key's block and the message (3.3)
+-- all that is compressed: the key's block, if any, and the message (3.3)
 abbrev pub input : Variant → List ℕ → List ℕ → List ℕ
 input k key m = key_block k key ++ m
 
@@ -49,13 +49,12 @@ input k key m = key_block k key ++ m
 abbrev pub block_words : Variant → List ℕ → ℕ → List ℕ
 block_words k p i = words (word_len k) 16 (padded (block_len k) (take (block_len k) (drop (i * block_len k) p)))
 
--- the number of blocks of an input of n bytes: one for none, else n over the block length, rounded up
--- (3.3)
+-- the number of blocks of an input of n bytes: one if n is 0, otherwise n divided by the block length, rounded up (3.3)
 unfoldable pub block_count : Variant → ℕ → ℕ
 block_count k zero = 1
 block_count k (suc n) = (suc n + (block_len k - 1)) / block_len k
 
--- the chaining value after the first n blocks of p, none of them the last, from the value h (3.3)
+-- the chaining value after the first n blocks of p, starting from h; none of them is the last block (3.3)
 unfoldable pub chain : Variant → List ℕ → List ℕ → ℕ → List ℕ
 chain k h p zero = h
 chain k h p (suc n) = compress k (chain k h p n) (block_words k p n) ((n + 1) * block_len k) false
@@ -70,8 +69,8 @@ final_value k h p =
 unfoldable pub blake2 : Variant → Parameters → List ℕ → List ℕ
 blake2 k p m = take p.digest_length (word_bytes (word_len k) (final_value k (start k p) (input k p.key m)))
 
--- the parameters that the function has: a digest and a key of up to eight words, salt and
--- personalization of two (2.1; the BLAKE2 paper, 2.5)
+-- the parameters that the function has: a digest and a key of up to eight words, a salt and a personalization of two
+-- (2.1; the BLAKE2 paper, 2.5)
 abbrev pub IsParameters : Variant → Parameters → Type 0
 IsParameters k p = (1 ≤ p.digest_length) × (p.digest_length ≤ 8 * word_len k)
     × (length p.key ≤ 8 * word_len k)
@@ -82,7 +81,7 @@ abbrev pub salted : ℕ → List ℕ → List ℕ → List ℕ → Parameters
 salted digest_length key salt personal =
     record { digest_length = digest_length; key = key; salt = salt; personal = personal }
 
--- the parameters without: both are zeros
+-- the parameters without them: both are zeros
 abbrev pub unsalted : Variant → ℕ → List ℕ → Parameters
 unsalted k digest_length key =
     salted digest_length key (replicate (2 * word_len k) 0) (replicate (2 * word_len k) 0)
@@ -91,13 +90,13 @@ unsalted k digest_length key =
 abbrev pub listed : Parameters → List ℕ
 listed p = p.digest_length ∷ p.salt ++ p.personal ++ p.key
 
--- the parameters that such a list stands for
+-- the parameters that such a list represents
 abbrev pub from_list : Variant → List ℕ → Parameters
 from_list k l = salted (slice_index l 0) (drop (1 + 4 * word_len k) l) (take (2 * word_len k) (drop 1 l))
     (take (2 * word_len k) (drop (1 + 2 * word_len k) l))
 
--- the greatest length of a message under a key, where the input has at most `most` bytes: a key takes
--- a block of the input
+-- the greatest length of a message under a key, if the input has at most `most` bytes: a key takes up one block of the
+-- input
 abbrev pub message_limit : ℕ → ℕ → List ℕ → ℕ
 message_limit most block [] = most
 message_limit most block (x ∷ xs) = most - block

@@ -10,17 +10,17 @@ use crate::chain::Chain2b;
 use crate::hasher::Hasher;
 use words::{Absorb, InputTooLong, Tag};
 
-/// A hasher for BLAKE2b, with digests and keys of up to 64 bytes (RFC 7693, section 2.1). Messages have
-/// up to 2^128 - 1 bytes, and a block of 128 bytes less under a key, so that the count of bytes, the
-/// key's block among them, never wraps.
+/// A hasher for BLAKE2b, with digests and keys of up to 64 bytes (RFC 7693, section 2.1). Messages have up to
+/// 2^128 - 1 bytes, or a block of 128 bytes less under a key, so that the count of bytes, which includes the
+/// key's block, never wraps.
 #[derive(Drop)]
 pub struct Blake2b {
     pub(crate) hasher: Hasher<Chain2b, 128, 16>,
 }
 
 impl Blake2b {
-    /// A hasher of the empty message, without a key, for digests of `digest_length` bytes. It is
-    /// refused where that is 0 or above 64 (RFC 7693, section 2.1).
+    /// A hasher of the empty message, without a key, for digests of `digest_length` bytes. It is refused if
+    /// that is 0 or above 64 (RFC 7693, section 2.1).
     pub fn new(digest_length: usize) -> Result<Blake2b, ParameterFault>
         ensures { MatchResult result
             (λ h. (parameter_fault 64 digest_length 0 ≡ None)
@@ -32,9 +32,9 @@ impl Blake2b {
         Blake2b::keyed(digest_length, &[])
     }
 
-    /// A hasher of the empty message under `key`, for digests of `digest_length` bytes. It is refused
-    /// where that is 0 or above 64, and else where the key has more than 64 bytes. An empty key is no
-    /// key; another takes a block of 128 bytes of the room (RFC 7693, section 3.3).
+    /// A hasher of the empty message under `key`, for digests of `digest_length` bytes. It is refused if that
+    /// is 0 or above 64, and otherwise if the key has more than 64 bytes. An empty key means no key; any
+    /// other takes up a block of 128 bytes of the room (RFC 7693, section 3.3).
     pub fn keyed(digest_length: usize, key: &[u8]) -> Result<Blake2b, ParameterFault>
         ensures { MatchResult result
             (λ h. (parameter_fault 64 digest_length (length key.now) ≡ None)
@@ -46,9 +46,9 @@ impl Blake2b {
         Blake2b::with_parameters(digest_length, key, &[0; 16], &[0; 16])
     }
 
-    /// A hasher of the empty message under `key`, with a salt and a personalization of 16 bytes each,
-    /// for digests of `digest_length` bytes. It is refused as `keyed` is, which is its case of zeros
-    /// (RFC 7693, section 2.5; the BLAKE2 paper, sections 2.5 and 2.8).
+    /// A hasher of the empty message under `key`, with a salt and a personalization of 16 bytes each, for
+    /// digests of `digest_length` bytes. It is refused exactly when `keyed` is, which is the case of zeros
+    /// for both (RFC 7693, section 2.5; the BLAKE2 paper, sections 2.5 and 2.8).
     pub fn with_parameters(
         digest_length: usize,
         key: &[u8],

@@ -10,17 +10,17 @@ use crate::chain::Chain2s;
 use crate::hasher::Hasher;
 use words::{Absorb, InputTooLong, Tag};
 
-/// A hasher for BLAKE2s, with digests and keys of up to 32 bytes (RFC 7693, section 2.1). Messages have
-/// up to 2^64 - 1 bytes, and a block of 64 bytes less under a key, so that the count of bytes, the
-/// key's block among them, never wraps.
+/// A hasher for BLAKE2s, with digests and keys of up to 32 bytes (RFC 7693, section 2.1). Messages have up to
+/// 2^64 - 1 bytes, or a block of 64 bytes less under a key, so that the count of bytes, which includes the
+/// key's block, never wraps.
 #[derive(Drop)]
 pub struct Blake2s {
     pub(crate) hasher: Hasher<Chain2s, 64, 8>,
 }
 
 impl Blake2s {
-    /// A hasher of the empty message, without a key, for digests of `digest_length` bytes. It is
-    /// refused where that is 0 or above 32 (RFC 7693, section 2.1).
+    /// A hasher of the empty message, without a key, for digests of `digest_length` bytes. It is refused if
+    /// that is 0 or above 32 (RFC 7693, section 2.1).
     pub fn new(digest_length: usize) -> Result<Blake2s, ParameterFault>
         ensures { MatchResult result
             (λ h. (parameter_fault 32 digest_length 0 ≡ None)
@@ -32,9 +32,9 @@ impl Blake2s {
         Blake2s::keyed(digest_length, &[])
     }
 
-    /// A hasher of the empty message under `key`, for digests of `digest_length` bytes. It is refused
-    /// where that is 0 or above 32, and else where the key has more than 32 bytes. An empty key is no
-    /// key; another takes a block of 64 bytes of the room (RFC 7693, section 3.3).
+    /// A hasher of the empty message under `key`, for digests of `digest_length` bytes. It is refused if that
+    /// is 0 or above 32, and otherwise if the key has more than 32 bytes. An empty key means no key; any
+    /// other takes up a block of 64 bytes of the room (RFC 7693, section 3.3).
     pub fn keyed(digest_length: usize, key: &[u8]) -> Result<Blake2s, ParameterFault>
         ensures { MatchResult result
             (λ h. (parameter_fault 32 digest_length (length key.now) ≡ None)
@@ -46,9 +46,9 @@ impl Blake2s {
         Blake2s::with_parameters(digest_length, key, &[0; 8], &[0; 8])
     }
 
-    /// A hasher of the empty message under `key`, with a salt and a personalization of 8 bytes each,
-    /// for digests of `digest_length` bytes. It is refused as `keyed` is, which is its case of zeros
-    /// (RFC 7693, section 2.5; the BLAKE2 paper, sections 2.5 and 2.8).
+    /// A hasher of the empty message under `key`, with a salt and a personalization of 8 bytes each, for
+    /// digests of `digest_length` bytes. It is refused exactly when `keyed` is, which is the case of zeros
+    /// for both (RFC 7693, section 2.5; the BLAKE2 paper, sections 2.5 and 2.8).
     pub fn with_parameters(
         digest_length: usize,
         key: &[u8],

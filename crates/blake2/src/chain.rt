@@ -11,7 +11,7 @@ ghost use Rattle.blake2.specs.inside.Lengths.{block_len_2b, block_len_2s};
 use byteorder::{ByteOrder, LittleEndian};
 use words::{IV32, IV64, Tag, compress_2b, compress_2s, words32, words64};
 
-/// A chaining value, with the compression function that moves it on by a block of `N` bytes.
+/// A chaining value, with the compression function that advances it by a block of `N` bytes.
 pub(crate) trait Chain<const N: usize>: Drop {
     // The constants of the function.
     ghost variant: { Variant };
@@ -29,7 +29,7 @@ pub(crate) trait Chain<const N: usize>: Drop {
 
     const OUT: usize;
 
-    // The chaining value before the first block, of a parameter block.
+    // The chaining value before the first block, for a parameter block.
     fn start(parameter_block: &[u8]) -> Self
         requires { length parameter_block.now ≡ 8 * word_len variant }
         ensures { value result ≡ xor_words variant.iv (words (word_len variant) 8 parameter_block.now) };

@@ -1,6 +1,6 @@
 // Why a hasher is refused.
 
-/// No hasher has these parameters. Where both facts hold, the digest's length is told.
+/// No hasher has these parameters. If both lengths are wrong, the digest's is reported.
 #[derive(Clone, Copy, Debug, PartialEq, Eq, Drop)]
 pub enum ParameterFault {
     /// The digest has no bytes, or more than the function gives: 64 for BLAKE2b, 32 for BLAKE2s.
@@ -9,11 +9,11 @@ pub enum ParameterFault {
     KeyLength,
 }
 
-/// Why a hasher's plain numbers take no piece.
+/// Why the plain numbers of a hasher refuse a piece.
 #[derive(Clone, Copy, Debug, PartialEq, Eq, Drop)]
 pub enum StateFault {
-    /// They are those of no hasher.
+    /// They are not those of a hasher.
     NotBegun,
-    /// The message would pass its limit.
+    /// The message would exceed its limit.
     TooLong,
 }

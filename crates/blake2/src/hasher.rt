@@ -1,4 +1,4 @@
-// A hasher under its parameters, over the chaining value of either function.
+// A hasher with its parameters, for the chaining value of either function.
 
 ghost use Rattle.std.specs.Prelude.{◌≡◌, ◌≤◌, ◌<◌, ◌+◌, ◌-◌, ◌*◌, ◌++◌, ◌↔◌, [], ℕ, List, length, Some, None};
 ghost use Rattle.std.specs.Prelude.{MatchResult};
@@ -28,7 +28,7 @@ fn empty_stream<C: Chain<N>, const N: usize>(
         (C.value result.chain) result.buffer result.used result.compressed }
     ensures count { result.compressed + result.used ≡ 0 }
 {
-    // The parameter block is half a block: digest length, key length, fanout, depth, zeros up to half
+    // The parameter block is half a block: digest length, key length, fanout, depth, zeros up to the middle
     // of it, then salt and personalization.
     let mut block: [u8; N] = padded_block(&[digest_length as u8, key.len() as u8, 1, 1]);
     write_at(&mut block, N / 4, salt);

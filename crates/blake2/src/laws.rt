@@ -1,4 +1,4 @@
-// What the parameters and the states of a hasher are, beside what the functions do.
+// What the parameters and the states of a hasher are, apart from what the functions do.
 
 ghost use Rattle.std.specs.Prelude.{◌≡◌, ◌*◌, ◌↔◌, length, None};
 ghost use Rattle.words.specs.Mix.{Variant};
@@ -8,9 +8,9 @@ ghost use Rattle.blake2.specs.Faults.{parameter_fault};
 ghost use Rattle.blake2.specs.declared.state2b.Blake2bState.{Blake2bState};
 ghost use Rattle.blake2.specs.declared.state2s.Blake2sState.{Blake2sState};
 
-/// Does nothing. Its contract says that the parameters that are not refused are those that the
-/// function has (RFC 7693, section 2.1; the BLAKE2 paper, section 2.5), where salt and
-/// personalization have two words each, and that all of these are read back from their list.
+/// Does nothing. Its contract says that the parameters that are not refused are exactly those that the
+/// function has (RFC 7693, section 2.1; the BLAKE2 paper, section 2.5), if salt and personalization have two
+/// words each, and that all of these are read back from their list.
 #[tactic(auto, using(crate::specs::inside::Listed::parameters_read_back))]
 pub fn parameter_laws()
     ensures allowed { (k : Variant) (p : Parameters) → length p.salt ≡ 2 * word_len k
@@ -20,8 +20,7 @@ pub fn parameter_laws()
         → from_list k (listed p) ≡ p }
 {}
 
-/// Does nothing. Its contract says that a state of zeros is no hasher's: those of a hasher tell the length of its
-/// digest.
+/// Does nothing. Its contract says that a state of zeros is not a hasher's, since its digest length is 0.
 #[tactic(auto, unfolding(crate::specs::Begun::IsBegun2b, crate::specs::Begun::IsBegun2s))]
 pub fn state_laws()
     ensures zeros_2b { (s : Blake2bState) → s.digest_length ≡ 0 → IsBegun2b s → ⊥ }

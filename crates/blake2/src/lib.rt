@@ -12,9 +12,9 @@
 //! ```
 #![tactic(auto, unfolding(crate::specs::inside::Hashers::Holds2b, crate::specs::inside::Hashers::Holds2s, crate::specs::inside::Hashers::parameters_2b, crate::specs::inside::Hashers::parameters_2s, crate::specs::inside::Hashers::room_left_2b, crate::specs::inside::Hashers::room_left_2s))]
 
-// What callers see stands twice, in `blake2b` and `blake2s` and in `state2b` and `state2s`, in the same order: each
-// contract names the lengths of its function, `room` answers `u128` of one and `u64` of the other, and no macro may
-// write an impl. What both do stands once, in `hasher` and `stream`.
+// What callers see is written twice, in `blake2b` and `blake2s` and in `state2b` and `state2s`, in the same
+// order: each contract names the lengths of its function, `room` returns `u128` in one and `u64` in the
+// other, and no macro may write an impl. What both do is written once, in `hasher` and `stream`.
 pub use blake2b::Blake2b;
 pub use blake2s::Blake2s;
 pub use fault::{ParameterFault, StateFault};

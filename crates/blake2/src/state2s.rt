@@ -14,10 +14,10 @@ use crate::chain::{Chain, Chain2s};
 use crate::stream::Stream;
 use words::{Absorb, Tag};
 
-/// What a BLAKE2s hasher keeps between two calls, as plain numbers of a fixed layout. Each content of
-/// this memory is a value of the type: one that no hasher left is refused, or holds no message that is
-/// known, and no call reads outside it. It holds no key and no pointer, and may be copied. It is for the
-/// memory of one process, and no format: its fields can change.
+/// What a BLAKE2s hasher keeps between two calls, as plain numbers in a fixed layout. Any content of this
+/// memory is a value of the type: one that no hasher left is refused, or stands for an unknown message, and
+/// no call reads outside it. It holds no key and no pointer, and may be copied. It is meant for the memory of
+/// one process, and is not a format: its fields can change.
 #[repr(C)]
 #[derive(Clone, Copy)]
 pub struct Blake2sState {
@@ -50,8 +50,8 @@ impl Blake2sState {
             && u128::from(self.used) <= 0xffff_ffff_ffff_ffff - u128::from(self.compressed)
     }
 
-    /// Takes `piece` after what was taken before. It is refused where these are the numbers of no hasher,
-    /// and else where the message would pass 2^64-1 bytes, less a block of 64 under a key.
+    /// Takes `piece` after what was taken before. It is refused if these are not the numbers of a hasher, and
+    /// otherwise if the message would exceed 2^64 - 1 bytes, or a block of 64 bytes less under a key.
     pub fn update(&mut self, piece: &[u8]) -> Result<(), StateFault>
         ensures fits { (p : Parameters) (m : List ℕ) → StateHolds2s self.old p m
             → IsOk result ↔ (length m + length piece.now ≤ message_limit (2 ^ 64 - 1) 64 p.key) }
@@ -74,8 +74,8 @@ impl Blake2sState {
         Ok(())
     }
 
-    /// The digest of the message (RFC 7693, section 3.3), which can go on. It is `None` exactly where
-    /// these are the numbers of no hasher.
+    /// The digest of the message (RFC 7693, section 3.3), which can be continued. It is `None` exactly if
+    /// these are not the numbers of a hasher.
     pub fn finish(&self) -> Option<Tag>
         ensures begun { IsSome result ↔ IsBegun2s self.now }
         ensures held { (p : Parameters) (m : List ℕ) → StateHolds2s self.now p m → IsSome result }

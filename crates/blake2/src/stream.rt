@@ -1,4 +1,4 @@
-// The streaming state that both functions share, over the chaining value of either.
+// The streaming state that both functions share, for the chaining value of either.
 
 ghost use Rattle.std.specs.Prelude.{◌≡◌, ◌≤◌, ◌+◌, ◌-◌, ◌*◌, ◌++◌, ◌∷◌, [], ℕ, List, length, true, false};
 ghost use Rattle.std.specs.List.{concat};
@@ -11,7 +11,7 @@ use crate::chain::Chain;
 use std::slice::from_ref;
 use words::write_at;
 
-/// `bytes`, with zeros after them up to a block.
+/// `bytes`, padded with zeros to a block.
 pub(crate) fn padded_block<const N: usize>(bytes: &[u8]) -> [u8; N]
     requires { length bytes.now ≤ N }
     ensures { result ≡ padded N bytes.now }
@@ -21,8 +21,8 @@ pub(crate) fn padded_block<const N: usize>(bytes: &[u8]) -> [u8; N]
     block
 }
 
-// Moves `chain` on by blocks, the count of bytes growing by `step` with each, and answers the count.
-// It is the one place that a compression is called from, so that the loop has it inline.
+// Advances `chain` by blocks, adding `step` to the count of bytes with each, and returns the count.
+// Compressions are called only here, so that they are inlined into the loop.
 fn compress_blocks<C: Chain<N>, const N: usize>(
     chain: &mut C,
     blocks: &[[u8; N]],
@@ -47,7 +47,7 @@ fn compress_blocks<C: Chain<N>, const N: usize>(
     count
 }
 
-/// A chaining value, and the bytes of the last block, which wait.
+/// A chaining value, and the bytes of the last block, which waits.
 #[derive(Drop)]
 pub(crate) struct Stream<C: Chain<N>, const N: usize> {
     pub(crate) chain: C,
