@@ -12,9 +12,9 @@ chunk_count m = (length m - 1) / 1024 + 1
 unfoldable pub parent : List ℕ → ℕ → List ℕ → List ℕ → Node
 parent key flags left right = record { h = key; m = left ++ right; t = 0; b = 64; d = flags + 4 }
 
--- the tree over a message of at most 2 ^ levels chunks, the first of which has the number c. Where
--- 2 ^ l chunks are too few for it, and 2 ^ (l + 1) are not, 2 ^ l is the greatest power of two
--- below its number of chunks, and the left subtree has so many (2.1)
+-- the tree over a message of at most 2 ^ levels chunks, the first of which has the number c. If 2 ^ l chunks are too
+-- few for it, and 2 ^ (l + 1) are not, 2 ^ l is the greatest power of two below its number of chunks, and the left
+-- subtree has that many (2.1)
 unfoldable pub tree_within : ℕ → List ℕ → ℕ → ℕ → List ℕ → Node
 tree_within zero key flags c m = chunk key flags c m
 tree_within (suc l) key flags c m = elim (leb (chunk_count m) (2 ^ l)) [

@@ -15,8 +15,8 @@ use words::Absorb;
 // The bytes of eight chunks.
 pub(crate) const GROUP_LEN: usize = 8192;
 
-// The level of the longest run of 8 * 2 ^ level chunks, at most 1024 of them, that lies within `left` bytes and
-// begins at chunk `closed`, a multiple of its length.
+// The level of the longest run of 8 * 2 ^ level chunks, at most 1024 of them, that lies within `left` bytes
+// and begins at chunk `closed`, a multiple of its length.
 fn run_level(closed: u64, left: usize) -> u32
     requires aligned { closed % 8 ≡ 0 }
     requires some { 8192 ≤ left }
@@ -45,7 +45,8 @@ fn subtree_chunks(level: u32) -> u64
     1u64 << level
 }
 
-// The bytes of the chunks up to the next multiple of eight, without the one that the last of `left` bytes is in.
+// The bytes of the chunks up to the next multiple of eight, without the chunk that holds the last of `left`
+// bytes.
 fn whole_chunks(closed: u64, left: usize) -> usize
     requires { 1024 < left }
     ensures some { 0 < result }
@@ -57,14 +58,14 @@ fn whole_chunks(closed: u64, left: usize) -> usize
     aligned.min((left - 1) / CHUNK_LEN) * CHUNK_LEN
 }
 
-/// A BLAKE3 hasher, in one of the three modes. It takes its input by `Absorb`, at most 2^64 - 1
-/// bytes in all, takes no memory, and holds at most 54 chaining values.
+/// A BLAKE3 hasher, in one of the three modes. It takes its input by `Absorb`, at most 2^64 - 1 bytes in all,
+/// allocates nothing, and holds at most 54 chaining values.
 #[derive(Drop)]
 pub struct Blake3 {
-    // the closed chunks; their number is that of the open one
+    // the closed chunks; how many they are is the open chunk's number
     pub(crate) stack: Stack,
     pub(crate) chunk: Chunk,
-    // the chaining value of the open chunk, where it was made with those of the chunks before it
+    // the chaining value of the open chunk, if it was computed with those of the chunks before it
     pub(crate) made: Option<[u32; 8]>,
     ghost length_fits: { 1024 * stack.closed + chunk.len ≤ 2 ^ 64 - 1 },
     ghost made_fits: { (v : List ℕ) → made ≡ Some v
@@ -98,9 +99,8 @@ impl Blake3 {
         Blake3::under(Mode::Keyed(*key).parameters())
     }
 
-    /// A hasher of no key material yet in the mode `derive_key`, under a context (section 2.3). The
-    /// context is a text that is meant for one use alone; the material is what the hasher takes
-    /// then.
+    /// A hasher in the mode `derive_key`, under a context, without key material yet (section 2.3). The
+    /// context is a text that is meant for one use only; what the hasher then takes is the material.
     pub fn derive(context: &[u8]) -> Blake3
         ensures parameters { ⟦<Blake3 as Absorb>⟧.parameters result ≡ derive_parameters context.now }
         ensures room { ⟦<Blake3 as Absorb>⟧.room_left result ≡ 2 ^ 64 - 1 }
@@ -139,9 +139,9 @@ impl Blake3 {
         CHUNK_LEN as u64 * self.stack.closed + self.chunk.len() as u64
     }
 
-    /// How many chaining values of subtrees before the open chunk the hasher holds: for n chunks of input, as many as
-    /// n - 1 has one-bits, and at most 54. The open chunk's own, which may be kept where that chunk is full, is not
-    /// counted; then they are at most 54 together.
+    /// How many chaining values of subtrees before the open chunk the hasher holds: for n chunks of input, as
+    /// many as n - 1 has one-bits, and at most 54. The open chunk's own, which may be kept if that chunk is
+    /// full, is not counted; together they are then at most 54.
     pub fn held(&self) -> usize
         ensures value { (m : List ℕ) → ⟦<Blake3 as Absorb>⟧.holds self.now m
             → result ≡ count_ones (chunk_count m - 1) }
@@ -152,7 +152,7 @@ impl Blake3 {
         self.stack.values.len()
     }
 
-    /// The output of what the hasher has taken, at position 0. The hasher can go on.
+    /// The output of what the hasher has taken, at position 0. The hasher can be continued.
     pub fn output(&self) -> Output
         ensures root { (m : List ℕ) → ⟦<Blake3 as Absorb>⟧.holds self.now m
             → output_root result ≡ root_of (⟦<Blake3 as Absorb>⟧.parameters self.now) m }
@@ -177,7 +177,7 @@ impl Blake3 {
         self.chunk.node(self.stack.closed, flags).chaining_value()
     }
 
-    /// Closes the open chunk where it is full, since more bytes follow.
+    /// Closes the open chunk if it is full, since more bytes follow.
     pub(crate) fn make_room(&mut self)
         requires { hasher_count self.old + 1 < 2 ^ 64 }
         ensures room { self.new.chunk.len < 1024 }
@@ -261,8 +261,8 @@ impl Blake3 {
         }
     }
 
-    // Adds a whole chunk, which stays open, by the chaining value before its last block, and the chunk's own where it
-    // is made.
+    // Adds a whole chunk, which stays open, by the chaining value before its last block, and the chunk's own
+    // if it has been computed.
     fn open_chunk(&mut self, before: [u32; 8], made: Option<[u32; 8]>, bytes: &[u8])
         requires empty { self.old.chunk.len ≡ 0 }
         requires whole { length bytes.now ≡ 1024 }
@@ -283,8 +283,8 @@ impl Blake3 {
         self.made = made;
     }
 
-    // Adds at most eight whole chunks; more bytes follow them. A call, so that shorter messages do not pay for its room
-    // on the stack.
+    // Adds at most eight whole chunks; more bytes follow them. Not inlined, so that shorter messages do not
+    // pay for its stack buffers.
     #[inline(never)]
     fn push_chunks(&mut self, bytes: &[u8])
         requires empty { self.old.chunk.len ≡ 0 }
@@ -301,7 +301,7 @@ impl Blake3 {
         self.push_values(&made, bytes.len() / CHUNK_LEN);
     }
 
-    // Adds at most eight whole chunks, of which the last stays open. A call too.
+    // Adds at most eight whole chunks, of which the last stays open. Not inlined either.
     #[inline(never)]
     fn open_chunks(&mut self, bytes: &[u8])
         requires empty { self.old.chunk.len ≡ 0 }
@@ -320,8 +320,8 @@ impl Blake3 {
         self.open_chunk(before[last], Some(made[last]), &bytes[CHUNK_LEN * last..]);
     }
 
-    /// Takes a beginning of `rest`, and answers its length: whole chunks, where no chunk is begun and
-    /// two or more have come, or what the open chunk has room for.
+    /// Takes a beginning of `rest`, and returns its length: whole chunks, if no chunk is begun and two or
+    /// more have come, or what the open chunk has room for.
     pub(crate) fn take_front(&mut self, rest: &[u8]) -> usize
         requires some { 0 < length rest.now }
         requires room { self.old.chunk.len < 1024 }

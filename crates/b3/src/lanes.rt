@@ -48,8 +48,8 @@ fn numbers<const N: usize>(first: u64) -> [u64; N]
     from_fn(|i| first + i as u64)
 }
 
-// The chaining values of the first four of some whole chunks, by lanes; `before` takes those before the last block of
-// each. Lanes beyond the last chunk read it again.
+// The chaining values of the first four of some whole chunks, by lanes; `before` receives the values before
+// the last block of each. Lanes beyond the last chunk read that chunk again.
 fn few_chunk_lanes(
     parameters: &Parameters,
     first: u64,
@@ -86,7 +86,8 @@ fn pair_rows(h: [[u32x8; 2]; 2], rows: &mut [[u32; 8]; 8])
     two::half_rows(h[1], 2, rows);
 }
 
-// Writes the chaining values of two whole chunks, and those before the last block of each, into the first two rows.
+// Writes the chaining values of two whole chunks, and those before the last block of each, into the first two
+// rows.
 fn two_chunk_values(
     parameters: &Parameters,
     first: u64,
@@ -116,8 +117,8 @@ fn two_chunk_values(
     two::half_rows(last, 0, before);
 }
 
-// Writes the chaining values of the first four of some whole chunks, by two pairs side by side, and those before the
-// last block of each. A call, so that other numbers of chunks do not pay for its room on the stack.
+// Writes the chaining values of the first four of some whole chunks, by two pairs side by side, and those
+// before the last block of each. Not inlined, so that other numbers of chunks do not pay for its stack space.
 #[inline(never)]
 fn two_pair_values(
     parameters: &Parameters,
@@ -150,7 +151,8 @@ fn two_pair_values(
     pair_rows(last, before);
 }
 
-// Those of five to eight whole chunks, by four lanes and then by four others.
+// The chaining values of five to eight whole chunks, and those before their last blocks, in four lanes and
+// then in four others.
 fn chunk_fours(
     parameters: &Parameters,
     first: u64,
@@ -173,7 +175,8 @@ fn chunk_fours(
     four::joined_lanes(left, right)
 }
 
-// Those of five to eight whole chunks, by lanes. Lanes beyond the last chunk read it again.
+// The chaining values of five to eight whole chunks, and those before their last blocks, by lanes. Lanes
+// beyond the last chunk read that chunk again.
 fn chunk_lanes(
     parameters: &Parameters,
     first: u64,
@@ -204,8 +207,8 @@ fn chunk_lanes(
     values
 }
 
-/// Writes the chaining values of at most eight whole chunks, and those before the last block of each, into the first
-/// rows. The rows behind them are of no meaning.
+/// Writes the chaining values of at most eight whole chunks, and those before the last block of each, into
+/// the first rows. The rows after them have no meaning.
 pub(crate) fn chunk_values(
     parameters: &Parameters,
     first: u64,
@@ -235,14 +238,14 @@ pub(crate) fn chunk_values(
     }
 }
 
-// The chaining value over two.
+// The chaining value of the parent of two.
 fn join(parameters: &Parameters, left: &[u32; 8], right: &[u32; 8]) -> [u32; 8]
     ensures { result ≡ joined_cv parameters.now.key parameters.now.flags left.now right.now }
 {
     Node::parent(parameters, left, right).chaining_value()
 }
 
-// The chaining values over the neighbours among eight.
+// The chaining values of the parents of neighbours among eight.
 fn parents(parameters: &Parameters, values: &[[u32; 8]; 8]) -> [[u32; 8]; 4]
     ensures { (i : ℕ) → i < 4 → slice_index_or result i []
         ≡ joined_cv parameters.now.key parameters.now.flags (slice_index_or values.now (2 * i) [])
@@ -269,7 +272,7 @@ fn parents(parameters: &Parameters, values: &[[u32; 8]; 8]) -> [[u32; 8]; 4]
     [first, second, third, fourth]
 }
 
-// The chaining values over the neighbours in two times eight lanes.
+// The chaining values of the parents of neighbours in two times eight lanes.
 fn parent_lanes(parameters: &Parameters, left: [u32x8; 8], right: [u32x8; 8]) -> [u32x8; 8]
     ensures left { (i : ℕ) → i < 4
         → lane8 i result ≡ joined_cv parameters.now.key parameters.now.flags (lane8 (2 * i) left)
@@ -320,8 +323,8 @@ pub(crate) fn subtree_of(parameters: &Parameters, first: u64, level: u32, bytes:
     join(parameters, &left, &right)
 }
 
-// The chaining values of eight subtrees of 2 ^ level chunks, by lanes, where the last chunk may be the last
-// of the message. `lefts` takes those of the left subtrees between the last of the eight and the last chunk,
+// The chaining values of eight subtrees of 2 ^ level chunks, by lanes, when the last chunk may be the last of
+// the message. `lefts` receives those of the left subtrees between the last of the eight and the last chunk,
 // the smallest first, and the last lane of `before` the value before the last block of that chunk.
 fn open_lanes(
     parameters: &Parameters,
@@ -353,8 +356,9 @@ fn open_lanes(
     parent_lanes(parameters, left, right)
 }
 
-/// Of a run of 8 * 2 ^ level chunks, the last of which may be the last of the message: the chaining values
-/// of the left subtrees above the last chunk, the smallest first, and the value before its last block.
+/// For a run of 8 * 2 ^ level chunks, the last of which may be the last of the message: the chaining values
+/// of the left subtrees above the last chunk, the smallest first, and the value before that chunk's last
+/// block.
 pub(crate) fn open_lefts(
     parameters: &Parameters,
     first: u64,

@@ -16,7 +16,7 @@ const DERIVE_KEY_CONTEXT: u8 = 32;
 
 const DERIVE_KEY_MATERIAL: u8 = 64;
 
-/// What the compressions of a message hash under: the eight key words, and the mode's flag.
+/// The parameters of a message's compressions: the eight key words, and the mode's flag.
 #[derive(Clone, Copy)]
 pub(crate) struct Parameters {
     pub(crate) key: [u32; 8],
@@ -46,7 +46,7 @@ pub(crate) fn key_of_context(context: &[u8]) -> [u8; 32]
     key
 }
 
-/// What a part is hashed under: one of the three modes, with its key.
+/// How a part is hashed: in one of the three modes, with its key.
 #[derive(Clone, Copy, PartialEq, Eq)]
 pub enum Mode {
     /// `hash`.
@@ -62,14 +62,14 @@ impl Mode {
     ghost use Rattle.std.specs.Prelude.{drop, slice_index};
     ghost use Rattle.b3.specs.declared.mode.Mode.TheVariants.{Material as MaterialMode};
 
-    /// The mode `derive_key` under a context: a text that is meant for one use alone.
+    /// The mode `derive_key` under a context: a text that is meant for one use only.
     pub fn derive(context: &[u8]) -> Mode
         ensures { result ≡ MaterialMode (context_key context.now) }
     {
         Mode::Material(key_of_context(context))
     }
 
-    /// What it hashes under.
+    /// The parameters of the mode.
     pub(crate) fn parameters(&self) -> Parameters
         ensures key { result.key ≡ drop 1 (mode_parameters self.now) }
         ensures flags { result.flags ≡ slice_index (mode_parameters self.now) 0 }
@@ -103,7 +103,7 @@ impl Debug for Mode {
         ensures writes { DisplaysOnOk W.write_str_gives f.old result
             (⟦<Mode as Debug>⟧.debug_output self.now) f.new }
 
-        // So it is whatever `debug_output` says.
+        // The text is this, whatever `debug_output` says.
         ensures name { WritesStyledOnOk W.write_str_gives f.old result (mode_name self.now) f.new }
     {
         match self {

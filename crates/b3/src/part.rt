@@ -17,7 +17,7 @@ use std::fmt::{Debug, Write};
 #[derive(Clone, Copy, Debug, PartialEq, Eq, Drop)]
 pub struct NotWhole;
 
-/// Two parts that are not the two halves of one, which are handed back.
+/// Two parts that are not the two halves of a part; they are handed back.
 #[derive(Debug, Drop)]
 pub struct NotNeighbours {
     pub left: Part,
@@ -42,10 +42,9 @@ impl Part {
     ghost use Rattle.b3.specs.inside.Parts.{IsPart, part_mode, part_first, part_len};
     ghost use Rattle.b3.specs.Values.{IsValueOf};
 
-    /// The part of the bytes from a chunk on. It is refused exactly where the chunk's number is no
-    /// multiple of the least power of two that is at least the number of chunks of `bytes` (one for
-    /// no bytes), where there are no bytes and the chunk is not the first, and where they would
-    /// end after 2^64 - 1 bytes.
+    /// The part of the bytes from a chunk on. It is refused exactly if the chunk's number is not a multiple
+    /// of the least power of two that is at least the number of chunks of `bytes` (one for no bytes), if
+    /// there are no bytes and the chunk is not the first, or if they would end after 2^64 - 1 bytes.
     pub fn of(mode: Mode, first_chunk: u64, bytes: &[u8]) -> Result<Part, Misplaced>
         ensures placed { IsOk result ↔ IsPlacedAt first_chunk (length bytes.now) }
         ensures part { IfOk result (λ part. IsPart part bytes.now) }
@@ -65,9 +64,9 @@ impl Part {
         })
     }
 
-    /// The part of the bytes of two, one after the other: `left` has p full chunks, where p is a
-    /// power of two, and begins at a multiple of 2 p; `right` is of the same mode, begins where
-    /// `left` ends, and has at most p chunks. Any other two are refused, and handed back.
+    /// Joins two parts, one after the other: `left` has p full chunks, where p is a power of two, and begins
+    /// at a multiple of 2 p; `right` has the same mode, begins where `left` ends, and has at most p chunks.
+    /// Any other two are refused, and handed back.
     pub fn join(left: Part, right: Part) -> Result<Part, NotNeighbours>
         ensures neighbours { IsOk result ↔ (part_mode left ≡ part_mode right)
             × AreNeighbours (part_first left) (part_len left) (part_first right) (part_len right) }
@@ -111,7 +110,7 @@ impl Part {
         right.len <= self.len
     }
 
-    /// The part by its chaining value, as it can be told to others.
+    /// The part by its chaining value, in a form that can be passed on to others.
     pub fn told(&self) -> PartValue
         ensures first { result.first_chunk ≡ part_first self.now }
         ensures len { result.len ≡ part_len self.now }
@@ -125,8 +124,8 @@ impl Part {
         }
     }
 
-    /// The output of the message that the part is all of, at position 0. It is refused exactly
-    /// where the part's first chunk is not the message's.
+    /// The output, at position 0, of the message that consists of this part. It is refused exactly if the
+    /// part does not begin at the message's first chunk.
     pub fn root(&self) -> Result<Output, NotWhole>
         ensures whole { IsOk result ↔ (part_first self.now ≡ 0) }
         ensures root { IfOk result (λ output. (m : List ℕ) → IsPart self.now m
@@ -148,13 +147,13 @@ impl Debug for Part {
 
     ghost debug_output = { λ part. Some (part_text (part_mode part) (part_first part) (part_len part)) };
 
-    /// Writes the mode's name, where the part stands and how many bytes it has. Neither the key nor
-    /// what the bytes came to is shown.
+    /// Writes the mode's name, where the part stands and how many bytes it has. It shows neither the key nor
+    /// what the bytes were hashed to.
     fn fmt<W: Write>(&self, f: &mut fmt::Formatter<W>) -> fmt::Result
         ensures writes { DisplaysOnOk W.write_str_gives f.old result
             (⟦<Part as Debug>⟧.debug_output self.now) f.new }
 
-        // So it is whatever `debug_output` says.
+        // The text is this, whatever `debug_output` says.
         ensures text { WritesOnOk W.write_str_gives f.old result
             (part_text (part_mode self.now) (part_first self.now) (part_len self.now)) f.new }
     {

@@ -5,8 +5,8 @@ ghost use Rattle.b3.specs.Parts.{IsPlacedAt};
 
 use crate::chunk::CHUNK_LEN;
 
-/// So many bytes cannot be a part from that chunk on: a message in which they stand there has no
-/// subtree of just these bytes, or ends after 2^64 - 1 bytes.
+/// This many bytes cannot be a part from that chunk on: a message that has them there has no subtree of
+/// exactly these bytes, or ends after 2^64 - 1 bytes.
 #[derive(Clone, Copy, Debug, PartialEq, Eq, Drop)]
 pub struct Misplaced;
 
@@ -24,7 +24,7 @@ pub(crate) fn is_placed(first_chunk: u64, len: u64) -> bool
     first_chunk % chunks.next_power_of_two() == 0
 }
 
-/// Whether so many bytes are a power of two of full chunks.
+/// Whether this many bytes are a power of two of full chunks.
 pub(crate) fn is_whole(len: u64) -> bool
     ensures { IsTrue result ↔ ((e : ℕ) × (len ≡ 1024 * 2 ^ e)) }
 {

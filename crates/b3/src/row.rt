@@ -1,4 +1,4 @@
-// Parts that were hashed elsewhere, of which only the chaining values are told, in a row.
+// A row of parts that were hashed elsewhere and are known only by their chaining values.
 
 ghost use Rattle.std.specs.Prelude.{◌≡◌, ℕ, ◌+◌, ◌*◌, ◌^◌, ◌<◌, ◌≤◌, ◌↔◌, List, ◌∷◌, ◌++◌, length, count_ones, IsOk};
 ghost use Rattle.std.specs.Prelude.{OnOk, OnErr, IfOk, IsTrue};
@@ -28,8 +28,8 @@ pub struct PartValue {
 }
 
 impl PartValue {
-    /// A part as others tell it. It is refused exactly where `Part::of` refuses bytes of that
-    /// number at that chunk; nothing says that the value is that of such bytes.
+    /// A part as reported by others. It is refused exactly if `Part::of` refuses that many bytes at that
+    /// chunk; nothing guarantees that the value is the one of such bytes.
     pub fn of(first_chunk: u64, len: u64, value: [u32; 8]) -> Result<PartValue, Misplaced>
         ensures placed { IsOk result ↔ IsPlacedAt first_chunk len }
         ensures first { IfOk result (λ part. part.first_chunk ≡ first_chunk) }
@@ -46,7 +46,7 @@ impl PartValue {
         })
     }
 
-    /// The same, of a chaining value in bytes.
+    /// Like `of`, from a chaining value in bytes.
     pub fn of_bytes(first_chunk: u64, len: u64, value: &[u8; 32]) -> Result<PartValue, Misplaced>
         ensures placed { IsOk result ↔ IsPlacedAt first_chunk len }
         ensures first { IfOk result (λ part. part.first_chunk ≡ first_chunk) }
@@ -86,12 +86,12 @@ impl PartValue {
     }
 }
 
-/// The part does not begin where the row ends, the part before it has not a power of two of full
-/// chunks, or the row with it would be no part.
+/// The part does not begin where the row ends, the part before it does not have a power of two of full
+/// chunks, or the row with it would not be a part.
 #[derive(Clone, Copy, Debug, PartialEq, Eq, Drop)]
 pub struct NotNext;
 
-/// Parts that follow each other, and are one part together.
+/// Parts that follow each other, and together are one part.
 #[derive(Drop)]
 pub struct Row {
     first_chunk: u64,
@@ -137,9 +137,9 @@ impl Row {
         CHUNK_LEN as u64 * self.stack.closed + self.len
     }
 
-    /// Adds the part that comes next. It is refused exactly where it does not begin where the row
-    /// ends, where the row's last part has not a power of two of full chunks, or where the bytes of
-    /// both can be no part; then nothing changes.
+    /// Adds the part that comes next. It is refused exactly if it does not begin where the row ends, if the
+    /// row's last part does not have a power of two of full chunks, or if the bytes of both cannot be a part;
+    /// then nothing changes.
     pub fn push(&mut self, part: PartValue) -> Result<(), NotNext>
         ensures next { IsOk result ↔ IsNextInRow (row_first self.old) (row_count self.old) (row_open self.old)
             part.first_chunk part.len }
@@ -189,7 +189,7 @@ impl Row {
         self.len = part.len;
     }
 
-    // The node over the parts, of which there are two at least.
+    // The node over the parts, of which there are at least two.
     fn node(&self) -> Node
         requires { 0 < row_closed self.now }
         ensures { (m : List ℕ) → HoldsRow self.now m
@@ -213,7 +213,7 @@ impl Row {
         }
     }
 
-    // Its chaining value.
+    // The chaining value of the row as one part.
     fn top_value(&self) -> [u32; 8]
         ensures { (m : List ℕ) → HoldsRow self.now m
             → result ≡ cv (tree_of (row_parameters self.now) (row_first self.now) m) }
@@ -225,9 +225,9 @@ impl Row {
         }
     }
 
-    /// The output of the message that the row is all of, at position 0. It is refused exactly where
-    /// the row does not begin at the first chunk, or has one part alone, since a chaining value
-    /// tells nothing of the root.
+    /// The output, at position 0, of the message that consists of this row. It is refused exactly if the row
+    /// does not begin at the first chunk, or has only one part, since a chaining value says nothing about the
+    /// root.
     pub fn output(&self) -> Result<Output, NotWhole>
         ensures whole { IsOk result ↔ (row_first self.now ≡ 0) × (0 < row_closed self.now) }
         ensures root { IfOk result (λ output. (m : List ℕ) → HoldsRow self.now m

@@ -11,10 +11,10 @@ use crate::stack::Stack;
 use arrayvec::ArrayVec;
 use words::Absorb;
 
-/// What a BLAKE3 hasher keeps between two calls, as plain numbers of a fixed layout. Each content of
-/// this memory is a value of the type: one that no hasher left is refused, or holds no message that is
-/// known, and no call reads outside it. It holds no pointer, and may be copied. It is for the memory of
-/// one process, and no format: its fields can change.
+/// What a BLAKE3 hasher keeps between two calls, as plain numbers in a fixed layout. Any content of this
+/// memory is a value of the type: one that no hasher left is refused, or stands for an unknown message, and
+/// no call reads outside it. It holds no pointer, and may be copied. It is meant for the memory of one
+/// process, and is not a format: its fields can change.
 #[repr(C)]
 #[derive(Drop)]
 pub struct Blake3State {
@@ -22,10 +22,10 @@ pub struct Blake3State {
     value: [u32; 8],
     closed: u64,
     len: u64,
-    // one more than the flag, so that zeros are no hasher's
+    // one more than the flag, so that zeros are not a hasher's
     mode: u64,
     block: [u8; 64],
-    // of which as many are in use as `closed` has one-bits
+    // as many of them are in use as `closed` has one-bits
     stack: [[u32; 8]; 54],
 }
 
@@ -39,7 +39,7 @@ impl Blake3State {
         self.keep(hasher);
     }
 
-    /// The hasher that these are the numbers of. It is `None` exactly where they are those of none.
+    /// The hasher with these numbers. It is `None` exactly if they are not those of a hasher.
     pub fn resume(&self) -> Option<Blake3>
         ensures begun { IsSome result ↔ IsBegun self.now }
         ensures held { (p m : List ℕ) → StateHolds self.now p m → IsSome result }

@@ -1,5 +1,5 @@
-// The tree over bytes that are all there, from the top (the BLAKE3 paper, section 2.1): in lanes where
-// they are enough.
+// The tree over bytes that are all in memory, from the top (the BLAKE3 paper, section 2.1): in lanes if there
+// are enough bytes.
 
 ghost use Rattle.std.specs.Prelude.{◌≡◌, ℕ, ◌+◌, ◌-◌, ◌*◌, ◌/◌, ◌%◌, ◌^◌, ◌<◌, ◌≤◌, List, [], length, slice_index_or};
 ghost use Rattle.std.specs.Prelude.{IfSome};
@@ -22,7 +22,7 @@ fn greatest_power_below(n: usize) -> usize
     n.next_power_of_two() / 2
 }
 
-// The level of the run of 8 * 2 ^ level chunks that has so many bytes.
+// The level of the run of 8 * 2 ^ level chunks that has this many bytes.
 fn level_of(len: usize) -> Option<u32>
     ensures { IfSome result (λ level. len ≡ 8192 * 2 ^ level) }
 {
