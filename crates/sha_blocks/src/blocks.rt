@@ -1,6 +1,6 @@
-// SHA-256 on any number of blocks (FIPS 180-4, section 6.2.2): runs of eight have their schedules made at once, and the
-// rounds of one block follow those of the other. Of many runs the schedules of each are made while the rounds of the
-// run before it go on.
+// SHA-256 on any number of blocks (FIPS 180-4, section 6.2.2): the schedules of a run of eight are made at
+// once, and the rounds of its blocks follow one another. If there are many runs, the schedules of each are
+// made during the rounds of the run before it.
 
 ghost use Rattle.std.specs.Prelude.{◌≡◌, ◌<◌, ◌≤◌, ◌+◌, ◌-◌, ◌*◌, ℕ, List, [], length, slice_index, slice_index_or};
 ghost use Rattle.std.specs.Simd.Lanes.{fold_l};
@@ -14,8 +14,8 @@ use crate::schedules::{Schedules, Words, put_schedules, put_words};
 use std::simd::prelude::*;
 use words::level;
 
-// The two functions below have their rotations side by side, which is a shorter chain: with the schedule made before,
-// each round waits for the last.
+// The two functions below compute their rotations side by side, which makes a shorter chain: with the
+// schedule made beforehand, each round waits for the previous one.
 #[inline(always)]
 fn big_sigma0(x: u32) -> u32
     ensures { result ≡ Sha256.big_sigma0 x }
@@ -66,7 +66,7 @@ fn sixteen_rounds(v: &mut [u32; 8], schedules: &Schedules, t: usize, i: usize)
     four_rounds(v, schedules, t + 12, i);
 }
 
-// The rounds of block i: written out, and below x86-64-v3 in a loop, which is faster there.
+// The rounds of block i, written out; below x86-64-v3 they are in a loop, which is faster there.
 #[inline(always)]
 fn all_rounds(v: &mut [u32; 8], schedules: &Schedules, i: usize)
     requires { i < 8 }
@@ -95,8 +95,9 @@ fn compress_block_of_run(h: &mut [u32; 8], schedules: &Schedules, i: usize)
     *h = sums(*h, v);
 }
 
-// Takes block i into a hash value, and puts the words from 8 * i on of the schedules of another run, eight of each. A
-// word comes after each four of eight rounds, so that the processor works on both side by side.
+// Takes block i into a hash value, and puts eight words of each schedule of another run, from word 8 * i on.
+// One word of each comes in the middle of every eight rounds, so that the processor works on both side by
+// side.
 #[inline(always)]
 fn compress_block_making_next(
     h: &mut [u32; 8],
@@ -134,9 +135,9 @@ fn compress_run(h: &mut [u32; 8], schedules: &Schedules)
     *h = value;
 }
 
-// Takes a run of eight blocks into a hash value, and puts the schedules of another to `next`. The first sixteen
-// words of a schedule are those of its block: they come beside the first two blocks, in a loop of their own, so that
-// neither loop asks where a word comes from.
+// Takes a run of eight blocks into a hash value, and puts the schedules of another into `next`. The first
+// sixteen words of a schedule are those of its block: they come with the first two blocks, in a loop of their
+// own, so that neither loop asks where a word comes from.
 #[inline(never)]
 fn compress_run_making_next(
     h: &mut [u32; 8],
@@ -161,7 +162,7 @@ fn compress_run_making_next(
     *h = value;
 }
 
-// Takes runs of eight blocks into a hash value, the schedules of each made before its rounds.
+// Takes runs of eight blocks into a hash value, making the schedules of each before its rounds.
 #[inline(never)]
 fn compress_runs_one_by_one(h: &mut [u32; 8], runs: &[[[u8; 64]; 8]])
     ensures { h.new ≡ fold_l (λ v run. fold_l Sha256.compress v run) h.old runs.now }
@@ -173,7 +174,8 @@ fn compress_runs_one_by_one(h: &mut [u32; 8], runs: &[[[u8; 64]; 8]])
     }
 }
 
-// The same, the schedules of each run made beside the rounds of the run before it: two rooms for schedules take turns.
+// Takes runs of eight blocks into a hash value, making the schedules of each run during the rounds of the run
+// before it: two buffers for schedules take turns.
 #[inline(never)]
 fn compress_runs_interleaved(h: &mut [u32; 8], runs: &[[[u8; 64]; 8]])
     requires { 0 < length runs.now }
@@ -192,8 +194,8 @@ fn compress_runs_interleaved(h: &mut [u32; 8], runs: &[[[u8; 64]; 8]])
     compress_run(h, made);
 }
 
-// From how many runs on their schedules are made ahead: one alone would pay for rooms that it does not need, and
-// below x86-64-v3 two gain less than the rooms cost.
+// The number of runs from which on their schedules are made ahead: a single one would pay for buffers that it
+// does not need, and below x86-64-v3 two gain less than the buffers cost.
 #[inline(always)]
 fn fewest() -> usize
     ensures { 0 < result }
@@ -222,8 +224,8 @@ fn compress_each(h: &mut [u32; 8], blocks: &[[u8; 64]])
     }
 }
 
-// Takes blocks into a hash value by runs of eight. A call, as are the two ways to take runs, so that none pays for the
-// rooms of another.
+// Takes blocks into a hash value by runs of eight. Not inlined, like the two ways to take runs, so that none
+// of them pays for the stack buffers of another.
 #[inline(never)]
 fn compress_by_runs(h: &mut [u32; 8], blocks: &[[u8; 64]])
     ensures { h.new ≡ fold_l Sha256.compress h.old blocks.now }

@@ -42,7 +42,7 @@ macro_rules! added {
     };
 }
 
-/// Ch: one operation fewer.
+/// Ch, with one operation fewer.
 #[inline(always)]
 pub(crate) fn choice(x: u32, y: u32, z: u32) -> u32
     ensures { result ≡ Sha256.ch x y z }

@@ -1,5 +1,5 @@
-//! SHA-256 and SHA-512 by blocks (FIPS 180-4, sections 6.2 and 6.4): any number of blocks into a hash value, a message
-//! in one call, and how a message that comes in pieces is taken into a hash value and a buffer, for any hash of blocks.
+//! SHA-256 and SHA-512 by blocks (FIPS 180-4, sections 6.2 and 6.4): any number of blocks into a hash value,
+//! a message in one call, and, for any hash of blocks, a message in pieces into a hash value and a buffer.
 #![tactic(auto)]
 
 pub use blocks::compress_blocks256;

@@ -1,4 +1,4 @@
-// SHA-256 and SHA-512 of a message that lies in memory as a whole.
+// SHA-256 and SHA-512 of a message that is in memory as a whole.
 
 ghost use Rattle.std.specs.Prelude.{◌≡◌};
 ghost use Rattle.sha2.specs.Sha256;

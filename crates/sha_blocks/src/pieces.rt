@@ -15,7 +15,8 @@ pub fn begin<V: HashValue<N>, const N: usize>() -> (V, [u8; N])
     (V::start(), [0; N])
 }
 
-// Takes bytes that begin a block: the whole blocks of them, and those after these wait.
+// Takes bytes that begin a block: the whole blocks are taken into the hash value, and the bytes after these
+// wait.
 fn take_from_block<V: HashValue<N>, const N: usize>(
     value: &mut V,
     buffer: &mut [u8; N],
@@ -56,7 +57,7 @@ pub fn update<V: HashValue<N>, const N: usize>(
     take_from_block(value, buffer, rest);
 }
 
-// Takes the buffer as a block, with `end` for its last bytes.
+// Takes the buffer as a block, with `end` as its last bytes.
 fn take_ended<V: HashValue<N>, const N: usize>(value: &mut V, buffer: &mut [u8; N], end: &[u8])
     requires { length end.now ≤ N }
     ensures whole { length buffer.new ≡ N }

@@ -1,5 +1,5 @@
-// SHA-256 on one block (FIPS 180-4, section 6.2.2): the schedule is made on the way, in a ring of its last sixteen
-// words.
+// SHA-256 on one block (FIPS 180-4, section 6.2.2): the schedule is made on the way, in a ring of its last
+// sixteen words.
 
 ghost use Rattle.std.specs.Prelude.{◌≡◌, ◌<◌, ◌≤◌, ◌+◌, ◌*◌, ℕ, List, slice_set};
 ghost use Rattle.sha2.specs.Sha256;
@@ -8,8 +8,8 @@ use crate::functions::{choice, majority, sums, word};
 use crate::one_round;
 use crate::table::K;
 
-// The four functions below nest their rotations. That takes fewer copies of `x`, where a rotation overwrites what it
-// rotates.
+// The four functions below nest their rotations. That takes fewer copies of `x` if a rotation overwrites what
+// it rotates.
 #[inline(always)]
 fn big_sigma0(x: u32) -> u32
     ensures { result ≡ Sha256.big_sigma0 x }
@@ -38,7 +38,7 @@ fn small_sigma1(x: u32) -> u32
     (x ^ x.rotate_right(2)).rotate_right(17) ^ (x >> 10)
 }
 
-// The next word goes over the one sixteen before it.
+// The next word, which overwrites the one sixteen before it.
 #[inline(always)]
 fn next_word(ring: &mut [u32; 16], place: usize) -> u32
     requires { place < 16 }
@@ -61,7 +61,7 @@ fn round(v: [u32; 8], keyed: u32) -> [u32; 8]
     one_round!(u32::wrapping_add, v, keyed)
 }
 
-// One of the first sixteen rounds, whose words are the block's.
+// One of the first sixteen rounds, which take the words of the block.
 #[inline(always)]
 fn first_step(ring: &[u32; 16], v: [u32; 8], t: usize) -> [u32; 8]
     requires { t < 16 }

@@ -10,11 +10,11 @@ use crate::functions::word;
 use crate::table::K;
 use std::simd::prelude::*;
 
-/// Room for the words of eight schedules, each with the constant of its round added: word t of block i stands at t
-/// and i.
+/// Room for the words of eight schedules, each with the constant of its round added: word t of block i is at
+/// t and i.
 pub(crate) type Schedules = [[u32; 8]; 64];
 
-/// Room for the words alone.
+/// Room for the words without the constants.
 pub(crate) type Words = [u32x8; 64];
 
 /// The sums of words.
@@ -25,7 +25,7 @@ pub fn add(x: u32x8, y: u32x8) -> u32x8
     x + y
 }
 
-/// Three words of each, xored.
+/// The xor of three words of each schedule.
 #[inline(always)]
 pub fn xor(x: u32x8, y: u32x8, z: u32x8) -> u32x8
     ensures { (i : ℕ) → i < 8
@@ -67,7 +67,7 @@ fn small_sigma1(x: u32x8) -> u32x8
     xor(rotated(x, 17), rotated(x, 19), shifted(x, 10))
 }
 
-/// The words after sixteen others, of which these are the first, the second, the tenth and the fifteenth.
+/// The words after sixteen others, given the first, the second, the tenth and the fifteenth of these.
 #[inline(always)]
 pub fn next_word(first: u32x8, second: u32x8, tenth: u32x8, fifteenth: u32x8) -> u32x8
     ensures { (i : ℕ) → i < 8 → slice_index result i ≡ Sha256.add32 (Sha256.add32 (Sha256.add32
@@ -105,7 +105,7 @@ fn next_sixteen(w: [u32x8; 16]) -> [u32x8; 16]
     ]
 }
 
-// Sixteen words on.
+// Moves on by sixteen words.
 #[inline(always)]
 fn advance(w: &mut [u32x8; 16])
     ensures { (i : ℕ) → i < 8 → (b : List ℕ) (t : ℕ) → t + 32 ≤ 64 → IsWindowAt b t i w.old
@@ -124,7 +124,7 @@ pub fn keyed(w: u32x8, t: usize) -> [u32; 8]
     add(u32x8::splat(K[t]), w).to_array()
 }
 
-// Puts word t + k of each schedule, where `w` has the words from t on.
+// Puts word t + k of each schedule; `w` has the words from t on.
 #[inline(always)]
 fn put_one(out: &mut Schedules, w: &[u32x8; 16], t: usize, k: usize)
     requires place { k < 16 }
@@ -151,7 +151,7 @@ fn put_four(out: &mut Schedules, w: &[u32x8; 16], t: usize, k: usize)
     put_one(out, w, t, k + 3);
 }
 
-// Puts all sixteen. They are written out, which is faster than a loop.
+// Puts all sixteen. The calls are written out, which is faster than a loop.
 #[inline(always)]
 fn put_keyed(out: &mut Schedules, w: &[u32x8; 16], t: usize)
     requires { t + 16 ≤ 64 }
@@ -209,7 +209,7 @@ fn first_sixteen(blocks: &[[u8; 64]; 8]) -> [u32x8; 16]
     ]
 }
 
-/// Puts the schedules of eight blocks to `out`.
+/// Puts the schedules of eight blocks into `out`.
 #[inline(never)]
 pub(crate) fn put_schedules(blocks: &[[u8; 64]; 8], out: &mut Schedules)
     ensures keyed { AreKeyed blocks.now out.new }
@@ -223,7 +223,7 @@ pub(crate) fn put_schedules(blocks: &[[u8; 64]; 8], out: &mut Schedules)
     put_keyed(out, &w, 48);
 }
 
-// Word t of each schedule, where those before it stand in `words`.
+// Word t of each schedule; the words before it are in `words`.
 #[inline(always)]
 fn schedule_words(blocks: &[[u8; 64]; 8], words: &Words, t: usize) -> u32x8
     requires { t < 64 }

@@ -22,7 +22,7 @@ pub trait HashValue<const N: usize>: Copy {
     // What a block makes of the words of a hash value.
     ghost compressed: { List ℕ → List ℕ → List ℕ };
 
-    // The words of the hash value after so many blocks of these bytes.
+    // The words of the hash value after a number of blocks of these bytes.
     ghost words_after: { List ℕ → ℕ → List ℕ };
 
     /// The hash value before the first block.
@@ -43,7 +43,7 @@ pub trait HashValue<const N: usize>: Copy {
 
     ghost small: { N ≤ 128 };
 
-    // A hash value stands on the blocks that were counted, and on none that follows.
+    // A hash value depends on the blocks that were counted, and not on any that follow.
     ghost on_front: { (p q : List ℕ) (n : ℕ) → n * N ≤ length p
         → words_after (p ++ q) n ≡ words_after p n };
 

@@ -1,5 +1,5 @@
-// SHA-512 on any number of blocks (FIPS 180-4, section 6.4.2): runs of four have their schedules made at once, each
-// while the rounds of the run before it go on, and the rounds of one block follow those of the other.
+// SHA-512 on any number of blocks (FIPS 180-4, section 6.4.2): the schedules of a run of four are made at
+// once, during the rounds of the run before it, and the rounds of its blocks follow one another.
 
 ghost use Rattle.std.specs.Prelude.{◌≡◌, ◌<◌, ◌≤◌, ◌+◌, ◌-◌, ◌*◌, ℕ, List, [], length, slice_index, slice_index_or};
 ghost use Rattle.std.specs.Simd.Lanes.{fold_l};
@@ -40,8 +40,8 @@ fn compress_block_of_run(h: &mut [u64; 8], schedules: &Schedules, i: usize)
     *h = sums(*h, v);
 }
 
-// Takes block i into a hash value, and makes the words from 16 * i + 16 on of other schedules, sixteen of each. A word
-// comes between the rounds, so that the processor works on both side by side.
+// Takes block i into a hash value, and makes sixteen words, from 16 * i + 16 on, of each of the other
+// schedules. The words come between the rounds, so that the processor works on both side by side.
 #[inline(always)]
 fn compress_block_making_next(
     h: &mut [u64; 8],
@@ -83,7 +83,7 @@ fn compress_run(h: &mut [u64; 8], schedules: &Schedules)
     *h = value;
 }
 
-// Takes a run of four blocks into a hash value, and puts the schedules of another to `next`.
+// Takes a run of four blocks into a hash value, and puts the schedules of another into `next`.
 #[inline(never)]
 fn compress_run_making_next(
     h: &mut [u64; 8],
@@ -106,8 +106,8 @@ fn compress_run_making_next(
     *h = value;
 }
 
-// Takes runs of four blocks into a hash value, the schedules of each made beside the rounds of the run before it: two
-// rooms for schedules take turns.
+// Takes runs of four blocks into a hash value, making the schedules of each run during the rounds of the run
+// before it: two buffers for schedules take turns.
 fn compress_runs_interleaved(h: &mut [u64; 8], runs: &[[[u8; 128]; 4]])
     requires { 0 < length runs.now }
     ensures { h.new ≡ fold_l (λ v run. fold_l Sha512.compress v run) h.old runs.now }
@@ -134,7 +134,7 @@ fn compress_each(h: &mut [u64; 8], blocks: &[[u8; 128]])
     }
 }
 
-// Takes blocks into a hash value by runs of four. A function of its own, so that fewer blocks need no room for
+// Takes blocks into a hash value by runs of four. Not inlined, so that fewer blocks need no buffers for
 // schedules.
 #[inline(never)]
 fn compress_by_runs(h: &mut [u64; 8], blocks: &[[u8; 128]])
@@ -146,7 +146,8 @@ fn compress_by_runs(h: &mut [u64; 8], blocks: &[[u8; 128]])
     compress_each(h, rest);
 }
 
-// From how many blocks on they go by runs: below x86-64-v3 fewer would be slower so.
+// The number of blocks from which on they are taken by runs: below x86-64-v3, taking fewer by runs would be
+// slower.
 #[inline(always)]
 fn fewest() -> usize
     ensures { 4 ≤ result }

@@ -6,7 +6,7 @@ ghost use Rattle.sha2.specs.Sha512;
 use crate::{added, one_round};
 use words::level;
 
-// Ch: one operation fewer.
+// Ch, with one operation fewer.
 #[inline(always)]
 fn choice(x: u64, y: u64, z: u64) -> u64
     ensures { result ≡ Sha512.ch x y z }

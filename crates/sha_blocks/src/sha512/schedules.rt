@@ -10,11 +10,11 @@ use super::functions::word;
 use super::table::K;
 use std::simd::prelude::*;
 
-/// Room for the words of four schedules, each with the constant of its round added: word t of block i stands at t
+/// Room for the words of four schedules, each with the constant of its round added: word t of block i is at t
 /// and i.
 pub(crate) type Schedules = [[u64; 4]; 80];
 
-/// Room for the words alone.
+/// Room for the words without the constants.
 pub type Words = [u64x4; 80];
 
 /// The sums of words.
@@ -25,7 +25,7 @@ pub fn add(x: u64x4, y: u64x4) -> u64x4
     x + y
 }
 
-/// Three words of each, xored.
+/// The xor of three words of each schedule.
 #[inline(always)]
 pub fn xor(x: u64x4, y: u64x4, z: u64x4) -> u64x4
     ensures { (i : ℕ) → i < 4
@@ -67,7 +67,7 @@ fn small_sigma1(x: u64x4) -> u64x4
     xor(rotated(x, 19), rotated(x, 61), shifted(x, 6))
 }
 
-// The words after sixteen others, of which these are the first, the second, the tenth and the fifteenth.
+// The words after sixteen others, given the first, the second, the tenth and the fifteenth of these.
 #[inline(always)]
 fn next_word(first: u64x4, second: u64x4, tenth: u64x4, fifteenth: u64x4) -> u64x4
     ensures { (i : ℕ) → i < 4 → slice_index result i ≡ Sha512.add64 (Sha512.add64 (Sha512.add64
@@ -117,7 +117,7 @@ pub(crate) fn load(blocks: &[[u8; 128]; 4], words: &mut Words, out: &mut Schedul
     }
 }
 
-/// Puts word t + 16 of each schedule behind those before it.
+/// Puts word t + 16 of each schedule after those before it.
 #[inline(always)]
 pub fn extend(words: &mut Words, t: usize)
     requires { t + 16 < 80 }
@@ -128,7 +128,7 @@ pub fn extend(words: &mut Words, t: usize)
     words[t + 16] = next_word(words[t], words[t + 1], words[t + 9], words[t + 14]);
 }
 
-/// The same with the constant of its round added too.
+/// Puts word t + 16 of each schedule, and then that word with the constant of its round added.
 #[inline(always)]
 pub(crate) fn step(words: &mut Words, out: &mut Schedules, t: usize)
     requires { t + 16 < 80 }
@@ -155,7 +155,7 @@ fn four_steps(words: &mut Words, out: &mut Schedules, t: usize)
     step(words, out, t + 3);
 }
 
-/// Puts the schedules of four blocks to `out`.
+/// Puts the schedules of four blocks into `out`.
 #[inline(never)]
 pub(crate) fn put_schedules(blocks: &[[u8; 128]; 4], words: &mut Words, out: &mut Schedules)
     ensures keyed { AreKeyed blocks.now out.new }
