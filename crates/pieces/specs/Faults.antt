@@ -11,7 +11,7 @@ piece_fault size n input_len output_len =
     else if nat_eq output_len (size * piece_count n input_len) then None
     else Some OutputLength
 
--- the same where the length of a digest is asked for, and a digest has at most `most` bytes
+-- likewise if a digest length is asked for, and a digest has at most `most` bytes
 abbrev pub sized_fault : (most size n input_len output_len : ℕ) → Option Fault
 sized_fault most size n input_len output_len =
     if nat_lt size 1 then Some DigestLength

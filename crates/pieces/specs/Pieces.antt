@@ -9,7 +9,7 @@ piece n bytes i = take n (drop (n * i) bytes)
 abbrev pub piece_count : ℕ → ℕ → ℕ
 piece_count n len = (len + (n - 1)) / n
 
--- the digests of the first k pieces, one behind the other
+-- the digests of the first k pieces, one after the other
 unfoldable pub first_digests : (List ℕ → List ℕ) → ℕ → List ℕ → ℕ → List ℕ
 first_digests hash n bytes zero = []
 first_digests hash n bytes (suc k) = first_digests hash n bytes k ++ hash (piece n bytes k)

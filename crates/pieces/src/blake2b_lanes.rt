@@ -38,7 +38,7 @@ fn start_value(digest_len: usize) -> [u64; 8]
     ]
 }
 
-// The words of the last blocks of four pieces, which have `len` bytes each, by lanes.
+// The words of the last blocks of four pieces, by lanes; each of these blocks has `len` bytes of its piece.
 fn last_lanes(bytes: &[u8], starts: &[usize; 4], at: usize, len: usize) -> [u64x4; 16]
     requires fits { (i : ℕ) → i < 4 → slice_index starts.now i + at + len ≤ length bytes.now }
     requires short { len ≤ 128 }
@@ -139,10 +139,11 @@ impl PieceHash<4, 64> for Lanes2b {
     ghost small = { Prim.search rules };
 }
 
-/// Fills `out` with the BLAKE2b digests of `digest_len` bytes, without a key (RFC 7693, section 3.3), of the pieces of
-/// `piece_len` bytes that `bytes` is cut into, one behind the other; the last piece may be shorter, and no bytes have
-/// no piece. `Fault::DigestLength` where `digest_len` is 0 or above 64, else `Fault::PieceLength` where `piece_len` is
-/// 0, and else `Fault::OutputLength` where `out` has other than `digest_len` bytes a piece; nothing is written then.
+/// Fills `out` with the BLAKE2b digests of `digest_len` bytes, without a key (RFC 7693, section 3.3), of the
+/// pieces of `piece_len` bytes that `bytes` is cut into, one after the other. The last piece may be shorter,
+/// and an empty input has no pieces. Refuses with `Fault::DigestLength` if `digest_len` is 0 or above 64,
+/// otherwise with `Fault::PieceLength` if `piece_len` is 0, and otherwise with `Fault::OutputLength` if `out`
+/// does not have exactly `digest_len` bytes for each piece; nothing is written then.
 pub fn blake2b(
     digest_len: usize,
     bytes: &[u8],

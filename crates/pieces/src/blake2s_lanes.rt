@@ -126,10 +126,11 @@ impl PieceHash<8, 32> for Lanes2s {
     ghost small = { Prim.search rules };
 }
 
-/// Fills `out` with the BLAKE2s digests of `digest_len` bytes, without a key (RFC 7693, section 3.3), of the pieces of
-/// `piece_len` bytes that `bytes` is cut into, one behind the other; the last piece may be shorter, and no bytes have
-/// no piece. `Fault::DigestLength` where `digest_len` is 0 or above 32, else `Fault::PieceLength` where `piece_len` is
-/// 0, and else `Fault::OutputLength` where `out` has other than `digest_len` bytes a piece; nothing is written then.
+/// Fills `out` with the BLAKE2s digests of `digest_len` bytes, without a key (RFC 7693, section 3.3), of the
+/// pieces of `piece_len` bytes that `bytes` is cut into, one after the other. The last piece may be shorter,
+/// and an empty input has no pieces. Refuses with `Fault::DigestLength` if `digest_len` is 0 or above 32,
+/// otherwise with `Fault::PieceLength` if `piece_len` is 0, and otherwise with `Fault::OutputLength` if `out`
+/// does not have exactly `digest_len` bytes for each piece; nothing is written then.
 pub fn blake2s(
     digest_len: usize,
     bytes: &[u8],

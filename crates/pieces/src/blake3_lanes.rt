@@ -15,8 +15,8 @@ use crate::piece_hash::PieceHash;
 use b3::{Blake3, CHUNK_LEN};
 use words::Absorb;
 
-// BLAKE3 in the mode hash. Eight pieces go side by side where each is one chunk: of longer ones the hasher takes the
-// chunks of each side by side.
+// BLAKE3 in the mode hash. Eight pieces go side by side if each is one chunk; for longer pieces the hasher
+// takes the chunks of each side by side.
 struct LanesBlake3;
 
 impl PieceHash<8, 32> for LanesBlake3 {
@@ -65,10 +65,11 @@ fn digest_of(piece: &[u8]) -> [u8; 32]
     digest
 }
 
-/// Fills `out` with the BLAKE3 hashes of 32 bytes, in the mode hash (the BLAKE3 paper, sections 2.3 and 2.6), of the
-/// pieces of `piece_len` bytes that `bytes` is cut into, one behind the other; the last piece may be shorter, and no
-/// bytes have no piece. `Fault::PieceLength` where `piece_len` is 0, and else `Fault::OutputLength` where `out` has
-/// other than 32 bytes a piece; nothing is written then.
+/// Fills `out` with the BLAKE3 hashes of 32 bytes, in the mode hash (the BLAKE3 paper, sections 2.3 and 2.6),
+/// of the pieces of `piece_len` bytes that `bytes` is cut into, one after the other. The last piece may be
+/// shorter, and an empty input has no pieces. Refuses with `Fault::PieceLength` if `piece_len` is 0, and
+/// otherwise with `Fault::OutputLength` if `out` does not have exactly 32 bytes for each piece; nothing is
+/// written then.
 pub fn blake3(bytes: &[u8], piece_len: usize, out: &mut [u8]) -> Result<(), Fault>
     ensures { MatchResult result
         (λ _. (piece_fault 32 piece_len (length bytes.now) (length out.old) ≡ None)

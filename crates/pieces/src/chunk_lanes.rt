@@ -1,4 +1,5 @@
-// BLAKE3 of eight messages of one chunk, side by side: a lane has a message (the BLAKE3 paper, sections 2.2 and 2.4).
+// BLAKE3 of eight messages of one chunk, side by side: each lane has one message (the BLAKE3 paper, sections
+// 2.2 and 2.4).
 
 ghost use Rattle.std.specs.Prelude.{◌≡◌, ◌<◌, ◌≤◌, ◌+◌, [], ℕ, length, take, drop, slice_index, slice_index_or};
 ghost use Rattle.words.specs.Blake3.{compress3};

@@ -16,7 +16,7 @@ fn count_of(len: usize, piece_len: usize) -> usize
     len.div_ceil(piece_len)
 }
 
-// How many pieces there are, where their digests of `size` bytes fill `out_len` bytes.
+// How many pieces there are, if their digests of `size` bytes fill exactly `out_len` bytes.
 fn checked_count(size: usize, piece_len: usize, len: usize, out_len: usize) -> Result<usize, Fault>
     ensures { MatchResult result
         (λ count. (piece_fault size piece_len len out_len ≡ None) × (0 < piece_len)
@@ -33,7 +33,8 @@ fn checked_count(size: usize, piece_len: usize, len: usize, out_len: usize) -> R
     }
 }
 
-/// The starts of `count` pieces, the first of which is piece `done`. The last of them fills the lanes that are left.
+/// The starts of `count` pieces, the first of which is piece `done`. The last of them fills the remaining
+/// lanes.
 #[inline(always)]
 pub(crate) fn starts_of<const LANES: usize>(
     done: usize,
@@ -54,7 +55,7 @@ pub(crate) fn starts_of<const LANES: usize>(
     starts
 }
 
-// Writes a digest of `size` bytes behind others.
+// Writes a digest of `size` bytes after others.
 fn put_digest<const MOST: usize>(row: &[u8; MOST], size: usize, out: &mut [u8], at: usize)
     requires most { size ≤ length row.now }
     requires room { at + size ≤ length out.old }
@@ -92,7 +93,7 @@ fn put_group<H: PieceHash<LANES, MOST>, const LANES: usize, const MOST: usize>(
     }
 }
 
-/// Fills `out` with the digests of the pieces of `bytes`, one behind the other.
+/// Fills `out` with the digests of the pieces of `bytes`, one after the other.
 pub(crate) fn write_digests<H: PieceHash<LANES, MOST>, const LANES: usize, const MOST: usize>(
     hash: &H,
     bytes: &[u8],

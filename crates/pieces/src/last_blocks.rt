@@ -8,7 +8,7 @@ use std::simd::prelude::*;
 use words::lanes::message_lanes;
 use words::write_at;
 
-// The `len` bytes at `at`, with zeros after them up to a block of `N` bytes.
+// The `len` bytes at `at`, padded with zeros to a block of `N` bytes.
 fn padded_tail<const N: usize>(bytes: &[u8], at: usize, len: usize) -> [u8; N]
     requires fits { at + len ≤ length bytes.now }
     requires short { len ≤ N }
@@ -20,8 +20,8 @@ fn padded_tail<const N: usize>(bytes: &[u8], at: usize, len: usize) -> [u8; N]
     block
 }
 
-/// The last bytes of pieces, `len` of them, from `at` bytes after each start on, each with zeros after them up to a
-/// block of `N` bytes.
+/// The last `len` bytes of each piece, which begin `at` bytes after its start, padded with zeros to a block
+/// of `N` bytes.
 pub(crate) fn padded_tails<const N: usize, const LANES: usize>(
     bytes: &[u8],
     starts: &[usize; LANES],
@@ -41,7 +41,7 @@ pub(crate) fn padded_tails<const N: usize, const LANES: usize>(
     tails
 }
 
-/// The words of the last blocks of eight pieces, which have `len` bytes each, by lanes.
+/// The words of the last blocks of eight pieces, by lanes; each of these blocks has `len` bytes of its piece.
 #[inline(always)]
 pub(crate) fn last_lanes(bytes: &[u8], starts: &[usize; 8], at: usize, len: usize) -> [u32x8; 16]
     requires fits { (i : ℕ) → i < 8 → slice_index starts.now i + at + len ≤ length bytes.now }

@@ -1,5 +1,5 @@
-//! The digests of the pieces of a buffer, one behind the other: the buffer is cut into pieces of one length, of which
-//! the last may be shorter, and some pieces are hashed side by side in the lanes of vectors.
+//! The digests of the pieces of a buffer, one after the other: the buffer is cut into pieces of one length,
+//! the last of which may be shorter, and some pieces are hashed side by side in the lanes of vectors.
 #![tactic(auto)]
 
 pub use blake2b_lanes::blake2b;

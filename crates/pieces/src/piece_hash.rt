@@ -1,26 +1,27 @@
-// What a hash function has to bring, so that the pieces of a buffer go side by side.
+// What a hash function has to provide, so that the pieces of a buffer can go side by side.
 
 ghost use Rattle.std.specs.Prelude.{◌≡◌, ◌<◌, ◌≤◌, ◌+◌, [], ℕ, List, length, take, drop, slice_index, slice_index_or};
 
 /// A hash function, with digests of up to `MOST` bytes, that takes `LANES` pieces of one length side by side.
 pub(crate) trait PieceHash<const LANES: usize, const MOST: usize> {
-    // The bytes of a digest.
+    // The number of bytes in a digest.
     ghost size: { Self → ℕ };
 
     // The digest of a message.
     ghost digest: { Self → List ℕ → List ℕ };
 
-    /// The bytes of a digest.
+    /// The number of bytes in a digest.
     fn digest_len(&self) -> usize
         ensures value { result ≡ size self.now }
         ensures most { result ≤ MOST };
 
-    /// From how many pieces of `piece_len` bytes on they go side by side: of fewer, each goes by itself.
+    /// The number of pieces of `piece_len` bytes from which on they go side by side; fewer are hashed one by
+    /// one.
     fn fewest(&self, piece_len: usize) -> usize
         ensures { 0 < result };
 
-    /// The digests of the `LANES` pieces of `piece_len` bytes that begin at `starts`, each at the front of its row. A
-    /// start may stand more than once.
+    /// The digests of the `LANES` pieces of `piece_len` bytes that begin at `starts`, each at the front of
+    /// its row. The same start may occur more than once.
     fn side_by_side(
         &self,
         bytes: &[u8],

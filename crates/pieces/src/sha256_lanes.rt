@@ -68,10 +68,10 @@ impl PieceHash<8, 32> for Lanes256 {
     ghost small = { Prim.search rules };
 }
 
-/// Fills `out` with the SHA-256 digests (FIPS 180-4, section 6.2) of the pieces of `piece_len` bytes that `bytes` is
-/// cut into, one behind the other; the last piece may be shorter, and no bytes have no piece. `Fault::PieceLength`
-/// where `piece_len` is 0, and else `Fault::OutputLength` where `out` has other than 32 bytes a piece; nothing is
-/// written then.
+/// Fills `out` with the SHA-256 digests (FIPS 180-4, section 6.2) of the pieces of `piece_len` bytes that
+/// `bytes` is cut into, one after the other. The last piece may be shorter, and an empty input has no pieces.
+/// Refuses with `Fault::PieceLength` if `piece_len` is 0, and otherwise with `Fault::OutputLength` if `out`
+/// does not have exactly 32 bytes for each piece; nothing is written then.
 pub fn sha256(bytes: &[u8], piece_len: usize, out: &mut [u8]) -> Result<(), Fault>
     ensures { MatchResult result
         (λ _. (piece_fault 32 piece_len (length bytes.now) (length out.old) ≡ None)

@@ -37,7 +37,7 @@ impl PieceHash<4, 64> for Lanes512 {
         64
     }
 
-    // Below x86-64-v3 one after the other is faster.
+    // Below x86-64-v3, one after the other is faster.
     #[inline(always)]
     fn fewest(&self, _piece_len: usize) -> usize {
         if level() < 3 { usize::MAX } else { 3 }
@@ -61,10 +61,10 @@ impl PieceHash<4, 64> for Lanes512 {
     ghost small = { Prim.search rules };
 }
 
-/// Fills `out` with the SHA-512 digests (FIPS 180-4, section 6.4) of the pieces of `piece_len` bytes that `bytes` is
-/// cut into, one behind the other; the last piece may be shorter, and no bytes have no piece. `Fault::PieceLength`
-/// where `piece_len` is 0, and else `Fault::OutputLength` where `out` has other than 64 bytes a piece; nothing is
-/// written then.
+/// Fills `out` with the SHA-512 digests (FIPS 180-4, section 6.4) of the pieces of `piece_len` bytes that
+/// `bytes` is cut into, one after the other. The last piece may be shorter, and an empty input has no pieces.
+/// Refuses with `Fault::PieceLength` if `piece_len` is 0, and otherwise with `Fault::OutputLength` if `out`
+/// does not have exactly 64 bytes for each piece; nothing is written then.
 pub fn sha512(bytes: &[u8], piece_len: usize, out: &mut [u8]) -> Result<(), Fault>
     ensures { MatchResult result
         (λ _. (piece_fault 64 piece_len (length bytes.now) (length out.old) ≡ None)

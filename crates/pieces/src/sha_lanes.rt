@@ -1,5 +1,5 @@
-// SHA-2 of messages side by side: the blocks of each, and then its last bytes with the padding (FIPS 180-4, section
-// 5.1). Eight steps of the rounds stand here once, for words of either width.
+// SHA-2 of messages side by side: the blocks of each, and then its last bytes with the padding (FIPS 180-4,
+// section 5.1). Eight steps of the rounds are written here once, for words of either width.
 
 ghost use Rattle.std.specs.Prelude.{◌≡◌, ◌<◌, ◌≤◌, ◌+◌, ◌-◌, ◌*◌, ◌/◌, ◌%◌, ◌++◌, ◌∷◌, [], ℕ, List, length};
 ghost use Rattle.std.specs.Prelude.{drop, replicate, slice_index, slice_index_or, take};
@@ -8,7 +8,7 @@ use crate::digests::starts_of;
 use sha_blocks::HashValue;
 use words::write_at;
 
-/// The hash values of `LANES` messages, in a lane each: `V` is the hash value of one.
+/// The hash values of `LANES` messages, one in each lane; `V` is the hash value of one message.
 pub(crate) trait HashValues<V: HashValue<N>, const LANES: usize, const N: usize> {
     // Room for the work on a block in each lane.
     type Room: Copy;
@@ -59,7 +59,8 @@ fn take_whole<V: HashValue<N>, H: HashValues<V, LANES, N>, const LANES: usize, c
     }
 }
 
-// Puts the last bytes of a message to the front of a block of zeros, with the mark behind them that begins the padding.
+// Puts the last bytes of a message at the front of a block of zeros, followed by the mark that begins the
+// padding.
 #[inline(always)]
 fn put_marked<const N: usize>(block: &mut [u8; N], bytes: &[u8])
     requires short { length bytes.now < N }
@@ -70,7 +71,7 @@ fn put_marked<const N: usize>(block: &mut [u8; N], bytes: &[u8])
     block[bytes.len()] = 0x80;
 }
 
-// Such a block of each message, whose last `len` bytes begin `at` bytes after its start.
+// Such a block for each message; its last `len` bytes begin `at` bytes after its start.
 #[inline(always)]
 fn marked_rows<const N: usize, const LANES: usize>(
     bytes: &[u8],
@@ -106,7 +107,7 @@ fn take_rows<V: HashValue<N>, H: HashValues<V, LANES, N>, const LANES: usize, co
     values.take_blocks(room, bytes, &starts_of(0, LANES, N, bytes.len()), 0);
 }
 
-// The same with the count of bits for the last bytes of each block.
+// Takes a block in each lane, with the count of bits as the last bytes of each block.
 #[inline(always)]
 fn take_ended<V: HashValue<N>, H: HashValues<V, LANES, N>, const LANES: usize, const N: usize>(
     values: &mut H,

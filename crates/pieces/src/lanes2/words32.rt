@@ -1,4 +1,5 @@
-// F of BLAKE2s on eight inputs side by side. Their words are loaded and their chaining values read as those of BLAKE3.
+// F of BLAKE2s on eight inputs side by side. Their words are loaded, and their chaining values read, as for
+// BLAKE3.
 
 ghost use Rattle.std.specs.Prelude.{◌≡◌, ℕ, ◌<◌};
 ghost use Rattle.words.specs.Blake2.{blake2s, compress, working_words};
@@ -19,8 +20,8 @@ fn working_lanes(h: [u32x8; 8], t: u64, last: bool) -> [u32x8; 16]
     working!(h, IV32, low, high, last, u32x8::splat)
 }
 
-/// F in each of eight lanes: takes the blocks `m` into the chaining values `h`, where `t` bytes have come with these
-/// blocks, and `last` marks the last ones (RFC 7693, section 3.2).
+/// F in each of eight lanes: takes the blocks `m` into the chaining values `h`. `t` is the number of input
+/// bytes up to and including these blocks, and `last` marks the last ones (RFC 7693, section 3.2).
 #[tactic(auto, unfolding(words::specs::Blake2::compress))]
 pub(crate) fn next_lanes(h: [u32x8; 8], m: &[u32x8; 16], t: u64, last: bool) -> [u32x8; 8]
     ensures { (i : ℕ) → i < 8 → lane8 i result ≡ compress blake2s (lane8 i h) (lane i m.now) t last }

@@ -22,8 +22,8 @@ fn working_lanes(h: [u64x4; 8], t: u128, last: bool) -> [u64x4; 16]
     working!(h, IV64, low, high, last, u64x4::splat)
 }
 
-/// F in each of four lanes: takes the blocks `m` into the chaining values `h`, where `t` bytes have come with these
-/// blocks, and `last` marks the last ones (RFC 7693, section 3.2).
+/// F in each of four lanes: takes the blocks `m` into the chaining values `h`. `t` is the number of input
+/// bytes up to and including these blocks, and `last` marks the last ones (RFC 7693, section 3.2).
 #[tactic(auto, unfolding(words::specs::Blake2::compress))]
 pub(crate) fn next_lanes(h: [u64x4; 8], m: &[u64x4; 16], t: u128, last: bool) -> [u64x4; 8]
     ensures { (i : ℕ) → i < 4 → lane8 i result ≡ compress blake2b (lane8 i h) (lane i m.now) t last }
@@ -78,7 +78,7 @@ fn halves_high(a: u64x4, b: u64x4) -> u64x4
     a.shuffle(b, [2, 3, 6, 7])
 }
 
-// Rows for columns.
+// Turns rows into columns.
 #[inline(always)]
 fn transpose(r: [u64x4; 4]) -> [u64x4; 4]
     ensures { result ≡ lane4 0 r ∷ lane4 1 r ∷ lane4 2 r ∷ lane4 3 r ∷ [] }
@@ -125,7 +125,7 @@ fn block_at(bytes: &[u8], at: usize) -> &[u8]
     &bytes[at..at + 128]
 }
 
-/// The words of four blocks, by lanes: lane i has those of the block that begins `at` bytes after its start.
+/// The words of four blocks, by lanes: lane i has the block that begins `at` bytes after `starts[i]`.
 #[inline(always)]
 #[tactic(auto, unfolding(words::specs::inside::Lanes::lane))]
 pub(crate) fn message_lanes(bytes: &[u8], starts: &[usize; 4], at: usize) -> [u64x4; 16]
@@ -146,7 +146,7 @@ pub(crate) fn message_lanes(bytes: &[u8], starts: &[usize; 4], at: usize) -> [u6
     ]
 }
 
-// Eight words of two vectors.
+// Two vectors of four words as eight words.
 #[inline(always)]
 fn joined(x: u64x4, y: u64x4) -> [u64; 8]
     ensures { result ≡ slice_index x 0 ∷ slice_index x 1 ∷ slice_index x 2 ∷ slice_index x 3

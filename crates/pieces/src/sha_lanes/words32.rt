@@ -15,7 +15,7 @@ use std::simd::prelude::*;
 use words::IV32;
 use words::lanes::{bytes_of, message_lanes, same_lanes, words_of};
 
-// Room for the words of eight schedules: word t of block i stands at t and i.
+// Room for the words of eight schedules: word t of block i is at t and i.
 type Words = [u32x8; 64];
 
 #[inline(always)]
@@ -32,7 +32,7 @@ fn big_sigma1(x: u32x8) -> u32x8
     xor(rotated(x, 6), rotated(x, 11), rotated(x, 25))
 }
 
-// Ch: one operation fewer.
+// Ch, with one operation fewer.
 #[inline(always)]
 fn choice(x: u32x8, y: u32x8, z: u32x8) -> u32x8
     ensures { (i : ℕ) → i < 8
@@ -81,7 +81,7 @@ fn eight_steps(v: [u32x8; 8], words: &Words, t: usize) -> [u32x8; 8]
     eight!(step, v, words, t)
 }
 
-// Puts word t + 16 of each schedule behind those before it.
+// Puts word t + 16 of each schedule after those before it.
 #[inline(always)]
 fn extend(words: &mut Words, t: usize)
     requires { t + 16 < 64 }
@@ -106,7 +106,7 @@ fn step_ahead(v: [u32x8; 8], words: &mut Words, t: usize) -> [u32x8; 8]
     next
 }
 
-// Eight of these, from t on.
+// Eight such steps, from t on.
 #[inline(always)]
 fn eight_steps_ahead(v: [u32x8; 8], words: &mut Words, t: usize) -> [u32x8; 8]
     requires { t + 24 ≤ 64 }
@@ -118,7 +118,7 @@ fn eight_steps_ahead(v: [u32x8; 8], words: &mut Words, t: usize) -> [u32x8; 8]
     eight!(step_ahead, v, words, t)
 }
 
-// All rounds, and all words after the sixteen of the blocks.
+// All rounds, and all words after the sixteen that are the blocks'.
 #[inline(always)]
 fn all_steps(v: &mut [u32x8; 8], words: &mut Words)
     ensures value { (i : ℕ) → i < 8 → (b : List ℕ) → HasWords (Sha256.schedule b 48) 16 i words.old
@@ -132,7 +132,7 @@ fn all_steps(v: &mut [u32x8; 8], words: &mut Words)
     *v = eight_steps(*v, words, 56);
 }
 
-// Bytes, the four of each word in reverse.
+// The bytes of words, with the four bytes of each word reversed.
 #[inline(always)]
 fn turned_round(x: u8x32) -> u8x32
     ensures { result ≡ slice_index x 3 ∷ slice_index x 2 ∷ slice_index x 1 ∷ slice_index x 0 ∷
@@ -149,7 +149,7 @@ fn turned_round(x: u8x32) -> u8x32
     ])
 }
 
-// Words, the bytes of each in reverse.
+// Words, with the bytes of each reversed.
 #[inline(always)]
 fn reverse(x: u32x8) -> u32x8
     ensures { (i : ℕ) → i < 8 → slice_index result i ≡ reversed (slice_index x i) }
@@ -157,7 +157,7 @@ fn reverse(x: u32x8) -> u32x8
     words_of(turned_round(bytes_of(x)))
 }
 
-// Puts the words of the blocks that begin `at` bytes after the starts to the front of the schedules.
+// Puts the words of the blocks that begin `at` bytes after the starts at the front of the schedules.
 #[inline(always)]
 fn load(words: &mut Words, bytes: &[u8], starts: &[usize; 8], at: usize)
     requires { (i : ℕ) → i < 8 → slice_index starts.now i + at + 64 ≤ length bytes.now }

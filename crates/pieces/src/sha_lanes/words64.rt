@@ -30,7 +30,7 @@ fn big_sigma1(x: u64x4) -> u64x4
     xor(rotated(x, 14), rotated(x, 18), rotated(x, 41))
 }
 
-// Ch: one operation fewer.
+// Ch, with one operation fewer.
 #[inline(always)]
 fn choice(x: u64x4, y: u64x4, z: u64x4) -> u64x4
     ensures { (i : ℕ) → i < 4
@@ -93,7 +93,7 @@ fn step_ahead(v: [u64x4; 8], words: &mut Words, t: usize) -> [u64x4; 8]
     next
 }
 
-// Eight of these, from t on.
+// Eight such steps, from t on.
 #[inline(always)]
 fn eight_steps_ahead(v: [u64x4; 8], words: &mut Words, t: usize) -> [u64x4; 8]
     requires { t + 24 ≤ 80 }
@@ -105,7 +105,7 @@ fn eight_steps_ahead(v: [u64x4; 8], words: &mut Words, t: usize) -> [u64x4; 8]
     eight!(step_ahead, v, words, t)
 }
 
-// All rounds, and all words after the sixteen of the blocks.
+// All rounds, and all words after the sixteen that are the blocks'.
 #[inline(always)]
 fn all_steps(v: &mut [u64x4; 8], words: &mut Words)
     ensures value { (i : ℕ) → i < 4 → (b : List ℕ) → HasWords (Sha512.schedule b 64) 16 i words.old
@@ -119,7 +119,7 @@ fn all_steps(v: &mut [u64x4; 8], words: &mut Words)
     *v = eight_steps(*v, words, 72);
 }
 
-// Bytes, the eight of each word in reverse.
+// The bytes of words, with the eight bytes of each word reversed.
 #[inline(always)]
 fn turned_round(x: u8x32) -> u8x32
     ensures { result ≡ slice_index x 7 ∷ slice_index x 6 ∷ slice_index x 5 ∷ slice_index x 4 ∷
@@ -136,7 +136,7 @@ fn turned_round(x: u8x32) -> u8x32
     ])
 }
 
-// Words, the bytes of each in reverse.
+// Words, with the bytes of each reversed.
 #[inline(always)]
 fn reverse(x: u64x4) -> u64x4
     ensures { (i : ℕ) → i < 4 → slice_index result i ≡ reversed_long (slice_index x i) }
@@ -144,7 +144,7 @@ fn reverse(x: u64x4) -> u64x4
     words_of(turned_round(bytes_of(x)))
 }
 
-// Puts the words of the blocks that begin `at` bytes after the starts to the front of the schedules.
+// Puts the words of the blocks that begin `at` bytes after the starts at the front of the schedules.
 #[inline(always)]
 fn load(words: &mut Words, bytes: &[u8], starts: &[usize; 4], at: usize)
     requires { (i : ℕ) → i < 4 → slice_index starts.now i + at + 128 ≤ length bytes.now }
