@@ -6,7 +6,7 @@ use Rattle.words.specs.Words.{padded}
 abbrev pub xored : ℕ → List ℕ → List ℕ
 xored c bytes = map (λ b. bit_xor b c) bytes
 
--- the key as one block of n bytes: hashed first only if it is longer than a block, then zeros after it
+-- the key as one block of n bytes: hashed first only if it is longer than a block, then padded with zeros
 unfoldable pub block_sized_key : (List ℕ → List ℕ) → ℕ → List ℕ → List ℕ
 block_sized_key hash n key = padded n (if nat_lt n (length key) then hash key else key)
 
@@ -14,6 +14,6 @@ block_sized_key hash n key = padded n (if nat_lt n (length key) then hash key el
 unfoldable pub hmac_of_block_key : (List ℕ → List ℕ) → List ℕ → List ℕ → List ℕ
 hmac_of_block_key hash k text = hash (xored 0x5c k ++ hash (xored 0x36 k ++ text))
 
--- the tag of a text under a key of any length, where the hash function has blocks of n bytes
+-- the tag of a text under a key of any length, for a hash function with blocks of n bytes
 abbrev pub hmac : (List ℕ → List ℕ) → ℕ → List ℕ → List ℕ → List ℕ
 hmac hash n key text = hmac_of_block_key hash (block_sized_key hash n key) text

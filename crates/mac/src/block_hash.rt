@@ -1,13 +1,13 @@
-// What HMAC and HKDF ask of a hash function.
+// What HMAC and HKDF require of a hash function.
 
 ghost use Rattle.std.specs.Prelude.{◌≡◌, ◌≤◌, ◌+◌, ◌++◌, ℕ, List, [], length};
 ghost use Rattle.mac.specs.Numbers.{AreNumbers};
 
 use words::{Absorb, Tag};
 
-/// A hash function that takes its input in blocks, as a hasher: what HMAC (RFC 2104) is built on.
+/// A hasher for a hash function that takes its input in blocks: what HMAC (RFC 2104) is built on.
 ///
-/// A block has at most 128 bytes and a digest at most 64, no more than a block, and at least 1. An
+/// A block has at most 128 bytes. A digest has at least 1 byte, at most 64, and no more than a block. An
 /// input of 2^61 - 1 bytes is accepted.
 pub trait BlockHash: Absorb {
     // The three numbers below.
@@ -39,7 +39,7 @@ pub trait BlockHash: Absorb {
         ensures length { length result ≡ OUT }
         ensures digest { (m : List ℕ) → Self.holds self m → result ≡ hash_of m };
 
-    // What is said of the three numbers above.
+    // What holds for the three numbers above.
     ghost numbers: { AreNumbers BLOCK OUT LIMIT };
 
     // A digest of an input within the limit has OUT bytes.

@@ -13,7 +13,7 @@ pub const IPAD: u8 = 0x36;
 /// The byte of the outer pad.
 pub const OPAD: u8 = 0x5c;
 
-/// A length of a shortened tag below half of the digest's, or above the digest's.
+/// The length of a shortened tag is below half of the digest's, or above the digest's.
 #[derive(Clone, Copy, Debug, PartialEq, Eq, Drop)]
 pub struct TagLength;
 
@@ -47,8 +47,8 @@ impl<H: BlockHash> Absorb for Hmac<H> {
 }
 
 impl<H: BlockHash> Hmac<H> {
-    /// A MAC of the empty text under a key of any length. A key of more than a block is hashed
-    /// first; one of more than `H::LIMIT` bytes is refused.
+    /// A MAC of the empty text under a key of any length. A key longer than a block is hashed first; one of
+    /// more than `H::LIMIT` bytes is refused.
     pub fn new(key: &[u8]) -> Result<Hmac<H>, KeyTooLong>
         ensures fits { IsOk result ↔ (length key.now ≤ H.LIMIT) }
         ensures empty { IfOk result (λ mac. ⟦<Hmac<H> as Absorb>⟧.holds mac []) }
@@ -88,8 +88,8 @@ impl<H: BlockHash> Hmac<H> {
         Ok(Tag::of(&tag.bytes()[..n]).unwrap())
     }
 
-    /// Whether `tag` is the whole tag of the text, all its `H::OUT` bytes and no more. Nothing is
-    /// promised on the time that this takes: it may tell where the two differ.
+    /// Whether `tag` is the whole tag of the text, all its `H::OUT` bytes and no more. Nothing is promised
+    /// about the time that this takes: it may reveal where the two differ.
     pub fn verify(self, tag: &[u8]) -> bool
         ensures { (m : List ℕ) → ⟦<Hmac<H> as Absorb>⟧.holds self m → IsTrue result
             ↔ (tag.now ≡ hmac_of_block_key H.hash_of (⟦<Hmac<H> as Absorb>⟧.parameters self) m) }

@@ -11,7 +11,7 @@ use crate::block_hash::{BlockHash, hash_both};
 #[derive(Clone, Copy, Debug, PartialEq, Eq, Drop)]
 pub struct KeyTooLong;
 
-/// The key as one block, with zeros after it: hashed first only if it is longer than a block.
+/// The key as one block, padded with zeros; it is hashed first only if it is longer than a block.
 pub fn block_sized_key<H: BlockHash>(key: &[u8]) -> Result<[u8; 128], KeyTooLong>
     ensures fits { IsOk result ↔ (length key.now ≤ H.LIMIT) }
     ensures value { IfOk result
@@ -27,7 +27,7 @@ pub fn block_sized_key<H: BlockHash>(key: &[u8]) -> Result<[u8; 128], KeyTooLong
     Ok(zero_padded(hash_both::<H>(key, &[]).bytes()))
 }
 
-// The bytes, with zeros after them.
+// The bytes, padded with zeros.
 fn zero_padded(bytes: &[u8]) -> [u8; 128]
     requires { length bytes.now ≤ 128 }
     ensures { result ≡ padded 128 bytes.now }

@@ -1,4 +1,4 @@
-// What the four hash functions are, beside what the code of each does.
+// What the four hash functions are, apart from what the code of each does.
 
 ghost use Rattle.std.specs.Prelude.{◌≡◌, ◌-◌, ◌^◌, []};
 ghost use Rattle.sha2.specs.Sha256.{sha256};
