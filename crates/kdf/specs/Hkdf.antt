@@ -2,12 +2,12 @@
 use Rattle.std.specs.Prelude.{ℕ, zero, suc, Option, List, [], ◌∷◌, ◌++◌, take, replicate, unwrap_or}
 use Rattle.mac.specs.Hmac.{hmac}
 
--- the salt, where an absent one is as many zeros as a digest has bytes (2.2)
+-- the salt; an absent one is as many zeros as a digest has bytes (2.2)
 abbrev pub salt_or_zeros : ℕ → Option (List ℕ) → List ℕ
 salt_or_zeros out salt = unwrap_or salt (replicate out 0)
 
--- HKDF-Extract: the pseudorandom key of input keying material (2.2), where the hash function has
--- blocks of n bytes and digests of out bytes
+-- HKDF-Extract: the pseudorandom key of input keying material (2.2), for a hash function with blocks of n bytes and
+-- digests of out bytes
 abbrev pub extract : (List ℕ → List ℕ) → ℕ → ℕ → Option (List ℕ) → List ℕ → List ℕ
 extract hash n out salt material = hmac hash n (salt_or_zeros out salt) material
 

@@ -15,15 +15,15 @@ pub enum ExpandFault {
     PrkTooShort,
     /// The pseudorandom key is longer than the longest input of the hash function.
     KeyTooLong,
-    /// More output is wanted than 255 digests.
+    /// More than 255 digests of output are wanted.
     OutputTooLong,
     /// The info is too long for HMAC to take it between a digest and the counter.
     InfoTooLong,
 }
 
-/// HKDF-Expand (RFC 5869, section 2.3): fills `out` with keying material of the pseudorandom key
-/// `prk`, bound to `info`. The refusals are told in the order of `ExpandFault`, the first that
-/// stands, and each leaves `out` as it was. An empty `out` is no fault.
+/// HKDF-Expand (RFC 5869, section 2.3): fills `out` with keying material from the pseudorandom key `prk`,
+/// bound to `info`. If several refusals apply, the first in the order of `ExpandFault` is returned; each
+/// leaves `out` as it was. An empty `out` is not refused.
 pub fn expand<H: BlockHash>(prk: &[u8], info: &[u8], out: &mut [u8]) -> Result<(), ExpandFault>
     ensures fits { IsOk result ↔ ((H.OUT ≤ length prk.now) × (length prk.now ≤ H.LIMIT)
         × (length out.old ≤ 255 * H.OUT) × (H.BLOCK + H.OUT + length info.now + 1 ≤ H.LIMIT)) }
@@ -55,7 +55,7 @@ pub fn expand<H: BlockHash>(prk: &[u8], info: &[u8], out: &mut [u8]) -> Result<(
     Ok(())
 }
 
-// Fills `out` block by block, each block made once.
+// Fills `out` block by block, making each block once.
 fn fill<H: BlockHash>(prk: &[u8], info: &[u8], out: &mut [u8])
     requires key { length prk.now ≤ H.LIMIT }
     requires info { H.BLOCK + H.OUT + length info.now + 1 ≤ H.LIMIT }
@@ -72,7 +72,7 @@ fn fill<H: BlockHash>(prk: &[u8], info: &[u8], out: &mut [u8])
     }
 }
 
-// T(counter) of the block before it.
+// T(counter), from the block before it.
 fn next_block<H: BlockHash>(prk: &[u8], info: &[u8], previous: &Tag, counter: u8) -> Tag
     requires key { length prk.now ≤ H.LIMIT }
     requires info { H.BLOCK + H.OUT + length info.now + 1 ≤ H.LIMIT }
@@ -88,7 +88,7 @@ fn next_block<H: BlockHash>(prk: &[u8], info: &[u8], previous: &Tag, counter: u8
     mac.finish()
 }
 
-// Writes the beginning of `block` at a place, as much as there is room for, and tells how much.
+// Writes the beginning of `block` at a place, as much as there is room for, and returns how much.
 fn put(out: &mut [u8], at: usize, block: &[u8]) -> usize
     requires { at ≤ length out.old }
     ensures count { result ≡ min (length block.now) (length out.old - at) }
