@@ -16,8 +16,8 @@ pub record Function : Type 0 where
   pub limit : ℕ
   pub of : List ℕ → List ℕ
 
--- each of them (FIPS 180-4, 1, 6.2 and 6.4; RFC 7693, 2.1 and 3.3, without a key; the BLAKE3 paper, 2.1 and 2.6, where
--- no other length is asked for)
+-- each of the hashes (FIPS 180-4, 1, 6.2 and 6.4; RFC 7693, 2.1 and 3.3, without a key; the BLAKE3 paper, 2.1 and 2.6,
+-- with the default length)
 abbrev pub function : Alg → Function
 function Sha256 = record { out = 32; block = 64; limit = 2 ^ 61 - 1; of = sha256 }
 function Sha512 = record { out = 64; block = 128; limit = 2 ^ 125 - 1; of = sha512 }
@@ -25,7 +25,7 @@ function (Blake2b n) = record { out = n; block = 128; limit = 2 ^ 128 - 1; of = 
 function (Blake2s n) = record { out = n; block = 64; limit = 2 ^ 64 - 1; of = blake2 blake2s (unsalted blake2s n []) }
 function Blake3 = record { out = 32; block = 64; limit = 2 ^ 64 - 1; of = λ m. slice (hash_root m) 0 32 }
 
--- whether there is a digest of so many bytes (RFC 7693, 2.1)
+-- whether the hash has digests of this length (RFC 7693, 2.1)
 abbrev pub IsInRange : Alg → Type 0
 IsInRange (Blake2b n) = (1 ≤ n) × (n ≤ 64)
 IsInRange (Blake2s n) = (1 ≤ n) × (n ≤ 32)
@@ -39,10 +39,10 @@ digest alg = (function alg).of
 abbrev pub digest_len : Alg → ℕ
 digest_len alg = (function alg).out
 
--- and a block
+-- how many bytes a block has
 abbrev pub block_len : Alg → ℕ
 block_len alg = (function alg).block
 
--- and the longest input
+-- how many bytes the longest input has
 abbrev pub input_limit : Alg → ℕ
 input_limit alg = (function alg).limit

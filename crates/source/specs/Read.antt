@@ -3,8 +3,8 @@ use Rattle.std.specs.Prelude.{◌≡◌, ◌<◌, ◌≤◌, ℕ, List, Option, 
 use Rattle.std.specs.Io.KnownBytes.{Consumes, IsAtEnd}
 use Rattle.source.specs.Counts.{CountsFailure}
 
--- a read into a buffer, which is then `buf`, answered r: an `Ok` gave so many of the bytes to come, of which
--- none is left where it gave none and there was room, and an `Err` is one more failure and gave nothing
+-- a read into a buffer, which is then `buf`, returned r: `Ok n` gave n of the bytes to come, and none is left if n is 0
+-- and there was room; an `Err` gave nothing, and is one more failure
 pub record IsRead {S E : Type 0} (r : Result ℕ E) (remaining : S → Option (List ℕ)) (failure_count : S → ℕ)
     (old new : S) (buf : List ℕ) : Type 0 where
   pub bound : IfOk r (λ n. n ≤ length buf)

@@ -3,13 +3,13 @@ use Rattle.std.specs.Prelude.{◌≡◌, ◌<◌, ◌≤◌, ℕ, List, ◌++◌
 use Rattle.source.specs.Counts.{CountsFailure, next_count}
 use Rattle.std.specs.Io.KnownBytes.{Appends}
 
--- what is seen of a sink: how many writes have failed, and the bytes written, or `None` where they are not told
+-- what is seen of a sink: how many writes have failed, and the bytes written, or `None` if they are not known
 pub record Shown : Type 0 where
   pub failures : ℕ
   pub contents : Option (List ℕ)
 
--- one write of these bytes answered r: an `Ok` appended so many of them, at least one if there are any, and an
--- `Err` is one more failure and appended nothing
+-- one write of these bytes returned r: `Ok n` appended the first n of them, at least one if there are any; an `Err`
+-- appended nothing, and is one more failure
 pub record IsWrite {E : Type 0} (r : Result ℕ E) (old new : Shown) (bytes : List ℕ) : Type 0 where
   pub bound : IfOk r (λ n. n ≤ length bytes)
   pub progress : IfOk r (λ n. 0 < length bytes → 0 < n)

@@ -1,4 +1,4 @@
--- How the clauses see the structs of the code: of use inside alone.
+-- How the clauses see the structs of the code; used only inside the crate.
 pub mod Bytes
 pub mod FixedSink
 pub mod VecSink

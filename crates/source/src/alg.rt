@@ -11,7 +11,7 @@ pub const BLAKE2B_LEN: usize = 64;
 /// The length in bytes of the longest digests of BLAKE2s (RFC 7693, section 2.1).
 pub const BLAKE2S_LEN: usize = 32;
 
-/// The length in bytes of BLAKE3's digests, where no other is asked for (the BLAKE3 paper, section 2.6).
+/// The length in bytes of BLAKE3's digests, unless another is asked for (the BLAKE3 paper, section 2.6).
 pub const BLAKE3_LEN: usize = 32;
 
 /// A hash with its parameters, without a key.
@@ -21,9 +21,9 @@ pub enum Alg {
     Sha256,
     /// SHA-512 (FIPS 180-4, section 6.4): digests of 64 bytes.
     Sha512,
-    /// BLAKE2b with digests of so many bytes, 1 to 64 (RFC 7693).
+    /// BLAKE2b with digests of this many bytes, 1 to 64 (RFC 7693).
     Blake2b(usize),
-    /// BLAKE2s with digests of so many bytes, 1 to 32 (RFC 7693).
+    /// BLAKE2s with digests of this many bytes, 1 to 32 (RFC 7693).
     Blake2s(usize),
     /// BLAKE3 with digests of 32 bytes.
     Blake3,
@@ -44,7 +44,7 @@ impl Alg {
         }
     }
 
-    /// Whether it has digests of its length: `Blake2b` has 1 to 64 bytes, and `Blake2s` 1 to 32.
+    /// Whether digests of its length exist: `Blake2b` has 1 to 64 bytes, and `Blake2s` 1 to 32.
     pub fn is_in_range(self) -> bool
         ensures { IsTrue result ↔ IsInRange self }
     {

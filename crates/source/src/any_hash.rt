@@ -21,15 +21,15 @@ enum Inner {
     Blake3(Blake3),
 }
 
-/// A hasher for a hash that is chosen at run time. It takes its input by `Absorb`, and no memory.
+/// A hasher for a hash that is chosen at run time. It takes its input by `Absorb`, and allocates nothing.
 #[derive(Drop)]
 pub struct AnyHash {
     inner: Inner,
 }
 
 impl AnyHash {
-    /// A hasher of the empty input. It is refused, by `DigestLength` and nothing else, exactly where
-    /// BLAKE2 has no digest of so many bytes: `Blake2b` has 1 to 64, and `Blake2s` 1 to 32.
+    /// A hasher of the empty input. It is refused, with `DigestLength` and nothing else, exactly if BLAKE2
+    /// has no digest of this length: `Blake2b` has 1 to 64 bytes, and `Blake2s` 1 to 32.
     pub fn new(alg: Alg) -> Result<AnyHash, ParameterFault>
         ensures range { MatchResult result (λ _. IsInRange alg)
             (λ e. (e ≡ ParameterFault.DigestLength) × (IsInRange alg → ⊥)) }
@@ -65,7 +65,7 @@ impl AnyHash {
     }
 }
 
-// The first bytes of the output, which are BLAKE3's digest where no other length is asked for.
+// The first bytes of the output, which are BLAKE3's digest unless another length is asked for.
 fn first_bytes(hasher: &Blake3) -> Tag
     ensures digest { (m : List ℕ) → ⟦<Blake3 as Absorb>⟧.holds hasher.now m
         → result ≡ slice (root_of (⟦<Blake3 as Absorb>⟧.parameters hasher.now) m) 0 BLAKE3_LEN }

@@ -6,9 +6,8 @@ ghost use Rattle.source.specs.Read.{IsRead};
 
 use crate::{Feed, ReadFailed};
 
-/// The bytes of a lent slice, at most a chosen number of them a read. It may have a failing place:
-/// each read into a nonempty buffer that would begin there fails, and one that begins before it
-/// stops there.
+/// The bytes of a lent slice, at most a chosen number of them per read. There may be a failing place: each
+/// read into a nonempty buffer that would begin there fails, and one that begins before it stops there.
 #[derive(Drop)]
 pub struct Bytes<'a> {
     rest: &'a [u8],
@@ -21,7 +20,7 @@ pub struct Bytes<'a> {
 impl<'a> Bytes<'a> {
     ghost use Rattle.source.specs.inside.Bytes.{bytes_most, bytes_next, bytes_place};
 
-    /// All of `bytes`, at most `most` of them a read.
+    /// All of `bytes`, at most `most` of them per read.
     pub fn new(bytes: &'a [u8], most: usize) -> Bytes<'a>
         requires { 1 ≤ most }
         ensures told { ⟦<Bytes<'a> as Feed>⟧.remaining result ≡ Some bytes.now }
@@ -37,7 +36,7 @@ impl<'a> Bytes<'a> {
         }
     }
 
-    /// The same with a failing place, after the first `place` bytes. Beyond the end it is never
+    /// Like `new`, with a failing place after the first `place` bytes. A place beyond the end is never
     /// reached.
     pub fn failing(bytes: &'a [u8], most: usize, place: usize) -> Bytes<'a>
         requires { 1 ≤ most }
@@ -60,7 +59,7 @@ impl<'a> Bytes<'a> {
         self.place == Some(0) && room > 0
     }
 
-    // How many bytes the next read into `room` bytes gives, where it does not fail.
+    // How many bytes the next read into `room` bytes gives, if it does not fail.
     fn next_length(&self, room: usize) -> usize
         ensures { result ≡ bytes_next self.now room }
     {
@@ -83,7 +82,7 @@ impl<'a> Feed for Bytes<'a> {
         ensures read { IsRead result ⟦<Bytes<'a> as Feed>⟧.remaining ⟦<Bytes<'a> as Feed>⟧.failure_count
             self.old self.new buf.new }
 
-        // Where it fails, how much it reads, and what stays.
+        // When it fails, how much it reads, and what stays.
         ensures fails { IsErr result ↔ ((bytes_place self.old ≡ Some 0) × (0 < length buf.old)) }
         ensures reads { IfOk result (λ n. n ≡ bytes_next self.old (length buf.old)) }
         ensures place { IfOk result

@@ -11,10 +11,9 @@ use crate::{Feed, ReadFailed, Sink, WriteFailed};
 use std::io;
 use std::io::{Read, Write};
 
-/// A reader or a writer, as a file or a standard stream. It shows neither what is still to come nor
-/// what was written. If the reader or writer itself shows its bytes, each read and write agrees with
-/// them. A read is
-/// one read of the reader, and a fault of any kind is a failure: an interrupted one is not repeated.
+/// A reader or a writer, such as a file or a standard stream. It shows neither what is still to come nor what
+/// was written. If the reader or writer itself shows its bytes, each read and write agrees with them. A read
+/// is one read of the reader, and a fault of any kind is a failure: an interrupted read is not repeated.
 #[derive(Drop)]
 pub struct Device<R> {
     inner: R,
@@ -30,14 +29,14 @@ impl<R> Device<R> {
         Device { inner, failures: 0 }
     }
 
-    /// Gives the reader or writer back, as for a last flush.
+    /// Gives the reader or writer back, for example for a last flush.
     pub fn into_inner(self) -> R
         ensures { result ≡ device_inner self }
     {
         self.inner
     }
 
-    // Hands on what the reader or writer answered, and counts a fault, of any kind, as this failure.
+    // Passes on what the reader or writer returned, and counts a fault, of any kind, as this failure.
     fn counted<T, E: Drop>(&mut self, answer: io::Result<T>, failure: E) -> Result<T, E>
         ensures answer { MatchResult answer (λ given. result ≡ Ok given) (λ _. result ≡ Err failure) }
         ensures counted { CountsFailure answer (device_failures self.old) (device_failures self.new) }
@@ -62,7 +61,7 @@ impl<R: Read> Feed for Device<R> {
         ensures read { IsRead result ⟦<Device<R> as Feed>⟧.remaining ⟦<Device<R> as Feed>⟧.failure_count
             self.old self.new buf.new }
 
-        // What the reader had to come, where it tells that, is what was read.
+        // What the reader had to come, if it shows that, is what was read.
         ensures reader { ReadConsumes (R.remaining (device_inner self.old))
             (R.remaining (device_inner self.new)) result buf.new }
         ensures counted { CountsFailure result (device_failures self.old) (device_failures self.new) }
@@ -84,14 +83,14 @@ impl<W: Write> Sink for Device<W> {
 
     ghost shown = { λ s. device_shown s };
 
-    /// Hands the whole of `bytes` to the writer's `write_all`, so that a writer that gathers lines
-    /// sends each in one write: an `Ok` is their length. After an `Err` the writer may have taken a
-    /// beginning of them, of which std's `write_all` says nothing.
+    /// Passes all of `bytes` to the writer's `write_all`, so that a writer that gathers lines sends each in
+    /// one write: an `Ok` is their length. After an `Err` the writer may have taken a beginning of them;
+    /// std's `write_all` says nothing about that.
     fn write(&mut self, bytes: &[u8]) -> Result<usize, WriteFailed>
         ensures write { IsWrite result (⟦<Device<W> as Sink>⟧.shown self.old)
             (⟦<Device<W> as Sink>⟧.shown self.new) bytes.now }
 
-        // All of it is written, and what the writer holds, where it tells that, grows by it.
+        // All of it is written, and what the writer holds, if it shows that, grows by it.
         ensures whole { IfOk result (λ n. n ≡ length bytes.now) }
         ensures writer { OnOk result (Appends (W.contents (device_inner self.old))
             (W.contents (device_inner self.new)) bytes.now) }
@@ -103,7 +102,7 @@ impl<W: Write> Sink for Device<W> {
     }
 }
 
-/// Does nothing. Its contract says what each device tells as a feed: how many of its reads have failed, and
+/// Does nothing. Its contract says what each device shows as a feed: how many of its reads have failed, and
 /// not which bytes are to come.
 pub fn device_feed_laws<R: Read>(device: &Device<R>)
     ensures untold { ⟦<Device<R> as Feed>⟧.remaining device.now ≡ None }

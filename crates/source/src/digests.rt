@@ -11,9 +11,9 @@ ghost use Rattle.source.specs.inside.AnyHash.{parameters_of};
 use crate::{Alg, AnyHash, Feed, SourceFault, pump};
 use words::{Absorb, InputTooLong, Tag};
 
-/// The digest of what the hasher has taken, followed by all that the feed still gives. `Read` comes
-/// exactly where a read failed; where none did, `TooLong` comes exactly where what was to come is
-/// longer than the hasher's room.
+/// The digest of what the hasher has taken, followed by all that the feed still gives. The fault is `Read`
+/// exactly if a read failed; if none did, it is `TooLong` exactly if what was to come is longer than the
+/// hasher's room.
 pub fn digest_of<F: Feed>(mut hasher: AnyHash, feed: &mut F) -> Result<Tag, SourceFault>
     ensures digest { IfOk result (λ tag. IfSome (F.remaining feed.old) (λ xs. (alg : Alg) (m : List ℕ)
         → ⟦<AnyHash as Absorb>⟧.parameters hasher ≡ parameters_of alg
@@ -34,8 +34,8 @@ pub fn digest_of<F: Feed>(mut hasher: AnyHash, feed: &mut F) -> Result<Tag, Sour
     Ok(hasher.finish())
 }
 
-/// The digest of what the hasher has taken, followed by the pieces, one after another. `TooLong`
-/// comes exactly where they are together longer than the hasher's room, and `Read` never.
+/// The digest of what the hasher has taken, followed by the pieces, one after another. The fault is `TooLong`
+/// exactly if they are together longer than the hasher's room, and never `Read`.
 pub fn pieces(mut hasher: AnyHash, pieces: &[&[u8]]) -> Result<Tag, SourceFault>
     ensures digest { IfOk result (λ tag. (alg : Alg) (m : List ℕ)
         → ⟦<AnyHash as Absorb>⟧.parameters hasher ≡ parameters_of alg

@@ -1,4 +1,4 @@
-// What bytes come from.
+// Where bytes come from.
 
 ghost use Rattle.std.specs.Prelude.{◌≡◌, ℕ, List, Option};
 ghost use Rattle.source.specs.Read.{IsRead};
@@ -10,16 +10,16 @@ use thiserror::Error;
 #[error("a read failed")]
 pub struct ReadFailed;
 
-/// Bytes that come piece by piece, and of which any read may fail.
+/// Bytes that come piece by piece; any read may fail.
 pub trait Feed {
     // How many reads have failed.
     ghost failure_count: { Self → ℕ };
 
-    // The bytes still to come, or `None` where they are not told.
+    // The bytes still to come, or `None` if they are not known.
     ghost remaining: { Self → Option (List ℕ) };
 
-    /// Reads the next bytes to the front of `buf` and answers how many they are. With room in `buf`,
-    /// 0 is the end. After an `Err` the same bytes are still to come, and the failure is counted.
+    /// Reads the next bytes into the front of `buf` and returns how many they are. If `buf` has room, 0 means
+    /// the end. After an `Err` the same bytes are still to come, and the failure is counted.
     fn read(&mut self, buf: &mut [u8]) -> Result<usize, ReadFailed>
         ensures { IsRead result remaining failure_count self.old self.new buf.new };
 

@@ -5,8 +5,8 @@ ghost use Rattle.source.specs.Written.{IsWrite};
 
 use crate::{Sink, WriteFailed};
 
-/// A lent slice that is filled from its front. A write takes as many bytes as fit, and fails where
-/// it has bytes and none fits.
+/// A lent slice that is filled from its front. A write takes as many bytes as fit, and fails if it has bytes
+/// and none fits.
 #[derive(Drop)]
 pub struct FixedSink<'a> {
     buffer: &'a mut [u8],
@@ -49,12 +49,12 @@ impl<'a> Sink for FixedSink<'a> {
         ensures write { IsWrite result (⟦<FixedSink<'a> as Sink>⟧.shown self.old)
             (⟦<FixedSink<'a> as Sink>⟧.shown self.new) bytes.now }
 
-        // Where it fails, how much it takes, and what room is left.
+        // When it fails, how much it takes, and what room is left.
         ensures full { IsErr result ↔ ((fixed_room self.old ≡ 0) × (0 < length bytes.now)) }
         ensures takes { IfOk result (λ n. n ≡ min (fixed_room self.old) (length bytes.now)) }
         ensures room { IfOk result (λ n. fixed_room self.new + n ≡ fixed_room self.old) }
 
-        // What stands in the slice behind the bytes written stays, but for those that were taken.
+        // What is in the slice after the bytes written stays, except where the new bytes were put.
         ensures rest { IfOk result (λ n. fixed_rest self.new ≡ drop n (fixed_rest self.old)) }
         ensures refused { OnErr result ((fixed_room self.new ≡ fixed_room self.old)
             × (fixed_rest self.new ≡ fixed_rest self.old)) }

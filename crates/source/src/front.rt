@@ -6,8 +6,8 @@ ghost use Rattle.source.specs.inside.Front.{Passes, front_failures, front_remain
 
 use crate::{Feed, ReadFailed};
 
-/// The bytes that a lent feed has to come, or so many of them as are left where a number was chosen.
-/// It reads no byte behind them.
+/// The bytes that are still to come from a lent feed, or, if a number was chosen, as many of them as are left
+/// of it. It reads no byte after them.
 #[derive(Drop)]
 pub(crate) struct Front<'f, F: Feed> {
     pub(crate) inner: &'f mut F,

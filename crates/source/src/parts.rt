@@ -16,9 +16,9 @@ use crate::front::Front;
 use crate::{Feed, ReadFailed, SourceFault};
 use b3::{CHUNK_LEN, MOST_CHUNKS, Misplaced, Mode, Output, Part, PartValue};
 
-/// The BLAKE3 output of all that is still to come, at position 0. It is read in runs that fill `run`,
-/// but for the last; each run is hashed as a part, and the parts are joined. `Read` comes exactly
-/// where a read failed; where none did, `TooLong` comes where more than 2^64 - 1 bytes were to come.
+/// The BLAKE3 output of all that is still to come, at position 0. It is read in runs that fill `run`, except
+/// the last; each run is hashed as a part, and the parts are joined. The fault is `Read` exactly if a read
+/// failed; if none did, it is `TooLong` if more than 2^64 - 1 bytes were to come.
 pub fn output_in_parts<F: Feed>(
     mode: Mode,
     feed: &mut F,
@@ -44,11 +44,11 @@ pub fn output_in_parts<F: Feed>(
     Ok(part.root().unwrap())
 }
 
-/// The part of all that is still to come, or of its first `most` bytes, as bytes from the chunk `first`
-/// on, in at most `chunks` chunks, or `None` exactly where there are no such bytes and `first` is not 0,
-/// since no part stands there. It is read in runs that fill `run`, but for the last, and no byte behind
-/// `most` is read. `Read` comes exactly where a read failed; where none did, `TooLong` comes where these
-/// are more than so many chunks, or than end within 2^64 - 1 bytes.
+/// The part of all that is still to come, or of its first `most` bytes, as bytes from the chunk `first` on,
+/// in at most `chunks` chunks; or `None` exactly if there are no such bytes and `first` is not 0, since no
+/// part can be there. It is read in runs that fill `run`, except the last, and no byte after `most` is read.
+/// The fault is `Read` exactly if a read failed; if none did, it is `TooLong` if these are more than `chunks`
+/// chunks, or end after 2^64 - 1 bytes.
 pub fn part_of<F: Feed>(
     mode: Mode,
     first: u64,
@@ -79,7 +79,7 @@ pub fn part_of<F: Feed>(
     part_of_front(mode, first, chunks, &mut front, run)
 }
 
-// The same of the front of a feed.
+// Like `part_of`, for the front of a feed.
 fn part_of_front<F: Feed>(
     mode: Mode,
     first: u64,
@@ -114,7 +114,7 @@ fn part_of_front<F: Feed>(
     Ok(Some(part.told()))
 }
 
-// Reads until `run` is full or the feed at its end, and answers how many bytes that is.
+// Reads until `run` is full or the feed is at its end, and returns how many bytes that is.
 fn fill<F: Feed>(feed: &mut Front<'_, F>, run: &mut [u8]) -> Result<usize, SourceFault>
     ensures filled { IfOk result (λ n. IsFilled (front_remaining F.remaining) feed.old feed.new run.new n) }
     ensures length { length run.new ≡ length run.old }
@@ -134,8 +134,8 @@ fn fill<F: Feed>(feed: &mut Front<'_, F>, run: &mut [u8]) -> Result<usize, Sourc
     Ok(n)
 }
 
-// The part from a chunk on of at most `chunks` chunks, of which the next `ahead` bytes were read into `run`
-// and the others come from the feed; and how many bytes of what follows it were then read into `run`.
+// The part from a chunk on of at most `chunks` chunks: its first `ahead` bytes were already read into `run`,
+// and the others come from the feed. Also, how many of the bytes after it were then read into `run`.
 fn take_part<F: Feed>(
     mode: Mode,
     first: u64,

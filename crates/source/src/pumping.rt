@@ -9,7 +9,7 @@ use crate::{Feed, ReadFailed};
 use thiserror::Error;
 use words::{Absorb, InputTooLong};
 
-/// Why a source was not hashed. What it was fed to is of no further use.
+/// Why a source was not hashed. Whatever it was fed to is of no further use.
 #[derive(Clone, Copy, Debug, PartialEq, Eq, Drop, Error)]
 pub enum SourceFault {
     /// A read failed.
@@ -20,15 +20,15 @@ pub enum SourceFault {
     TooLong,
 }
 
-// For a file that ends within so many bytes the larger buffer is not made.
+// For a file that ends within this many bytes, the larger buffer is not made.
 const SHORT: usize = 4096;
 
-// A read of 16 KiB is as fast by the byte as a longer one; BLAKE3 takes the more chunks together the
-// longer a piece is.
+// Per byte, a read of 16 KiB is as fast as a longer one; the longer a piece is, the more chunks BLAKE3 takes
+// together.
 const PIECE: usize = 65536;
 
-/// Feeds the hasher all that is still to come. `Read` comes exactly where a read failed; where none
-/// did, `TooLong` comes where what was to come is longer than the room that the hasher had.
+/// Feeds the hasher all that is still to come. The fault is `Read` exactly if a read failed; if none did, it
+/// is `TooLong` if what was to come is longer than the room that the hasher had.
 #[inline(never)] // its buffer is on the stack once, whoever calls
 pub fn pump<A: Absorb, F: Feed>(hasher: &mut A, feed: &mut F) -> Result<(), SourceFault>
     ensures appended { OnOk result
@@ -54,7 +54,7 @@ pub fn pump<A: Absorb, F: Feed>(hasher: &mut A, feed: &mut F) -> Result<(), Sour
     }
 }
 
-// Feeds the hasher what one read gives, and answers how many bytes that is: 0 at the end alone.
+// Feeds the hasher what one read gives, and returns how many bytes that is: 0 only at the end.
 fn take_piece<A: Absorb, F: Feed>(
     hasher: &mut A,
     feed: &mut F,

@@ -23,7 +23,7 @@ impl<'a> Feed for &'a [u8] {
     }
 }
 
-/// Does nothing. Its contract says what each slice tells as a feed: all of it is to come, and no read of it
+/// Does nothing. Its contract says what each slice shows as a feed: all of it is to come, and no read of it
 /// has failed.
 pub fn slice_laws<'a>(slice: &'a [u8])
     ensures told { ⟦<&'a [u8] as Feed>⟧.remaining slice.entry ≡ Some slice.now }

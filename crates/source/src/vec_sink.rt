@@ -6,8 +6,8 @@ ghost use Rattle.source.specs.Written.{IsWrite};
 use crate::{Sink, WriteFailed};
 use std::alloc::Global;
 
-/// A list that grows as bytes are written. A write takes all of its bytes, or fails where memory for
-/// them is refused.
+/// A list that grows as bytes are written. A write takes all of its bytes, or fails if memory for them is
+/// refused.
 #[derive(Drop)]
 pub struct VecSink {
     bytes: Vec<u8>,
