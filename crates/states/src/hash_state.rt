@@ -1,4 +1,4 @@
-// What HMAC asks of a hasher that is kept as plain numbers.
+// What HMAC requires of a hasher that is kept as plain numbers.
 
 ghost use Rattle.std.specs.Prelude.{◌≡◌, ◌<◌, ◌≤◌, ◌+◌, ◌++◌, ◌↔◌, [], ℕ, List, length, IsOk, IsSome, IfSome, OnOk};
 ghost use Rattle.std.specs.Prelude.{OnErr, IsErrOf};
@@ -14,8 +14,8 @@ use blake2::{Blake2b, Blake2bState, Blake2s, Blake2sState, StateFault};
 use mac::{Blake2b512, Blake2s256, BlockHash, Sha256Stream, Sha512Stream};
 use words::Tag;
 
-/// The plain numbers of a hasher of the function `H`. Each content is a value; what no hasher left is
-/// refused, or holds no message that is known.
+/// The plain numbers of a hasher for the function `H`. Any content is a value; one that no hasher left is
+/// refused, or stands for an unknown message.
 pub trait StateOf<H: BlockHash>: Copy {
     // The hasher has taken these bytes.
     ghost holds: { Self → List ℕ → Type 0 };
@@ -27,8 +27,8 @@ pub trait StateOf<H: BlockHash>: Copy {
     fn begin(&mut self)
         ensures { holds self.new [] };
 
-    /// Takes `piece` after what was taken before. It is refused where these are the numbers of no hasher,
-    /// and else where the message would pass `H::LIMIT` bytes.
+    /// Takes `piece` after what was taken before. It is refused if these are not the numbers of a hasher, and
+    /// otherwise if the message would exceed `H::LIMIT` bytes.
     fn update(&mut self, piece: &[u8]) -> Result<(), StateFault>
         ensures fits { (m : List ℕ) → holds self.old m
             → IsOk result ↔ (length m + length piece.now ≤ H.LIMIT) }
@@ -38,8 +38,8 @@ pub trait StateOf<H: BlockHash>: Copy {
         ensures not_begun { IsErrOf result StateFault.NotBegun ↔ (is_begun self.old → ⊥) }
         ensures refused { OnErr result (self.new ≡ self.old) };
 
-    /// The digest of the message, which can go on. It is `None` exactly where these are the numbers of no
-    /// hasher.
+    /// The digest of the message, which can be continued. It is `None` exactly if these are not the numbers
+    /// of a hasher.
     fn finish(&self) -> Option<Tag>
         ensures begun { IsSome result ↔ is_begun self.now }
         ensures held { (m : List ℕ) → holds self.now m → IsSome result }

@@ -37,7 +37,7 @@ fn begin_with<H: BlockHash, S: StateOf<H>>(state: &mut S, bytes: &[u8])
     state.update(bytes).unwrap();
 }
 
-/// The tag of the text, which can go on. It is `None` where either is the numbers of no hasher.
+/// The tag of the text, which can be continued. It is `None` if the numbers of either are not a hasher's.
 pub fn finish_hmac<H: BlockHash, S: StateOf<H>>(inner: &S, outer: &S) -> Option<Tag>
     ensures held { (k m : List ℕ) → IsMac S.holds H.BLOCK k inner.now outer.now m → IsSome result }
     ensures inner_not_begun { (S.is_begun inner.now → ⊥) → result ≡ None }

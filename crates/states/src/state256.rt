@@ -16,10 +16,10 @@ const OUT: u64 = 32;
 // The number of bytes of the longest message.
 const LIMIT: u64 = (1 << 61) - 1;
 
-/// What a SHA-256 hasher keeps between two calls, as plain numbers of a fixed layout. Each content of
-/// this memory is a value of the type: one that no hasher left is refused, or holds no message that is
-/// known, and no call reads outside it. It holds no pointer, and may be copied. It is for the memory of
-/// one process, and no format: its fields can change.
+/// What a SHA-256 hasher keeps between two calls, as plain numbers in a fixed layout. Any content of this
+/// memory is a value of the type: one that no hasher left is refused, or stands for an unknown message, and
+/// no call reads outside it. It holds no pointer, and may be copied. It is meant for the memory of one
+/// process, and is not a format: its fields can change.
 #[repr(C)]
 #[derive(Clone, Copy)]
 pub struct Sha256State {
@@ -51,8 +51,8 @@ impl Sha256State {
         self.digest_length == OUT && self.taken <= LIMIT
     }
 
-    /// Takes `piece` after what was taken before. It is refused where these are the numbers of no hasher,
-    /// and else where the message would pass 2^61 - 1 bytes.
+    /// Takes `piece` after what was taken before. It is refused if these are not the numbers of a hasher, and
+    /// otherwise if the message would exceed 2^61 - 1 bytes.
     pub fn update(&mut self, piece: &[u8]) -> Result<(), StateFault>
         ensures fits { (m : List ℕ) → StateHolds256 self.old m
             → IsOk result ↔ (length m + length piece.now ≤ 2 ^ 61 - 1) }
@@ -76,8 +76,8 @@ impl Sha256State {
         Ok(())
     }
 
-    /// The digest of the message (FIPS 180-4, section 6.2), which can go on. It is `None` exactly where
-    /// these are the numbers of no hasher.
+    /// The digest of the message (FIPS 180-4, section 6.2), which can be continued. It is `None` exactly if
+    /// these are not the numbers of a hasher.
     pub fn finish(&self) -> Option<Tag>
         ensures begun { IsSome result ↔ IsBegun256 self.now }
         ensures held { (m : List ℕ) → StateHolds256 self.now m → IsSome result }

@@ -16,10 +16,10 @@ const OUT: u64 = 64;
 // The number of bytes of the longest message.
 const LIMIT: u128 = (1 << 125) - 1;
 
-/// What a SHA-512 hasher keeps between two calls, as plain numbers of a fixed layout. Each content of
-/// this memory is a value of the type: one that no hasher left is refused, or holds no message that is
-/// known, and no call reads outside it. It holds no pointer, and may be copied. It is for the memory of
-/// one process, and no format: its fields can change.
+/// What a SHA-512 hasher keeps between two calls, as plain numbers in a fixed layout. Any content of this
+/// memory is a value of the type: one that no hasher left is refused, or stands for an unknown message, and
+/// no call reads outside it. It holds no pointer, and may be copied. It is meant for the memory of one
+/// process, and is not a format: its fields can change.
 #[repr(C)]
 #[derive(Clone, Copy)]
 pub struct Sha512State {
@@ -52,8 +52,8 @@ impl Sha512State {
         self.digest_length == OUT && self.taken() <= LIMIT
     }
 
-    /// Takes `piece` after what was taken before. It is refused where these are the numbers of no hasher,
-    /// and else where the message would pass 2^125 - 1 bytes.
+    /// Takes `piece` after what was taken before. It is refused if these are not the numbers of a hasher, and
+    /// otherwise if the message would exceed 2^125 - 1 bytes.
     pub fn update(&mut self, piece: &[u8]) -> Result<(), StateFault>
         ensures fits { (m : List ℕ) → StateHolds512 self.old m
             → IsOk result ↔ (length m + length piece.now ≤ 2 ^ 125 - 1) }
@@ -78,8 +78,8 @@ impl Sha512State {
         Ok(())
     }
 
-    /// The digest of the message (FIPS 180-4, section 6.4), which can go on. It is `None` exactly where
-    /// these are the numbers of no hasher.
+    /// The digest of the message (FIPS 180-4, section 6.4), which can be continued. It is `None` exactly if
+    /// these are not the numbers of a hasher.
     pub fn finish(&self) -> Option<Tag>
         ensures begun { IsSome result ↔ IsBegun512 self.now }
         ensures held { (m : List ℕ) → StateHolds512 self.now m → IsSome result }
@@ -104,7 +104,7 @@ impl Sha512State {
         u128::from(self.taken_low) + 0x1_0000_0000_0000_0000 * u128::from(self.taken_high)
     }
 
-    // Keeps how many bytes the message has.
+    // Records how many bytes the message has.
     fn count(&mut self, taken: u128)
         ensures taken { taken_512 self.new ≡ taken }
         ensures h { self.new.h ≡ self.old.h }
