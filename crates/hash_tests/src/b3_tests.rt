@@ -101,7 +101,7 @@ fn what_is_held_and_the_room_follow_the_input(rt: HostRuntime) -> Result<(), Fai
     Ok(())
 }
 
-// Two pieces about the ends of eight and of sixteen chunks, where whole groups of chunks are hashed at once.
+// Two pieces around the ends of eight and of sixteen chunks, where whole groups of chunks are hashed at once.
 #[test]
 fn what_is_held_follows_uneven_pieces(rt: HostRuntime) -> Result<(), Fail> {
     let input = counting(rt.alloc(), 16_385)?;

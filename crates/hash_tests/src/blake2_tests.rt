@@ -13,7 +13,8 @@ fn a_personalized_digest(rt: HostRuntime) -> Result<(), Fail> {
     Ok(())
 }
 
-// What the constructors answer, with no salt and no personalization; that without a key where there is none.
+// What the constructors return, with zeros for salt and personalization; the one without a key is called if
+// the key is empty.
 fn faults_2b(digest_length: usize, key: &[u8]) -> [Option<ParameterFault>; 3] {
     let keyed = Blake2b::keyed(digest_length, key).err();
     let salted = Blake2b::with_parameters(digest_length, key, &[0; 16], &[0; 16]).err();
@@ -41,7 +42,7 @@ fn refused_parameters(rt: HostRuntime) -> Result<(), Fail> {
     let long = [0; 65];
     let digest = Some(ParameterFault::DigestLength);
     let key = Some(ParameterFault::KeyLength);
-    // The digest's length, the key's length, and what BLAKE2b and BLAKE2s answer.
+    // The digest's length, the key's length, and what BLAKE2b and BLAKE2s return.
     for (digest_length, key_length, large, small) in [
         (0, 0, digest, digest),
         (1, 0, None, None),
@@ -65,7 +66,7 @@ fn refused_parameters(rt: HostRuntime) -> Result<(), Fail> {
     Ok(())
 }
 
-// A key takes a block of the limit, and what was taken its bytes.
+// A key uses up a block of the limit, and input as many bytes as it has.
 #[test]
 fn rooms(rt: HostRuntime) -> Result<(), Fail> {
     for (key, taken) in [(&b""[..], 0), (&b"k"[..], 1)] {

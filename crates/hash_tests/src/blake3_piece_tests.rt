@@ -7,7 +7,7 @@ use words::Absorb;
 // How many pieces are hashed side by side.
 const LANES: usize = 8;
 
-// Whether these are the digests of the pieces of `input`, as the hasher has them one by one.
+// Whether these are the digests of the pieces of `input`, as the hasher makes them one by one.
 fn are_digests(input: &[u8], piece_len: usize, digests: &[u8]) -> bool {
     if piece_len == 0 {
         return false;
@@ -27,7 +27,7 @@ fn are_digests(input: &[u8], piece_len: usize, digests: &[u8]) -> bool {
     left.is_empty()
 }
 
-// Groups of eight pieces, with fewer pieces and a short one behind them, at the edges of blocks and chunks.
+// Groups of eight pieces, with fewer pieces and a short one after them, at the edges of blocks and chunks.
 #[test]
 fn pieces_are_as_the_hasher_has_them(rt: HostRuntime) -> Result<(), Fail> {
     let lengths = [

@@ -11,7 +11,7 @@ fn extracted<H: BlockHash>(mut extract: Extract<H>) -> Result<Tag, Fail> {
     Ok(extract.finish())
 }
 
-// An absent salt is a digest's length of zeros, under which the hash's limit less a block is left.
+// An absent salt is a digest's length of zeros, and leaves the hash's limit less a block.
 fn absent_salt<H: BlockHash>(rt: &impl Abort) -> Result<(), Fail> {
     let zeros = [0; 64];
     let limit = H::LIMIT;
@@ -31,7 +31,7 @@ fn absent_salts(rt: HostRuntime) -> Result<(), Fail> {
     Ok(())
 }
 
-// The bounds of both lengths, the first refusal where two stand, and what a refusal leaves.
+// The bounds of both lengths, the first refusal if two apply, and what a refusal leaves.
 #[test]
 fn refusals_of_expand(rt: HostRuntime) -> Result<(), Fail> {
     let prk = [1; 32];
@@ -51,7 +51,7 @@ fn refusals_of_expand(rt: HostRuntime) -> Result<(), Fail> {
     Ok(())
 }
 
-// The same bound of a hash of 64 bytes.
+// The bound of the output's length for a hash of 64 bytes.
 #[test]
 fn refusals_of_expand_by_sha512(rt: HostRuntime) -> Result<(), Fail> {
     let prk = [1; 64];

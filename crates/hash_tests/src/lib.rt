@@ -1,5 +1,6 @@
-//! Tests of the hashes, tags and keys, as far as only a caller in Rust can see them. Digests, tags, keys and output of
-//! each length, in each mode and in pieces are compared through the C library (`tests/library/definitions.py`).
+//! Tests of what only a caller in Rust can see of hashes, tags and keys. Digests, tags, keys and output of
+//! each length, in each mode and in pieces are compared through the C library
+//! (`tests/library/definitions.py`).
 #![tactic(auto)]
 
 #[cfg(test)]

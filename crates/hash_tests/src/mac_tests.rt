@@ -55,7 +55,7 @@ fn a_tag_has_half_a_digest_to_a_whole_one(rt: HostRuntime) -> Result<(), Fail> {
     Ok(())
 }
 
-// A tag that is cut by a byte, has one more, or a bit turned, is not the tag.
+// A tag that is cut by a byte, has one byte more, or has a bit flipped, is not the tag.
 #[test]
 fn whole_tags_are_verified(rt: HostRuntime) -> Result<(), Fail> {
     let mut given = [0; 33];

@@ -1,12 +1,12 @@
-// Parts and rows of parts, which the C library does not have; `tests/program/parts.py` joins lines of parts by the
-// program.
+// Parts and rows of parts, which the C library does not have; `tests/program/parts.py` joins lines of parts
+// with the program.
 
 use crate::b3_tests::{CONTEXT, KEY, counting};
 use crate::spelling::is_spelled;
 use b3::{Misplaced, Mode, NotNeighbours, NotNext, NotWhole, Output, Part, PartValue, Row};
 use std::test::Fail;
 
-// The bytes from `start` on, so many of them where there are so many.
+// The bytes from `start` on, `length` of them if there are that many.
 fn run(bytes: &[u8], start: usize, length: usize) -> &[u8] {
     let rest = &bytes[start.min(bytes.len())..];
     &rest[..length.min(rest.len())]

@@ -13,7 +13,7 @@ fn g_of_a_one(rt: HostRuntime) {
     assert_eq!(rt; g64([0; 4], 1, 0), words);
 }
 
-// Eight different inputs, whose counters run from 2^32 - 4 to 2^32 + 3, as no tree has them.
+// Eight different inputs, with counters from 2^32 - 4 to 2^32 + 3, as no tree has them.
 #[test]
 fn each_lane_is_one_compression(rt: HostRuntime) {
     let mut h = [[0; 8]; 8];
