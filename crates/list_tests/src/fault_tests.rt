@@ -1,4 +1,4 @@
-// What the faults of the libraries say, of which no contract speaks.
+// What the faults of the libraries say, which no contract covers.
 
 use partlist::{EndFault, JoinFault, PartFault};
 use source::{ReadFailed, SourceFault, WriteFailed};

@@ -1,6 +1,6 @@
-// Lines of parts that feeds give, and feeds that fail; rows of lines stand in `tests/program/parts.py`. The values of
-// parts are those of a second implementation in Python, of the bytes 0, 1, .. 250, 0, ..; the digest of 5,120 of them
-// is an official vector of BLAKE3.
+// Lines of parts from feeds, and feeds that fail; rows of lines are in `tests/program/parts.py`. The values
+// of parts come from a second implementation, in Python, for the bytes 0, 1, .. 250, 0, ..; the digest of
+// 5,120 of them is an official vector of BLAKE3.
 
 ghost use Rattle.std.specs.Prelude.{◌≡◌, ℕ, List, IfSome};
 ghost use Rattle.b3.specs.inside.Output.{output_root};
@@ -37,7 +37,7 @@ const FIFTH: &str =
 
 const ROOT_5120: &str = "9cadc15fed8b5d854562b26a9536d9707cadeda9b143978f319ab34230535833";
 
-// One part alone has no output.
+// One part by itself has no output.
 #[test]
 fn a_part_alone_is_refused(rt: HostRuntime) -> Result<(), Fail> {
     let output = output_of(&mut Bytes::new(TWO.as_bytes(), 7), 2048);
@@ -45,8 +45,8 @@ fn a_part_alone_is_refused(rt: HostRuntime) -> Result<(), Fail> {
     Ok(())
 }
 
-// The number is that of the line in its feed. What no line can be is refused before its end, and what came before a
-// fault stays.
+// The number is the line's number in its feed. What cannot be a line is refused before its end, and what came
+// before a fault stays.
 #[test]
 fn the_first_wrong_line_is_told(rt: HostRuntime) -> Result<(), Fail> {
     // the fifth part, and then a line that has no end

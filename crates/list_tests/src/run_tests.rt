@@ -5,7 +5,7 @@ use b3::{Mode, PartValue};
 use source::{Bytes, Feed, SourceFault, part_of};
 use std::test::Fail;
 
-// The part of at most four chunks of what a feed has to come, or of its front, read two chunks at a time.
+// The part, of at most four chunks, of what a feed has to come, or of its front, read two chunks at a time.
 fn part_of_four<F: Feed>(
     first: u64,
     most: Option<u64>,
@@ -17,7 +17,7 @@ fn part_of_four<F: Feed>(
     part_of(Mode::Hash, first, 4, most, feed, &mut buffer)
 }
 
-// How many bytes a part of a feed has that fails at a place, or that there is none.
+// How many bytes the part of a feed that fails at a place has, or that there is no part.
 fn length(most: Option<u64>, bytes: &[u8], place: usize) -> Result<Option<u64>, SourceFault> {
     let part = part_of_four(8, most, &mut Bytes::failing(bytes, 9, place))?;
     Ok(part.map(|part| part.len()))

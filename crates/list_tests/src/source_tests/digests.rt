@@ -69,7 +69,8 @@ fn a_read_that_fails_is_not_the_end(rt: HostRuntime) -> Result<(), Fail> {
     Ok(())
 }
 
-// FIPS 180-4, section 1; RFC 7693, section 2.1; the BLAKE3 paper, section 2.1. No limit where there is no such digest.
+// FIPS 180-4, section 1; RFC 7693, section 2.1; the BLAKE3 paper, section 2.1. There is no limit if there is
+// no such digest.
 #[test]
 fn the_room_is_what_the_input_leaves_of_the_limit(rt: HostRuntime) -> Result<(), Fail> {
     let cases = [

@@ -25,7 +25,7 @@ fn a_failing_place_is_never_passed(rt: HostRuntime) -> Result<(), Fail> {
         (0, b"", 2),
         (1, b"0", 2),
         (9, b"012345678", 2),
-        // It stands at the end, and the end is not told.
+        // It is at the end, and the end is not reported.
         (10, b"0123456789", 2),
         (11, b"0123456789", 0),
     ];
@@ -38,7 +38,7 @@ fn a_failing_place_is_never_passed(rt: HostRuntime) -> Result<(), Fail> {
             assert_eq!(rt; failures, count, "place {place}, {most} a read");
         }
     }
-    // With no room there is nothing to fail, and what is not read stays as it was.
+    // Without room there is nothing to fail, and what is not read stays as it was.
     assert_eq!(rt; Bytes::failing(b"0123456789", 4, 0).read(&mut []), Ok(0));
     let mut buf = [7; 4];
     assert_eq!(rt; Bytes::new(b"0123456789", 3).read(&mut buf), Ok(3));
@@ -79,7 +79,7 @@ fn a_text_is_written_whole_or_a_beginning_of_it(rt: HostRuntime) {
     }
 }
 
-// Gives a few bytes at a read, and fails the third.
+// Gives a few bytes per read, and fails the third read.
 #[derive(Drop)]
 pub struct Breaking(pub u8);
 
@@ -115,7 +115,7 @@ fn a_device_counts_a_read_that_fails_in_mid_stream(rt: HostRuntime) -> Result<()
     Ok(())
 }
 
-// Counts its reads or writes, of which each odd one is interrupted.
+// Counts its reads or writes; every odd one is interrupted.
 #[derive(Drop)]
 struct Interrupted {
     calls: u64,
@@ -149,8 +149,8 @@ impl Write for Interrupted {
     }
 }
 
-// A reader is asked once a read, so an interrupted read is a failure. An interrupted write is repeated, as `write_all` of
-// std does.
+// A reader is asked once per read, so an interrupted read is a failure. An interrupted write is repeated, as
+// in std's `write_all`.
 #[test]
 fn a_device_repeats_an_interrupted_write_and_no_read(rt: HostRuntime) {
     let mut feed = Device::new(Interrupted { calls: 0 });
@@ -162,7 +162,7 @@ fn a_device_repeats_an_interrupted_write_and_no_read(rt: HostRuntime) {
     assert_eq!(rt; (feed.into_inner().calls, sink.into_inner().calls), (2, 2));
 }
 
-// Takes one byte of a write, and none of the third; a fourth fails.
+// Takes one byte of a write, and none of the third; the fourth fails.
 #[derive(Drop)]
 struct Narrow(u8);
 

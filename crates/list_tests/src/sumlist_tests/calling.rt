@@ -7,7 +7,7 @@ use std::alloc::Global;
 use std::test::Fail;
 use sumlist::{CheckFault, Entries, Entry, Kind, MemoryTree, Tree, check, check_list};
 
-// The caller of CALLING.md: whether each line that is not skipped is OK. Where it is, no file failed.
+// The caller of CALLING.md: whether each line that is not skipped is OK. If so, no file failed.
 fn all_match<L: Feed, T: Tree, W: Sink>(
     alloc: Global,
     list: &mut L,

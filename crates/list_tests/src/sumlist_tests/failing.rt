@@ -42,8 +42,8 @@ fn numbers(s: Summary) -> [u64; 7] {
     ]
 }
 
-// The numbers and the report on the list, where reads of at most so many bytes of the list and of the file fail at a
-// place each.
+// The numbers and the report on the list, with reads of at most `most` bytes, which fail at a place in the
+// list and at one in the file.
 fn checked(
     alloc: Global,
     most: usize,
@@ -64,7 +64,8 @@ fn checked(
     ))
 }
 
-// Where reads of the list fail, and how much of the report the lines before say. Behind its end no read is asked for.
+// Where reads of the list fail, and how much of the report the lines before give. After its end no read is
+// asked for.
 #[test]
 fn a_list_that_fails_is_reported_up_to_there(rt: HostRuntime) -> Result<(), Fail> {
     let read = Err(CheckFault::ListRead);
@@ -126,7 +127,7 @@ fn an_output_of_each_room_holds_a_beginning_of_the_report(rt: HostRuntime) -> Re
     Ok(())
 }
 
-// The buffer of a line is the one growth here, so that `rt try --test --fail-alloc` reaches the other arm.
+// The buffer of a line is the only growth here, so that `rt try --test --fail-alloc` reaches the other arm.
 #[test]
 fn a_refused_buffer_leaves_list_and_output_as_they_were(rt: HostRuntime) -> Result<(), Fail> {
     let alloc = rt.alloc();
@@ -150,7 +151,7 @@ fn a_refused_buffer_leaves_list_and_output_as_they_were(rt: HostRuntime) -> Resu
     Ok(())
 }
 
-// A tree that answers every open alike, and counts it.
+// A tree that answers every open in the same way, and counts them.
 #[derive(Drop)]
 struct Refusing {
     fault: OpenFault,

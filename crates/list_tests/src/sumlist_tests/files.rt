@@ -3,8 +3,8 @@ use std::collections::BTreeMap;
 use std::test::Fail;
 use sumlist::{MemoryTree, OpenFault, Tree};
 
-// Reads of at most two bytes, from a position on. A failing place is the first that is named of a file, and is never
-// passed.
+// Reads of at most two bytes, from a position on. A file's failing place is the first that is named for it,
+// and is never passed.
 #[test]
 fn files_in_memory_are_found_by_name_and_fail_at_their_places(rt: HostRuntime) -> Result<(), Fail> {
     let alloc = rt.alloc();

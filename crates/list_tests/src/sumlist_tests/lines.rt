@@ -1,4 +1,4 @@
-// What no list and no file can show of lines and entries. Rows of lines, read and written, stand in
+// What no list and no file can show about lines and entries. Rows of lines, read and written, are in
 // `tests/program/lists.py`.
 
 ghost use Rattle.std.specs.Prelude.{None};
@@ -65,7 +65,8 @@ fn names_fit_up_to_the_longest_line(rt: HostRuntime) -> Result<(), Fail> {
     Ok(())
 }
 
-// A line has at most 65,536 bytes: the digits, two spaces and the name, and of a tagged one its label and its signs too.
+// A line has at most 65,536 bytes: the digits, two spaces and the name, and, if it is tagged, its label and
+// its signs too.
 #[test]
 fn the_name_of_an_entry_is_measured_with_what_else_is_written(rt: HostRuntime) -> Result<(), Fail> {
     let alloc = rt.alloc();
@@ -143,7 +144,7 @@ impl Sink for Counter {
 fn a_name_is_cut_at_its_escapes_alone(rt: HostRuntime) -> Result<(), Fail> {
     let alloc = rt.alloc();
     let long = "n".repeat(alloc, 60_000)?;
-    // The digits, two spaces, what stands before, between and behind the escapes, each escape, and LF.
+    // The digits, two spaces, what stands before, between and after the escapes, each escape, and LF.
     for (name, writes) in [("a", 4), (long.as_str(), 4), ("one\nend", 7), ("\\\r", 6)] {
         let entry = entry_of(alloc, Alg::Sha256, SHA256_ABC, name)?;
         let mut out = Counter { writes: 0 };
