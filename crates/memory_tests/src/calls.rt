@@ -6,7 +6,7 @@ use crate::runs::run_words;
 use source::{Sink, WriteFailed};
 use std::alloc::Global;
 
-/// What was wanting.
+/// What was lacking.
 #[derive(Clone, Copy, Debug, Drop)]
 pub(crate) enum Lack {
     /// Memory in the call.
@@ -15,7 +15,7 @@ pub(crate) enum Lack {
     Output,
     /// Memory for the files.
     Files,
-    /// A call of this name, or any other answer.
+    /// A call of this name, or any other result.
     Other,
 }
 

@@ -1,4 +1,4 @@
-// Digests, by each way to them.
+// Digests, by each way to make them.
 
 use crate::calls::Lack;
 use source::{AnyHash, Bytes, Sink, digest_of, pieces, pump, write_all};

@@ -37,7 +37,7 @@ pub(crate) fn check_into<W: Sink>(alloc: Global, list: &[u8], out: &mut W) -> Re
     }
 }
 
-/// The same by way of a list that grows with it.
+/// The report on the list, by way of a buffer that grows with it.
 pub(crate) fn check_growing<W: Sink>(alloc: Global, list: &[u8], out: &mut W) -> Result<u8, Lack> {
     let mut report = VecSink::new(alloc);
     let answer = check_into(alloc, list, &mut report);

@@ -1,6 +1,6 @@
-//! Calls of the libraries, one a run: standard input names it. What a call prints is on standard output,
-//! and how it ended is the status. No memory is taken but by the call and for the files that it finds,
-//! so that `tests/program/growths.py` can refuse each allocation of a call in turn.
+//! Calls of the libraries, one per run: standard input names it. What a call prints is on standard output,
+//! and how it ended is the status. Memory is taken only by the call and for the files that it finds, so that
+//! `tests/program/growths.py` can refuse each allocation of a call in turn.
 #![tactic(auto)]
 
 mod calls;
@@ -28,7 +28,7 @@ fn main(rt: HostRuntime) -> ExitCode {
     ExitCode::from(status_of(answer))
 }
 
-// The name of a call, which is all that comes.
+// The name of a call, which is all of the input.
 fn name_in<'a, F: Feed>(input: &mut F, buffer: &'a mut [u8]) -> Option<&'a str> {
     match input.read(buffer) {
         Ok(count) => str::from_utf8(&buffer[..count]).ok(),

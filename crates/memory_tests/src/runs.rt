@@ -1,4 +1,4 @@
-// Whole runs of the program over memory.
+// Whole runs of the program in memory.
 
 use crate::calls::Lack;
 use crate::files::files;
@@ -7,7 +7,7 @@ use source::{Bytes, Sink};
 use std::alloc::Global;
 use sumlist::MemoryTree;
 
-/// A run with these words behind the program's name, and its status.
+/// A run with these words, which begin with the program's name, and its status.
 pub(crate) fn run_words<W: Sink, E: Sink>(
     alloc: Global,
     words: &[&str],
