@@ -29,7 +29,7 @@ pub use Rattle.sumlist.specs.Escape.{SpellsByte, SpellsName, escape_of, escaped,
 pub use Rattle.sumlist.specs.Line.{HasForm, IsLine, IsMalformed, IsUntagged, Spells, Says, core}
 pub use Rattle.sumlist.specs.Lines.{lines}
 pub use Rattle.sumlist.specs.Report.{AllAllowed, Allowed, Files, IsEntryIn, IsForeign, Meaning, Outcome, foreign, keyed}
-pub use Rattle.sumlist.specs.Report.{maker_of, malformed, no_lines, skipped, text, told, unkeyed, unreadable_count}
+pub use Rattle.sumlist.specs.Report.{maker_of, malformed, no_lines, skipped, text, told, unkeyed}
 pub use Rattle.sumlist.specs.Report.{verdict_of, with_line}
 pub use Rattle.sumlist.specs.Kinds.{label_of}
 pub use Rattle.sumlist.specs.Tagged.{IsLabel, tagged, tagged_len}
@@ -42,6 +42,6 @@ pub use Rattle.sumlist.specs.declared.verdict.Verdict.TheVariants.{Differs, Matc
 pub use Rattle.sumlist.specs.inside.Body.{IsName, escape_value, name_of, needs_escape, onto}
 pub use Rattle.sumlist.specs.inside.Cut.{IsCut}
 pub use Rattle.sumlist.specs.inside.Labels.{Ended, closing}
-pub use Rattle.sumlist.specs.inside.Marks.{IsCounted, lines_of, unreadable_by, unreadable_in}
+pub use Rattle.sumlist.specs.inside.Marks.{IsCounted, lines_of, unreadable_by, unreadable_count, unreadable_in}
 pub use Rattle.sumlist.specs.inside.Reading.{IsBlank, IsMark}
 pub use Rattle.sumlist.specs.inside.Stepped.{IsAllowed, LineChecked}

@@ -1,11 +1,11 @@
 -- If nothing failed, a list has exactly one report.
 use Rattle.std.specs.Prelude.{◌≡◌, ℕ, ◌-◌, ◌<◌, ◌^◌, List}
 use Rattle.source.specs.Counts.{count_after}
-use Rattle.sumlist.specs.Report.{AllAllowed, Files, Meaning, Outcome, unreadable_count}
+use Rattle.sumlist.specs.Report.{AllAllowed, Files, Meaning, Outcome, summary_of}
 
 -- outcomes for all lines, none of them unreadable
 abbrev pub AllSettled : Files → Meaning → List (List ℕ) → List Outcome → Type 0
-AllSettled files m lines outcomes = AllAllowed files m lines outcomes × (unreadable_count outcomes ≡ 0)
+AllSettled files m lines outcomes = AllAllowed files m lines outcomes × ((summary_of outcomes).unreadable ≡ 0)
 
 -- any lines have such outcomes, and only one sequence of them
 abbrev pub OneSettled : Type 0

@@ -6,8 +6,8 @@ use Rattle.source.specs.Written.{AppendsPrefix}
 use Rattle.sumlist.specs.declared.checking.CheckFault.{CheckFault}
 use Rattle.sumlist.specs.declared.summary.Summary.{Summary}
 use Rattle.sumlist.specs.Lines.{lines}
-use Rattle.sumlist.specs.Report.{AllAllowed, Files, Meaning, Outcome, report_from, unreadable_count, with_line}
-use Rattle.sumlist.specs.inside.Marks.{lines_of}
+use Rattle.sumlist.specs.Report.{AllAllowed, Files, Meaning, Outcome, report_from, with_line}
+use Rattle.sumlist.specs.inside.Marks.{lines_of, unreadable_count}
 
 -- these lines, after those of a summary, have outcomes, which the tree counted; they were counted too, and their report
 -- was appended, or after a fault a beginning of it

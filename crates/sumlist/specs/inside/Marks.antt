@@ -1,11 +1,11 @@
 -- How the lines of a list are counted, one by one.
-use Rattle.std.specs.Prelude.{◌≡◌, ℕ, ◌+◌, []}
+use Rattle.std.specs.Prelude.{◌≡◌, ℕ, ◌+◌, List, []}
 use Rattle.sumlist.specs.declared.verdict.Verdict.{Verdict}
 use Rattle.sumlist.specs.declared.verdict.Verdict.TheVariants.{Matches, Differs, Missing, Unreadable, TooLong}
 use Rattle.sumlist.specs.declared.summary.Mark.{Mark}
 use Rattle.sumlist.specs.declared.summary.Mark.TheVariants.{Skipped, Malformed, Foreign, Told}
 use Rattle.sumlist.specs.declared.summary.Summary.{Summary}
-use Rattle.sumlist.specs.Report.{Outcome, skipped, malformed, foreign, told, with_line}
+use Rattle.sumlist.specs.Report.{Outcome, skipped, malformed, foreign, summary_of, told, with_line}
 
 -- an outcome without its name
 abbrev pub mark_of : Outcome → Mark
@@ -46,6 +46,10 @@ unreadable_by v = same Unreadable v
 abbrev pub unreadable_in : Outcome → ℕ
 unreadable_in (told name v) = unreadable_by v
 unreadable_in o = 0
+
+-- how many of these are unreadable
+abbrev pub unreadable_count : List Outcome → ℕ
+unreadable_count outcomes = (summary_of outcomes).unreadable
 
 -- how many lines were counted
 abbrev pub lines_of : Summary → ℕ
