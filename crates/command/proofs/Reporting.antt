@@ -6,7 +6,9 @@ use Rattle.std.proofs.lemmas.List.Sums.{sum_by-cons}
 use Rattle.request.specs.CommandLine.{Text}
 use Rattle.sumlist.specs.Lines.{lines, without_empty_last}
 use Rattle.sumlist.specs.Report.{Files, Meaning, summary_of}
+use Rattle.sumlist.specs.Shared.{shared}
 use Rattle.sumlist.specs.Tally.{is_clean}
+use Rattle.sumlist.specs.declared.share.Share.{Share}
 use Rattle.command.specs.Checking.{ListRuns}
 use Rattle.command.specs.Lines.{content_of, is_input, opens_of}
 use Rattle.command.specs.Run.{Run}
@@ -23,34 +25,34 @@ status_light true s is e = omega (arith, is, e)
 status_light false s is e = omega (arith, is, e)
 
 -- the run over a list, which has its name in its report or none
-abbrev pub list_runs : Bool → Meaning → Bool → Files → Text → List ℕ → Run → Type 0
-list_runs is_summed entries are_named files name input =
-    ListRuns is_summed files entries (if are_named then Some name else None) name (content_of name input files)
+abbrev pub list_runs : Bool → Meaning → Bool → Files → Text → Share → List ℕ → Run → Share → Type 0
+list_runs is_summed entries are_named files name share input =
+    ListRuns is_summed files entries (if are_named then Some name else None) name share (content_of name input files)
 
 -- a list that was read to its end does not end the run
 runs_light : (is_summed : Bool) (files : Files) (entries : Meaning) (list : Option Text) (name : Text)
-    (content : Option (List ℕ)) (run : Run) (s : ℕ) → ListRuns is_summed files entries list name content run
-    → run.ending ≡ Ok s → s ≢ 3
-runs_light is_summed files entries list name None run s runs is e =
-    refused_ends 0 false name None run s (inl runs) is
-runs_light is_summed files entries list name (Some bytes) run s runs is e = elim runs.2 [
+    (share : Share) (content : Option (List ℕ)) (run : Run) (behind : Share) (s : ℕ)
+    → ListRuns is_summed files entries list name share content run behind → run.ending ≡ Ok s → s ≢ 3
+runs_light is_summed files entries list name share None run behind s runs is e =
+    refused_ends 0 false name None run s (inl runs.0) is
+runs_light is_summed files entries list name share (Some bytes) run behind s runs is e = elim runs.2 [
   | inl p ↦
-      let same = sym is ∙ ap ends p in
-      let one : s ≡ (if is_clean (summary_of runs.0) then 0 else 1) = cc in
-      status_light (is_clean (summary_of runs.0)) s one e
+      let own = (shared share.others share.waiting runs.0).0 in
+      let same = sym is ∙ ap ends p.0 in
+      let one : s ≡ (if is_clean (summary_of own) then 0 else 1) = cc in
+      status_light (is_clean (summary_of own)) s one e
   | inr p ↦ elim p [
-    | inl q ↦ not_both run _ s (ap ends q) is
+    | inl q ↦ not_both run _ s (ap ends q.0) is
     | inr q ↦ refused_ends (2 ^ 64 - 1) (is_input name) name (Some bytes) q.1 s q.3 (sym (ap ends q.4) ∙ is)
   ]
 ]
 
 pub list_whole : (is_summed : Bool) (entries : Meaning) (are_named : Bool) (files : Files) (name : Text)
-    (input : List ℕ) (run : Run) (s : ℕ) → list_runs is_summed entries are_named files name input run → run.ending
-    ≡ Ok s
-    → s ≢ 3
-list_whole is_summed entries are_named files name input run s runs is =
-    runs_light is_summed files entries (if are_named then Some name else None) name (content_of name input files) run s
-    runs is
+    (share : Share) (input : List ℕ) (run : Run) (behind : Share) (s : ℕ)
+    → list_runs is_summed entries are_named files name share input run behind → run.ending ≡ Ok s → s ≢ 3
+list_whole is_summed entries are_named files name share input run behind s runs is =
+    runs_light is_summed files entries (if are_named then Some name else None) name share
+    (content_of name input files) run behind s runs is
 
 -- ---- what is opened
 

@@ -164,13 +164,17 @@ module _ (l : LineRule) (files : Files) (input : List ℕ) (n : ℕ) (more : 0 <
   abbrev pub Both : Text → List ℕ → Run → Type 0
   Both name given = InShare (record { others = n; waiting = 0 }) (LineRuns None l name name given files)
 
+  -- which leaves no state
+  abbrev pub Stated : Text → Unit {0} → List ℕ → Run → Unit {0} → Type 0
+  Stated name x given run y = Both name given run
+
   -- what a run over names that are not standard input says of the first
   pub record Head (name : Text) (names : List Text) (r : Run) : Type 0 where
     pub plain : Run
     pub is : One name plain
     pub light : status plain ≢ 3
     pub rest : Run
-    pub runs : RunsAll is_input Both names input rest
+    pub runs : RunsAll is_input Stated names tt input rest
     pub few : status rest ≤ 1
     pub same : r ≡ followed (with_line plain) rest
 
@@ -186,12 +190,12 @@ module _ (l : LineRule) (files : Files) (input : List ℕ) (n : ℕ) (more : 0 <
       on (Err t) ends = let most = rw ends at all in rw ends (omega (arith, most))
 
   head : (name : Text) (names : List Text) (r : Run) → is_input name ≡ false
-      → RunsAll is_input Both (name ∷ names) input r → status r ≤ 1 → Head name names r
-  head name names r elsewhere (first, (plain, is, how), runs) few = on (status first == 3) refl runs
+      → RunsAll is_input Stated (name ∷ names) tt input r → status r ≤ 1 → Head name names r
+  head name names r elsewhere (first, next, (plain, is, how), runs) few = on (status first == 3) refl runs
     where
       on : (b : Bool) → (status first == 3) ≡ b → MatchBool b (r ≡ first) ((left : List ℕ)
           × LeftBy (is_input name) first.ending input left × (rest : Run)
-          × RunsAll is_input Both names left rest × (r ≡ followed first rest)) → Head name names r
+          × RunsAll is_input Stated names tt left rest × (r ≡ followed first rest)) → Head name names r
       on true at same =
           let three = is_3 _ at in let is = ap status same in absurd (omega (arith, few, three, is))
       on false at (left, leaves, rest, behind, same) =
@@ -202,7 +206,7 @@ module _ (l : LineRule) (files : Files) (input : List ℕ) (n : ℕ) (more : 0 <
             is = is;
             light = λ e. light (ap status line ∙ lined_status plain ∙ e);
             rest = rest;
-            runs = subst (λ (m : List ℕ). RunsAll is_input Both names m rest) stays behind;
+            runs = subst (λ (m : List ℕ). RunsAll is_input Stated names tt m rest) stays behind;
             few = rest_few first rest r same few;
             same = same ∙ ap (λ x. followed x rest) line;
           }
@@ -249,6 +253,7 @@ module _ (l : LineRule) (files : Files) (input : List ℕ) (n : ℕ) (more : 0 <
         count = ap suc behind.count;
         whole = (
           h.plain,
+          tt,
           (h.plain, h.is, refl),
           off_3 _ _ _ h.light (input, stays elsewhere.0 h.plain, together behind.ones, behind.whole, refl),
         );

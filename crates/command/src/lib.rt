@@ -37,6 +37,7 @@ mod rule;
 mod session;
 mod starts;
 mod tags;
+mod told;
 mod verified;
 mod verifying;
 mod visible;

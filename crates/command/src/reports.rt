@@ -9,7 +9,7 @@ ghost use Rattle.sumlist.specs.Lines.{lines};
 ghost use Rattle.sumlist.specs.Report.{unkeyed};
 ghost use Rattle.sumlist.specs.Tally.{summary_text};
 ghost use Rattle.std.specs.Fmt.{decimal};
-ghost use Rattle.task.specs.Tasks.{tags};
+ghost use Rattle.task.specs.Tasks.{tags, these};
 ghost use Rattle.task.specs.inside.Views.{key_shown};
 ghost use Rattle.command.specs.Checking as spec;
 ghost use Rattle.command.specs.Checking.{ListRuns, ListsRun, foreign_hint, hints};
@@ -34,26 +34,28 @@ use crate::session::{Session, Streams, open_file};
 use crate::visible::write_visible;
 use source::{Feed, Sink, WriteFailed, write_all};
 use std::alloc::Global;
-use sumlist::{CheckFault, Kind, Look, Summary, Tree, check_list, write_summary};
+use sumlist::{CheckFault, Kind, Look, Share, Summary, Tree, check_list, write_summary};
 use task::{Entries, Key, ShortMac, Tagging};
 
 impl<'i, 't, 'o, L: Feed, T: Tree, W: Sink> Session<'i, 't, 'o, L, T, W> {
-    /// Prints the report of each list, and goes on with the next after a list that can't be read to its
-    /// end, which is told on `err`. A key is read and judged first, once: the faults are
-    /// `KeyFileTooLong`, `KeyLength` and `CannotRead` of its file. Of several lists, a malformed line is told
-    /// with its list's name. Where it is asked for, tells how many lines of each list had each outcome. Tells
-    /// what the report of a list does not say: what malformed lines look like, that all lines are skipped, or
-    /// that all others are FAILED, as those of another hash are, or MISSING. Answers 0 where every line that is
-    /// not skipped is OK, else 1. Then come the faults `CannotWrite` and `OutOfMemory`, after which no further
-    /// list is read; what was written before is a beginning of the reports.
+    /// Prints the report of a share of each list, and goes on with the next after a list that can't be read to its
+    /// end, which is told on `err`. An entry is a line that is not skipped, and they are counted over all lists that
+    /// are read to their end. A key is read and judged first, once: the faults are `KeyFileTooLong`, `KeyLength` and
+    /// `CannotRead` of its file. Of several lists, a malformed line is told with its list's name. Where there are no
+    /// other shares, tells how many lines of each list had each outcome, if that is asked for, and what the report of
+    /// a list does not say: what malformed lines look like, that all lines are skipped, or that all others are FAILED,
+    /// as those of another hash are, or MISSING. Answers 0 where every line of the share is OK, else 1. Then come the
+    /// faults `CannotWrite` and `OutOfMemory`, after which no further list is read; what was written before is a
+    /// beginning of the reports.
     pub fn print_reports<'n, E: Sink>(
         &mut self,
         entries: Entries<'n>,
         is_summed: bool,
+        share: Share,
         lists: &[&'n str],
         err: &mut E,
     ) -> Result<u8, Fault<'n>>
-        ensures run { DoesRun (λ bytes files. EntriesRun entries.entry is_summed files
+        ensures run { DoesRun (λ bytes files. EntriesRun entries.entry is_summed (these share) files
             (map (λ n. n.now) lists.entry.now) bytes)
             (λ notes. TellsAll (E.shown err.old) (E.shown err.new) notes)
             result (⟦<Self as Streams>⟧.seen self.old) (⟦<Self as Streams>⟧.seen self.new) }
@@ -66,7 +68,13 @@ impl<'i, 't, 'o, L: Feed, T: Tree, W: Sink> Session<'i, 't, 'o, L, T, W> {
     {
         match entries {
             Entries::Digests(kind) => {
-                self.print_lists(&sumlist::Entries::Digests(kind), is_summed, lists, err)
+                self.print_lists(
+                    &sumlist::Entries::Digests(kind),
+                    is_summed,
+                    share,
+                    lists,
+                    err,
+                )
             }
             Entries::Tags(short, key) => {
                 let keyed = short_keyed(self.alloc, short, key, self.tree)?;
@@ -74,6 +82,7 @@ impl<'i, 't, 'o, L: Feed, T: Tree, W: Sink> Session<'i, 't, 'o, L, T, W> {
                 self.print_lists(
                     &sumlist::Entries::Tags(length, &keyed),
                     is_summed,
+                    share,
                     lists,
                     err,
                 )
@@ -86,10 +95,11 @@ impl<'i, 't, 'o, L: Feed, T: Tree, W: Sink> Session<'i, 't, 'o, L, T, W> {
         &mut self,
         entries: &sumlist::Entries<'_, ShortKeyed>,
         is_summed: bool,
+        share: Share,
         lists: &[&'n str],
         err: &mut E,
     ) -> Result<u8, Fault<'n>>
-        ensures run { DoesRun (λ bytes files. ListsRun (meaning entries.now) is_summed files
+        ensures run { DoesRun (λ bytes files. ListsRun (meaning entries.now) is_summed (these share) files
             (map (λ n. n.now) lists.entry.now) bytes)
             (λ notes. TellsAll (E.shown err.old) (E.shown err.new) notes)
             result (⟦<Self as Streams>⟧.seen self.old) (⟦<Self as Streams>⟧.seen self.new) }
@@ -100,10 +110,12 @@ impl<'i, 't, 'o, L: Feed, T: Tree, W: Sink> Session<'i, 't, 'o, L, T, W> {
         ensures same { SameStreams self.old self.new }
     {
         let are_named = lists.len() > 1;
+        let mut left = share;
         let mut status: u8 = 0;
         for name in lists {
             let title = title_of(are_named, name);
-            status = status.max(self.print_report(entries, title, is_summed, name, err)?);
+            let of_one = self.print_report(entries, title, is_summed, name, &mut left, err)?;
+            status = status.max(of_one);
         }
         Ok(status)
     }
@@ -116,10 +128,11 @@ impl<'i, 't, 'o, L: Feed, T: Tree, W: Sink> Session<'i, 't, 'o, L, T, W> {
         title: Option<&str>,
         is_summed: bool,
         name: &str,
+        share: &mut Share,
         err: &mut E,
     ) -> Result<u8, Fault<'f>>
         ensures report { PrintsReport is_summed (meaning entries.now)
-            (option_map (λ n. n.now) title.entry) name.entry.now result
+            (option_map (λ n. n.now) title.entry) name.entry.now share.old share.new result
             (⟦<Self as Streams>⟧.seen self.old) (⟦<Self as Streams>⟧.seen self.new)
             (E.shown err.old) (E.shown err.new) }
         ensures opens { IfTold (⟦<Self as Streams>⟧.seen self.old) (λ bytes files. OpensAtMost
@@ -127,7 +140,7 @@ impl<'i, 't, 'o, L: Feed, T: Tree, W: Sink> Session<'i, 't, 'o, L, T, W> {
             (⟦<Self as Streams>⟧.seen self.old) (⟦<Self as Streams>⟧.seen self.new)) }
         ensures same { SameStreams self.old self.new }
     {
-        match self.check_named(entries, title, is_summed, name, err) {
+        match self.check_named(entries, title, is_summed, name, share, err) {
             Ok(status) => Ok(status),
             Err(fault) => settle(err, fault),
         }
@@ -140,10 +153,12 @@ impl<'i, 't, 'o, L: Feed, T: Tree, W: Sink> Session<'i, 't, 'o, L, T, W> {
         title: Option<&str>,
         is_summed: bool,
         name: &'n str,
+        share: &mut Share,
         err: &mut E,
     ) -> Result<u8, Fault<'n>>
-        ensures run { DoesRun (λ bytes files. ListRuns is_summed files (meaning entries.now)
-            (option_map (λ n. n.now) title.entry) name.entry.now (content_of name.entry.now bytes files))
+        ensures run { DoesRun (λ bytes files run. ListRuns is_summed files (meaning entries.now)
+            (option_map (λ n. n.now) title.entry) name.entry.now share.old (content_of name.entry.now bytes files) run
+            share.new)
             (λ notes. TellsAll (E.shown err.old) (E.shown err.new) notes)
             result (⟦<Self as Streams>⟧.seen self.old) (⟦<Self as Streams>⟧.seen self.new) }
         ensures gave { Leaves (is_input name.entry.now) result
@@ -155,7 +170,7 @@ impl<'i, 't, 'o, L: Feed, T: Tree, W: Sink> Session<'i, 't, 'o, L, T, W> {
         ensures same { SameStreams self.old self.new }
     {
         if name == "-" {
-            return self.check_input(entries, title, is_summed, name, err);
+            return self.check_input(entries, title, is_summed, name, share, err);
         }
         let mut list = open_file(name, 0, self.tree)?;
         let mut listed = Session {
@@ -164,7 +179,7 @@ impl<'i, 't, 'o, L: Feed, T: Tree, W: Sink> Session<'i, 't, 'o, L, T, W> {
             tree: self.tree,
             out: self.out,
         };
-        let answer = listed.check_input(entries, title, is_summed, name, err);
+        let answer = listed.check_input(entries, title, is_summed, name, share, err);
         self.tree.close(list);
         answer
     }
@@ -176,11 +191,12 @@ impl<'i, 't, 'o, L: Feed, T: Tree, W: Sink> Session<'i, 't, 'o, L, T, W> {
         title: Option<&str>,
         is_summed: bool,
         name: &'n str,
+        share: &mut Share,
         err: &mut E,
     ) -> Result<u8, Fault<'n>>
         ensures list { IfTold (⟦<Self as Streams>⟧.seen self.old) (λ bytes files. ListTaken
-            (ListRuns is_summed files (meaning entries.now) (option_map (λ n. n.now) title.entry) name.entry.now
-            (Some bytes))
+            (λ run. ListRuns is_summed files (meaning entries.now) (option_map (λ n. n.now) title.entry)
+            name.entry.now share.old (Some bytes) run share.new)
             name.entry.now bytes result
             (W.shown self.old.out.now) (W.shown self.new.out.now) (E.shown err.old) (E.shown err.new)
             (T.failure_count self.old.tree.now) (T.failure_count self.new.tree.now)) }
@@ -192,15 +208,20 @@ impl<'i, 't, 'o, L: Feed, T: Tree, W: Sink> Session<'i, 't, 'o, L, T, W> {
             (opens_from lines (Some bytes)) (⟦<Self as Streams>⟧.seen self.old) (⟦<Self as Streams>⟧.seen self.new)) }
         ensures same { SameStreams self.old self.new }
     {
-        let answer = check_list(self.alloc, self.input, entries, title, self.tree, self.out);
-        note(title, is_summed, &answer, err);
-        hint(name, entries, &answer, err);
+        let is_whole = share.others == 0;
+        let answer = check_list(
+            self.alloc, self.input, entries, title, share, self.tree, self.out,
+        );
+        if is_whole {
+            note(title, is_summed, &answer, err);
+            hint(name, entries, &answer, err);
+        }
         status_of(answer, name)
     }
 }
 
 // The keyed function of the tags in lists, with its key.
-fn short_keyed<'n, T: Tree>(
+pub(crate) fn short_keyed<'n, T: Tree>(
     alloc: Global,
     short: ShortMac,
     key: Key<'n>,
@@ -224,14 +245,14 @@ fn short_keyed<'n, T: Tree>(
 }
 
 // The name that a list has in its report, where there are several lists.
-fn title_of(are_named: bool, name: &str) -> Option<&str>
+pub(crate) fn title_of(are_named: bool, name: &str) -> Option<&str>
     ensures { option_map (λ n. n.now) result ≡ (if are_named then Some name.now else None) }
 {
     if are_named { Some(name) } else { None }
 }
 
 // Tells the numbers of a list on standard error, in one text: what is not taken of it is dropped.
-fn note<E: Sink>(
+pub(crate) fn note<E: Sink>(
     list: Option<&str>,
     is_summed: bool,
     answer: &Result<Summary, CheckFault>,
@@ -262,7 +283,7 @@ fn write_note<E: Sink>(
 }
 
 // Tells what the report of a list does not say, in one text: what is not taken of it is dropped.
-fn hint<E: Sink>(
+pub(crate) fn hint<E: Sink>(
     name: &str,
     entries: &sumlist::Entries<'_, ShortKeyed>,
     answer: &Result<Summary, CheckFault>,

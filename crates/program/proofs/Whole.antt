@@ -12,7 +12,8 @@ use Rattle.request.specs.inside.Reading.{IsRead}
 use Rattle.request.specs.declared.request.Request.{Request}
 use Rattle.request.specs.declared.request.WordsFault.{WordsFault}
 use Rattle.request.specs.declared.request.WordsFault.TheVariants as words_fault
-use Rattle.task.specs.Tasks.{Asked, asked}
+use Rattle.sumlist.specs.declared.share.Share.{Share}
+use Rattle.task.specs.Tasks.{Asked, Source, asked, in_file, these}
 use Rattle.task.specs.declared.fault.UsageFault.{UsageFault}
 use Rattle.task.specs.declared.tasks.Entries.{Entries}
 use Rattle.task.specs.declared.tasks.Entries.TheVariants.{Digests, Tags}
@@ -129,22 +130,34 @@ quiet_task (Some bytes) (Some files) task shown answer out_old out_new err i j u
 
 -- lists are checked as what their entries are asks for
 pub told_check : (first : Option (List ℕ)) (tree : Option Files) (entries : Entries) (is_summed : Bool)
-    (lists : List Text) (answer : Result ℕ Fault) (out_old out_new err_old err_new : Shown) (i j u v : ℕ)
-    → IfSome first (λ bytes. IfSome tree (λ files. (run : Run) × EntriesRun entries is_summed files lists bytes run
+    (by : Source Share) (lists : List Text) (answer : Result ℕ Fault) (out_old out_new err_old err_new : Shown)
+    (i j u v : ℕ)
+    → IfSome first (λ bytes. IfSome tree (λ files. (run : Run) × EntriesRun entries is_summed by files lists bytes run
     × Does run answer out_old out_new × TellsAll err_old err_new run.notes × Counted run.failures i j u v))
-    → Tellingly first tree (entries_shown entries is_summed lists) answer out_old out_new err_old err_new i j u v
-told_check first tree (Digests kind) is_summed lists answer out_old out_new err_old err_new i j u v h = h
-told_check first tree (Tags short key) is_summed lists answer out_old out_new err_old err_new i j u v h = h
+    → Tellingly first tree (entries_shown entries is_summed by lists) answer out_old out_new err_old err_new i j u v
+told_check first tree (Digests kind) is_summed by lists answer out_old out_new err_old err_new i j u v h = h
+told_check first tree (Tags short key) is_summed by lists answer out_old out_new err_old err_new i j u v h = h
 
 -- and open as many files
 pub check_opens : (first : Option (List ℕ)) (tree : Option Files) (entries : Entries) (is_summed : Bool)
-    (lists : List Text) (x y : ℕ) → IfSome first (λ bytes. IfSome tree (λ files. y ≤ x + (entries_opens entries
+    (share : Share) (lists : List Text) (x y : ℕ) → IfSome first (λ bytes. IfSome tree (λ files. y ≤ x
+    + (entries_opens entries
     + sum_by (λ list. opens_of list + length (option_map_or lines (content_of list bytes files) [])) lists)))
-    → Opens first tree (entries_shown entries is_summed lists) x y
-check_opens None tree (Digests kind) is_summed lists x y most = tt
-check_opens (Some bytes) None (Digests kind) is_summed lists x y most = tt
-check_opens (Some bytes) (Some files) (Digests kind) is_summed lists x y most = omega (arith, most)
-check_opens first tree (Tags short key) is_summed lists x y most = most
+    → Opens first tree (entries_shown entries is_summed (these share) lists) x y
+check_opens None tree (Digests kind) is_summed share lists x y most = tt
+check_opens (Some bytes) None (Digests kind) is_summed share lists x y most = tt
+check_opens (Some bytes) (Some files) (Digests kind) is_summed share lists x y most = omega (arith, most)
+check_opens first tree (Tags short key) is_summed share lists x y most = most
+
+-- lists that are told of, and their report, are opened once
+pub told_opens : (first : Option (List ℕ)) (tree : Option Files) (entries : Entries) (is_summed : Bool)
+    (report : Text) (lists : List Text) (x y : ℕ)
+    → IfSome first (λ bytes. IfSome tree (λ files. y ≤ x + (entries_opens entries + (1 + sum_by opens_of lists))))
+    → Opens first tree (entries_shown entries is_summed (in_file report) lists) x y
+told_opens None tree (Digests kind) is_summed report lists x y most = tt
+told_opens (Some bytes) None (Digests kind) is_summed report lists x y most = tt
+told_opens (Some bytes) (Some files) (Digests kind) is_summed report lists x y most = omega (arith, most)
+told_opens first tree (Tags short key) is_summed report lists x y most = most
 
 -- the run of a task is that of the request that asks for it
 requested : (r : Given) (task : Asked) (files : Files) (bytes : List ℕ) (run : Run) → asked r ≡ Ok task

@@ -20,7 +20,7 @@ use request::{Error, Request, WordsFault, line, text_of};
 use source::{Feed, Sink, WriteFailed, write_all};
 use std::alloc::Global;
 use sumlist::Tree;
-use task::{Names, Task, TaskFault, UsageFault};
+use task::{Names, Task, TaskFault, UsageFault, Verdicts};
 
 /// Why words ask for no task.
 #[derive(Debug, Drop)]
@@ -157,8 +157,16 @@ fn do_task<'n, 'i, 't, 'o, L: Feed, T: Tree, W: Sink, E: Sink>(
         Task::Check {
             entries,
             is_summed,
+            verdicts,
             lists,
-        } => session.print_reports(entries, is_summed, lists.as_slice(), err),
+        } => match verdicts {
+            Verdicts::Files(share) => {
+                session.print_reports(entries, is_summed, share, lists.as_slice(), err)
+            }
+            Verdicts::Report(name) => {
+                session.print_told(entries, is_summed, name, lists.as_slice(), err)
+            }
+        },
     }
 }
 

@@ -2,19 +2,22 @@
 use Rattle.sumlist.proofs.Common.{◌≡◌, ◌≤◌, ◌+◌, ◌++◌, List, [], ◌∷◌, length, lines, subst, sym, Option, None, Some}
 use Rattle.sumlist.proofs.Common.{◌∙◌, IfSome, ap, refl, IfSome_then, IsErr, Result, Err, Ok, arith, Appends-nil}
 use Rattle.sumlist.proofs.Common.{Appends-trans, AppendsPrefix, Mark, Meaning, Summary, CheckFault, Files}
-use Rattle.sumlist.proofs.Common.{IsCounted, LineChecked, ListChecked, Outcome, lines_of, no_lines, text}
+use Rattle.sumlist.proofs.Common.{IsCounted, ListChecked, MatchResult-from_err, Outcome, lines_of, no_lines, text}
 use Rattle.sumlist.proofs.Common.{true, with_line, ℕ}
 use Rattle.std.specs.Io.KnownBytes.{IsAtEnd}
 use Rattle.std.proofs.lemmas.Result.{MatchResult-weaker}
 use Rattle.source.proofs.Writing.{AppendsPrefix-after, AppendsPrefix-more, AppendsPrefix-none}
 use Rattle.sumlist.specs.Lines.{IsKept}
-use Rattle.std.specs.Prelude.{fold}
+use Rattle.std.specs.Prelude.{MatchResult, fold}
 use Rattle.sumlist.specs.Report.{report_from, summary_of}
 use Rattle.sumlist.specs.inside.Ahead.{Checks, OpensEach, RestChecked}
 use Rattle.sumlist.specs.inside.Marks.{mark_of, outcome_of}
-use Rattle.sumlist.specs.inside.Stepped.{Stepped}
+use Rattle.sumlist.specs.Shared.{shared}
+use Rattle.sumlist.specs.declared.share.Share.{Share}
+use Rattle.sumlist.specs.inside.Stepped.{LineShared}
 use Rattle.sumlist.specs.inside.Taking.{IsNextPiece}
 use Rattle.sumlist.proofs.Deciding.{all_settled, unreadable-cons}
+use Rattle.sumlist.proofs.SharedLines.{shared-settled}
 
 -- ---- lines
 
@@ -22,47 +25,70 @@ use Rattle.sumlist.proofs.Deciding.{all_settled, unreadable-cons}
 same_line : (s : Summary) (o : Outcome) → with_line s (outcome_of (mark_of o)) ≡ with_line s o
 same_line s o = grind arith
 
-module _ {files : Files} {k : Meaning} {name : Option (List ℕ)} {s : Summary} {m : ℕ} {b : Option (List ℕ)} where
-  rest-none : RestChecked files k name [] s (Ok s) m m b b
+module _ {files : Files} {k : Meaning} {name : Option (List ℕ)} {share behind : Share} {s : Summary} {m : ℕ}
+    {b : Option (List ℕ)} where
+  rest-none : RestChecked files k name share share [] s (Ok s) m m b b
   unfolding report_from summary_of
-  rest-none = record { outcomes = []; allowed = tt; counted = omega arith; told = (refl, Appends-nil b) }
+  rest-none = record { outcomes = []; allowed = tt; counted = omega arith; told = (refl, refl, Appends-nil b) }
 
   -- a fault before any
-  rest-halted : {ls : List (List ℕ)} {r : Result Summary CheckFault} → IsErr r → RestChecked files k name ls s r m m b b
-  rest-halted {ls} stopped = let os = all_settled files k ls in
-      record { outcomes = os.0; allowed = os.1; counted = omega arith; told = grind (arith, AppendsPrefix-none) }
+  rest-halted : {ls : List (List ℕ)} {r : Result Summary CheckFault} → IsErr r
+      → RestChecked files k name share behind ls s r m m b b
+  rest-halted {ls} {r} stopped =
+      let os = all_settled files k ls in
+      let none = shared-settled share.others share.waiting os.0 os.2 in
+      record {
+        outcomes = os.0;
+        allowed = os.1;
+        counted = omega (arith, none);
+        told = MatchResult-from_err r _ _ stopped (λ _. AppendsPrefix-none b _);
+      }
 
-  module _ {line : List ℕ} {ls : List (List ℕ)} {r : Result Summary CheckFault} {n : ℕ} {c : Option (List ℕ)} where
+  module _ {after : Share} {line : List ℕ} {ls : List (List ℕ)} {r : Result Summary CheckFault} {n : ℕ}
+      {c : Option (List ℕ)} where
     -- a fault at the first
-    rest-stopped : IsErr r
-        → (o : Outcome) × Stepped files k line o m n
-        × AppendsPrefix b c (text name (lines_of s + 1) o)
-        → RestChecked files k name (line ∷ ls) s r m n b c
+    rest-stopped : (f : CheckFault) → IsErr r
+        → LineShared files k name share after line (lines_of s + 1) (Err f) m n b c
+        → RestChecked files k name share behind (line ∷ ls) s r m n b c
     unfolding report_from
-    rest-stopped stopped l =
+    rest-stopped f stopped l =
+        let own = l.1 in
         let os = all_settled files k ls in
-        let told = AppendsPrefix-more b c _ (report_from name (lines_of s + 2) os.0) l.2 in
-        let one = unreadable-cons l.0 os.0 in
-        record { outcomes = l.0 ∷ os.0; allowed = (l.1.allowed, os.1); counted = omega arith; told = grind arith }
+        let left = (shared after.others after.waiting os.0).0 in
+        let none = shared-settled after.others after.waiting os.0 os.2 in
+        let is = l.3.is os.0 in
+        let begun = AppendsPrefix-more b c _ (report_from name (lines_of s + 2) left) l.5 in
+        record {
+          outcomes = l.0 ∷ os.0;
+          allowed = (l.2, os.1);
+          counted = rw is (omega (arith, l.4, none, unreadable-cons own left));
+          told = rw is (MatchResult-from_err r _ _ stopped (λ _. begun));
+        }
 
-    -- the first was checked, and then the rest
+    -- the first was checked or passed over, and then the rest
     rest-line : {mark : Mark} {u : Summary} {p : ℕ} {d : Option (List ℕ)}
-        → LineChecked {E = CheckFault} files k name line (lines_of s + 1) (Ok mark) m n b c → IsCounted mark s u
-        → RestChecked files k name ls u r n p c d → RestChecked files k name (line ∷ ls) s r m p b d
+        → LineShared {E = CheckFault} files k name share after line (lines_of s + 1) (Ok mark) m n b c
+        → IsCounted mark s u → RestChecked files k name after behind ls u r n p c d
+        → RestChecked files k name share behind (line ∷ ls) s r m p b d
     unfolding report_from
     rest-line {u} {d} l counted q =
-        let grown = subst (λ x. IsCounted x s u) (sym l.2.0) counted in
+        let own = l.1 in
+        let left = shared after.others after.waiting q.outcomes in
+        let is = l.3.is q.outcomes in
+        let grown = subst (λ x. IsCounted x s u) (sym l.5.0) counted in
         let up : lines_of u ≡ lines_of s + 1 = grind arith in
+        let goes_on : (record after { waiting = left.1 }) ≡ record share { waiting = left.1 } = rw l.3.others refl in
         record {
           outcomes = l.0 ∷ q.outcomes;
-          allowed = (l.1.allowed, q.allowed);
-          counted = omega (arith, unreadable-cons l.0 q.outcomes);
-          told = MatchResult-weaker r q.told
+          allowed = (l.2, q.allowed);
+          counted = rw is (omega (arith, l.4, q.counted, unreadable-cons own left.0));
+          told = rw is (MatchResult-weaker r q.told
               (λ t h. (
-                h.0 ∙ ap (λ x. fold with_line x q.outcomes) (grown.whole ∙ same_line s l.0),
-                Appends-trans b c d _ _ l.2.1 (rw up at h.1),
+                h.0 ∙ ap (λ x. fold with_line x left.0) (grown.whole ∙ same_line s own),
+                h.1 ∙ goes_on,
+                Appends-trans b c d _ _ l.5.1 (rw up at h.2),
               ))
-              (λ _ h. AppendsPrefix-after b c d _ _ l.2.1 (rw up at h));
+              (λ _ h. AppendsPrefix-after b c d _ _ l.5.1 (rw up at h)));
         }
 
 -- ---- what is told
@@ -75,22 +101,30 @@ pub IfSome-two : {X : Type 0} {r s : Option X} {P Q R : X → Type 0} → s ≡ 
     → ((x : X) → P x → Q x → R x) → IfSome r R
 IfSome-two same p q h = grind arith
 
-module _ {rest : Option (List ℕ)} {known : Option Files} {k : Meaning} {name : Option (List ℕ)}
-    {r : Result Summary CheckFault} {n : ℕ} {c : Option (List ℕ)} where
-  -- no line came before
-  pub checks-all : {m : ℕ} {b : Option (List ℕ)} → Checks rest known k name [] no_lines r m n b c
-      → IfSome rest (λ list. IfSome known (λ files. ListChecked files k name list r m n b c))
-  unfolding summary_of
-  checks-all h = IfSome_then rest h.of (λ list h. IfSome_then known h (λ files q.
-      (q.outcomes, q.allowed, q.counted, q.told)))
+-- what holds besides after a fault
+after_fault : (r : Result Summary CheckFault) {P : Summary → Type 0} {Q R : Type 0} → (IsErr r → R)
+    → MatchResult r P (λ _. Q) → MatchResult r P (λ _. R × Q)
+after_fault (Ok s) same h = h
+after_fault (Err f) same h = (same refl, h)
 
-  pub checks-halted : {ahead : List ℕ} {s : Summary} → IsErr r → Checks rest known k name ahead s r n n c c
+module _ {rest : Option (List ℕ)} {known : Option Files} {k : Meaning} {name : Option (List ℕ)} {share : Share}
+    {r : Result Summary CheckFault} {n : ℕ} {c : Option (List ℕ)} where
+  -- no line came before, and a fault leaves the share as it was
+  pub checks-all : {behind : Share} {m : ℕ} {b : Option (List ℕ)} → (IsErr r → behind ≡ share)
+      → Checks rest known k name share behind [] no_lines r m n b c
+      → IfSome rest (λ list. IfSome known (λ files. ListChecked files k name list share behind r m n b c))
+  unfolding summary_of
+  checks-all same h = IfSome_then rest h.of (λ list h. IfSome_then known h (λ files q.
+      (q.outcomes, q.allowed, q.counted, after_fault r same q.told)))
+
+  pub checks-halted : {behind : Share} {ahead : List ℕ} {s : Summary} → IsErr r
+      → Checks rest known k name share behind ahead s r n n c c
   checks-halted stopped = record { of = IfSome-all rest (λ _. IfSome-all known (λ _. rest-halted stopped)) }
 
 -- no line is left
 pub checks-none : {rest : Option (List ℕ)} {known : Option Files} {k : Meaning} {name : Option (List ℕ)}
-    {ahead : List ℕ} {s : Summary} {n : ℕ} {c : Option (List ℕ)} → (ahead ≡ []) × IsAtEnd rest
-    → Checks rest known k name ahead s (Ok s) n n c c
+    {share : Share} {ahead : List ℕ} {s : Summary} {n : ℕ} {c : Option (List ℕ)} → (ahead ≡ []) × IsAtEnd rest
+    → Checks rest known k name share share ahead s (Ok s) n n c c
 checks-none {rest = None} end = record { of = tt }
 checks-none {rest = Some bytes} {known} end = record { of = IfSome-all known (λ _. rw (end.0, end.1) rest-none) }
 
@@ -100,29 +134,30 @@ NextTaken kept rest ahead rest' ahead' = IfSome rest (λ bytes. (left : List ℕ
     × IsNextPiece 10 true kept (ahead ++ bytes) (ahead' ++ left))
 
 -- what the check of a line says, of which this is kept
-abbrev NextChecked : Option Files → Meaning → Option (List ℕ) → Option (List ℕ) → ℕ → Result Mark CheckFault → ℕ → ℕ
-    → Option (List ℕ)
-    → Option (List ℕ) → Type 0
-NextChecked known k name kept number r m n b c = IfSome known (λ files. (line : List ℕ) → IsKept kept line
-    → LineChecked files k name line number r m n b c)
+abbrev NextChecked : Option Files → Meaning → Option (List ℕ) → Share → Share → Option (List ℕ) → ℕ
+    → Result Mark CheckFault → ℕ → ℕ → Option (List ℕ) → Option (List ℕ) → Type 0
+NextChecked known k name share after kept number r m n b c = IfSome known (λ files. (line : List ℕ) → IsKept kept line
+    → LineShared files k name share after line number r m n b c)
 
 module _ (kept rest : Option (List ℕ)) (ahead : List ℕ) (rest' : Option (List ℕ)) (ahead' : List ℕ)
     (known : Option Files) (next : NextTaken kept rest ahead rest' ahead') {k : Meaning} {name : Option (List ℕ)}
-    {s : Summary}
+    {share after behind : Share} {s : Summary}
     {r : Result Summary CheckFault} {n o : ℕ} {c d : Option (List ℕ)} where
-  pub checks-stopped : (f : CheckFault) → IsErr r → NextChecked known k name kept (lines_of s + 1) (Err f) n o c d
-      → Checks rest known k name ahead s r n o c d
+  pub checks-stopped : (f : CheckFault) → IsErr r
+      → NextChecked known k name share after kept (lines_of s + 1) (Err f) n o c d
+      → Checks rest known k name share behind ahead s r n o c d
   checks-stopped f stopped checked = record {
     of = IfSome_then rest next (λ _ t. IfSome_then known checked (λ _ line.
-        rw t.2.2 (rest-stopped stopped (line t.2.0 t.2.1))));
+        rw t.2.2 (rest-stopped f stopped (line t.2.0 t.2.1))));
   }
 
   pub checks-line : {u : Summary} {p : ℕ} {e : Option (List ℕ)} (mark : Mark) → IsCounted mark s u
-      → NextChecked known k name kept (lines_of s + 1) (Ok mark) n o c d → Checks rest' known k name ahead' u r o p d e
-      → Checks rest known k name ahead s r n p c e
+      → NextChecked known k name share after kept (lines_of s + 1) (Ok mark) n o c d
+      → Checks rest' known k name after behind ahead' u r o p d e
+      → Checks rest known k name share behind ahead s r n p c e
   checks-line {u} {p} {e} mark counted checked later = record {
     of = IfSome_then rest next (λ _ t. IfSome-two {r = known} refl checked
-        (subst (λ x. Checks x known k name ahead' u r o p d e) t.1 later).of (λ _ line q.
+        (subst (λ x. Checks x known k name after behind ahead' u r o p d e) t.1 later).of (λ _ line q.
         rw t.2.2 (rest-line (line t.2.0 t.2.1) counted q)));
   }
 

@@ -12,8 +12,8 @@ pub mod Named
 pub mod Lines
 pub mod Naming
 pub mod Report
+pub mod Shared
 pub mod Tally
 pub mod Checked
 pub mod Settled
-pub mod Shared
 pub mod inside

@@ -13,6 +13,7 @@ pub mod Body
 pub mod MemoryTree
 pub mod Marks
 pub mod Stepped
+pub mod Telling
 pub mod Moved
 pub mod Said
 pub mod Looks

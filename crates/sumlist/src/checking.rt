@@ -1,23 +1,27 @@
 // Lists checked against the files that they name.
 
 ghost use Rattle.std.specs.Prelude.{◌≡◌, ◌+◌, ◌-◌, ◌<◌, ◌≤◌, ◌^◌, ◌↔◌, ℕ, List, [], Option, Result, false, true};
-ghost use Rattle.std.specs.Prelude.{length, None, Some, option_map, IfOk, IfSome, IsErr, IsErrOf, MatchResult, OnOk};
+ghost use Rattle.std.specs.Prelude.{length, None, Some, option_map, IfOk, IfSome, IsErr, IsErrOf, MatchBool};
+ghost use Rattle.std.specs.Prelude.{MatchResult, OnOk};
 ghost use Rattle.std.specs.Io.KnownBytes.{Consumes, IsAtEnd};
 ghost use Rattle.source.specs.Counts.{count_after};
 ghost use Rattle.sumlist.specs.Checked.{CountsOnly, ListChecked};
+ghost use Rattle.sumlist.specs.Line.{IsSkipped};
 ghost use Rattle.sumlist.specs.Lines.{IsKept, lines};
 ghost use Rattle.sumlist.specs.inside.Ahead.{Checks, OpensEach};
 ghost use Rattle.sumlist.specs.Report.{maker_of, unkeyed};
-ghost use Rattle.sumlist.specs.inside.Stepped.{IsAllowed, LineChecked, StepCounts, meaning_of, stop_of};
+ghost use Rattle.sumlist.specs.inside.Stepped.{IsAllowed, LineChecked, LineShared, Passes, StepCounts, meaning_of};
+ghost use Rattle.sumlist.specs.inside.Stepped.{stop_of};
 ghost use Rattle.sumlist.specs.Tally.{entries_of};
 ghost use Rattle.sumlist.specs.inside.Marks.{entry_by, lines_of, part, unreadable_by};
 ghost use Rattle.sumlist.specs.declared.checking.CheckFault.TheVariants.{OutOfMemory, Write};
 
+use crate::line::is_skipped;
 use crate::piece_reader::PieceReader;
 use crate::report::{write_malformed, write_verdict};
 use crate::summary::Mark;
 use crate::verdict::{Verdict, check_entry};
-use crate::{Entries, Entry, Kind, Line, LineFault, MakesTag, Summary, Tree};
+use crate::{Entries, Entry, Kind, Line, LineFault, MakesTag, Share, Summary, Tree};
 use source::{Feed, Sink, SourceFault, WriteFailed};
 use std::alloc::{AllocError, Global};
 use thiserror::Error;
@@ -84,7 +88,8 @@ pub fn check<L: Feed, T: Tree, W: Sink>(
     out: &mut W,
 ) -> Result<Summary, CheckFault>
     ensures checked { IfSome (L.remaining list.old) (λ bytes. IfSome (T.files tree.old) (λ files.
-        ListChecked files (unkeyed (Some kind)) None bytes result
+        ListChecked files (unkeyed (Some kind)) None bytes
+        (record { others = 0; waiting = 0 }) (record { others = 0; waiting = 0 }) result
         (T.failure_count tree.old) (T.failure_count tree.new)
         (W.shown out.old).contents (W.shown out.new).contents)) }
     ensures unreadable { IfOk result (λ s. T.failure_count tree.new
@@ -104,21 +109,25 @@ pub fn check<L: Feed, T: Tree, W: Sink>(
         × (IsErrOf result CheckFault.ListTooLong ↔ (2 ^ 64 - 1 < length given))) }
 {
     let entries: Entries<'_, Entry> = Entries::Digests(Some(kind));
-    check_list(alloc, list, &entries, None, tree, out)
+    check_list(alloc, list, &entries, None, &mut Share::whole(), tree, out)
 }
 
-/// Checks a list of any entries as `check` does. If a name of the list is given, the report has it in front of
-/// malformed lines: `NAME: line N: MALFORMED`, the name in its escaped form.
+/// Checks a share of a list of any entries as `check` does: a line that is not skipped counts, and those of other
+/// shares are passed over, and counted with the skipped ones. If the list is read to its end, the share goes on behind
+/// it; if not, it stays as it was. If a name of the list is given, the report has it in front of malformed lines:
+/// `NAME: line N: MALFORMED`, the name in its escaped form.
 pub fn check_list<L: Feed, M: MakesTag, T: Tree, W: Sink>(
     alloc: Global,
     list: &mut L,
     entries: &Entries<'_, M>,
     name: Option<&str>,
+    share: &mut Share,
     tree: &mut T,
     out: &mut W,
 ) -> Result<Summary, CheckFault>
     ensures checked { IfSome (L.remaining list.old) (λ bytes. IfSome (T.files tree.old) (λ files.
-        ListChecked files (meaning_of M.limit M.makes entries.now) (option_map (λ n. n.now) name.entry) bytes result
+        ListChecked files (meaning_of M.limit M.makes entries.now) (option_map (λ n. n.now) name.entry) bytes
+        share.old share.new result
         (T.failure_count tree.old) (T.failure_count tree.new)
         (W.shown out.old).contents (W.shown out.new).contents)) }
     ensures unreadable { IfOk result (λ s. T.failure_count tree.new
@@ -141,11 +150,13 @@ pub fn check_list<L: Feed, M: MakesTag, T: Tree, W: Sink>(
         alloc,
         entries,
         name,
+        share: *share,
         reader: PieceReader::new(alloc)?,
         summary: Summary::new(),
         lines: 0,
     };
     while checker.step(list, tree, out)? {}
+    *share = checker.share;
     Ok(checker.summary)
 }
 
@@ -155,6 +166,8 @@ struct Checker<'e, 'k, 'n, M> {
     alloc: Global,
     entries: &'e Entries<'k, M>,
     name: Option<&'n str>,
+    // which of the entries that are left are checked
+    share: Share,
     reader: PieceReader,
     summary: Summary,
     // how many lines were checked
@@ -175,19 +188,19 @@ impl<'e, 'k, 'n, M: MakesTag> Checker<'e, 'k, 'n, M> {
         ensures few { OnOk result
             (lines_of self.new.summary + length self.new.reader.ahead ≤ self.new.reader.total) }
         ensures checked { MatchResult result
-            (λ _. (r : Result Summary CheckFault) (n : ℕ) (c : Option (List ℕ))
+            (λ _. (r : Result Summary CheckFault) (n : ℕ) (c : Option (List ℕ)) (behind : Share)
             → Checks (L.remaining list.new) (T.files tree.old)
             (meaning_of M.limit M.makes self.old.entries.now) (option_map (λ n. n.now) self.old.name)
-            self.new.reader.ahead self.new.summary
+            self.new.share behind self.new.reader.ahead self.new.summary
             r (T.failure_count tree.new) n (W.shown out.new).contents c
             → Checks (L.remaining list.old) (T.files tree.old)
             (meaning_of M.limit M.makes self.old.entries.now) (option_map (λ n. n.now) self.old.name)
-            self.old.reader.ahead self.old.summary
+            self.old.share behind self.old.reader.ahead self.old.summary
             r (T.failure_count tree.old) n (W.shown out.old).contents c)
-            (λ _. (r : Result Summary CheckFault) → IsErr r
+            (λ _. (r : Result Summary CheckFault) (behind : Share) → IsErr r
             → Checks (L.remaining list.old) (T.files tree.old)
             (meaning_of M.limit M.makes self.old.entries.now) (option_map (λ n. n.now) self.old.name)
-            self.old.reader.ahead self.old.summary
+            self.old.share behind self.old.reader.ahead self.old.summary
             r (T.failure_count tree.old) (T.failure_count tree.new)
             (W.shown out.old).contents (W.shown out.new).contents) }
         ensures unreadable { OnOk result
@@ -216,10 +229,51 @@ impl<'e, 'k, 'n, M: MakesTag> Checker<'e, 'k, 'n, M> {
         if !self.reader.next(b'\n', list)? {
             return Ok(false);
         }
-        let mark = self.check(tree, out)?;
+        let mark = self.next_mark(tree, out)?;
         self.summary.count(mark);
         self.lines += 1;
         Ok(!self.reader.is_at_end())
+    }
+
+    // What became of the line that was read last: another share's is passed over as a skipped one is.
+    fn next_mark<T: Tree, W: Sink>(&mut self, tree: &mut T, out: &mut W) -> Result<Mark, CheckFault>
+        requires few { lines_of self.old.summary + 1 < 2 ^ 64 }
+        ensures checked { IfSome (T.files tree.old) (λ files. (line : List ℕ) → IsKept self.old.reader.kept line
+            → LineShared files (meaning_of M.limit M.makes self.old.entries.now)
+            (option_map (λ n. n.now) self.old.name) self.old.share self.new.share line
+            (lines_of self.old.summary + 1) result (T.failure_count tree.old) (T.failure_count tree.new)
+            (W.shown out.old).contents (W.shown out.new).contents) }
+        ensures unreadable { IfOk result (λ mark. T.failure_count tree.new
+            ≡ count_after (T.failure_count tree.old) (part (Mark.Told Verdict.Unreadable) mark)) }
+        ensures opens { IfOk result (λ mark. T.opens tree.new ≤ T.opens tree.old + entry_by mark) }
+        ensures once { T.opens tree.new ≤ T.opens tree.old + 1 }
+        ensures kept { (T.files tree.new ≡ T.files tree.old) × (self.new ≡ record self.old { share = self.new.share }) }
+        ensures writes { StepCounts result (W.shown out.old).failures (W.shown out.new).failures }
+    {
+        if self.passes_over() {
+            return Ok(Mark::Skipped);
+        }
+        self.check(tree, out)
+    }
+
+    // Whether the line that was read last is an entry of another share; from then on the entry after it is the next.
+    fn passes_over(&mut self) -> bool
+        ensures passes { (line : List ℕ) → IsKept self.old.reader.kept line
+            → Passes line self.old.share self.new.share result }
+        ensures kept { self.new ≡ record self.old { share = self.new.share } }
+    {
+        self.has_entry() && !self.share.takes_next()
+    }
+
+    // Whether the line that was read last is not skipped.
+    fn has_entry(&self) -> bool
+        ensures { (line : List ℕ) → IsKept self.now.reader.kept line
+            → MatchBool result (IsSkipped line → ⊥) (IsSkipped line) }
+    {
+        match self.reader.piece() {
+            Some(line) => !is_skipped(line),
+            None => true,
+        }
     }
 
     // Checks the line that was read last, and writes its part of the report.

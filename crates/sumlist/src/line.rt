@@ -4,7 +4,7 @@ ghost use Rattle.std.specs.Prelude.{◌≡◌, ◌≤◌, ◌↔◌, ℕ, List, 
 ghost use Rattle.sumlist.specs.Entry.{Listing};
 ghost use Rattle.sumlist.specs.inside.Body.{name_of};
 ghost use Rattle.sumlist.specs.inside.Reading.{IsBlank, IsStated, is_slashed, unslashed};
-ghost use Rattle.sumlist.specs.Line.{IsLine, IsMalformed, IsUntagged, core as core_of};
+ghost use Rattle.sumlist.specs.Line.{IsLine, IsMalformed, IsSkipped, IsUntagged, core as core_of};
 ghost use Rattle.sumlist.specs.Parsed.{Answers};
 ghost use Rattle.sumlist.specs.inside.Looks.{IsUntaggedOf};
 ghost use Rattle.sumlist.specs.inside.Said.{IsSaid};
@@ -144,6 +144,13 @@ pub(crate) fn is_line(line: &[u8]) -> bool
     ensures { IsTrue result ↔ IsLine line.now }
 {
     line.len() <= LINE_LIMIT && !line.contains(&b'\n')
+}
+
+// Whether a line is empty or a comment.
+pub(crate) fn is_skipped(line: &[u8]) -> bool
+    ensures { IsTrue result ↔ IsSkipped line.now }
+{
+    is_blank(without_cr(line)) && is_line(line)
 }
 
 fn without_cr(line: &[u8]) -> &[u8]

@@ -46,28 +46,25 @@ pub data Asked : Type 0 where
   prints_lines : Sum → Source (List Text) → Share → Asked
   prints_line : Sum → Option (List ℕ) → Text → Text → Asked
   derives : Derived → Bool → Text → Asked
-  checks : Option Kind → Bool → List Text → Asked
-  checks_tags : Mac → ℕ → Source (List ℕ) → Bool → List Text → Asked
+  checks : Option Kind → Bool → Source Share → List Text → Asked
+  checks_tags : Mac → ℕ → Source (List ℕ) → Bool → Source Share → List Text → Asked
   prints_part : ℕ → Option ℕ → Text → Asked
   prints_starts : ℕ → Text → Asked
   prints_parts : ℕ → Text → Asked
   verifies : Text → Text → Asked
   joins : Stretch → Option ℕ → Option (List ℕ) → Text → List Text → Asked
 
--- the share of these files of which a sum is printed, or all of them: of as many as the number behind a slash, the one
--- of the number before it, the first being 0. None is standard input, which other shares would not have
-abbrev pub share_of : Bool → Given → Result Share Text
-share_of is_compared g = option_map_or (λ t. do
-  unless (has_flag (codes "raw") g) (codes "--share: not with --raw\n")
-  unless is_compared (codes "--share: not with --verify\n")
-  unless (not (is_some (text_of (codes "files0-from") g)) && list_any (λ name. bytes_eq name (codes "-"))
-      (names_or_input g)) (codes "--share: not of standard input\n")
+-- the share that is asked for, or all, where other settings do not forbid one: of as many as the number behind a slash,
+-- the one of the number before it, the first being 0
+abbrev pub share_of : Result (Unit {0}) Text → Given → Result Share Text
+share_of allowed g = option_map_or (λ t. do
+  allowed
   n ← number_in 1 (2 ^ 64 - 1) (codes "share") (after_first (λ b. b == 47) t)
   k ← number_in 0 (n - 1) (codes "share") (before_first (λ b. b == 47) t)
   Ok (record { others = n - 1; waiting = k })) (text_of (codes "share") g) (Ok (record { others = 0; waiting = 0 }))
 
--- the same of a sum of so many bytes: files are named by words, or in a file; one whose sum is compared, or that has a
--- name, is the only one
+-- the files of which a sum of so many bytes is printed: they are named by words, or in a file; one whose sum is
+-- compared, or that has a name, is the only one; and none in a share is standard input, which others would not have
 abbrev pub of_files : Sum → ℕ → Given → Result Asked Text
 of_files sum n g = do
   unless (is_some (text_of (codes "files0-from") g) && nat_lt 0 (length (files g)))
@@ -75,7 +72,11 @@ of_files sum n g = do
   unless (is_some (text_of (codes "name") g) && (names_several g || not (bytes_eq (file_or_input g) (codes "-"))))
       (codes "--name: standard input only\n")
   bytes ← wanted n g
-  share ← share_of (is_some bytes) g
+  share ← share_of (do
+    unless (has_flag (codes "raw") g) (codes "--share: not with --raw\n")
+    unless (is_some bytes) (codes "--share: not with --verify\n")
+    unless (not (is_some (text_of (codes "files0-from") g)) && list_any (λ name. bytes_eq name (codes "-"))
+        (names_or_input g)) (codes "--share: not of standard input\n")) g
   Ok (if is_some (text_of (codes "name") g) || is_some bytes
       then prints_line sum bytes (unwrap_or (text_of (codes "name") g) (file_or_input g)) (file_or_input g)
       else prints_lines sum
@@ -156,6 +157,11 @@ kdf g = do
   material ← needed text (codes "ikm-file") g
   Ok (derives by (has_flag (codes "raw") g) material)
 
+-- where `check` has the verdicts from: a report, or the files of a share of the entries
+abbrev pub verdicts : Given → Result (Source Share) Text
+verdicts g = option_map_or (λ t. absent (codes ": not with --told\n") (codes "share" ∷ []) g >> Ok (in_file t))
+    (text_of (codes "told") g) (share_of (Ok tt) g >>= (λ s. Ok (these s)))
+
 -- that of `check`: under a key the entries of lists are tags of at most 64 bytes; else digests, those of untagged
 -- lines by this hash, if there is one, and any other name of `-a` is one of HMAC
 abbrev pub check : Given → Result Asked Text
@@ -163,7 +169,8 @@ check g = (if is_some (text_of (codes "key") g) || is_some (text_of (codes "key-
     then under_key 64 g >>= (λ k. Ok (checks_tags k.0 k.1 k.2)) else (do
       kind ← given (λ s t. ok_or (lookup (bytes_eq t) kinds) one_key) (codes "a") g
       absent not_for (codes "l" ∷ []) g
-      Ok (checks kind))) >>= (λ lists. Ok (lists (has_flag (codes "summary") g) (names_or_input g)))
+      Ok (checks kind))) >>= (λ lists. verdicts g
+    >>= (λ by. Ok (lists (has_flag (codes "summary") g) by (names_or_input g))))
 
 -- only BLAKE3 has parts
 abbrev pub has_parts : Kind → Result (Unit {0}) Text

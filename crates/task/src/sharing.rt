@@ -1,6 +1,6 @@
 // Which share of a run is asked for.
 
-ghost use Rattle.std.specs.Prelude.{◌≡◌, codes};
+ghost use Rattle.std.specs.Prelude.{◌≡◌, Ok, codes};
 ghost use Rattle.std.specs.List.{list_any};
 ghost use Rattle.std.specs.Str.{bytes_eq};
 ghost use Rattle.request.specs.CommandLine.{given_of, text_of};
@@ -15,8 +15,9 @@ use request::Request;
 use sumlist::Share;
 
 /// The share of the files of which a sum is printed, or all of them.
-pub(crate) fn share_of(request: &Request<'_>, is_compared: bool) -> Result<Share, UsageFault>
-    ensures { judged result ≡ tasks.share_of is_compared (given_of request.now) }
+pub(crate) fn share_of_files(request: &Request<'_>, is_compared: bool) -> Result<Share, UsageFault>
+    ensures { judged result ≡ tasks.share_of (steps.allows_share is_compared (given_of request.now))
+        (given_of request.now) }
 {
     let Some(text) = text_of(request, Setting::Share) else {
         return Ok(Share::whole());
@@ -25,6 +26,16 @@ pub(crate) fn share_of(request: &Request<'_>, is_compared: bool) -> Result<Share
     unless(is_compared, UsageFault::NotWithVerify(Setting::Share))?;
     unless(reads_input(request), UsageFault::FileOnly(Setting::Share))?;
     share_in(text)
+}
+
+/// The share of the entries that are checked, or all of them.
+pub(crate) fn share_of_entries(request: &Request<'_>) -> Result<Share, UsageFault>
+    ensures { judged result ≡ tasks.share_of (Ok tt) (given_of request.now) }
+{
+    match text_of(request, Setting::Share) {
+        Some(text) => share_in(text),
+        None => Ok(Share::whole()),
+    }
 }
 
 // The share that a text tells: a number, a slash, and of how many it is one.

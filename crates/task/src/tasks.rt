@@ -15,7 +15,7 @@ ghost use Rattle.task.specs.Tasks.{asked, in_file, these};
 ghost use Rattle.task.specs.inside.Reading as reading;
 ghost use Rattle.task.specs.inside.Seen.{IsAsDefined, judged, seen};
 ghost use Rattle.task.specs.inside.Steps.{entries};
-ghost use Rattle.task.specs.inside.Views.{entries_shown, names_shown, sum_shown, task_shown, texts_of};
+ghost use Rattle.task.specs.inside.Views.{entries_shown, names_shown, sum_shown, task_shown, texts_of, verdicts_shown};
 
 use crate::derivation::Derivation;
 use crate::fault::{Setting, TaskFault, UsageFault};
@@ -24,7 +24,7 @@ use crate::parameters::{
     absent, file_count, first_given, given_number, needed, number, power_in, unless,
 };
 use crate::parting::{Joining, PartLength, Place, names_blake3};
-use crate::sharing::share_of;
+use crate::sharing::{share_of_entries, share_of_files};
 use crate::tagging::{Key, Mac, ShortMac, Tagging};
 use b3::MOST_CHUNKS;
 use request::Request;
@@ -65,6 +65,15 @@ pub enum Entries<'a> {
     Digests(Option<Kind>),
     /// Tags under a key.
     Tags(ShortMac, Key<'a>),
+}
+
+/// Where `check` has its verdicts from.
+#[derive(Debug, Drop)]
+pub enum Verdicts<'a> {
+    /// The files of a share of the entries.
+    Files(Share),
+    /// The report of this name, of a run that is told again.
+    Report(&'a str),
 }
 
 /// What a run is to do. A name `-` of a file or a list is standard input; names are judged as they
@@ -121,10 +130,12 @@ pub enum Task<'a> {
         is_raw: bool,
         material: &'a str,
     },
-    /// Report on lists of such entries, one at least, with a summary of each where that is asked for.
+    /// Report on lists of such entries, one at least, with a summary of each where that is asked for; or tell what a
+    /// report on them does not say.
     Check {
         entries: Entries<'a>,
         is_summed: bool,
+        verdicts: Verdicts<'a>,
         lists: Vec<&'a str>,
     },
 }
@@ -174,6 +185,10 @@ impl<'a> Task<'a> {
     {
         match self {
             Task::Lines { share, .. } => share.others > 0,
+            Task::Check { verdicts, .. } => match verdicts {
+                Verdicts::Files(share) => share.others > 0,
+                Verdicts::Report(_) => false,
+            },
             _ => false,
         }
     }
@@ -224,7 +239,7 @@ fn of_files<'a>(
         UsageFault::InputOnly(Setting::Name),
     )?;
     let wanted = wanted(alloc, request, length)?;
-    let share = share_of(request, wanted.is_some())?;
+    let share = share_of_files(request, wanted.is_some())?;
     let name = request.text("name");
     if name.is_some() || wanted.is_some() {
         let file = file_or_input(request);
@@ -314,12 +329,28 @@ fn check<'a>(alloc: Global, request: &Request<'a>) -> Result<Task<'a>, TaskFault
     ensures { IsAsDefined task_shown (spec.check (given_of request.now)) result }
 {
     let entries = Entries::of(alloc, request)?;
+    let verdicts = Verdicts::of(request)?;
     let lists = names_or_input(alloc, request)?;
     Ok(Task::Check {
         entries,
         is_summed: request.has("summary"),
+        verdicts,
         lists,
     })
+}
+
+impl<'a> Verdicts<'a> {
+    fn of(request: &Request<'a>) -> Result<Verdicts<'a>, UsageFault>
+        ensures { seen verdicts_shown result ≡ spec.verdicts (given_of request.now) }
+    {
+        let Some(report) = request.text("told") else {
+            return Ok(Verdicts::Files(share_of_entries(request)?));
+        };
+        if let Some(setting) = first_given(request, &[Setting::Share]) {
+            return Err(UsageFault::NotWithTold(setting));
+        }
+        Ok(Verdicts::Report(report))
+    }
 }
 
 impl<'a> Entries<'a> {

@@ -3,6 +3,7 @@ use Rattle.std.specs.Prelude.{Bool, Option, Result, ℕ}
 use Rattle.request.specs.CommandLine.{Text}
 use Rattle.source.specs.Written.{Shown}
 use Rattle.sumlist.specs.Report.{Meaning}
+use Rattle.sumlist.specs.declared.share.Share.{Share}
 use Rattle.command.specs.Checking.{ListRuns}
 use Rattle.command.specs.Lines.{content_of, is_input}
 use Rattle.command.specs.inside.Seen.{Seen}
@@ -10,7 +11,8 @@ use Rattle.command.specs.declared.fault.Fault.{Fault}
 use Rattle.command.specs.inside.Hashed.{RunsOne}
 
 -- a list was checked: what that answered, and what was told and answered of it
-abbrev pub PrintsReport : Bool → Meaning → Option Text → Text → Result ℕ Fault → Seen → Seen → Shown → Shown
-    → Type 0
-PrintsReport is_summed m list name =
-    RunsOne (λ bytes files. ListRuns is_summed files m list name (content_of name bytes files)) (is_input name)
+abbrev pub PrintsReport : Bool → Meaning → Option Text → Text → Share → Share → Result ℕ Fault → Seen → Seen → Shown
+    → Shown → Type 0
+PrintsReport is_summed m list name share behind = RunsOne
+    (λ bytes files run. ListRuns is_summed files m list name share (content_of name bytes files) run behind)
+    (is_input name)

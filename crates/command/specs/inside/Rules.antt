@@ -4,7 +4,8 @@ use Rattle.request.specs.CommandLine.{Text}
 use Rattle.sumlist.specs.Report.{Files, Meaning, keyed as under_key, unkeyed}
 use Rattle.sumlist.specs.declared.entries.Entries.{Entries}
 use Rattle.sumlist.specs.inside.Stepped.{meaning_of}
-use Rattle.task.specs.Tasks.{Sum, digests, tags}
+use Rattle.sumlist.specs.declared.share.Share.{Share}
+use Rattle.task.specs.Tasks.{Source, Sum, digests, tags}
 use Rattle.task.specs.inside.Possible.{mac_len}
 use Rattle.task.specs.inside.Views.{key_shown}
 use Rattle.task.specs.declared.tasks.Entries.{Entries as TaskEntries}
@@ -39,10 +40,10 @@ abbrev pub meaning : Entries ShortKeyed → Meaning
 meaning = meaning_of (λ k. (keyed_line k.keyed).limit) (λ k. (keyed_line k.keyed).bytes)
 
 -- the run of `check` over such lists: a key is read and judged before any of them
-abbrev pub EntriesRun : TaskEntries → Bool → Files → List Text → List ℕ → Run → Type 0
-EntriesRun (Digests kind) is_summed files lists input = ListsRun (unkeyed kind) is_summed files lists input
-EntriesRun (Tags short key) is_summed files lists input = SumRuns (tags short.mac false (key_shown key)) files
-    (λ l. ListsRun (under_key (mac_len short.mac) l.limit l.bytes) is_summed files lists input)
+abbrev pub EntriesRun : TaskEntries → Bool → Source Share → Files → List Text → List ℕ → Run → Type 0
+EntriesRun (Digests kind) is_summed by files lists input = ListsRun (unkeyed kind) is_summed by files lists input
+EntriesRun (Tags short key) is_summed by files lists input = SumRuns (tags short.mac false (key_shown key)) files
+    (λ l. ListsRun (under_key (mac_len short.mac) l.limit l.bytes) is_summed by files lists input)
 
 -- how often a file is opened for the key of their entries
 abbrev pub entries_opens : TaskEntries → ℕ

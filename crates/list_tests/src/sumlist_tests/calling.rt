@@ -5,7 +5,7 @@ use super::failing::files;
 use source::{Bytes, Feed, Sink, VecSink};
 use std::alloc::Global;
 use std::test::Fail;
-use sumlist::{CheckFault, Entries, Entry, Kind, MemoryTree, Tree, check, check_list};
+use sumlist::{CheckFault, Entries, Entry, Kind, MemoryTree, Share, Tree, check, check_list};
 
 // The caller of CALLING.md: whether each line that is not skipped is OK. If so, no file failed.
 fn all_match<L: Feed, T: Tree, W: Sink>(
@@ -51,7 +51,10 @@ fn a_report_that_names_its_list(rt: HostRuntime) -> Result<(), Fail> {
     let mut feed = Bytes::new(list.as_bytes(), 64);
     let entries: Entries<'_, Entry> = Entries::Digests(None);
     let name = Some("a\nb");
-    let answer = check_list(alloc, &mut feed, &entries, name, &mut tree, &mut out);
+    let mut share = Share::whole();
+    let answer = check_list(
+        alloc, &mut feed, &entries, name, &mut share, &mut tree, &mut out,
+    );
     assert_eq!(rt; answer.map(|s| [s.ok, s.malformed, s.skipped]), Ok([1; 3]));
     assert_eq!(rt;
         out.written(),

@@ -1,6 +1,6 @@
 -- What the check of one line did.
 use Rattle.std.specs.Prelude.{◌⊎◌, ◌≡◌, ◌≤◌, ◌<◌, ⊤, ℕ, List, None, Option, Result, Ok, Err, IsSome, MatchResult}
-use Rattle.std.specs.Prelude.{length}
+use Rattle.std.specs.Prelude.{◌∷◌, Bool, false, length, suc, true}
 use Rattle.std.specs.Io.KnownBytes.{Appends}
 use Rattle.source.specs.Counts.{count_after, next_count}
 use Rattle.source.specs.Written.{AppendsPrefix}
@@ -10,6 +10,7 @@ use Rattle.sumlist.specs.Entry.{Listing}
 use Rattle.sumlist.specs.Line.{IsSkipped}
 use Rattle.sumlist.specs.Report.{Allowed, Files, IsEntryIn, IsForeign, Meaning, Outcome, malformed, text, verdict_of}
 use Rattle.sumlist.specs.Report.{keyed, unkeyed}
+use Rattle.sumlist.specs.Shared.{shared}
 use Rattle.sumlist.specs.inside.Marks.{mark_of, unreadable_in}
 use Rattle.sumlist.specs.declared.checking.CheckFault.{CheckFault}
 use Rattle.sumlist.specs.declared.checking.CheckFault.TheVariants.{ListRead, Write, OutOfMemory, ListTooLong}
@@ -19,6 +20,7 @@ use Rattle.sumlist.specs.declared.line.Line.{Line}
 use Rattle.sumlist.specs.declared.line.Line.TheVariants as said
 use Rattle.sumlist.specs.declared.line.LineFault.{LineFault}
 use Rattle.sumlist.specs.declared.line.LineFault.TheVariants as fault
+use Rattle.sumlist.specs.declared.share.Share.{Share}
 use Rattle.sumlist.specs.declared.summary.Mark.{Mark}
 use Rattle.sumlist.specs.declared.summary.Mark.TheVariants.{Foreign, Malformed}
 use Rattle.sumlist.specs.declared.verdict.Verdict.{Verdict}
@@ -74,6 +76,28 @@ StepCounts (Err ListRead) old new = ⊥
 StepCounts (Err Write) old new = new ≡ next_count old
 StepCounts (Err OutOfMemory) old new = new ≡ old
 StepCounts (Err ListTooLong) old new = ⊥
+
+-- whether a line is another share's, and which share is left behind it: a line that is skipped leaves it as it is
+abbrev pub Passes : List ℕ → Share → Share → Bool → Type 0
+Passes line old new true = (IsSkipped line → ⊥) × (old ≡ record new { waiting = suc new.waiting })
+Passes line old new false = (IsSkipped line × (new ≡ old))
+    ⊎ ((IsSkipped line → ⊥) × (old.waiting ≡ 0) × (new ≡ record old { waiting = old.others }))
+
+-- a share makes `own` of a line's outcome, and goes on with the share behind it
+pub record Shares (share behind : Share) (o own : Outcome) : Type 0 where
+  pub others : behind.others ≡ share.others
+  pub is : (os : List Outcome) → let rest = shared behind.others behind.waiting os in
+      shared share.others share.waiting (o ∷ os) ≡ (own ∷ rest.0, rest.1)
+
+-- the line of this number, in a list of this name where that is told, has an outcome, and the text of what the share
+-- makes of it was appended, or after a fault a beginning of that
+abbrev pub LineShared : {E : Type 0} → Files → Meaning → Option (List ℕ) → Share → Share → List ℕ → ℕ → Result Mark E
+    → ℕ → ℕ → Option (List ℕ) → Option (List ℕ) → Type 0
+LineShared files m name share behind line number r count_old count_new old new =
+    (o : Outcome) × (own : Outcome) × Allowed files m line o × Shares share behind o own
+    × (count_new ≡ count_after count_old (unreadable_in own))
+    × MatchResult r (λ mark. (mark_of own ≡ mark) × Appends old new (text name number own))
+    (λ _. AppendsPrefix old new (text name number own))
 
 -- what a fault in the reading of the list means
 abbrev pub stop_of : SourceFault → CheckFault

@@ -4,11 +4,11 @@ use Rattle.std.specs.Prelude.{if◌then◌else◌, is_some, not, ok_or}
 use Rattle.std.specs.List.{after_first, before_first, list_any}
 use Rattle.std.specs.Map.{lookup}
 use Rattle.std.specs.Str.{bytes_eq}
-use Rattle.request.specs.CommandLine.{Given, Text, text_of}
+use Rattle.request.specs.CommandLine.{Given, Text, has_flag, text_of}
 use Rattle.sumlist.specs.Kinds.{kinds}
 use Rattle.sumlist.specs.declared.share.Share.{Share}
-use Rattle.task.specs.Settings.{◌>>=◌, ◌>>◌, absent, given, named, names_or_input, needed, not_for, number_in}
-use Rattle.task.specs.Tasks.{Asked, Derived, checks, checks_tags, derived, has_parts, macs, one_key, under_key}
+use Rattle.task.specs.Settings.{◌>>=◌, ◌>>◌, absent, given, named, names_or_input, needed, not_for, number_in, unless}
+use Rattle.task.specs.Tasks.{Asked, Derived, Source, checks, checks_tags, derived, has_parts, macs, one_key, under_key}
 use Rattle.task.specs.declared.tagging.Mac.{Mac}
 
 -- the keyed function of a request, with the length of its tags, which for BLAKE3 is so many bytes at most
@@ -16,7 +16,7 @@ abbrev pub mac_of : ℕ → Given → Result (Mac × ℕ) Text
 mac_of most g = needed (named (macs most)) (codes "a") g >>= (λ f. f g)
 
 -- what is asked of lists: under a key, that they have its tags, else digests
-abbrev pub entries : Given → Result (Bool → List Text → Asked) Text
+abbrev pub entries : Given → Result (Bool → Source Share → List Text → Asked) Text
 entries g = if is_some (text_of (codes "key") g) || is_some (text_of (codes "key-file") g)
     then under_key 64 g >>= (λ k. Ok (checks_tags k.0 k.1 k.2)) else (do
       kind ← given (λ s t. ok_or (lookup (bytes_eq t) kinds) one_key) (codes "a") g
@@ -35,6 +35,13 @@ names_blake3 g = needed (named kinds) (codes "a") g >>= has_parts
 abbrev pub reads_input : Given → Bool
 reads_input g = not (is_some (text_of (codes "files0-from") g))
     && list_any (λ name. bytes_eq name (codes "-")) (names_or_input g)
+
+-- whether a share of the files may be asked for
+abbrev pub allows_share : Bool → Given → Result (Unit {0}) Text
+allows_share is_compared g = do
+  unless (has_flag (codes "raw") g) (codes "--share: not with --raw\n")
+  unless is_compared (codes "--share: not with --verify\n")
+  unless (reads_input g) (codes "--share: not of standard input\n")
 
 -- the share that a text spells
 abbrev pub share_in : Text → Result Share Text

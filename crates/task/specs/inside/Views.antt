@@ -2,6 +2,7 @@
 use Rattle.std.specs.Prelude.{ℕ, Bool, List, Vec, map, option_map}
 use Rattle.std.specs.Borrow.{Bor}
 use Rattle.request.specs.CommandLine.{Text}
+use Rattle.sumlist.specs.declared.share.Share.{Share}
 use Rattle.task.specs.Tasks.{Asked, Derived, Source, Sum, by_blake3, by_hkdf, checks, checks_tags, derives, digests}
 use Rattle.task.specs.Tasks.{hmac_alg, in_file, joins, prints_line, prints_lines, prints_part, prints_parts}
 use Rattle.task.specs.Tasks.{prints_starts, tags, these, verifies}
@@ -17,6 +18,8 @@ use Rattle.task.specs.declared.tasks.Names.TheVariants.{Given as GivenNames, Fro
 use Rattle.task.specs.declared.tasks.Sum.{Sum as CodeSum}
 use Rattle.task.specs.declared.tasks.Sum.TheVariants.{Digest, Tag}
 use Rattle.task.specs.declared.tasks.Task.{Task}
+use Rattle.task.specs.declared.tasks.Verdicts.{Verdicts}
+use Rattle.task.specs.declared.tasks.Verdicts.TheVariants.{Files, Report}
 use Rattle.task.specs.declared.tasks.Task.TheVariants as code
 
 -- the texts of some names
@@ -37,8 +40,13 @@ abbrev pub sum_shown : CodeSum → Sum
 sum_shown (Digest hashing) = digests hashing.requested
 sum_shown (Tag form key) = tags form.mac form.is_raw (key_shown key)
 
+-- where verdicts come from
+abbrev pub verdicts_shown : Verdicts → Source Share
+verdicts_shown (Files share) = these share
+verdicts_shown (Report name) = in_file name.now
+
 -- what is asked of lists, by what their entries are
-abbrev pub entries_shown : Entries → Bool → List Text → Asked
+abbrev pub entries_shown : Entries → Bool → Source Share → List Text → Asked
 entries_shown (Digests kind) = checks kind
 entries_shown (Tags short key) = checks_tags short.mac (mac_len short.mac) (key_shown key)
 
@@ -58,4 +66,5 @@ task_shown (code.Verify parts name) = verifies parts.now name.now
 task_shown (code.Join joining wanted name lists) =
     joins joining.stretch joining.bytes (option_map (λ v. v.items) wanted) name.now (texts_of lists)
 task_shown (code.Kdf derivation is_raw material) = derives (derivation_shown derivation) is_raw material.now
-task_shown (code.Check entries is_summed lists) = entries_shown entries is_summed (texts_of lists)
+task_shown (code.Check entries is_summed verdicts lists) =
+    entries_shown entries is_summed (verdicts_shown verdicts) (texts_of lists)

@@ -1,5 +1,5 @@
 use Rattle.sumlist.proofs.Common.{◌++◌, ◌+◌, ◌-◌, ◌<◌, ◌^◌, [], arith, Consumes, IfSome, List, Option}
-use Rattle.sumlist.proofs.Common.{err_from_is_err_and, length, length-append, rules, ℕ}
+use Rattle.sumlist.proofs.Common.{err_from_is_err_and, length, length-append, refl, rules, ℕ}
 use Rattle.std.specs.Prelude.{◌↔◌}
 use Rattle.std.proofs.KnownBytes.{Consumes-nil, Consumes-trans}
 use Rattle.sumlist.proofs.Stepping.{IfSome-all, checks-all, checks-halted, checks-none, opens-none}
@@ -13,11 +13,11 @@ all_read whole rest rest' read given before after h = IfSome-all whole (λ _.
     (read ++ given, Consumes-trans _ _ _ _ _ before after, rw (length-append read given) h))
 
 pub returns-in_err-new-clause-checked : goal.returns-in_err-new-clause-checked
-returns-in_err-new-clause-checked g c = checks-all (checks-halted c.from_residual.ensures.0)
+returns-in_err-new-clause-checked g c = checks-all (λ _. refl) (checks-halted c.from_residual.ensures.0)
 
 pub loop-checker-init : goal.loop-checker-init
 loop-checker-init g c = record {
-  goes = rw (c.in_ok-new.ensures, c.new-2.ensures) (λ r n d h. h);
+  goes = rw (c.in_ok-new.ensures, c.new-2.ensures) (λ r n d behind h. h);
   read = [];
   consumed = Consumes-nil (g.L.Feed.remaining c.args.list.now);
   opens = omega arith;
@@ -38,9 +38,9 @@ loop-checker-preserved g c =
     let i = c.loop-checker.invariant in
     let gave = c.in_ok-step.ensures.gave in
     record {
-      goes = λ r n d later.
-          i.goes r n d ((rw (i.counts.kept, i.counts.entries, i.counts.name) at c.in_ok-step.ensures.checked) r n d
-          later);
+      goes = λ r n d behind later.
+          i.goes r n d behind ((rw (i.counts.kept, i.counts.entries, i.counts.name) at c.in_ok-step.ensures.checked) r n
+          d behind later);
       read = i.read ++ gave.0;
       consumed = Consumes-trans _ _ _ _ _ i.consumed gave.1;
       opens = c.in_ok-step.ensures.opens _ i.opens;
@@ -52,8 +52,8 @@ pub returns-clause-checked : goal.returns-clause-checked
 returns-clause-checked g c =
     let i = c.loop-checker.invariant in
     let end = c.in_ok-step.ensures.end c.if-branch.false in
-    checks-all (i.goes _ _ _
-    ((rw (i.counts.kept, i.counts.entries, i.counts.name) at c.in_ok-step.ensures.checked) _ _ _ (checks-none end)))
+    checks-all (grind arith) (i.goes _ _ _ _
+    ((rw (i.counts.kept, i.counts.entries, i.counts.name) at c.in_ok-step.ensures.checked) _ _ _ _ (checks-none end)))
 
 pub returns-clause-gave : goal.returns-clause-gave
 returns-clause-gave g c =

@@ -3,17 +3,20 @@ use Rattle.sumlist.proofs.Common.{Consumes, count_after, lines_of, no_lines, ℕ
 use Rattle.std.specs.Prelude.{option_map}
 use Rattle.sumlist.specs.inside.Stepped.{meaning_of}
 use Rattle.sumlist.specs.Tally.{entries_of}
+use Rattle.sumlist.specs.declared.share.Share.{Share}
 use Rattle.sumlist.specs.inside.Ahead.{Checks, OpensEach}
 use Rattle.sumlist.proofs.checking.check_list.Given as goal
 
 abbrev pub invariant-loop-checker : goal.invariant-loop-checker
 invariant-loop-checker g l = record {
-  goes : (r : Result Summary CheckFault) (n : ℕ) (c : Option (List ℕ))
+  goes : (r : Result Summary CheckFault) (n : ℕ) (c : Option (List ℕ)) (behind : Share)
       → Checks (g.L.Feed.remaining l.list) (g.T.Tree.files l.initial.tree)
       (meaning_of g.M.MakesTag.limit g.M.MakesTag.makes l.fn.entries) (option_map (λ n. n.now) l.fn.name)
-      l.checker.reader.ahead l.checker.summary r (g.T.Tree.failure_count l.tree) n (g.W.Sink.shown l.out).contents c
+      l.checker.share behind l.checker.reader.ahead l.checker.summary r (g.T.Tree.failure_count l.tree) n
+      (g.W.Sink.shown l.out).contents c
       → Checks (g.L.Feed.remaining l.initial.list) (g.T.Tree.files l.initial.tree)
-      (meaning_of g.M.MakesTag.limit g.M.MakesTag.makes l.fn.entries) (option_map (λ n. n.now) l.fn.name) [] no_lines r
+      (meaning_of g.M.MakesTag.limit g.M.MakesTag.makes l.fn.entries) (option_map (λ n. n.now) l.fn.name)
+      l.initial.share behind [] no_lines r
       (g.T.Tree.failure_count l.initial.tree) n (g.W.Sink.shown l.initial.out).contents c;
   read : List ℕ;
   consumed : Consumes (g.L.Feed.remaining l.initial.list) (g.L.Feed.remaining l.list) read;
@@ -23,6 +26,7 @@ invariant-loop-checker g l = record {
   counts : record {
     entries : l.checker.entries.now ≡ l.fn.entries;
     name : l.checker.name ≡ l.fn.name;
+    share : l.share ≡ l.initial.share;
     total : l.checker.reader.total ≡ length read;
     reads : g.L.Feed.failure_count l.list ≡ g.L.Feed.failure_count l.initial.list;
     writes : (g.W.Sink.shown l.out).failures ≡ (g.W.Sink.shown l.initial.out).failures;

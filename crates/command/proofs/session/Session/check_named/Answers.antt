@@ -12,7 +12,7 @@ returns-then-eq-clause-run g c =
     let name = c.args.name.now in
     report_input name (λ files content run.
     ListRuns c.args.is_summed files (meaning c.args.entries.now)
-    (option_map (λ n. n.now) c.args.title) name content run)
+    (option_map (λ n. n.now) c.args.title) name c.args.share.now content run c.check_input.new.share)
     _ _ _ _ _ _ _ _ _ _ _ (sym c.eq.ensures ∙ c.if-eq.true) c.check_input.ensures.list c.check_input.ensures.counted
 
 pub returns-in_err-list-clause-run : goal.returns-in_err-list-clause-run
@@ -21,11 +21,11 @@ returns-in_err-list-clause-run g c =
     let is = sym c.eq.ensures ∙ c.if-eq.false in
     report_refused name (λ files content run.
     ListRuns c.args.is_summed files (meaning c.args.entries.now)
-    (option_map (λ n. n.now) c.args.title) name content run)
+    (option_map (λ n. n.now) c.args.title) name c.args.share.now content run c.args.share.now)
     (g.E.Sink.shown c.args.err.now) (g.E.Sink.shown c.args.err.now) g.T.F.Feed.remaining _ _ _ _ _ _ _ _ is
     (λ files content t may other.
     refused_list c.args.is_summed files (meaning c.args.entries.now)
-    (option_map (λ n. n.now) c.args.title) name content t may other is)
+    (option_map (λ n. n.now) c.args.title) name c.args.share.now content t may other is)
     c.from_residual.ensures.1 c.in_err-list.ensures.opened c.in_err-list.ensures.counted refl
 
 pub returns-clause-run : goal.returns-clause-run
@@ -33,7 +33,7 @@ returns-clause-run g c =
     let name = c.args.name.now in
     report_file name (λ files content run.
     ListRuns c.args.is_summed files (meaning c.args.entries.now)
-    (option_map (λ n. n.now) c.args.title) name content run)
+    (option_map (λ n. n.now) c.args.title) name c.args.share.now content run c.check_input-answer.new.share)
     _ _ g.T.F.Feed.remaining c.in_ok-list.list _ _ _ _ _ _ _ _ _ _ _ _ _
     (sym c.eq.ensures ∙ c.if-eq.false) c.in_ok-list.ensures.opened c.open_file.ensures.kept
     c.in_ok-list.ensures.counted c.check_input-answer.ensures.list c.in_ok-list.ensures.fresh

@@ -21,7 +21,7 @@ loop-name-init g c =
       same = record { input = refl; tree = refl; out = refl };
       others = refl;
       opens = omega arith;
-      goes = goes-start is_input (name_runs c.args.share l) (name_whole c.args.share l) _ (see c.args.self.now) _;
+      goes = goes-start is_input (name_runs c.args.share l) (name_whole c.args.share l) _ tt (see c.args.self.now) _;
     }
 
 pub returns-in_err-print_one-clause-run : goal.returns-in_err-print_one-clause-run
@@ -32,8 +32,9 @@ returns-in_err-print_one-clause-run g c =
     let o = c.args.share.others in
     let is = took _ _ _ _ _ c.loop-name.invariant.others c.takes_next.ensures.taken c.takes_next.ensures.waiting
     c.if-takes_next.true in
-    goes-stop is_input (name_runs c.args.share l) (name_whole c.args.share l) _ c.loop-name.status (see c.args.self.now)
-    (see c.loop-name.self) (g.E.Sink.shown c.args.err.now) (g.E.Sink.shown c.loop-name.err) _ _ _
+    goes-stop is_input (name_runs c.args.share l) (name_whole c.args.share l) _ tt tt c.loop-name.status
+    (see c.args.self.now) (see c.loop-name.self) (g.E.Sink.shown c.args.err.now) (g.E.Sink.shown c.loop-name.err) _ _ _
+    tt
     (see c.print_one.new.self) _ (name_taken o _ _ c.args.names.now c.loop-name.name-index _ c.loop-name-test.true is)
     c.loop-name.invariant.goes _ _ c.from_residual.ensures.1 c.in_err-print_one.ensures.name
 
@@ -43,8 +44,8 @@ returns-clause-run g c =
     g.T.Tree.opens g.W.Sink.shown in
     let l = line_by c.args.rule.now in
     let o = c.args.share.others in
-    goes-end is_input (name_runs c.args.share l) (name_whole c.args.share l) _ c.loop-name.status (see c.args.self.now)
-    (see c.loop-name.self) (g.E.Sink.shown c.args.err.now) (g.E.Sink.shown c.loop-name.err) _
+    goes-end is_input (name_runs c.args.share l) (name_whole c.args.share l) _ tt tt c.loop-name.status
+    (see c.args.self.now) (see c.loop-name.self) (g.E.Sink.shown c.args.err.now) (g.E.Sink.shown c.loop-name.err) _
     (ap (λ names. every o c.loop-name.left.waiting (map (λ n. n.now) names))
     (drop_all c.loop-name.name-index c.args.names.now c.loop-name-test.false)) c.loop-name.invariant.goes
 
@@ -76,9 +77,9 @@ loop-name-preserved g c =
             others = c.takes_next.ensures.others ∙ c.loop-name.invariant.others;
             opens = opens_taken o _ _ c.args.names.now c.loop-name.name-index _ c.loop-name-test.true is _ _ _ _
                 c.loop-name.invariant.opens w.print_one.ensures.opens;
-            goes = goes-next is_input (name_runs c.args.share l) (name_whole c.args.share l) _ c.loop-name.status
+            goes = goes-next is_input (name_runs c.args.share l) (name_whole c.args.share l) _ tt tt c.loop-name.status
                 (see c.args.self.now) (see c.loop-name.self) (g.E.Sink.shown c.args.err.now)
-                (g.E.Sink.shown c.loop-name.err) _ _ _ (see w.print_one.new.self) _
+                (g.E.Sink.shown c.loop-name.err) _ _ _ tt (see w.print_one.new.self) _
                 (name_taken o _ _ c.args.names.now c.loop-name.name-index _ c.loop-name-test.true is)
                 c.loop-name.invariant.goes _ _ (omega (arith, most)) w.in_ok-print_one.ensures.name;
           })

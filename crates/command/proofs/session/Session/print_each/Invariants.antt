@@ -17,6 +17,6 @@ invariant-loop-name g l =
       same : SameStreams l.initial.self l.self;
       others : l.left.others ≡ l.share.others;
       opens : (see l.self).opens + sum_by opens_of left ≤ (see l.initial.self).opens + sum_by opens_of all;
-      goes : Goes is_input (name_runs l.share (line_by l.rule)) (name_whole l.share (line_by l.rule)) all left l.status
-          (see l.initial.self) (see l.self) (g.E.Sink.shown l.initial.err) (g.E.Sink.shown l.err);
+      goes : Goes is_input (name_runs l.share (line_by l.rule)) (name_whole l.share (line_by l.rule)) all tt left tt
+          l.status (see l.initial.self) (see l.self) (g.E.Sink.shown l.initial.err) (g.E.Sink.shown l.err);
     }

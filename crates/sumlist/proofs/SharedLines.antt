@@ -1,0 +1,127 @@
+-- What a share makes of the lines of a list, one by one.
+use Rattle.sumlist.proofs.Common.{◌≡◌, ◌+◌, ℕ, List, [], ◌∷◌, Files, Meaning, Outcome, Allowed, Mark, Option}
+use Rattle.sumlist.proofs.Common.{LineChecked, Result, Ok, Appends-nil, arith, count_after, false, foreign, inl, inr}
+use Rattle.sumlist.proofs.Common.{malformed, refl, skipped, sym, told, true, unreadable_count, unreadable_in}
+use Rattle.std.specs.Prelude.{suc, zero}
+use Rattle.sumlist.proofs.Deciding.{settled, unreadable-cons}
+use Rattle.sumlist.proofs.MeaningCases.{foreign_unskipped, not_skipped}
+use Rattle.sumlist.specs.Line.{IsSkipped}
+use Rattle.sumlist.specs.Report.{summary_of}
+use Rattle.sumlist.specs.Shared.{shared}
+use Rattle.sumlist.specs.declared.checking.CheckFault.{CheckFault}
+use Rattle.sumlist.specs.declared.share.Share.{Share}
+use Rattle.sumlist.specs.declared.summary.Mark.TheVariants.{Skipped}
+use Rattle.sumlist.specs.inside.Stepped.{LineShared, Passes, Shares}
+
+-- ---- one outcome before others
+
+skipped_at : (n k : ℕ) (os : List Outcome) → let rest = shared n k os in
+    shared n k (skipped ∷ os) ≡ (skipped ∷ rest.0, rest.1)
+skipped_at n zero os = refl
+skipped_at n (suc k) os = refl
+
+own_at : (n : ℕ) (o : Outcome) (os : List Outcome) → (o ≡ skipped → ⊥) → let rest = shared n n os in
+    shared n zero (o ∷ os) ≡ (o ∷ rest.0, rest.1)
+own_at n skipped os apart = absurd (apart refl)
+own_at n malformed os apart = refl
+own_at n (foreign l) os apart = refl
+own_at n (told name v) os apart = refl
+
+passed_at : (n k : ℕ) (o : Outcome) (os : List Outcome) → (o ≡ skipped → ⊥) → let rest = shared n k os in
+    shared n (suc k) (o ∷ os) ≡ (skipped ∷ rest.0, rest.1)
+passed_at n k skipped os apart = absurd (apart refl)
+passed_at n k malformed os apart = refl
+passed_at n k (foreign l) os apart = refl
+passed_at n k (told name v) os apart = refl
+
+-- ---- none of them is unreadable
+
+unread-more : (o : Outcome) (os rest : List Outcome) → unreadable_count (o ∷ os) ≡ 0 → unreadable_count rest ≡ 0
+    → unreadable_count (o ∷ rest) ≡ 0
+unread-more o os rest none light = omega (arith, unreadable-cons o os, unreadable-cons o rest, none, light)
+
+unread-rest : (o : Outcome) (os : List Outcome) → unreadable_count (o ∷ os) ≡ 0 → unreadable_count os ≡ 0
+unread-rest o os none = omega (arith, unreadable-cons o os, none)
+
+unread-skipped : (rest : List Outcome) → unreadable_count rest ≡ 0 → unreadable_count (skipped ∷ rest) ≡ 0
+unread-skipped rest light = omega (arith, unreadable-cons skipped rest, light)
+
+pub shared-settled : (n k : ℕ) (os : List Outcome) → unreadable_count os ≡ 0 → unreadable_count (shared n k os).0 ≡ 0
+shared-settled n k [] none = none
+shared-settled n k (skipped ∷ os) none = rw (skipped_at n k os)
+    (unread-skipped (shared n k os).0 (shared-settled n k os (unread-rest skipped os none)))
+shared-settled n zero (o ∷ os) none = on o refl none
+  where
+    on : (p : Outcome) → o ≡ p → unreadable_count (p ∷ os) ≡ 0 → unreadable_count (shared n zero (p ∷ os)).0 ≡ 0
+    on skipped is none = rw (skipped_at n zero os)
+        (unread-skipped (shared n zero os).0 (shared-settled n zero os (unread-rest skipped os none)))
+    on malformed is none = unread-more malformed os (shared n n os).0 none
+        (shared-settled n n os (unread-rest malformed os none))
+    on (foreign l) is none = unread-more (foreign l) os (shared n n os).0 none
+        (shared-settled n n os (unread-rest (foreign l) os none))
+    on (told name v) is none = unread-more (told name v) os (shared n n os).0 none
+        (shared-settled n n os (unread-rest (told name v) os none))
+shared-settled n (suc k) (o ∷ os) none = on o refl none
+  where
+    on : (p : Outcome) → o ≡ p → unreadable_count (p ∷ os) ≡ 0 → unreadable_count (shared n (suc k) (p ∷ os)).0 ≡ 0
+    on skipped is none = rw (skipped_at n (suc k) os)
+        (unread-skipped (shared n (suc k) os).0 (shared-settled n (suc k) os (unread-rest skipped os none)))
+    on malformed is none = unread-skipped (shared n k os).0 (shared-settled n k os (unread-rest malformed os none))
+    on (foreign l) is none =
+        unread-skipped (shared n k os).0 (shared-settled n k os (unread-rest (foreign l) os none))
+    on (told name v) is none =
+        unread-skipped (shared n k os).0 (shared-settled n k os (unread-rest (told name v) os none))
+
+-- ---- one line
+
+module _ (files : Files) (m : Meaning) (line : List ℕ) where
+  -- the outcome of a line that is not skipped is another
+  entry_apart : (o : Outcome) → Allowed files m line o → (IsSkipped line → ⊥) → o ≡ skipped → ⊥
+  entry_apart skipped allowed entry is = entry allowed
+  entry_apart malformed allowed entry is = absurd is
+  entry_apart (foreign l) allowed entry is = absurd is
+  entry_apart (told name v) allowed entry is = absurd is
+
+  -- and that of one that is skipped is that
+  skipped_one : (o : Outcome) → Allowed files m line o → IsSkipped line → o ≡ skipped
+  skipped_one skipped allowed is = refl
+  skipped_one malformed allowed is = absurd (allowed.0 is)
+  skipped_one (foreign l) allowed is = absurd (foreign_unskipped m line l allowed is)
+  skipped_one (told name v) allowed is = absurd (not_skipped m line allowed.0 allowed.1 is)
+
+  -- a line that is checked
+  pub shares-own : (share behind : Share) (o : Outcome) → Allowed files m line o → Passes line share behind false
+      → Shares share behind o o
+  shares-own share behind o allowed (inl p) = rw (p.1, skipped_one o allowed p.0) record {
+    others = refl;
+    is = λ os. skipped_at share.others share.waiting os;
+  }
+  shares-own share behind o allowed (inr p) = rw (p.2, p.1) record {
+    others = refl;
+    is = λ os. own_at share.others o os (entry_apart o allowed p.0);
+  }
+
+  -- one that is passed over
+  pub shares-passed : (share behind : Share) (o : Outcome) → Allowed files m line o → Passes line share behind true
+      → Shares share behind o skipped
+  shares-passed share behind o allowed p = rw p.1 record {
+    others = refl;
+    is = λ os. passed_at behind.others behind.waiting o os (entry_apart o allowed p.0);
+  }
+
+  -- what was done of a line that is passed over
+  pub line-passed : (name : Option (List ℕ)) (number : ℕ) (share behind : Share) (count : ℕ) (old : Option (List ℕ))
+      → Passes line share behind true
+      → (let r : Result Mark CheckFault = Ok Skipped in
+      LineShared files m name share behind line number r count count old old)
+  line-passed name number share behind count old passes =
+      let d = settled files m line in
+      (d.0, skipped, d.1, shares-passed share behind d.0 d.1 passes, omega arith, (refl, Appends-nil old))
+
+  -- and of one that is checked
+  pub line-own : (name : Option (List ℕ)) (number : ℕ) (share behind : Share) (r : Result Mark CheckFault)
+      (count_old count_new : ℕ) (old new : Option (List ℕ)) → Passes line share behind false
+      → LineChecked files m name line number r count_old count_new old new
+      → LineShared files m name share behind line number r count_old count_new old new
+  line-own name number share behind r count_old count_new old new passes l =
+      (l.0, l.0, l.1.allowed, shares-own share behind l.0 l.1.allowed passes, l.1.counted, l.2)
