@@ -17,22 +17,17 @@ use Rattle.sumlist.specs.inside.Stepped.{LineShared, Passes, Shares}
 
 skipped_at : (n k : ℕ) (os : List Outcome) → let rest = shared n k os in
     shared n k (skipped ∷ os) ≡ (skipped ∷ rest.0, rest.1)
-skipped_at n zero os = refl
-skipped_at n (suc k) os = refl
+skipped_at n k os = refl
 
 own_at : (n : ℕ) (o : Outcome) (os : List Outcome) → (o ≡ skipped → ⊥) → let rest = shared n n os in
     shared n zero (o ∷ os) ≡ (o ∷ rest.0, rest.1)
 own_at n skipped os apart = absurd (apart refl)
-own_at n malformed os apart = refl
-own_at n (foreign l) os apart = refl
-own_at n (told name v) os apart = refl
+own_at n o os apart = refl
 
 passed_at : (n k : ℕ) (o : Outcome) (os : List Outcome) → (o ≡ skipped → ⊥) → let rest = shared n k os in
     shared n (suc k) (o ∷ os) ≡ (skipped ∷ rest.0, rest.1)
 passed_at n k skipped os apart = absurd (apart refl)
-passed_at n k malformed os apart = refl
-passed_at n k (foreign l) os apart = refl
-passed_at n k (told name v) os apart = refl
+passed_at n k o os apart = refl
 
 -- ---- none of them is unreadable
 
@@ -48,29 +43,12 @@ unread-skipped rest light = omega (arith, unreadable-cons skipped rest, light)
 
 pub shared-settled : (n k : ℕ) (os : List Outcome) → unreadable_count os ≡ 0 → unreadable_count (shared n k os).0 ≡ 0
 shared-settled n k [] none = none
-shared-settled n k (skipped ∷ os) none = rw (skipped_at n k os)
-    (unread-skipped (shared n k os).0 (shared-settled n k os (unread-rest skipped os none)))
-shared-settled n zero (o ∷ os) none = on o refl none
-  where
-    on : (p : Outcome) → o ≡ p → unreadable_count (p ∷ os) ≡ 0 → unreadable_count (shared n zero (p ∷ os)).0 ≡ 0
-    on skipped is none = rw (skipped_at n zero os)
-        (unread-skipped (shared n zero os).0 (shared-settled n zero os (unread-rest skipped os none)))
-    on malformed is none = unread-more malformed os (shared n n os).0 none
-        (shared-settled n n os (unread-rest malformed os none))
-    on (foreign l) is none = unread-more (foreign l) os (shared n n os).0 none
-        (shared-settled n n os (unread-rest (foreign l) os none))
-    on (told name v) is none = unread-more (told name v) os (shared n n os).0 none
-        (shared-settled n n os (unread-rest (told name v) os none))
-shared-settled n (suc k) (o ∷ os) none = on o refl none
-  where
-    on : (p : Outcome) → o ≡ p → unreadable_count (p ∷ os) ≡ 0 → unreadable_count (shared n (suc k) (p ∷ os)).0 ≡ 0
-    on skipped is none = rw (skipped_at n (suc k) os)
-        (unread-skipped (shared n (suc k) os).0 (shared-settled n (suc k) os (unread-rest skipped os none)))
-    on malformed is none = unread-skipped (shared n k os).0 (shared-settled n k os (unread-rest malformed os none))
-    on (foreign l) is none =
-        unread-skipped (shared n k os).0 (shared-settled n k os (unread-rest (foreign l) os none))
-    on (told name v) is none =
-        unread-skipped (shared n k os).0 (shared-settled n k os (unread-rest (told name v) os none))
+shared-settled n k (skipped ∷ os) none =
+    unread-skipped (shared n k os).0 (shared-settled n k os (unread-rest skipped os none))
+shared-settled n zero (o ∷ os) none =
+    unread-more o os (shared n n os).0 none (shared-settled n n os (unread-rest o os none))
+shared-settled n (suc k) (o ∷ os) none =
+    unread-skipped (shared n k os).0 (shared-settled n k os (unread-rest o os none))
 
 -- ---- one line
 
@@ -78,9 +56,7 @@ module _ (files : Files) (m : Meaning) (line : List ℕ) where
   -- the outcome of a line that is not skipped is another
   entry_apart : (o : Outcome) → Allowed files m line o → (IsSkipped line → ⊥) → o ≡ skipped → ⊥
   entry_apart skipped allowed entry is = entry allowed
-  entry_apart malformed allowed entry is = absurd is
-  entry_apart (foreign l) allowed entry is = absurd is
-  entry_apart (told name v) allowed entry is = absurd is
+  entry_apart o allowed entry is = grind arith
 
   -- and that of one that is skipped is that
   skipped_one : (o : Outcome) → Allowed files m line o → IsSkipped line → o ≡ skipped

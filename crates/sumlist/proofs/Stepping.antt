@@ -25,14 +25,14 @@ use Rattle.sumlist.proofs.SharedLines.{shared-settled}
 same_line : (s : Summary) (o : Outcome) → with_line s (outcome_of (mark_of o)) ≡ with_line s o
 same_line s o = grind arith
 
-module _ {files : Files} {k : Meaning} {name : Option (List ℕ)} {share behind : Share} {s : Summary} {m : ℕ}
+module _ {files : Files} {k : Meaning} {name : Option (List ℕ)} {share : Share} {s : Summary} {m : ℕ}
     {b : Option (List ℕ)} where
   rest-none : RestChecked files k name share share [] s (Ok s) m m b b
   unfolding report_from summary_of
   rest-none = record { outcomes = []; allowed = tt; counted = omega arith; told = (refl, refl, Appends-nil b) }
 
   -- a fault before any
-  rest-halted : {ls : List (List ℕ)} {r : Result Summary CheckFault} → IsErr r
+  rest-halted : {behind : Share} {ls : List (List ℕ)} {r : Result Summary CheckFault} → IsErr r
       → RestChecked files k name share behind ls s r m m b b
   rest-halted {ls} {r} stopped =
       let os = all_settled files k ls in
@@ -44,7 +44,7 @@ module _ {files : Files} {k : Meaning} {name : Option (List ℕ)} {share behind 
         told = MatchResult-from_err r _ _ stopped (λ _. AppendsPrefix-none b _);
       }
 
-  module _ {after : Share} {line : List ℕ} {ls : List (List ℕ)} {r : Result Summary CheckFault} {n : ℕ}
+  module _ {after behind : Share} {line : List ℕ} {ls : List (List ℕ)} {r : Result Summary CheckFault} {n : ℕ}
       {c : Option (List ℕ)} where
     -- a fault at the first
     rest-stopped : (f : CheckFault) → IsErr r
@@ -102,10 +102,10 @@ pub IfSome-two : {X : Type 0} {r s : Option X} {P Q R : X → Type 0} → s ≡ 
 IfSome-two same p q h = grind arith
 
 -- what holds besides after a fault
-after_fault : (r : Result Summary CheckFault) {P : Summary → Type 0} {Q R : Type 0} → (IsErr r → R)
+after_fault : (r : Result Summary CheckFault) (P : Summary → Type 0) (Q R : Type 0) → (IsErr r → R)
     → MatchResult r P (λ _. Q) → MatchResult r P (λ _. R × Q)
-after_fault (Ok s) same h = h
-after_fault (Err f) same h = (same refl, h)
+after_fault (Ok s) P Q R same h = h
+after_fault (Err f) P Q R same h = (same refl, h)
 
 module _ {rest : Option (List ℕ)} {known : Option Files} {k : Meaning} {name : Option (List ℕ)} {share : Share}
     {r : Result Summary CheckFault} {n : ℕ} {c : Option (List ℕ)} where
@@ -115,7 +115,7 @@ module _ {rest : Option (List ℕ)} {known : Option Files} {k : Meaning} {name :
       → IfSome rest (λ list. IfSome known (λ files. ListChecked files k name list share behind r m n b c))
   unfolding summary_of
   checks-all same h = IfSome_then rest h.of (λ list h. IfSome_then known h (λ files q.
-      (q.outcomes, q.allowed, q.counted, after_fault r same q.told)))
+      (q.outcomes, q.allowed, (q.counted, after_fault r _ _ _ same q.told))))
 
   pub checks-halted : {behind : Share} {ahead : List ℕ} {s : Summary} → IsErr r
       → Checks rest known k name share behind ahead s r n n c c
@@ -141,7 +141,7 @@ NextChecked known k name share after kept number r m n b c = IfSome known (λ fi
 
 module _ (kept rest : Option (List ℕ)) (ahead : List ℕ) (rest' : Option (List ℕ)) (ahead' : List ℕ)
     (known : Option Files) (next : NextTaken kept rest ahead rest' ahead') {k : Meaning} {name : Option (List ℕ)}
-    {share after behind : Share} {s : Summary}
+    (after : Share) {share behind : Share} {s : Summary}
     {r : Result Summary CheckFault} {n o : ℕ} {c d : Option (List ℕ)} where
   pub checks-stopped : (f : CheckFault) → IsErr r
       → NextChecked known k name share after kept (lines_of s + 1) (Err f) n o c d

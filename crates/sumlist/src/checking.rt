@@ -247,7 +247,9 @@ impl<'e, 'k, 'n, M: MakesTag> Checker<'e, 'k, 'n, M> {
             ≡ count_after (T.failure_count tree.old) (part (Mark.Told Verdict.Unreadable) mark)) }
         ensures opens { IfOk result (λ mark. T.opens tree.new ≤ T.opens tree.old + entry_by mark) }
         ensures once { T.opens tree.new ≤ T.opens tree.old + 1 }
-        ensures kept { (T.files tree.new ≡ T.files tree.old) × (self.new ≡ record self.old { share = self.new.share }) }
+        ensures kept { (T.files tree.new ≡ T.files tree.old)
+            × (self.new.entries ≡ self.old.entries) × (self.new.name ≡ self.old.name)
+            × (self.new.reader ≡ self.old.reader) × (self.new.summary ≡ self.old.summary) }
         ensures writes { StepCounts result (W.shown out.old).failures (W.shown out.new).failures }
     {
         if self.passes_over() {
@@ -260,7 +262,8 @@ impl<'e, 'k, 'n, M: MakesTag> Checker<'e, 'k, 'n, M> {
     fn passes_over(&mut self) -> bool
         ensures passes { (line : List ℕ) → IsKept self.old.reader.kept line
             → Passes line self.old.share self.new.share result }
-        ensures kept { self.new ≡ record self.old { share = self.new.share } }
+        ensures kept { (self.new.entries ≡ self.old.entries) × (self.new.name ≡ self.old.name)
+            × (self.new.reader ≡ self.old.reader) × (self.new.summary ≡ self.old.summary) }
     {
         self.has_entry() && !self.share.takes_next()
     }

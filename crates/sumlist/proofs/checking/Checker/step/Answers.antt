@@ -10,12 +10,12 @@ pub returns-in_err-mark-clause-checked : goal.returns-in_err-mark-clause-checked
 returns-in_err-mark-clause-checked g c =
     let next = rw c.if-not-branch.false at c.in_ok-next.ensures.piece in
     MatchResult-from_err _ _ _ c.from_residual-in_err-mark.ensures.0 (λ _ r behind stopped.
-    checks-stopped _ _ _ _ c.next.new.self.ahead _ next c.in_err-mark.field-0.0 stopped c.in_err-mark.ensures.checked)
+    checks-stopped _ _ _ _ c.next.new.self.ahead _ next _ c.in_err-mark.field-0.0 stopped c.in_err-mark.ensures.checked)
 
 pub returns-clause-checked : goal.returns-clause-checked
 returns-clause-checked g c =
     let next = rw c.if-not-branch.false at c.in_ok-next.ensures.piece in
-    λ r n d behind later. checks-line _ _ _ _ _ _ next _ c.count.ensures.counted c.in_ok-mark.ensures.checked later
+    λ r n d behind later. checks-line _ _ _ _ _ _ next _ _ c.count.ensures.counted c.in_ok-mark.ensures.checked later
 
 pub returns-in_err-next-clause-once : goal.returns-in_err-next-clause-once
 returns-in_err-next-clause-once g c =
