@@ -57,7 +57,8 @@ module _ {files : Files} {k : Meaning} {name : Option (List ℕ)} {share : Share
         let left = (shared after.others after.waiting os.0).0 in
         let none = shared-settled after.others after.waiting os.0 os.2 in
         let is = l.3.is os.0 in
-        let begun = AppendsPrefix-more b c _ (report_from name (lines_of s + 2) left) l.5 in
+        let begun : AppendsPrefix b c (report_from name (lines_of s + 1) (own ∷ left)) =
+            AppendsPrefix-more b c _ (report_from name (lines_of s + 1 + 1) left) l.5 in
         record {
           outcomes = l.0 ∷ os.0;
           allowed = (l.2, os.1);

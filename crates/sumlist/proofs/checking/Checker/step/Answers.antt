@@ -15,7 +15,10 @@ returns-in_err-mark-clause-checked g c =
 pub returns-clause-checked : goal.returns-clause-checked
 returns-clause-checked g c =
     let next = rw c.if-not-branch.false at c.in_ok-next.ensures.piece in
-    λ r n d behind later. checks-line _ _ _ _ _ _ next _ _ c.count.ensures.counted c.in_ok-mark.ensures.checked later
+    let kept = c.in_ok-mark.ensures.kept in
+    let counted = rw kept.4 at c.count.ensures.counted in
+    λ r n d behind later.
+        checks-line _ _ _ _ _ _ next _ _ counted c.in_ok-mark.ensures.checked (rw kept.3 at later)
 
 pub returns-in_err-next-clause-once : goal.returns-in_err-next-clause-once
 returns-in_err-next-clause-once g c =
@@ -30,4 +33,5 @@ returns-in_err-mark-clause-once g c =
 pub returns-clause-once : goal.returns-clause-once
 returns-clause-once g c =
     let next = rw c.if-not-branch.false at c.in_ok-next.ensures.piece in
-    λ n later. opens-line _ _ _ _ _ next c.in_ok-mark.ensures.once n later
+    let kept = c.in_ok-mark.ensures.kept in
+    λ n later. opens-line _ _ _ _ _ next c.in_ok-mark.ensures.once n (rw kept.3 at later)
