@@ -25,6 +25,12 @@ loop-checker-init g c = record {
   counts = rw (c.in_ok-new.ensures, c.new-2.ensures) (search rules);
 }
 
+pub returns-in_err-step-clause-checked : goal.returns-in_err-step-clause-checked
+returns-in_err-step-clause-checked g c =
+    let i = c.loop-checker.invariant in
+    let checked = rw (i.counts.kept, i.counts.entries, i.counts.name) at c.in_err-step.ensures.checked in
+    checks-all (λ _. refl) (i.goes _ _ _ c.args.share.now (checked _ _ c.from_residual-in_err-step.ensures.0))
+
 pub returns-in_err-step-clause-gave : goal.returns-in_err-step-clause-gave
 returns-in_err-step-clause-gave g c =
     let i = c.loop-checker.invariant in

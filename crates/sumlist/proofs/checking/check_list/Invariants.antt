@@ -26,7 +26,6 @@ invariant-loop-checker g l = record {
   counts : record {
     entries : l.checker.entries.now ≡ l.fn.entries;
     name : l.checker.name ≡ l.fn.name;
-    share : l.share ≡ l.initial.share;
     total : l.checker.reader.total ≡ length read;
     reads : g.L.Feed.failure_count l.list ≡ g.L.Feed.failure_count l.initial.list;
     writes : (g.W.Sink.shown l.out).failures ≡ (g.W.Sink.shown l.initial.out).failures;
