@@ -1,12 +1,11 @@
 -- What a share makes of the lines of a list, one by one.
-use Rattle.sumlist.proofs.Common.{◌≡◌, ◌+◌, ℕ, List, [], ◌∷◌, Files, Meaning, Outcome, Allowed, Mark, Option}
-use Rattle.sumlist.proofs.Common.{LineChecked, Result, Ok, Appends-nil, arith, count_after, false, foreign, inl, inr}
-use Rattle.sumlist.proofs.Common.{malformed, refl, skipped, sym, told, true, unreadable_count, unreadable_in}
+use Rattle.sumlist.proofs.Common.{◌≡◌, ℕ, List, [], ◌∷◌, Files, Meaning, Outcome, Allowed, Mark, Option}
+use Rattle.sumlist.proofs.Common.{LineChecked, Result, Ok, Appends-nil, arith, false, foreign, inl, inr}
+use Rattle.sumlist.proofs.Common.{malformed, refl, skipped, told, true, unreadable_count}
 use Rattle.std.specs.Prelude.{suc, zero}
 use Rattle.sumlist.proofs.Deciding.{settled, unreadable-cons}
 use Rattle.sumlist.proofs.MeaningCases.{foreign_unskipped, not_skipped}
 use Rattle.sumlist.specs.Line.{IsSkipped}
-use Rattle.sumlist.specs.Report.{summary_of}
 use Rattle.sumlist.specs.Shared.{shared}
 use Rattle.sumlist.specs.declared.checking.CheckFault.{CheckFault}
 use Rattle.sumlist.specs.declared.share.Share.{Share}

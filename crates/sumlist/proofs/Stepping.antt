@@ -2,7 +2,7 @@
 use Rattle.sumlist.proofs.Common.{◌≡◌, ◌≤◌, ◌+◌, ◌++◌, List, [], ◌∷◌, length, lines, subst, sym, Option, None, Some}
 use Rattle.sumlist.proofs.Common.{◌∙◌, IfSome, ap, refl, IfSome_then, IsErr, Result, Err, Ok, arith, Appends-nil}
 use Rattle.sumlist.proofs.Common.{Appends-trans, AppendsPrefix, Mark, Meaning, Summary, CheckFault, Files}
-use Rattle.sumlist.proofs.Common.{IsCounted, ListChecked, MatchResult-from_err, Outcome, lines_of, no_lines, text}
+use Rattle.sumlist.proofs.Common.{IsCounted, ListChecked, MatchResult-from_err, Outcome, lines_of, no_lines}
 use Rattle.sumlist.proofs.Common.{true, with_line, ℕ}
 use Rattle.std.specs.Io.KnownBytes.{IsAtEnd}
 use Rattle.std.proofs.lemmas.Result.{MatchResult-weaker}
@@ -58,7 +58,7 @@ module _ {files : Files} {k : Meaning} {name : Option (List ℕ)} {share : Share
         let none = shared-settled after.others after.waiting os.0 os.2 in
         let is = l.3.is os.0 in
         let begun : AppendsPrefix b c (report_from name (lines_of s + 1) (own ∷ left)) =
-            AppendsPrefix-more b c _ (report_from name (lines_of s + 1 + 1) left) l.5 in
+        AppendsPrefix-more b c _ (report_from name (lines_of s + 1 + 1) left) l.5 in
         record {
           outcomes = l.0 ∷ os.0;
           allowed = (l.2, os.1);

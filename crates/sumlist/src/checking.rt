@@ -113,7 +113,7 @@ pub fn check<L: Feed, T: Tree, W: Sink>(
 }
 
 /// Checks a share of a list of any entries as `check` does: a line that is not skipped counts, and those of other
-/// shares are passed over, and counted with the skipped ones. If the list is read to its end, the share goes on behind
+/// shares are passed over, and counted with the skipped ones. If the list is read to its end, the share goes on after
 /// it; if not, it stays as it was. If a name of the list is given, the report has it in front of malformed lines:
 /// `NAME: line N: MALFORMED`, the name in its escaped form.
 pub fn check_list<L: Feed, M: MakesTag, T: Tree, W: Sink>(

@@ -18,7 +18,7 @@ returns-clause-checked g c =
     let kept = c.in_ok-mark.ensures.kept in
     let counted = rw kept.4 at c.count.ensures.counted in
     λ r n d behind later.
-        checks-line _ _ _ _ _ _ next _ _ counted c.in_ok-mark.ensures.checked (rw kept.3 at later)
+    checks-line _ _ _ _ _ _ next _ _ counted c.in_ok-mark.ensures.checked (rw kept.3 at later)
 
 pub returns-in_err-next-clause-once : goal.returns-in_err-next-clause-once
 returns-in_err-next-clause-once g c =
