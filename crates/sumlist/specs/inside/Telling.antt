@@ -20,7 +20,7 @@ of_list TooLong = ListTooLong
 
 -- what was read of a report and is yet to be taken
 abbrev pub ahead : {F : Type 0} → ReportReader F → List ℕ
-ahead r = take (r.end - r.start) (drop r.start r.buffer)
+ahead r = drop r.start (take r.end r.buffer)
 
 -- what is left of it, where that is told
 abbrev pub left : {F : Type 0} → (F → Option (List ℕ)) → ReportReader F → Option (List ℕ)
