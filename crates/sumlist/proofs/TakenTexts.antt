@@ -7,8 +7,9 @@ use Rattle.std.proofs.Common.{get_or, length-drop}
 use Rattle.std.proofs.lemmas.List.{append_cancel_left, drop_more, get_or-take}
 use Rattle.std.proofs.lemmas.Option.{same_Some, none-some}
 use Rattle.std.specs.Io.KnownBytes.{IsAtEnd}
+use Rattle.source.proofs.Writing.{flat_map-drop}
+use Rattle.std.specs.List.{flat_map}
 use Rattle.std.specs.Prelude.{IfOk, option_map}
-use Rattle.sumlist.proofs.Stepping.{IfSome-all}
 use Rattle.sumlist.specs.Report.{verdict_text}
 use Rattle.sumlist.specs.inside.Telling.{HasMore, Takes, TakesVerdict}
 
@@ -44,7 +45,20 @@ next-not (Some bytes) mid new t u p = λ behind is. p (u ++ behind) (is ∙ appe
 pub next-ok : {E : Type 0} (r : Result Bool E) (old mid new : Option (List ℕ)) (t u : List ℕ) → Next old t mid true
     → IfSome mid (λ bytes. IfOk r (Takes u bytes new)) → IfSome old (λ bytes. IfOk r (Takes (t ++ u) bytes new))
 next-ok (Ok b) old mid new t u p q = next-then old mid new t u b p q
-next-ok (Err e) old mid new t u p q = IfSome-all old (λ _. tt)
+next-ok (Err e) None mid new t u p q = tt
+next-ok (Err e) (Some bytes) mid new t u p q = tt
+
+-- texts, of which the first so many came
+module _ {A : Type 0} (f : A → List ℕ) (xs : List A) (i : ℕ) (x : A) (some : i < length xs)
+    (old mid new : Option (List ℕ)) where
+  pub texts-then : (r : Bool) → Next old (f (get_or xs i x)) mid true → Next mid (flat_map f (drop (i + 1) xs)) new r
+      → Next old (flat_map f (drop i xs)) new r
+  texts-then r p q = rw (flat_map-drop f xs i x some)
+      (next-then old mid new (f (get_or xs i x)) (flat_map f (drop (i + 1) xs)) r p q)
+
+  pub texts-not : Next old (f (get_or xs i x)) mid false → Next old (flat_map f (drop i xs)) new false
+  texts-not p = rw (flat_map-drop f xs i x some)
+      (next-not old mid new (f (get_or xs i x)) (flat_map f (drop (i + 1) xs)) p)
 
 -- ---- what was read, and then the rest
 
