@@ -1,6 +1,6 @@
 use Rattle.sumlist.proofs.Common.{◌≡◌, ◌+◌, ◌-◌, ◌^◌, ◌≤◌, length, lines_of}
 use Rattle.std.specs.Prelude.{option_map}
-use Rattle.sumlist.proofs.Telling.{Telling}
+use Rattle.sumlist.proofs.ToldLines.{Telling}
 use Rattle.sumlist.specs.inside.Stepped.{meaning_of}
 use Rattle.sumlist.specs.inside.Telling.{left}
 use Rattle.sumlist.proofs.telling.tell_list.Given as goal

@@ -6,7 +6,8 @@ use Rattle.sumlist.proofs.Common.{IsCounted, escaped, foreign, inl, keyed, lengt
 use Rattle.sumlist.proofs.Common.{◌⊎◌, IfSome_then, inr, no_lines, skipped, text, told, unkeyed, with_line}
 use Rattle.std.specs.List.{AllZip}
 use Rattle.std.specs.Io.KnownBytes.{IsAtEnd}
-use Rattle.std.specs.Prelude.{fold}
+use Rattle.std.specs.Borrow.{Bor}
+use Rattle.std.specs.Prelude.{MatchOption, fold, option_map}
 use Rattle.std.proofs.lemmas.List.Sums.{fold-append}
 use Rattle.source.specs.declared.pumping.SourceFault.{SourceFault}
 use Rattle.source.specs.declared.pumping.SourceFault.TheVariants.{Read, TooLong}
@@ -22,7 +23,7 @@ use Rattle.sumlist.specs.declared.telling.TellFault.TheVariants as fault
 use Rattle.sumlist.specs.inside.Marks.{mark_of, outcome_of, part}
 use Rattle.sumlist.specs.inside.Stepped.{MarksMalformed}
 use Rattle.sumlist.specs.inside.Taking.{IsNextPiece}
-use Rattle.sumlist.specs.inside.Telling.{Ended, ListBeside, Tells, of_list}
+use Rattle.sumlist.specs.inside.Telling.{Ended, ListBeside, TellCounts, Tells, of_list}
 
 -- ---- one line
 
@@ -110,6 +111,22 @@ module _ (m : Meaning) (name : Option (List ℕ)) (line : List ℕ) (n : ℕ) wh
   other-malformed mark marks None new p = tt
   other-malformed mark marks (Some bytes) new p = no_malformed mark marks bytes p
 
+-- a read of the report is no read of the list
+pub counts-other : {T : Type 0} (f : TellFault) (old new : ℕ) → TellCounts {T} (Err f) old new
+    → (f ≡ fault.ListRead → ⊥) × (f ≡ fault.ListTooLong → ⊥)
+counts-other fault.ListRead old new h = absurd h
+counts-other fault.ListTooLong old new h = absurd h
+counts-other fault.ReportTooLong old new h = absurd h
+counts-other fault.ReportRead old new h = (λ is. let no = is in cc, λ is. let no = is in cc)
+counts-other fault.OtherLine old new h = (λ is. let no = is in cc, λ is. let no = is in cc)
+counts-other fault.OutOfMemory old new h = (λ is. let no = is in cc, λ is. let no = is in cc)
+
+-- what is kept of a piece, as it was handed out
+pub kept-piece : (piece : Option (Bor (List ℕ))) (kept : Option (List ℕ))
+    → MatchOption piece (kept ≡ None) (λ p. kept ≡ Some p.now) → option_map (λ p. p.now) piece ≡ kept
+kept-piece None kept is = sym is
+kept-piece (Some p) kept is = sym is
+
 -- ---- lines so far
 
 -- one more at the end
@@ -137,17 +154,17 @@ same_line : (s : Summary) (o : Outcome) → with_line s (outcome_of (mark_of o))
 same_line s o = grind arith
 
 -- lines of the bytes of a list were told, and these are left; and so of the report
-record Beside (m : Meaning) (name : Option (List ℕ)) (list report : List ℕ) (i j : ℕ) (waiting : List (List ℕ))
+pub record Beside (m : Meaning) (name : Option (List ℕ)) (list report : List ℕ) (i j : ℕ) (waiting : List (List ℕ))
     (behind : List ℕ) (s : Summary) : Type 0 where
-  outcomes : List Outcome
-  before : List (List ℕ)
-  are : lines list ≡ before ++ waiting
-  possible : AllZip (IsPossible m) before outcomes
-  begun : report ≡ report_from name 1 outcomes ++ behind
-  counted : j + (summary_of outcomes).skipped ≡ i + length outcomes
-  sum : s ≡ summary_of outcomes
-  size : length outcomes ≡ lines_of s
-  same : length before ≡ length outcomes
+  pub outcomes : List Outcome
+  pub before : List (List ℕ)
+  pub are : lines list ≡ before ++ waiting
+  pub possible : AllZip (IsPossible m) before outcomes
+  pub begun : report ≡ report_from name 1 outcomes ++ behind
+  pub counted : j + (summary_of outcomes).skipped ≡ i + length outcomes
+  pub sum : s ≡ summary_of outcomes
+  pub size : length outcomes ≡ lines_of s
+  pub same : length before ≡ length outcomes
 
 module _ (m : Meaning) (name : Option (List ℕ)) (list report : List ℕ) (i j : ℕ) (behind : List ℕ) (s : Summary)
     (line : List ℕ) (others : List (List ℕ)) (b : Beside m name list report i j (line ∷ others) behind s) where
