@@ -112,7 +112,7 @@ module _ (m : Meaning) (name : Option (List ℕ)) (line : List ℕ) (n : ℕ) wh
   other-malformed mark marks (Some bytes) new p = no_malformed mark marks bytes p
 
 -- a read of the report is no read of the list
-pub counts-other : {T : Type 0} (f : TellFault) (old new : ℕ) → TellCounts {T} (Err f) old new
+pub counts-other : {T : Type 0} (f : TellFault) (old new : ℕ) → TellCounts {T = T} (Err f) old new
     → (f ≡ fault.ListRead → ⊥) × (f ≡ fault.ListTooLong → ⊥)
 counts-other fault.ListRead old new h = absurd h
 counts-other fault.ListTooLong old new h = absurd h
@@ -120,6 +120,9 @@ counts-other fault.ReportTooLong old new h = absurd h
 counts-other fault.ReportRead old new h = (λ is. let no = is in cc, λ is. let no = is in cc)
 counts-other fault.OtherLine old new h = (λ is. let no = is in cc, λ is. let no = is in cc)
 counts-other fault.OutOfMemory old new h = (λ is. let no = is in cc, λ is. let no = is in cc)
+
+pub counted-more : (mark : Mark) (s u : Summary) → IsCounted mark s u → lines_of u ≡ lines_of s + 1
+counted-more mark s u counted = grind arith
 
 -- what is kept of a piece, as it was handed out
 pub kept-piece : (piece : Option (Bor (List ℕ))) (kept : Option (List ℕ))
@@ -295,27 +298,34 @@ module _ (m : Meaning) (name : Option (List ℕ)) where
     -- a line was read
     module _ (kept rest' : Option (List ℕ)) (ahead' : List ℕ) (n : ℕ) (count : n ≡ lines_of s + 1)
         (next : NextTaken kept rest ahead rest' ahead') where
-      at : (left : List ℕ) → rest ≡ Some left → (line : List ℕ) × (more : List ℕ) × IsKept kept line
+      next-line : (left : List ℕ) → rest ≡ Some left → (line : List ℕ) × (more : List ℕ) × IsKept kept line
           × (rest' ≡ Some more) × (lines (ahead ++ left) ≡ line ∷ lines (ahead' ++ more))
-      at left is = let h = rw is at next in (h.2.0, h.0, h.2.1, h.1, h.2.2)
+      next-line left is = let h = rw is at next in (h.2.0, h.0, h.2.1, h.1, h.2.2)
+
+      said : (r : Result Mark TellFault) (end : Option (List ℕ)) (line more : List ℕ) → behind ≡ Some more
+          → NextTold m name line n behind end r → Tells m name line (lines_of s + 1) more end r
+      said r end line more is says = subst (λ k. Tells m name line k more end r) count
+          (subst (λ x. NextTold m name line n x end r) is says)
 
       pub told-fault : (f : TellFault) (end : Option (List ℕ)) → (f ≡ fault.ListRead → ⊥) → (f ≡ fault.ListTooLong → ⊥)
           → ((line : List ℕ) → IsKept kept line → NextTold m name line n behind end (Err f))
           → Listed m name list report i j end (Err f)
       told-fault f end one two says = IfSome_then list t.of (λ bytes h. IfSome_then report h (λ text q.
-          let l = at q.0 q.1 in
+          let l = next-line q.0 q.1 in
           let b = rw l.4 at q.4 in
-          let said = rw (q.3, count) at (says l.0 l.2) in
+          let line = said (Err f) end l.0 q.2 q.3 (says l.0 l.2) in
           listed m name bytes text i j _ q.2 s b end (Err f)
-          (fault-ends m name bytes text i j q.2 s l.0 (lines (ahead' ++ l.1)) b end f said one two)))
+          (fault-ends m name bytes text i j q.2 s l.0 (lines (ahead' ++ l.1)) b end f line one two)))
 
-      pub told-line : (mark : Mark) (u : Summary) (end : Option (List ℕ)) → IsCounted mark s u
+      pub told-line : (mark : Mark) (u : Summary) (end : Option (List ℕ)) (k : ℕ) → k ≡ j + (1 - part Skipped mark)
+          → IsCounted mark s u
           → ((line : List ℕ) → IsKept kept line → NextTold m name line n behind end (Ok mark))
-          → Telling m name list report i (j + (1 - part Skipped mark)) ahead' rest' end u
-      told-line mark u end counted says = record { of = IfSome_then list t.of (λ bytes h. IfSome_then report h
-          (λ text q.
-          let l = at q.0 q.1 in
-          let b = rw l.4 at q.4 in
-          let said = rw (q.3, count) at (says l.0 l.2) in
-          let more = beside-line m name bytes text i j q.2 s l.0 (lines (ahead' ++ l.1)) b mark end u said counted in
-          (l.1, l.3, more.0, more.1, more.2))) }
+          → Telling m name list report i k ahead' rest' end u
+      told-line mark u end k up counted says = rw up record {
+        of = IfSome_then list t.of (λ bytes h. IfSome_then report h (λ text q.
+            let l = next-line q.0 q.1 in
+            let b = rw l.4 at q.4 in
+            let line = said (Ok mark) end l.0 q.2 q.3 (says l.0 l.2) in
+            let more = beside-line m name bytes text i j q.2 s l.0 (lines (ahead' ++ l.1)) b mark end u line counted in
+            (l.1, l.3, more.0, more.1, more.2)));
+      }

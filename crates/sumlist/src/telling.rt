@@ -1,6 +1,7 @@
 // Lists read beside a report on them.
 
-ghost use Rattle.std.specs.Prelude.{◌≡◌, ◌-◌, ℕ, IfSome, List, option_map};
+ghost use Rattle.std.specs.Prelude.{◌≡◌, ◌-◌, ℕ, IfSome, List, OnOk, option_map};
+ghost use Rattle.std.specs.Io.KnownBytes.{IsAtEnd};
 ghost use Rattle.sumlist.specs.declared.telling.TellFault.TheVariants.{OutOfMemory, ReportRead};
 ghost use Rattle.sumlist.specs.Lines.{IsKept};
 ghost use Rattle.sumlist.specs.Report.{Meaning};
@@ -72,6 +73,7 @@ pub fn tell_list<L: Feed, M: MakesTag, F: Feed>(
     ensures told { IfSome (L.remaining list.old) (λ bytes. IfSome (left F.remaining report.old) (λ text.
         ListBeside (meaning_of M.limit M.makes entries.now) (option_map (λ n. n.now) name.entry) bytes text lines.old
         lines.new (left F.remaining report.new) result)) }
+    ensures end { OnOk result (IsAtEnd (L.remaining list.new)) }
 {
     let mut reader = PieceReader::new(alloc)?;
     let mut summary = Summary::new();
