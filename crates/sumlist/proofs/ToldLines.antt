@@ -112,14 +112,14 @@ module _ (m : Meaning) (name : Option (List ℕ)) (line : List ℕ) (n : ℕ) wh
   other-malformed mark marks (Some bytes) new p = no_malformed mark marks bytes p
 
 -- a read of the report is no read of the list
-pub counts-other : {T : Type 0} (f : TellFault) (old new : ℕ) → TellCounts {T = T} (Err f) old new
+pub counts-other : (T : Type 0) (f : TellFault) (old new : ℕ) → TellCounts {T = T} (Err f) old new
     → (f ≡ fault.ListRead → ⊥) × (f ≡ fault.ListTooLong → ⊥)
-counts-other fault.ListRead old new h = absurd h
-counts-other fault.ListTooLong old new h = absurd h
-counts-other fault.ReportTooLong old new h = absurd h
-counts-other fault.ReportRead old new h = (λ is. let no = is in cc, λ is. let no = is in cc)
-counts-other fault.OtherLine old new h = (λ is. let no = is in cc, λ is. let no = is in cc)
-counts-other fault.OutOfMemory old new h = (λ is. let no = is in cc, λ is. let no = is in cc)
+counts-other T fault.ListRead old new h = absurd h
+counts-other T fault.ListTooLong old new h = absurd h
+counts-other T fault.ReportTooLong old new h = absurd h
+counts-other T fault.ReportRead old new h = (λ is. let no = is in cc, λ is. let no = is in cc)
+counts-other T fault.OtherLine old new h = (λ is. let no = is in cc, λ is. let no = is in cc)
+counts-other T fault.OutOfMemory old new h = (λ is. let no = is in cc, λ is. let no = is in cc)
 
 pub counted-more : (mark : Mark) (s u : Summary) → IsCounted mark s u → lines_of u ≡ lines_of s + 1
 counted-more mark s u counted = grind arith

@@ -44,7 +44,8 @@ returns-in_err-mark-clause-told g c =
     let same = kept-piece c.piece.result c.next.new.self.kept c.piece.ensures in
     let says = rw same at c.in_err-mark.ensures.told in
     let f = c.in_err-mark.field-0.0 in
-    let other = counts-other {T = Mark} f _ _ c.in_err-mark.ensures.counted in
+    let other = counts-other Mark f (g.F.Feed.failure_count now.report.feed.now)
+    (g.F.Feed.failure_count c.tell_line.new.report.feed.now) c.in_err-mark.ensures.counted in
     let exit = c.from_residual-in_err-mark in
     let fault = err_from_is_err_and exit.result exit.ensures.1 in
     rw (fault.1, fault.2) (told-fault m name list report c.args.lines.now now.lines now.reader.ahead
