@@ -1,9 +1,9 @@
 -- Texts that are taken of a report, one after another.
 use Rattle.sumlist.proofs.Common.{◌≡◌, ◌<◌, ◌≤◌, ◌∙◌, ◌+◌, ◌++◌, ◌∷◌, ℕ, List, [], Option, None, Some, IfSome, Bool}
 use Rattle.sumlist.proofs.Common.{true, false, append_assoc, ap, sym, refl, subst, arith, drop, take, length, Verdict}
-use Rattle.sumlist.proofs.Common.{Consumes, Err, Ok, Result, length-append, length-take-le, nil_from_length, slice_index}
+use Rattle.sumlist.proofs.Common.{Consumes, Err, Ok, Result, length-append, length-take-le, slice_index}
 use Rattle.sumlist.proofs.Common.{Differs, Matches, Missing, TooLong, Unreadable, escaped}
-use Rattle.std.proofs.Common.{get_or, length-drop}
+use Rattle.std.proofs.Common.{get_or}
 use Rattle.std.proofs.lemmas.List.{append_cancel_left, drop_more, get_or-take}
 use Rattle.std.proofs.lemmas.Option.{same_Some, none-some}
 use Rattle.std.specs.Io.KnownBytes.{IsAtEnd}
@@ -70,7 +70,8 @@ abbrev pub More : Option (List ℕ) → Option (List ℕ) → Bool → Type 0
 More old new r = IfSome old (λ bytes. HasMore bytes new r)
 
 -- some was left of what was read
-pub more-ahead : (ahead : List ℕ) (rest : Option (List ℕ)) → 0 < length ahead → More (known ahead rest) (known ahead rest) true
+pub more-ahead : (ahead : List ℕ) (rest : Option (List ℕ)) → 0 < length ahead
+    → More (known ahead rest) (known ahead rest) true
 more-ahead ahead None some = tt
 more-ahead ahead (Some bytes) some = (omega (arith, length-append ahead bytes), refl)
 

@@ -1,13 +1,13 @@
 -- A list that is read beside its report: a line's outcome comes before those of the lines that are left.
-use Rattle.sumlist.proofs.Common.{◌≡◌, ◌<◌, ◌∙◌, ◌+◌, ◌-◌, ◌++◌, ◌∷◌, ℕ, List, [], Option, None, Some, IfSome, Bool}
+use Rattle.sumlist.proofs.Common.{◌≡◌, ◌<◌, ◌∙◌, ◌+◌, ◌-◌, ◌++◌, ◌∷◌, ℕ, List, [], Option, None, Some, IfSome}
 use Rattle.sumlist.proofs.Common.{true, false, append_assoc, append-nil, ap, sym, refl, subst, arith, length, Verdict}
-use Rattle.sumlist.proofs.Common.{Err, IsEntryIn, IsForeign, IsLine, Listing, Mark, Meaning, Ok, Outcome, Result, Summary}
+use Rattle.sumlist.proofs.Common.{Err, IsEntryIn, IsLine, Listing, Mark, Meaning, Ok, Outcome, Result, Summary}
 use Rattle.sumlist.proofs.Common.{IsCounted, escaped, foreign, inl, keyed, length-append, lines, lines_of, malformed}
 use Rattle.sumlist.proofs.Common.{◌⊎◌, IfSome_then, inr, no_lines, skipped, text, told, unkeyed, with_line}
 use Rattle.std.specs.List.{AllZip}
 use Rattle.std.specs.Io.KnownBytes.{IsAtEnd}
 use Rattle.std.specs.Borrow.{Bor}
-use Rattle.std.specs.Prelude.{MatchOption, fold, option_map}
+use Rattle.std.specs.Prelude.{MatchOption, option_map}
 use Rattle.std.proofs.lemmas.List.Sums.{fold-append}
 use Rattle.source.specs.declared.pumping.SourceFault.{SourceFault}
 use Rattle.source.specs.declared.pumping.SourceFault.TheVariants.{Read, TooLong}
@@ -38,6 +38,7 @@ long-malformed m line long = on m
   where
     no : IsLine line → ⊥
     no l = let within = l.1 in omega arith
+
     on : (m : Meaning) → MarksMalformed m line Malformed
     on (unkeyed kind) = (λ s. no s.0, λ e s. no s.is_line, λ l f. no f.0)
     on (keyed n limit f) = (λ s. no s.0, λ e s. no s.1.is_line, λ l t. no t.1.is_line)
@@ -180,8 +181,8 @@ module _ (m : Meaning) (name : Option (List ℕ)) (list report : List ℕ) (i j 
       let os = b.outcomes in
       let o = t.0 in
       let grown : u ≡ summary_of (os ++ o ∷ []) = counted.whole
-          ∙ ap (λ x. with_line s (outcome_of x)) (sym t.2) ∙ same_line s o
-          ∙ ap (λ x. with_line x o) b.sum ∙ sym (summary-snoc os o) in
+      ∙ ap (λ x. with_line s (outcome_of x)) (sym t.2) ∙ same_line s o
+      ∙ ap (λ x. with_line x o) b.sum ∙ sym (summary-snoc os o) in
       let number : 1 + length os ≡ lines_of s + 1 = omega (arith, b.size) in (
         t.3,
         t.5,
@@ -205,8 +206,13 @@ module _ (m : Meaning) (name : Option (List ℕ)) (list report : List ℕ) (i j 
   fault-ends : (rest : Option (List ℕ)) (f : TellFault) → Tells m name line (lines_of s + 1) behind rest (Err f)
       → (f ≡ fault.ListRead → ⊥) → (f ≡ fault.ListTooLong → ⊥)
       → Ended m name b.outcomes b.before (line ∷ others) behind rest (Err f)
-  fault-ends rest fault.OtherLine t one two = (line, others, refl, λ o end p is.
-      t o end p (rw (let number : length b.before + 1 ≡ lines_of s + 1 = omega (arith, b.same, b.size) in number) at is))
+  fault-ends rest fault.OtherLine t one two = (
+    line,
+    others,
+    refl,
+    λ o end p is. let number : length b.before + 1 ≡ lines_of s + 1 = omega (arith, b.same, b.size) in
+        t o end p (rw number at is),
+  )
   fault-ends rest fault.ListRead t one two = absurd (one refl)
   fault-ends rest fault.ListTooLong t one two = absurd (two refl)
   fault-ends rest fault.ReportRead t one two = tt
