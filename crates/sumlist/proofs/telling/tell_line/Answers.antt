@@ -9,8 +9,8 @@ pub returns-in-Some-2-clause-told : goal.returns-in-Some-2-clause-told
 returns-in-Some-2-clause-told g c =
     let m = meaning_of g.M.MakesTag.limit g.M.MakesTag.makes c.args.entries.now in
     let spelled = rw c.in-Ok-Entry.field-0-is at c.in-Ok-Entry.ensures in
-    let named = rw c.in-Ok-Entry.field-0-is at c.name.ensures.value in
-    let came = rw (c.in-Some-2.is, named) at c.in_ok-verdict-in-Ok-Entry.ensures.taken in
+    let verdict = c.in_ok-verdict-in-Ok-Entry in
+    let came = rw (c.in-Some-2.is, c.name.ensures.value, c.in-Ok-Entry.field-0-is) at verdict.ensures.taken in
     λ whole kept. let same = rw c.in-Some.is at kept in rw same.0
     (told-entry m (option_map (λ n. n.now) c.args.name) c.in-Some.line.now c.args.number c.in-Ok-Entry.entry spelled
     (left g.F.Feed.remaining c.args.report.now) (left g.F.Feed.remaining c.take_verdict.new.self) c.in-Some-2.verdict
@@ -20,8 +20,8 @@ pub returns-in-Ok-Entry-clause-told : goal.returns-in-Ok-Entry-clause-told
 returns-in-Ok-Entry-clause-told g c =
     let m = meaning_of g.M.MakesTag.limit g.M.MakesTag.makes c.args.entries.now in
     let spelled = rw c.in-Ok-Entry.field-0-is at c.in-Ok-Entry.ensures in
-    let named = rw c.in-Ok-Entry.field-0-is at c.name.ensures.value in
-    let missed = rw (c.in-None.is, named) at c.in_ok-verdict-in-Ok-Entry.ensures.taken in
+    let verdict = c.in_ok-verdict-in-Ok-Entry in
+    let missed = rw (c.in-None.is, c.name.ensures.value, c.in-Ok-Entry.field-0-is) at verdict.ensures.taken in
     λ whole kept. let same = rw c.in-Some.is at kept in rw same.0
     (other-entry m (option_map (λ n. n.now) c.args.name) c.in-Some.line.now c.args.number c.in-Ok-Entry.entry spelled
     (left g.F.Feed.remaining c.args.report.now) None missed)
