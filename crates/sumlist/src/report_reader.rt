@@ -1,10 +1,11 @@
 // A report that is read beside the lists that it is of.
 
-ghost use Rattle.std.specs.Prelude.{◌≡◌, ◌≤◌, ◌++◌, ℕ, IfOk, IfSome, List, Some, drop, length, option_map};
+ghost use Rattle.std.specs.Prelude.{◌≡◌, ◌<◌, ◌≤◌, ◌++◌, ◌∷◌, [], ℕ, IfOk, IfSome, List, None, Some, drop, length};
+ghost use Rattle.std.specs.Prelude.{option_map, slice_index, true};
 ghost use Rattle.source.specs.Counts.{CountsFailure};
+ghost use Rattle.source.specs.Pumped.{joined};
 ghost use Rattle.sumlist.specs.Escape.{escaped};
 ghost use Rattle.sumlist.specs.Report.{malformed, text, verdict_text as verdict_text_of};
-ghost use Rattle.sumlist.specs.inside.Telling.{HasMore, Takes, TakesVerdict, left};
 
 use crate::Verdict;
 use crate::escaping::escape;
@@ -14,7 +15,7 @@ use source::{Feed, ReadFailed};
 
 /// Reads a report line by line. It keeps one read of 4,096 bytes.
 #[derive(Drop)]
-pub struct ReportReader<'f, F: Feed> {
+pub struct ReportReader<'f, F> {
     feed: &'f mut F,
     buffer: [u8; 4096],
     // what has been read and is yet to be taken
@@ -26,6 +27,8 @@ pub struct ReportReader<'f, F: Feed> {
 }
 
 impl<'f, F: Feed> ReportReader<'f, F> {
+    ghost use Rattle.sumlist.specs.inside.Telling.{HasMore, Takes, TakesVerdict, left};
+
     /// No line yet, and nothing read.
     pub fn new(feed: &'f mut F) -> ReportReader<'f, F>
         ensures left { left F.remaining result ≡ F.remaining feed.entry.now }
@@ -43,6 +46,7 @@ impl<'f, F: Feed> ReportReader<'f, F> {
     pub fn has_more(&mut self) -> Result<bool, ReadFailed>
         ensures more { IfSome (left F.remaining self.old) (λ bytes.
             IfOk result (HasMore bytes (left F.remaining self.new))) }
+        ensures ahead { IfOk result (λ more. more ≡ true → self.new.start < self.new.end) }
         ensures counted { CountsFailure result (F.failure_count self.old.feed.now) (F.failure_count self.new.feed.now) }
     {
         if self.start < self.end {
@@ -54,14 +58,17 @@ impl<'f, F: Feed> ReportReader<'f, F> {
         Ok(count > 0)
     }
 
-    // Takes the line of an entry of this name, and answers its verdict. Where another line comes, a beginning of it
-    // is taken that is alike.
+    // Takes the line of an entry of this name, and answers its verdict. If another line comes, a beginning of it is
+    // taken that is alike.
     pub(crate) fn take_verdict(&mut self, name: &str) -> Result<Option<Verdict>, ReadFailed>
         ensures taken { IfSome (left F.remaining self.old) (λ bytes.
             IfOk result (TakesVerdict name.now bytes (left F.remaining self.new))) }
         ensures counted { CountsFailure result (F.failure_count self.old.feed.now) (F.failure_count self.new.feed.now) }
     {
-        if !self.take_name(name)? || !self.take(b": ")? {
+        if !self.take_name(name)? {
+            return Ok(None);
+        }
+        if !self.take(b": ")? {
             return Ok(None);
         }
         let Some(verdict) = self.verdict_ahead()? else {
@@ -85,14 +92,33 @@ impl<'f, F: Feed> ReportReader<'f, F> {
             (Takes (text (option_map (λ n. n.now) list.entry) number malformed) bytes (left F.remaining self.new))) }
         ensures counted { CountsFailure result (F.failure_count self.old.feed.now) (F.failure_count self.new.feed.now) }
     {
-        if let Some(name) = list {
-            if !self.take_name(name)? || !self.take(b": ")? {
-                return Ok(false);
-            }
+        match list {
+            Some(name) => self.take_malformed_of(name, number),
+            None => self.take_malformed_line(number),
+        }
+    }
+
+    fn take_malformed_of(&mut self, list: &str, number: u64) -> Result<bool, ReadFailed>
+        ensures taken { IfSome (left F.remaining self.old) (λ bytes.
+            IfOk result (Takes (text (Some list.now) number malformed) bytes (left F.remaining self.new))) }
+        ensures counted { CountsFailure result (F.failure_count self.old.feed.now) (F.failure_count self.new.feed.now) }
+    {
+        if !self.take_name(list)? {
+            return Ok(false);
         }
         let mut digits = Buffer::new();
         let digits = digits.format(number).as_bytes();
-        Ok(self.take(b"line ")? && self.take(digits)? && self.take(b": MALFORMED\n")?)
+        self.take_pieces(&[b": line ", digits, b": MALFORMED\n"])
+    }
+
+    fn take_malformed_line(&mut self, number: u64) -> Result<bool, ReadFailed>
+        ensures taken { IfSome (left F.remaining self.old) (λ bytes.
+            IfOk result (Takes (text None number malformed) bytes (left F.remaining self.new))) }
+        ensures counted { CountsFailure result (F.failure_count self.old.feed.now) (F.failure_count self.new.feed.now) }
+    {
+        let mut digits = Buffer::new();
+        let digits = digits.format(number).as_bytes();
+        self.take_pieces(&[b"line ", digits, b": MALFORMED\n"])
     }
 
     // Takes the escaped form of a name, and answers whether it came.
@@ -109,7 +135,7 @@ impl<'f, F: Feed> ReportReader<'f, F> {
         Ok(true)
     }
 
-    // The verdict whose text begins with what is left.
+    // The verdict whose text, without the first two bytes, begins what is left.
     fn verdict_ahead(&mut self) -> Result<Option<Verdict>, ReadFailed>
         ensures verdict { IfSome (left F.remaining self.old) (λ bytes. IfOk result (λ found.
             (left F.remaining self.new ≡ Some bytes) × ((v : Verdict) (rest : List ℕ)
@@ -119,14 +145,21 @@ impl<'f, F: Feed> ReportReader<'f, F> {
         if !self.has_more()? {
             return Ok(None);
         }
-        Ok(match self.buffer[self.start] {
-            b'O' => Some(Verdict::Matches),
-            b'F' => Some(Verdict::Differs),
-            b'M' => Some(Verdict::Missing),
-            b'U' => Some(Verdict::Unreadable),
-            b'T' => Some(Verdict::TooLong),
-            _ => None,
-        })
+        Ok(verdict_of(self.buffer[self.start]))
+    }
+
+    // Takes these pieces, one after another, and answers whether they came.
+    fn take_pieces(&mut self, pieces: &[&[u8]]) -> Result<bool, ReadFailed>
+        ensures taken { IfSome (left F.remaining self.old) (λ bytes.
+            IfOk result (Takes (joined pieces.now) bytes (left F.remaining self.new))) }
+        ensures counted { CountsFailure result (F.failure_count self.old.feed.now) (F.failure_count self.new.feed.now) }
+    {
+        for piece in pieces {
+            if !self.take(piece)? {
+                return Ok(false);
+            }
+        }
+        Ok(true)
     }
 
     // Takes a text, and answers whether it came.
@@ -135,21 +168,41 @@ impl<'f, F: Feed> ReportReader<'f, F> {
             IfOk result (Takes text.now bytes (left F.remaining self.new))) }
         ensures counted { CountsFailure result (F.failure_count self.old.feed.now) (F.failure_count self.new.feed.now) }
     {
-        let mut rest = text;
-        while !rest.is_empty() {
-            if !self.has_more()? {
+        for byte in text {
+            if !self.take_byte(*byte)? {
                 return Ok(false);
             }
-            let (_, ahead) = self.buffer[..self.end].split_at(self.start);
-            let count = ahead.len().min(rest.len());
-            let (front, after) = rest.split_at(count);
-            let (near, _) = ahead.split_at(count);
-            if near != front {
-                return Ok(false);
-            }
-            self.start += count;
-            rest = after;
         }
         Ok(true)
+    }
+
+    // Takes a byte, and answers whether it came.
+    fn take_byte(&mut self, byte: u8) -> Result<bool, ReadFailed>
+        ensures taken { IfSome (left F.remaining self.old) (λ bytes.
+            IfOk result (Takes (byte ∷ []) bytes (left F.remaining self.new))) }
+        ensures counted { CountsFailure result (F.failure_count self.old.feed.now) (F.failure_count self.new.feed.now) }
+    {
+        if !self.has_more()? {
+            return Ok(false);
+        }
+        if self.buffer[self.start] != byte {
+            return Ok(false);
+        }
+        self.start += 1;
+        Ok(true)
+    }
+}
+
+// The verdict whose text, without the first two bytes, begins with this byte.
+fn verdict_of(byte: u8) -> Option<Verdict>
+    ensures { (v : Verdict) → slice_index (verdict_text_of v) 2 ≡ byte → result ≡ Some v }
+{
+    match byte {
+        b'O' => Some(Verdict::Matches),
+        b'F' => Some(Verdict::Differs),
+        b'M' => Some(Verdict::Missing),
+        b'U' => Some(Verdict::Unreadable),
+        b'T' => Some(Verdict::TooLong),
+        _ => None,
     }
 }

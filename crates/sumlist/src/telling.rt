@@ -1,9 +1,13 @@
 // Lists read beside a report on them.
 
-ghost use Rattle.std.specs.Prelude.{◌≡◌, IfSome, option_map};
+ghost use Rattle.std.specs.Prelude.{◌≡◌, ◌-◌, ℕ, IfSome, List, OnOk, option_map};
+ghost use Rattle.std.specs.Io.KnownBytes.{IsAtEnd};
 ghost use Rattle.sumlist.specs.declared.telling.TellFault.TheVariants.{OutOfMemory, ReportRead};
-ghost use Rattle.sumlist.specs.inside.Stepped.{meaning_of};
-ghost use Rattle.sumlist.specs.inside.Telling.{ListBeside, left, of_list};
+ghost use Rattle.sumlist.specs.Lines.{IsKept};
+ghost use Rattle.sumlist.specs.Report.{Meaning};
+ghost use Rattle.sumlist.specs.inside.Marks.{part};
+ghost use Rattle.sumlist.specs.inside.Stepped.{MarksMalformed, meaning_of};
+ghost use Rattle.sumlist.specs.inside.Telling.{ListBeside, TellCounts, Tells, left, of_list};
 
 use crate::piece_reader::PieceReader;
 use crate::report_reader::ReportReader;
@@ -69,36 +73,51 @@ pub fn tell_list<L: Feed, M: MakesTag, F: Feed>(
     ensures told { IfSome (L.remaining list.old) (λ bytes. IfSome (left F.remaining report.old) (λ text.
         ListBeside (meaning_of M.limit M.makes entries.now) (option_map (λ n. n.now) name.entry) bytes text lines.old
         lines.new (left F.remaining report.new) result)) }
+    ensures end { OnOk result (IsAtEnd (L.remaining list.new)) }
 {
     let mut reader = PieceReader::new(alloc)?;
     let mut summary = Summary::new();
     let mut number: u64 = 0;
-    while !reader.is_at_end() && reader.next(b'\n', list)? {
+    while reader.next(b'\n', list)? {
         number += 1;
-        let mark = match reader.piece() {
-            Some(line) => tell_line(alloc, line, entries, name, number, report)?,
-            None => tell_malformed(Mark::Malformed, name, number, report)?,
+        let mark = tell_line(alloc, reader.piece(), entries, name, number, report)?;
+        let Some(more) = lines.checked_add(line_count(mark)) else {
+            return Err(TellFault::ReportTooLong);
         };
+        *lines = more;
         summary.count(mark);
-        if mark != Mark::Skipped {
-            *lines = match lines.checked_add(1) {
-                Some(more) => more,
-                None => return Err(TellFault::ReportTooLong),
-            };
+        if reader.is_at_end() {
+            return Ok(summary);
         }
     }
     Ok(summary)
 }
 
-// What became of a line by the report.
+// How many lines a report has of a line with this mark.
+fn line_count(mark: Mark) -> u64
+    ensures { result ≡ 1 - part Mark.Skipped mark }
+{
+    if mark == Mark::Skipped { 0 } else { 1 }
+}
+
+// What became of a line by the report. A line that was not kept is too long.
 fn tell_line<M: MakesTag, F: Feed>(
     alloc: Global,
-    line: &[u8],
+    line: Option<&[u8]>,
     entries: &Entries<'_, M>,
     name: Option<&str>,
     number: u64,
     report: &mut ReportReader<'_, F>,
-) -> Result<Mark, TellFault> {
+) -> Result<Mark, TellFault>
+    ensures told { (whole : List ℕ) → IsKept (option_map (λ l. l.now) line.entry) whole
+        → IfSome (left F.remaining report.old) (λ bytes. Tells (meaning_of M.limit M.makes entries.now)
+        (option_map (λ n. n.now) name.entry) whole number bytes (left F.remaining report.new) result) }
+    ensures counted { TellCounts result (F.failure_count report.old.feed.now)
+        (F.failure_count report.new.feed.now) }
+{
+    let Some(line) = line else {
+        return tell_malformed(Mark::Malformed, name, number, report);
+    };
     match entries.read(alloc, line) {
         Ok(Line::Skipped) => Ok(Mark::Skipped),
         Ok(Line::Entry(entry)) => match report.take_verdict(entry.name())? {
@@ -118,7 +137,13 @@ fn tell_malformed<F: Feed>(
     name: Option<&str>,
     number: u64,
     report: &mut ReportReader<'_, F>,
-) -> Result<Mark, TellFault> {
+) -> Result<Mark, TellFault>
+    ensures told { (m : Meaning) (line : List ℕ) → MarksMalformed m line mark
+        → IfSome (left F.remaining report.old) (λ bytes. Tells m
+        (option_map (λ n. n.now) name.entry) line number bytes (left F.remaining report.new) result) }
+    ensures counted { TellCounts result (F.failure_count report.old.feed.now)
+        (F.failure_count report.new.feed.now) }
+{
     if report.take_malformed(name, number)? {
         Ok(mark)
     } else {

@@ -2,6 +2,7 @@
 use Rattle.std.specs.Prelude.{◌≡◌, ◌<◌, ⊤, ℕ, ◌+◌, ◌-◌, Bool, false, true, List, [], ◌∷◌, ◌++◌, Option, Some, Result}
 use Rattle.std.specs.Prelude.{Ok, Err, MatchOption, drop, length, option_map, take}
 use Rattle.std.specs.List.{AllZip}
+use Rattle.source.specs.Counts.{next_count}
 use Rattle.source.specs.declared.pumping.SourceFault.{SourceFault}
 use Rattle.source.specs.declared.pumping.SourceFault.TheVariants.{Read, TooLong}
 use Rattle.sumlist.specs.Escape.{escaped}
@@ -10,7 +11,10 @@ use Rattle.sumlist.specs.Report.{IsPossible, Meaning, Outcome, report_from, summ
 use Rattle.sumlist.specs.declared.report_reader.ReportReader.{ReportReader}
 use Rattle.sumlist.specs.declared.summary.Summary.{Summary}
 use Rattle.sumlist.specs.declared.telling.TellFault.{TellFault}
-use Rattle.sumlist.specs.declared.telling.TellFault.TheVariants.{ListRead, ListTooLong, OtherLine}
+use Rattle.sumlist.specs.declared.summary.Mark.{Mark}
+use Rattle.sumlist.specs.declared.telling.TellFault.TheVariants.{ListRead, ListTooLong, OtherLine, OutOfMemory}
+use Rattle.sumlist.specs.declared.telling.TellFault.TheVariants.{ReportRead, ReportTooLong}
+use Rattle.sumlist.specs.inside.Marks.{mark_of}
 use Rattle.sumlist.specs.declared.verdict.Verdict.{Verdict}
 
 -- a list is not read to its end
@@ -20,7 +24,7 @@ of_list TooLong = ListTooLong
 
 -- what was read of a report and is yet to be taken
 abbrev pub ahead : {F : Type 0} → ReportReader F → List ℕ
-ahead r = take (r.end - r.start) (drop r.start r.buffer)
+ahead r = drop r.start (take r.end r.buffer)
 
 -- what is left of it, where that is told
 abbrev pub left : {F : Type 0} → (F → Option (List ℕ)) → ReportReader F → Option (List ℕ)
@@ -63,3 +67,22 @@ ListBeside m name list report i j rest r = (outcomes : List Outcome) × (before 
     × (behind : List ℕ) × (report ≡ report_from name 1 outcomes ++ behind)
     × (j ≡ i + (length outcomes - (summary_of outcomes).skipped))
     × Ended m name outcomes before after behind rest r
+
+-- what a report that goes on like this says of the line of this number: it has an outcome of this mark, whose text was
+-- taken; or none whose text comes next
+abbrev pub Tells : Meaning → Option (List ℕ) → List ℕ → ℕ → List ℕ → Option (List ℕ) → Result Mark TellFault → Type 0
+Tells m name line n bytes rest (Ok mark) = (o : Outcome) × IsPossible m line o × (mark_of o ≡ mark)
+    × (behind : List ℕ) × (bytes ≡ text name n o ++ behind) × (rest ≡ Some behind)
+Tells m name line n bytes rest (Err OtherLine) =
+    (o : Outcome) (behind : List ℕ) → IsPossible m line o → bytes ≡ text name n o ++ behind → ⊥
+Tells m name line n bytes rest (Err fault) = ⊤
+
+-- only a read of the report that failed is one more failure, and nothing was found of the list itself
+abbrev pub TellCounts : {T : Type 0} → Result T TellFault → ℕ → ℕ → Type 0
+TellCounts (Ok _) old new = new ≡ old
+TellCounts (Err ListRead) old new = ⊥
+TellCounts (Err ListTooLong) old new = ⊥
+TellCounts (Err ReportRead) old new = new ≡ next_count old
+TellCounts (Err ReportTooLong) old new = ⊥
+TellCounts (Err OtherLine) old new = new ≡ old
+TellCounts (Err OutOfMemory) old new = new ≡ old

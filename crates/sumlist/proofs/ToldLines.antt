@@ -1,0 +1,337 @@
+-- A list that is read beside its report: a line's outcome comes before those of the lines that are left.
+use Rattle.sumlist.proofs.Common.{◌≡◌, ◌<◌, ◌∙◌, ◌+◌, ◌-◌, ◌++◌, ◌∷◌, ℕ, List, [], Option, None, Some, IfSome}
+use Rattle.sumlist.proofs.Common.{true, false, append_assoc, append-nil, ap, sym, refl, subst, arith, length, Verdict}
+use Rattle.sumlist.proofs.Common.{Err, IsEntryIn, IsLine, Listing, Mark, Meaning, Ok, Outcome, Result, Summary}
+use Rattle.sumlist.proofs.Common.{IsCounted, escaped, foreign, inl, keyed, length-append, lines, lines_of, malformed}
+use Rattle.sumlist.proofs.Common.{◌⊎◌, IfSome_then, inr, no_lines, skipped, text, told, unkeyed, with_line}
+use Rattle.std.specs.List.{AllZip}
+use Rattle.std.specs.Io.KnownBytes.{IsAtEnd}
+use Rattle.std.specs.Borrow.{Bor}
+use Rattle.std.specs.Prelude.{MatchOption, option_map}
+use Rattle.std.proofs.lemmas.List.Sums.{fold-append}
+use Rattle.source.specs.declared.pumping.SourceFault.{SourceFault}
+use Rattle.source.specs.declared.pumping.SourceFault.TheVariants.{Read, TooLong}
+use Rattle.sumlist.proofs.MeaningCases.{entry_one, foreign_unskipped, not_foreign, not_skipped}
+use Rattle.sumlist.proofs.TakenTexts.{Next, NextVerdict}
+use Rattle.sumlist.specs.Line.{IsSkipped}
+use Rattle.sumlist.specs.Lines.{IsKept, line_limit}
+use Rattle.sumlist.specs.Report.{IsPossible, report_from, summary_of, verdict_text}
+use Rattle.sumlist.specs.declared.look.Look.{Look}
+use Rattle.sumlist.specs.declared.summary.Mark.TheVariants.{Foreign, Malformed, Skipped, Told}
+use Rattle.sumlist.specs.declared.telling.TellFault.{TellFault}
+use Rattle.sumlist.specs.declared.telling.TellFault.TheVariants as fault
+use Rattle.sumlist.specs.inside.Marks.{mark_of, outcome_of, part}
+use Rattle.sumlist.specs.inside.Stepped.{MarksMalformed}
+use Rattle.sumlist.specs.inside.Taking.{IsNextPiece}
+use Rattle.sumlist.specs.inside.Telling.{Ended, ListBeside, TellCounts, Tells, of_list}
+
+-- ---- one line
+
+-- a malformed line with a look has the text of any other
+same_text : (name : Option (List ℕ)) (n : ℕ) (look : Look) → text name n malformed ≡ text name n (foreign look)
+same_text None n look = refl
+same_text (Some name) n look = refl
+
+-- a line that is too long to be kept is malformed
+pub long-malformed : (m : Meaning) (line : List ℕ) → line_limit < length line → MarksMalformed m line Malformed
+long-malformed m line long = on m
+  where
+    no : IsLine line → ⊥
+    no l = let within = l.1 in omega arith
+
+    on : (m : Meaning) → MarksMalformed m line Malformed
+    on (unkeyed kind) = (λ s. no s.0, λ e s. no s.is_line, λ l f. no f.0)
+    on (keyed n limit f) = (λ s. no s.0, λ e s. no s.1.is_line, λ l t. no t.1.is_line)
+
+-- what a report says, of what is left at first and then
+abbrev pub NextTold : Meaning → Option (List ℕ) → List ℕ → ℕ → Option (List ℕ) → Option (List ℕ)
+    → Result Mark TellFault → Type 0
+NextTold m name line n old new r = IfSome old (λ bytes. Tells m name line n bytes new r)
+
+module _ (m : Meaning) (name : Option (List ℕ)) (line : List ℕ) (n : ℕ) where
+  -- a line that is skipped has no text
+  pub told-skipped : (old : Option (List ℕ)) → IsSkipped line → NextTold m name line n old old (Ok Skipped)
+  told-skipped None s = tt
+  told-skipped (Some bytes) s = (skipped, s, refl, bytes, refl, refl)
+
+  -- the line of an entry came
+  pub told-entry : (e : Listing) → IsEntryIn m line e → (old new : Option (List ℕ)) (v : Verdict)
+      → NextVerdict e.name old new (Some v) → NextTold m name line n old new (Ok (Told v))
+  told-entry e s None new v p = tt
+  told-entry e s (Some bytes) new v p = (told e.name v, (e, s, refl, inl refl), refl, p.0, p.1, p.2)
+
+  no_entry : (e : Listing) → IsEntryIn m line e → (bytes : List ℕ)
+      → ((v : Verdict) (behind : List ℕ) → bytes ≡ (escaped e.name ++ verdict_text v) ++ behind → ⊥)
+      → (o : Outcome) (behind : List ℕ) → IsPossible m line o → bytes ≡ text name n o ++ behind → ⊥
+  no_entry e s bytes none skipped behind q is = not_skipped m line e s q
+  no_entry e s bytes none malformed behind q is = q.1 e s
+  no_entry e s bytes none (foreign l) behind q is = not_foreign m line e l s q
+  no_entry e s bytes none (told k v) behind q is =
+      let same = q.2 ∙ ap (λ (d : Listing). d.name) (entry_one m line q.0 e q.1 s) in
+      none v behind (subst (λ x. bytes ≡ (escaped x ++ verdict_text v) ++ behind) same is)
+
+  -- another line came
+  pub other-entry : (e : Listing) → IsEntryIn m line e → (old new : Option (List ℕ))
+      → NextVerdict e.name old new None → NextTold m name line n old new (Err fault.OtherLine)
+  other-entry e s None new p = tt
+  other-entry e s (Some bytes) new p = no_entry e s bytes p
+
+  -- the line of a malformed one came
+  pub told-malformed : (mark : Mark) → MarksMalformed m line mark → (old new : Option (List ℕ))
+      → Next old (text name n malformed) new true → NextTold m name line n old new (Ok mark)
+  told-malformed mark marks None new p = tt
+  told-malformed Malformed marks (Some bytes) new p = (malformed, marks, refl, p.0, p.1, p.2)
+  told-malformed (Foreign l) marks (Some bytes) new p =
+      (foreign l, marks, refl, p.0, rw (same_text name n l) at p.1, p.2)
+  told-malformed Skipped marks (Some bytes) new p = absurd marks
+  told-malformed (Told v) marks (Some bytes) new p = absurd marks
+
+  unskipped : (mark : Mark) → MarksMalformed m line mark → IsSkipped line → ⊥
+  unskipped Malformed marks s = marks.0 s
+  unskipped (Foreign l) marks s = foreign_unskipped m line l marks s
+  unskipped Skipped marks s = absurd marks
+  unskipped (Told v) marks s = absurd marks
+
+  entryless : (mark : Mark) → MarksMalformed m line mark → (e : Listing) → IsEntryIn m line e → ⊥
+  entryless Malformed marks e s = marks.1 e s
+  entryless (Foreign l) marks e s = not_foreign m line e l s marks
+  entryless Skipped marks e s = absurd marks
+  entryless (Told v) marks e s = absurd marks
+
+  no_malformed : (mark : Mark) → MarksMalformed m line mark → (bytes : List ℕ)
+      → ((behind : List ℕ) → bytes ≡ text name n malformed ++ behind → ⊥)
+      → (o : Outcome) (behind : List ℕ) → IsPossible m line o → bytes ≡ text name n o ++ behind → ⊥
+  no_malformed mark marks bytes none skipped behind q is = unskipped mark marks q
+  no_malformed mark marks bytes none malformed behind q is = none behind is
+  no_malformed mark marks bytes none (foreign l) behind q is =
+      none behind (rw (same_text name n l) is)
+  no_malformed mark marks bytes none (told k v) behind q is = entryless mark marks q.0 q.1
+
+  pub other-malformed : (mark : Mark) → MarksMalformed m line mark → (old new : Option (List ℕ))
+      → Next old (text name n malformed) new false → NextTold m name line n old new (Err fault.OtherLine)
+  other-malformed mark marks None new p = tt
+  other-malformed mark marks (Some bytes) new p = no_malformed mark marks bytes p
+
+-- a read of the report is no read of the list
+pub counts-other : (T : Type 0) (f : TellFault) (old new : ℕ) → TellCounts {T = T} (Err f) old new
+    → (f ≡ fault.ListRead → ⊥) × (f ≡ fault.ListTooLong → ⊥)
+counts-other T fault.ListRead old new h = absurd h
+counts-other T fault.ListTooLong old new h = absurd h
+counts-other T fault.ReportTooLong old new h = absurd h
+counts-other T fault.ReportRead old new h = (λ is. let no = is in cc, λ is. let no = is in cc)
+counts-other T fault.OtherLine old new h = (λ is. let no = is in cc, λ is. let no = is in cc)
+counts-other T fault.OutOfMemory old new h = (λ is. let no = is in cc, λ is. let no = is in cc)
+
+pub counted-more : (mark : Mark) (s u : Summary) → IsCounted mark s u → lines_of u ≡ lines_of s + 1
+counted-more mark s u counted = grind arith
+
+-- what is kept of a piece, as it was handed out
+pub kept-piece : (piece : Option (Bor (List ℕ))) (kept : Option (List ℕ))
+    → MatchOption piece (kept ≡ None) (λ p. kept ≡ Some p.now) → option_map (λ p. p.now) piece ≡ kept
+kept-piece None kept is = sym is
+kept-piece (Some p) kept is = sym is
+
+-- ---- lines so far
+
+-- one more at the end
+zip-snoc : {A B : Type 0} (R : A → B → Type 0) (xs : List A) (ys : List B) (x : A) (y : B) → AllZip R xs ys → R x y
+    → AllZip R (xs ++ x ∷ []) (ys ++ y ∷ [])
+zip-snoc R [] [] x y p q = (q, tt)
+zip-snoc R [] (b ∷ ys) x y p q = absurd p
+zip-snoc R (a ∷ xs) [] x y p q = absurd p
+zip-snoc R (a ∷ xs) (b ∷ ys) x y p q = (p.0, zip-snoc R xs ys x y p.1 q)
+
+report-snoc : (name : Option (List ℕ)) (os : List Outcome) (n : ℕ) (o : Outcome)
+    → report_from name n (os ++ o ∷ []) ≡ report_from name n os ++ text name (n + length os) o
+unfolding report_from
+report-snoc name [] n o = rw (append-nil (text name n o)) (ap (λ k. text name k o) (omega arith))
+report-snoc name (p ∷ os) n o = rw (report-snoc name os (n + 1) o)
+    (sym (append_assoc (text name n p) (report_from name (n + 1) os) (text name (n + 1 + length os) o))
+    ∙ ap (λ k. (text name n p ++ report_from name (n + 1) os) ++ text name k o) (omega arith))
+
+summary-snoc : (os : List Outcome) (o : Outcome) → summary_of (os ++ o ∷ []) ≡ with_line (summary_of os) o
+unfolding summary_of
+summary-snoc os o = fold-append with_line no_lines os (o ∷ [])
+
+-- a name is not counted
+same_line : (s : Summary) (o : Outcome) → with_line s (outcome_of (mark_of o)) ≡ with_line s o
+same_line s o = grind arith
+
+-- lines of the bytes of a list were told, and these are left; and so of the report
+pub record Beside (m : Meaning) (name : Option (List ℕ)) (list report : List ℕ) (i j : ℕ) (waiting : List (List ℕ))
+    (behind : List ℕ) (s : Summary) : Type 0 where
+  pub outcomes : List Outcome
+  pub before : List (List ℕ)
+  pub are : lines list ≡ before ++ waiting
+  pub possible : AllZip (IsPossible m) before outcomes
+  pub begun : report ≡ report_from name 1 outcomes ++ behind
+  pub counted : j + (summary_of outcomes).skipped ≡ i + length outcomes
+  pub sum : s ≡ summary_of outcomes
+  pub size : length outcomes ≡ lines_of s
+  pub same : length before ≡ length outcomes
+
+module _ (m : Meaning) (name : Option (List ℕ)) (list report : List ℕ) (i j : ℕ) (behind : List ℕ) (s : Summary)
+    (line : List ℕ) (others : List (List ℕ)) (b : Beside m name list report i j (line ∷ others) behind s) where
+  -- one line more
+  beside-line : (mark : Mark) (rest : Option (List ℕ)) (u : Summary)
+      → Tells m name line (lines_of s + 1) behind rest (Ok mark) → IsCounted mark s u
+      → (left : List ℕ) × (rest ≡ Some left)
+      × Beside m name list report i (j + (1 - part Skipped mark)) others left u
+  beside-line mark rest u t counted =
+      let os = b.outcomes in
+      let o = t.0 in
+      let grown : u ≡ summary_of (os ++ o ∷ []) = counted.whole
+      ∙ ap (λ x. with_line s (outcome_of x)) (sym t.2) ∙ same_line s o
+      ∙ ap (λ x. with_line x o) b.sum ∙ sym (summary-snoc os o) in
+      let number : 1 + length os ≡ lines_of s + 1 = omega (arith, b.size) in (
+        t.3,
+        t.5,
+        record {
+          outcomes = os ++ o ∷ [];
+          before = b.before ++ line ∷ [];
+          are = b.are ∙ sym (append_assoc b.before (line ∷ []) others);
+          possible = zip-snoc (IsPossible m) b.before os line o b.possible t.1;
+          begun = b.begun ∙ ap (λ l. report_from name 1 os ++ l) t.4
+              ∙ sym (append_assoc (report_from name 1 os) (text name (lines_of s + 1) o) t.3)
+              ∙ ap (λ l. l ++ t.3) (ap (λ k. report_from name 1 os ++ text name k o) (sym number)
+              ∙ sym (report-snoc name os 1 o));
+          counted = rw (← grown) (grind (arith, b.counted, counted.skipped, b.sum, length-append {A = Outcome}));
+          sum = grown;
+          size = grind (arith, b.size, length-append {A = Outcome});
+          same = omega (arith, b.same, length-append os (o ∷ []), length-append b.before (line ∷ []));
+        },
+      )
+
+  -- the report does not have the line next, or it was not read
+  fault-ends : (rest : Option (List ℕ)) (f : TellFault) → Tells m name line (lines_of s + 1) behind rest (Err f)
+      → (f ≡ fault.ListRead → ⊥) → (f ≡ fault.ListTooLong → ⊥)
+      → Ended m name b.outcomes b.before (line ∷ others) behind rest (Err f)
+  fault-ends rest fault.OtherLine t one two = (
+    line,
+    others,
+    refl,
+    λ o end p is. let number : length b.before + 1 ≡ lines_of s + 1 = omega (arith, b.same, b.size) in
+        t o end p (rw number at is),
+  )
+  fault-ends rest fault.ListRead t one two = absurd (one refl)
+  fault-ends rest fault.ListTooLong t one two = absurd (two refl)
+  fault-ends rest fault.ReportRead t one two = tt
+  fault-ends rest fault.ReportTooLong t one two = tt
+  fault-ends rest fault.OutOfMemory t one two = tt
+
+-- what is said of such lines
+listed : (m : Meaning) (name : Option (List ℕ)) (list report : List ℕ) (i j : ℕ) (waiting : List (List ℕ))
+    (behind : List ℕ) (s : Summary) (b : Beside m name list report i j waiting behind s) (rest : Option (List ℕ))
+    (r : Result Summary TellFault) → Ended m name b.outcomes b.before waiting behind rest r
+    → ListBeside m name list report i j rest r
+listed m name list report i j waiting behind s b rest r ended = (
+  b.outcomes,
+  b.before,
+  waiting,
+  b.are,
+  b.possible,
+  behind,
+  b.begun,
+  (let sum = b.sum in omega (arith, b.counted, b.size, ap (λ (t : Summary). t.skipped) sum)),
+  ended,
+)
+
+-- ---- the list and the report, where they are known
+
+pub record Telling (m : Meaning) (name : Option (List ℕ)) (list report : Option (List ℕ)) (i j : ℕ) (ahead : List ℕ)
+    (rest behind : Option (List ℕ)) (s : Summary) : Type 0 where
+  pub of : IfSome list (λ bytes. IfSome report (λ text. (left : List ℕ) × (rest ≡ Some left) × (more : List ℕ)
+      × (behind ≡ Some more) × Beside m name bytes text i j (lines (ahead ++ left)) more s))
+
+-- the next line was taken
+abbrev pub NextTaken : Option (List ℕ) → Option (List ℕ) → List ℕ → Option (List ℕ) → List ℕ → Type 0
+NextTaken kept rest ahead rest' ahead' = IfSome rest (λ bytes. (left : List ℕ) × (rest' ≡ Some left)
+    × IsNextPiece 10 true kept (ahead ++ bytes) (ahead' ++ left))
+
+-- what is said of the list in the end
+abbrev pub Listed : Meaning → Option (List ℕ) → Option (List ℕ) → Option (List ℕ) → ℕ → ℕ → Option (List ℕ)
+    → Result Summary TellFault → Type 0
+Listed m name list report i j rest r =
+    IfSome list (λ bytes. IfSome report (λ text. ListBeside m name bytes text i j rest r))
+
+module _ (m : Meaning) (name : Option (List ℕ)) where
+  none-beside : (list report : List ℕ) (i : ℕ) → Beside m name list report i i (lines list) report no_lines
+  unfolding report_from summary_of
+  none-beside list report i = record {
+    outcomes = [];
+    before = [];
+    are = refl;
+    possible = tt;
+    begun = refl;
+    counted = omega arith;
+    sum = refl;
+    size = refl;
+    same = refl;
+  }
+
+  pub told-none : (list report : Option (List ℕ)) (i : ℕ) → Telling m name list report i i [] list report no_lines
+  told-none None report i = record { of = tt }
+  told-none (Some bytes) None i = record { of = tt }
+  told-none (Some bytes) (Some text) i = record { of = (bytes, refl, text, refl, none-beside bytes text i) }
+
+  module _ (list report : Option (List ℕ)) (i j : ℕ) (ahead : List ℕ) (rest behind : Option (List ℕ)) (s : Summary)
+      (t : Telling m name list report i j ahead rest behind s) where
+    -- a fault of which nothing is said
+    pub told-stopped : (f : TellFault) (end : Option (List ℕ)) → (f ≡ fault.OutOfMemory) ⊎ (f ≡ fault.ReportTooLong)
+        → Listed m name list report i j end (Err f)
+    told-stopped f end (inl is) = rw is (IfSome_then list t.of (λ bytes h. IfSome_then report h (λ text q.
+        listed m name bytes text i j _ q.2 s q.4 end (Err fault.OutOfMemory) tt)))
+    told-stopped f end (inr is) = rw is (IfSome_then list t.of (λ bytes h. IfSome_then report h (λ text q.
+        listed m name bytes text i j _ q.2 s q.4 end (Err fault.ReportTooLong) tt)))
+
+    -- the list was not read
+    pub told-unread : (f : SourceFault) → Listed m name list report i j behind (Err (of_list f))
+    told-unread Read = IfSome_then list t.of (λ bytes h. IfSome_then report h (λ text q.
+        listed m name bytes text i j _ q.2 s q.4 behind (Err fault.ListRead) q.3))
+    told-unread TooLong = IfSome_then list t.of (λ bytes h. IfSome_then report h (λ text q.
+        listed m name bytes text i j _ q.2 s q.4 behind (Err fault.ListTooLong) q.3))
+
+    -- no line is left
+    ended : (bytes text : List ℕ) (left more : List ℕ) → Beside m name bytes text i j (lines (ahead ++ left)) more s
+        → ahead ≡ [] → left ≡ [] → behind ≡ Some more → ListBeside m name bytes text i j behind (Ok s)
+    ended bytes text left more b none end is =
+        listed m name bytes text i j _ more s b behind (Ok s) (rw (none, end) refl, b.sum, is)
+
+    pub told-all : (ahead ≡ []) × IsAtEnd rest → Listed m name list report i j behind (Ok s)
+    told-all end = IfSome_then list t.of (λ bytes h. IfSome_then report h (λ text q.
+        ended bytes text q.0 q.2 q.4 end.0 (rw q.1 at end.1) q.3))
+
+    -- a line was read
+    module _ (kept rest' : Option (List ℕ)) (ahead' : List ℕ) (n : ℕ) (count : n ≡ lines_of s + 1)
+        (next : NextTaken kept rest ahead rest' ahead') where
+      next-line : (left : List ℕ) → rest ≡ Some left → (line : List ℕ) × (more : List ℕ) × IsKept kept line
+          × (rest' ≡ Some more) × (lines (ahead ++ left) ≡ line ∷ lines (ahead' ++ more))
+      next-line left is = let h = rw is at next in (h.2.0, h.0, h.2.1, h.1, h.2.2)
+
+      said : (r : Result Mark TellFault) (end : Option (List ℕ)) (line more : List ℕ) → behind ≡ Some more
+          → NextTold m name line n behind end r → Tells m name line (lines_of s + 1) more end r
+      said r end line more is says = subst (λ k. Tells m name line k more end r) count
+          (subst (λ x. NextTold m name line n x end r) is says)
+
+      pub told-fault : (f : TellFault) (end : Option (List ℕ)) → (f ≡ fault.ListRead → ⊥) → (f ≡ fault.ListTooLong → ⊥)
+          → ((line : List ℕ) → IsKept kept line → NextTold m name line n behind end (Err f))
+          → Listed m name list report i j end (Err f)
+      told-fault f end one two says = IfSome_then list t.of (λ bytes h. IfSome_then report h (λ text q.
+          let l = next-line q.0 q.1 in
+          let b = rw l.4 at q.4 in
+          let line = said (Err f) end l.0 q.2 q.3 (says l.0 l.2) in
+          listed m name bytes text i j _ q.2 s b end (Err f)
+          (fault-ends m name bytes text i j q.2 s l.0 (lines (ahead' ++ l.1)) b end f line one two)))
+
+      pub told-line : (mark : Mark) (u : Summary) (end : Option (List ℕ)) (k : ℕ) → k ≡ j + (1 - part Skipped mark)
+          → IsCounted mark s u
+          → ((line : List ℕ) → IsKept kept line → NextTold m name line n behind end (Ok mark))
+          → Telling m name list report i k ahead' rest' end u
+      told-line mark u end k up counted says = rw up record {
+        of = IfSome_then list t.of (λ bytes h. IfSome_then report h (λ text q.
+            let l = next-line q.0 q.1 in
+            let b = rw l.4 at q.4 in
+            let line = said (Ok mark) end l.0 q.2 q.3 (says l.0 l.2) in
+            let more = beside-line m name bytes text i j q.2 s l.0 (lines (ahead' ++ l.1)) b mark end u line counted in
+            (l.1, l.3, more.0, more.1, more.2)));
+      }

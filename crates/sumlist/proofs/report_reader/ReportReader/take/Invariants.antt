@@ -1,0 +1,12 @@
+use Rattle.sumlist.proofs.Common.{◌≡◌, Bool, List, Option, drop, ℕ}
+use Rattle.sumlist.proofs.TakenTexts.{Next}
+use Rattle.sumlist.specs.inside.Telling.{left}
+use Rattle.sumlist.proofs.report_reader.ReportReader.take.Given as goal
+
+abbrev pub invariant-loop-byte : goal.invariant-loop-byte
+invariant-loop-byte g l = record {
+  goes : (new : Option (List ℕ)) (r : Bool)
+      → Next (left g.F.Feed.remaining l.self) (drop l.byte-index l.text) new r
+      → Next (left g.F.Feed.remaining l.initial.self) l.text new r;
+  counted : g.F.Feed.failure_count l.self.feed.now ≡ g.F.Feed.failure_count l.initial.self.feed.now;
+}

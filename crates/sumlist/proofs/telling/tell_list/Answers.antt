@@ -1,0 +1,105 @@
+use Rattle.sumlist.proofs.Common.{◌≡◌, ◌∙◌, ◌+◌, ◌-◌, [], Mark, arith, err_from_is_err_and, inl, lines_of, no_lines}
+use Rattle.sumlist.proofs.Common.{refl, rules, sym}
+use Rattle.std.specs.Prelude.{option_map}
+use Rattle.sumlist.proofs.ToldLines.{counted-more, counts-other, kept-piece, told-all, told-fault, told-line, told-none}
+use Rattle.sumlist.proofs.ToldLines.{told-stopped}
+use Rattle.sumlist.specs.declared.summary.Mark.TheVariants.{Skipped}
+use Rattle.sumlist.specs.declared.telling.TellFault.TheVariants.{OutOfMemory}
+use Rattle.sumlist.specs.inside.Marks.{part}
+use Rattle.sumlist.specs.inside.Stepped.{meaning_of}
+use Rattle.sumlist.specs.inside.Telling.{left}
+use Rattle.sumlist.proofs.telling.tell_list.Goals as goal
+
+pub returns-in_err-reader-clause-told : goal.returns-in_err-reader-clause-told
+returns-in_err-reader-clause-told g c =
+    let m = meaning_of g.M.MakesTag.limit g.M.MakesTag.makes c.args.entries.now in
+    let name = option_map (λ n. n.now) c.args.name in
+    let list = g.L.Feed.remaining c.args.list.now in
+    let report = left g.F.Feed.remaining c.args.report.now in
+    let i = c.args.lines.now in
+    let fault = err_from_is_err_and c.from_residual.result c.from_residual.ensures.1 in
+    rw (fault.1, fault.2) (told-stopped m name list report i i [] list report no_lines (told-none m name list report i)
+    OutOfMemory report (inl refl))
+
+pub loop-reader-init : goal.loop-reader-init
+loop-reader-init g c =
+    let m = meaning_of g.M.MakesTag.limit g.M.MakesTag.makes c.args.entries.now in
+    let name = option_map (λ n. n.now) c.args.name in
+    let list = g.L.Feed.remaining c.args.list.now in
+    let report = left g.F.Feed.remaining c.args.report.now in
+    record {
+      said = rw (c.in_ok-reader.ensures, c.new-summary.ensures) (told-none m name list report c.args.lines.now);
+      counts = rw (c.in_ok-reader.ensures, c.new-summary.ensures) (search rules);
+    }
+
+pub returns-in_err-mark-clause-told : goal.returns-in_err-mark-clause-told
+returns-in_err-mark-clause-told g c =
+    let m = meaning_of g.M.MakesTag.limit g.M.MakesTag.makes c.args.entries.now in
+    let name = option_map (λ n. n.now) c.args.name in
+    let list = g.L.Feed.remaining c.args.list.now in
+    let report = left g.F.Feed.remaining c.args.report.now in
+    let now = c.loop-reader in
+    let next = rw c.if-branch.true at c.in_ok-next.ensures.piece in
+    let count : now.number + 1 ≡ lines_of now.summary + 1 = omega (arith, now.invariant.counts.number) in
+    let same = kept-piece c.piece.result c.next.new.self.kept c.piece.ensures in
+    let says = rw same at c.in_err-mark.ensures.told in
+    let f = c.in_err-mark.field-0.0 in
+    let other = counts-other Mark f (g.F.Feed.failure_count now.report.feed.now)
+    (g.F.Feed.failure_count c.tell_line.new.report.feed.now) c.in_err-mark.ensures.counted in
+    let exit = c.from_residual-in_err-mark in
+    let fault = err_from_is_err_and exit.result exit.ensures.1 in
+    rw (fault.1, fault.2) (told-fault m name list report c.args.lines.now now.lines now.reader.ahead
+    (g.L.Feed.remaining now.list) (left g.F.Feed.remaining now.report) now.summary now.invariant.said
+    c.next.new.self.kept (g.L.Feed.remaining c.next.new.feed) c.next.new.self.ahead (now.number + 1) count next
+    f (left g.F.Feed.remaining c.tell_line.new.report) other.0 other.1 says)
+
+pub returns-then-is_at_end-clause-told : goal.returns-then-is_at_end-clause-told
+returns-then-is_at_end-clause-told g c =
+    let m = meaning_of g.M.MakesTag.limit g.M.MakesTag.makes c.args.entries.now in
+    let name = option_map (λ n. n.now) c.args.name in
+    let list = g.L.Feed.remaining c.args.list.now in
+    let report = left g.F.Feed.remaining c.args.report.now in
+    let now = c.loop-reader in
+    let next = rw c.if-branch.true at c.in_ok-next.ensures.piece in
+    let count : now.number + 1 ≡ lines_of now.summary + 1 = omega (arith, now.invariant.counts.number) in
+    let same = kept-piece c.piece.result c.next.new.self.kept c.piece.ensures in
+    let says = rw same at c.in_ok-mark.ensures.told in
+    let end = left g.F.Feed.remaining c.tell_line.new.report in
+    let mark = c.in_ok-mark.mark in
+    let up : c.in-Some.more ≡ now.lines + (1 - part Skipped mark)
+    = grind (arith, c.in-Some.ensures, c.line_count.ensures) in
+    let told = told-line m name list report c.args.lines.now now.lines now.reader.ahead
+    (g.L.Feed.remaining now.list) (left g.F.Feed.remaining now.report) now.summary now.invariant.said
+    c.next.new.self.kept (g.L.Feed.remaining c.next.new.feed) c.next.new.self.ahead (now.number + 1) count next
+    mark c.count.new.self end c.in-Some.more up c.count.ensures.counted says in
+    told-all _ _ _ _ _ _ _ _ _ _ told (c.in_ok-next.ensures.end (sym c.is_at_end.ensures ∙ c.if-is_at_end.true))
+
+pub loop-reader-preserved : goal.loop-reader-preserved
+loop-reader-preserved g c =
+    let m = meaning_of g.M.MakesTag.limit g.M.MakesTag.makes c.args.entries.now in
+    let name = option_map (λ n. n.now) c.args.name in
+    let list = g.L.Feed.remaining c.args.list.now in
+    let report = left g.F.Feed.remaining c.args.report.now in
+    let now = c.loop-reader in
+    let next = rw c.if-branch.true at c.in_ok-next.ensures.piece in
+    let count : now.number + 1 ≡ lines_of now.summary + 1 = omega (arith, now.invariant.counts.number) in
+    let same = kept-piece c.piece.result c.next.new.self.kept c.piece.ensures in
+    let says = rw same at c.in_ok-mark.ensures.told in
+    let end = left g.F.Feed.remaining c.tell_line.new.report in
+    let mark = c.in_ok-mark.mark in
+    let up : c.in-Some.more ≡ now.lines + (1 - part Skipped mark)
+    = grind (arith, c.in-Some.ensures, c.line_count.ensures) in
+    let told = told-line m name list report c.args.lines.now now.lines now.reader.ahead
+    (g.L.Feed.remaining now.list) (left g.F.Feed.remaining now.report) now.summary now.invariant.said
+    c.next.new.self.kept (g.L.Feed.remaining c.next.new.feed) c.next.new.self.ahead (now.number + 1) count next
+    mark c.count.new.self end c.in-Some.more up c.count.ensures.counted says in
+    let more = counted-more mark now.summary c.count.new.self c.count.ensures.counted in
+    let forth = c.in_ok-next.ensures.forth c.if-branch.true in
+    record {
+      said = told;
+      counts = record {
+        number = omega (arith, more);
+        few = omega (arith, more, forth);
+        foreign = c.count.ensures.foreign;
+      };
+    }
