@@ -5,8 +5,9 @@ use Rattle.std.proofs.Common.{◌⊎◌, append-nil, arith, inl, inr, max, suc}
 use Rattle.std.proofs.lemmas.Bool.Decides.{nat_tests}
 use Rattle.std.proofs.lemmas.Option.{IfSome_then}
 use Rattle.std.proofs.lemmas.Result.{err_from_is_err_and}
-use Rattle.std.specs.Prelude.{◌==◌, IsErrAnd, IsErrOf, IsSomeAnd, MatchResult, OnOk, fold, if◌then◌else◌, nat_lt}
+use Rattle.std.specs.Prelude.{◌==◌, IsErrAnd, IsErrOf, IsSomeAnd, MatchResult, OnOk, codes, fold, if◌then◌else◌, nat_lt}
 use Rattle.std.specs.Borrow.{Bor}
+use Rattle.std.specs.Fmt.{decimal}
 use Rattle.std.specs.Io.KnownBytes.{Consumes, IsAtEnd}
 use Rattle.std.proofs.KnownBytes.{Appends-nil}
 use Rattle.request.specs.CommandLine.{Text}
@@ -14,6 +15,7 @@ use Rattle.source.specs.Counts.{count_after}
 use Rattle.source.specs.Pumped.{Gives}
 use Rattle.source.specs.Written.{Shown}
 use Rattle.sumlist.specs.Checked.{CountsOnly}
+use Rattle.sumlist.specs.Escape.{escaped}
 use Rattle.sumlist.specs.Lines.{lines}
 use Rattle.sumlist.specs.Report.{Files, Meaning, Outcome, foreign, malformed, report_from, skipped, summary_of, text}
 use Rattle.sumlist.specs.Report.{told, verdict_text, with_line}
@@ -39,7 +41,7 @@ use Rattle.command.specs.declared.fault.Fault.{Fault}
 use Rattle.command.specs.declared.fault.Fault.TheVariants as code
 use Rattle.command.proofs.Going.{follows, raised, raised_none, raised_twice, told_where}
 use Rattle.command.proofs.Listing.{long_list, plus-none, refuse-few}
-use Rattle.command.proofs.Reading.{told_always}
+use Rattle.command.proofs.Reading.{told_always, told_then}
 use Rattle.command.proofs.Refused.{Counted-after, Counted-none, Counted-quiet, Does-printed, Does-refused}
 use Rattle.command.proofs.Refused.{Counted-as, Counted-refusal, counts-replicate, pair, refused_by, same_reads, unread_by}
 use Rattle.command.proofs.Reporting.{status_light}
@@ -55,8 +57,17 @@ verdict_some verdict.Unreadable = omega arith
 verdict_some verdict.TooLong = omega arith
 
 malformed_some : (title : Option Text) (k : ℕ) → 1 ≤ length (text title k malformed)
-malformed_some None k = omega arith
-malformed_some (Some title) k = omega (arith, length-append)
+malformed_some None k =
+    let few : length (codes "line ") ≡ 5 = refl in
+    omega (arith, few, length-append (codes "line ") (decimal k ++ codes ": MALFORMED\n"))
+malformed_some (Some title) k =
+    let few : length (codes ": line ") ≡ 7 = refl in
+    omega (
+      arith,
+      few,
+      length-append (escaped title) (codes ": line " ++ (decimal k ++ codes ": MALFORMED\n")),
+      length-append (codes ": line ") (decimal k ++ codes ": MALFORMED\n"),
+    )
 
 -- no line is empty
 lines_some : (title : Option Text) (k : ℕ) (os : List Outcome) (s : Summary)
@@ -95,7 +106,7 @@ lines_some title k (told name v ∷ os) s = on v
       rest,
       verdict_some v,
       length-append (text title k (told name v)) (report_from title (k + 1) os),
-      length-append,
+      length-append (escaped name) (verdict_text v),
     )
 
     on : (v : Verdict) → length (told name v ∷ os) + s.skipped
@@ -267,6 +278,27 @@ module _ (m : Meaning) (title : Option Text) (report : Text) (left : Option Text
       always : (o : Option Text) {P : Text → Type 0} → ((text : Text) → P text) → IfSome o P
       always None holds = tt
       always (Some text) holds = holds text
+
+-- ---- the notes of a list, and its status
+
+module _ (is_summed : Bool) (m : Meaning) (title : Option Text) (report : Text) (left : Option Text) (n : ℕ)
+    (rest : Option Text) (next : ℕ) (name : Text) (b c : Seen) (err_old err_new : Shown) (x y : ℕ) where
+  abbrev pub Summed : Result Summary Fault → Type 0
+  Summed answer = IfTold b (λ bytes files. IfSome left (λ text. SumsUp m title report text n rest next name
+      (content_of name bytes files) answer x y (CountsList name b c)))
+
+  pub list_noted : (s : Summary) → Summed (Ok s) → TellsAll err_old err_new (notes_of is_summed m title name s)
+      → TellsList is_summed m title report left n rest next name (Ok (if is_clean s then 0 else 1)) b c err_old err_new
+      x y
+  list_noted s summed noted = told_then b summed (λ bytes files one. IfSome_then left one (λ text sums.
+      (Ok s, sums, (refl, noted))))
+
+  pub list_stopped : (f : Fault) (r : Result ℕ Fault) → Summed (Err f) → IsErrAnd r (λ g. g ≡ f)
+      → err_new ≡ err_old → TellsList is_summed m title report left n rest next name r b c err_old err_new x y
+  list_stopped f r summed stop quiet =
+      let e = err_from_is_err_and r stop in
+      told_then b summed (λ bytes files one. IfSome_then left one (λ text sums.
+      (Err f, sums, (e.1 ∙ ap Err e.2, quiet))))
 
 -- ---- the run over lists
 

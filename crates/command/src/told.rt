@@ -16,7 +16,7 @@ ghost use Rattle.command.specs.inside.Rules.{EntriesRun, entries_opens, meaning}
 ghost use Rattle.command.specs.inside.Seen.{DoesRun, IfTold, OpensAtMost};
 ghost use Rattle.command.specs.inside.Streams.{SameStreams};
 ghost use Rattle.command.specs.inside.Told.{CountsList, KeepsReport, SumsUp, TellsList, TellsLists};
-ghost use Rattle.command.specs.declared.fault.Fault.TheVariants.{CannotRead, OtherLine};
+ghost use Rattle.command.specs.inside.Troubles.{cannot_read, other_line, trouble_of};
 
 use crate::fault::Fault;
 use crate::reports::{hint, note, short_keyed, title_of};
@@ -203,8 +203,8 @@ impl<'e, 'k, 'f, 'n, F: Feed> Telling<'e, 'k, 'f, 'n, F> {
     // Refuses a line after those of all lists.
     fn end(&mut self) -> Result<(), Fault<'n>>
         ensures ends { IfSome (left F.remaining self.old.report) (λ text. MatchResult result (λ _. text ≡ [])
-            (λ fault. (fault ≡ CannotRead self.old.name)
-            ⊎ ((0 < length text) × (fault ≡ OtherLine self.old.name self.old.next)))) }
+            (λ fault. (trouble_of fault ≡ cannot_read self.old.name.now)
+            ⊎ ((0 < length text) × (trouble_of fault ≡ other_line self.old.name.now self.old.next)))) }
         ensures counted { F.failure_count self.new.report.feed.now
             ≡ count_after (F.failure_count self.old.report.feed.now) (failed true (Some []) result).input }
         ensures same { self.new.report.feed.ghost_name ≡ self.old.report.feed.ghost_name }
