@@ -376,11 +376,11 @@ module _ (is_summed : Bool) (m : Meaning) (are_named : Bool) (report : Text) whe
                 inl (
                   refl,
                   last.0,
-                  subst (λ k. ListsTold is_summed m are_named files report k it.behind names
-                      (if is_input name then [] else bytes) last.0) it.next_is last.1,
                   ap (λ (u : Summary). followed (record (prints [] (if is_clean u then 0 else 1)) {
                     notes = notes_of is_summed m (title name) name u;
                   }) last.0) it.same,
+                  subst (λ k. ListsTold is_summed m are_named files report k it.behind names
+                      (if is_input name then [] else bytes) last.0) it.next_is last.1,
                 ),
               ))),
               both.does_both,
@@ -488,7 +488,7 @@ module _ (is_summed : Bool) (m : Meaning) (are_named : Bool) (report : Text) whe
                 it.possible,
                 it.behind,
                 it.split,
-                inr (it.line, it.others, refl, it.other, refl),
+                inr (it.line, it.others, refl, refl, it.other),
               ))),
               stop (other_line report line) [] (ap trouble_of (sym fault) ∙ it.is),
               how.1,
