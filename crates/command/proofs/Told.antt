@@ -33,7 +33,8 @@ use Rattle.command.specs.Run.{Run, TellsAll, followed, prints, stops}
 use Rattle.command.specs.inside.Faults.{of_tell}
 use Rattle.command.specs.inside.Reading.{Leaves, failed}
 use Rattle.command.specs.inside.Seen.{Does, IfTold, Seen}
-use Rattle.command.specs.inside.Told.{CountsList, HasRoom, IsOther, IsSummed, MayStop, SumsUp, TellsList, TellsLists}
+use Rattle.command.specs.inside.Told.{CountsList, HasRoom, IsOther, IsSummed, MayStop, RunsTold, SumsUp, TellsList}
+use Rattle.command.specs.inside.Told.{TellsLists}
 use Rattle.command.specs.inside.Troubles.{Counted, Failures, MayRefuse, Trouble, counts, failed_reads, failures_from}
 use Rattle.command.specs.inside.Troubles.{cannot_read, no_failures, other_line, plus, refusal, shown, too_long}
 use Rattle.command.specs.inside.Troubles.{trouble_of}
@@ -332,8 +333,8 @@ module _ (is_summed : Bool) (m : Meaning) (are_named : Bool) (report : Text) whe
         → TellsLists is_summed m are_named report rest next names r c d err_mid err_new y z
         → TellsLists is_summed m are_named report left n (name ∷ names) (raised s r) b d err_old err_new x z
     tells-more s r d err_new z list gave kept later = told_where b (λ bytes files at_bytes at_files.
-        IfSome_then left (rw (at_bytes, at_files) at list) (λ text. λ (answer, sums, how) whole is room.
-        on answer text bytes files whole sums how (rw at_bytes at gave) (kept ∙ at_files) is room))
+        IfSome_then left (rw (at_bytes, at_files) at list) (λ text list whole is room.
+        on list.0 text bytes files whole list.1 list.2 (rw at_bytes at gave) (kept ∙ at_files) is room))
       where
         one : (t : Summary) (text : Text) (bytes : List ℕ) (files : Files) (whole bs : List ℕ)
             → content_of name bytes files ≡ Some bs → IsSummed m (title name) bs text n rest next t
@@ -341,11 +342,7 @@ module _ (is_summed : Bool) (m : Meaning) (are_named : Bool) (report : Text) whe
             → TellsAll err_old err_mid (notes_of is_summed m (title name) name t)
             → c.bytes ≡ Some (if is_input name then [] else bytes) → c.files ≡ Some files
             → files report ≡ Some whole → HasRoom whole text n
-            → (run : Run) × ListsTold is_summed m are_named files report n text (name ∷ names) bytes run
-            × Does run (raised s r) b.out d.out × TellsAll err_old err_new run.notes × (own : Failures) × (failed : ℕ)
-            × (counts run.failures ≡ plus own (failures_from false failed))
-            × Counted own b.input_failures d.input_failures b.file_failures d.file_failures
-            × (z ≡ count_after x failed)
+            → RunsTold is_summed m are_named files report n text (name ∷ names) bytes (raised s r) b d err_old err_new x z
         one t text bytes files whole bs content it counted same status tells now_bytes now_files is room =
             let few = lines_few (title name) it.outcomes in
             let split = it.split in
@@ -356,8 +353,9 @@ module _ (is_summed : Bool) (m : Meaning) (are_named : Bool) (report : Text) whe
             let first : Run = record (prints [] (if is_clean t then 0 else 1)) {
               notes = notes_of is_summed m (title name) name t;
             } in
+            let as_status : s ≡ (if is_clean t then 0 else 1) = cc in
             let it_does : Does first (Ok s) b.out c.out = record {
-              ending = sym status;
+              ending = ap Ok (sym as_status);
               out = rw out (refl, Appends-nil b.out.contents);
               cut = λ e. cc;
             } in
@@ -388,7 +386,8 @@ module _ (is_summed : Bool) (m : Meaning) (are_named : Bool) (report : Text) whe
               last.4,
               last.5,
               last.6,
-              Counted-after last.4 _ _ _ _ _ _ (omega (arith, none.0)) none.1 last.7,
+              Counted-after last.4 b.input_failures c.input_failures d.input_failures b.file_failures
+                  c.file_failures d.file_failures (omega (arith, none.0)) none.1 last.7,
               subst (λ k. z ≡ count_after k last.5) same last.8,
             )
 
@@ -400,11 +399,7 @@ module _ (is_summed : Bool) (m : Meaning) (are_named : Bool) (report : Text) whe
             (λ f. ((let e : Result ℕ Fault = Ok s in e) ≡ Err f) × (err_mid ≡ err_old))
             → (let one : Result ℕ Fault = Ok s in Leaves (is_input name) one (Some bytes) c.bytes)
             → c.files ≡ Some files → files report ≡ Some whole → HasRoom whole text n
-            → (run : Run) × ListsTold is_summed m are_named files report n text (name ∷ names) bytes run
-            × Does run (raised s r) b.out d.out × TellsAll err_old err_new run.notes × (own : Failures) × (failed : ℕ)
-            × (counts run.failures ≡ plus own (failures_from false failed))
-            × Counted own b.input_failures d.input_failures b.file_failures d.file_failures
-            × (z ≡ count_after x failed)
+            → RunsTold is_summed m are_named files report n text (name ∷ names) bytes (raised s r) b d err_old err_new x z
         on (Err f) text bytes files whole sums how gave now_files is room = absurd (let no = how.0 in cc)
         on (Ok t) text bytes files whole (summed, counted, same) how gave now_files is room =
             let found = some_is (content_of name bytes files) summed in
@@ -415,17 +410,9 @@ module _ (is_summed : Bool) (m : Meaning) (are_named : Bool) (report : Text) whe
     pub tells-stop : (f : Fault) → Listed (Err f)
         → TellsLists is_summed m are_named report left n (name ∷ names) (Err f) b c err_old err_mid x y
     tells-stop f list = told_where b (λ bytes files at_bytes at_files.
-        IfSome_then left (rw (at_bytes, at_files) at list) (λ text. λ (answer, sums, how) whole is room.
-        on answer text bytes files whole sums how is room))
+        IfSome_then left (rw (at_bytes, at_files) at list) (λ text list whole is room.
+        on list.0 text bytes files whole list.1 list.2 is room))
       where
-        abbrev Done : Text → List ℕ → Files → Type 0
-        Done text bytes files = (run : Run)
-            × ListsTold is_summed m are_named files report n text (name ∷ names) bytes run
-            × (let e : Result ℕ Fault = Err f in Does run e b.out c.out) × TellsAll err_old err_mid run.notes
-            × (own : Failures) × (failed : ℕ) × (counts run.failures ≡ plus own (failures_from false failed))
-            × Counted own b.input_failures c.input_failures b.file_failures c.file_failures
-            × (y ≡ count_after x failed)
-
         stop : (t : Trouble) (failures : List Bool) → trouble_of f ≡ t
             → (let e : Result ℕ Fault = Err f in Does (record (stops (shown t)) { failures = failures }) e b.out c.out)
         stop t failures is = Does-refused t failures f (Err f) b.out c.out refl is out
@@ -436,9 +423,11 @@ module _ (is_summed : Bool) (m : Meaning) (are_named : Bool) (report : Text) whe
             → MatchResult answer (λ t. ((let e : Result ℕ Fault = Err f in e) ≡ Ok (if is_clean t then 0 else 1))
             × TellsAll err_old err_mid (notes_of is_summed m (title name) name t))
             (λ g. ((let e : Result ℕ Fault = Err f in e) ≡ Err g) × (err_mid ≡ err_old))
-            → files report ≡ Some whole → HasRoom whole text n → Done text bytes files
+            → files report ≡ Some whole → HasRoom whole text n
+            → RunsTold is_summed m are_named files report n text (name ∷ names) bytes (Err f) b c err_old err_mid x y
         on (Ok t) text bytes files whole sums how is room = absurd (let no = how.0 in cc)
         on (Err g) text bytes files whole (inl (may, counted, same)) how is room =
+            let same_fault = how.0 in
             let fault : g ≡ f = cc in
             let t = trouble_of g in
             let content = content_of name bytes files in (
@@ -454,6 +443,7 @@ module _ (is_summed : Bool) (m : Meaning) (are_named : Bool) (report : Text) whe
               omega (arith, same),
             )
         on (Err g) text bytes files whole (inr (inl (may, counted, same))) how is room =
+            let same_fault = how.0 in
             let fault : g ≡ f = cc in
             let t = trouble_of g in
             let k = failed_reads (Some whole) t in (
@@ -475,6 +465,7 @@ module _ (is_summed : Bool) (m : Meaning) (are_named : Bool) (report : Text) whe
             stopped t whole text room (inr (inl p)) = inr (inl p)
             stopped t whole text room (inr (inr p)) = inr (inr (p.0, p.1 whole room))
         on (Err g) text bytes files whole (inr (inr (other, counted, same))) how is room =
+            let same_fault = how.0 in
             let fault : g ≡ f = cc in
             let found = some_is (content_of name bytes files) other in
             let it = found.2 in
@@ -500,22 +491,22 @@ module _ (is_summed : Bool) (m : Meaning) (are_named : Bool) (report : Text) whe
             )
           where
             nothing : (b : Bool) → counts [] ≡ plus (failures_from b 0) (failures_from false 0)
-            nothing true = pair (omega arith) (omega arith)
-            nothing false = pair (omega arith) (omega arith)
+            nothing true = refl
+            nothing false = refl
 
   -- ---- after the last list
 
   module _ (left : Option Text) (n : ℕ) (b : Seen) (err : Shown) (x y : ℕ) where
     pub tells-end : IfSome left (λ text. text ≡ []) → y ≡ count_after x 0
         → TellsLists is_summed m are_named report left n [] (Ok 0) b b err err x y
-    tells-end none same = told_always b (λ bytes files. IfSome_then left none (λ text. λ empty whole is room. (
+    tells-end none same = told_always b (λ bytes files. IfSome_then left none (λ text empty whole is room. (
       prints [] 0,
       inr (rw empty refl),
       Does-printed [] 0 b.out b.out (refl, Appends-nil b.out.contents),
       refl,
       no_failures,
       0,
-      pair (omega arith) (omega arith),
+      refl,
       Counted-none b.input_failures _ b.file_failures _ refl (omega arith),
       same,
     )))
@@ -524,24 +515,20 @@ module _ (is_summed : Bool) (m : Meaning) (are_named : Bool) (report : Text) whe
         ⊎ ((0 < length text) × (trouble_of f ≡ other_line report n)))
         → y ≡ count_after x (failed_reads (Some []) (trouble_of f))
         → TellsLists is_summed m are_named report left n [] (Err f) b b err err x y
-    tells-beyond f how counted = told_always b (λ bytes files. IfSome_then left how (λ text. λ one whole is room.
+    tells-beyond f how counted = told_always b (λ bytes files. IfSome_then left how (λ text one whole is room.
         on text bytes files whole is one))
       where
         on : (text : Text) (bytes : List ℕ) (files : Files) (whole : Text) → files report ≡ Some whole
             → (trouble_of f ≡ cannot_read report) ⊎ ((0 < length text) × (trouble_of f ≡ other_line report n))
-            → (run : Run) × ListsTold is_summed m are_named files report n text [] bytes run
-            × (let e : Result ℕ Fault = Err f in Does run e b.out b.out) × TellsAll err err run.notes
-            × (own : Failures) × (failed : ℕ) × (counts run.failures ≡ plus own (failures_from false failed))
-            × Counted own b.input_failures b.input_failures b.file_failures b.file_failures
-            × (y ≡ count_after x failed)
+            → RunsTold is_summed m are_named files report n text [] bytes (Err f) b b err err x y
         on text bytes files whole is (inl t) = (
           refusal false (Some whole) (cannot_read report),
           inl (rw is (unread_by false report (Some whole) (cannot_read report) (inr (inl refl)))),
           Does-refused (cannot_read report) _ f (Err f) b.out b.out refl t refl,
           refl,
-          no_failures,
+          failures_from false 0,
           1,
-          pair (omega arith) (omega arith),
+          counts-replicate 1 false ∙ plus-file false 1,
           Counted-none b.input_failures _ b.file_failures _ refl (omega arith),
           rw t at counted,
         )
@@ -552,7 +539,7 @@ module _ (is_summed : Bool) (m : Meaning) (are_named : Bool) (report : Text) whe
           refl,
           no_failures,
           0,
-          pair (omega arith) (omega arith),
+          refl,
           Counted-none b.input_failures _ b.file_failures _ refl (omega arith),
           rw t at counted,
         )
@@ -656,12 +643,8 @@ module _ (is_summed : Bool) (m : Meaning) (report : Text) (names : List Text) (r
           → IfSome tree (λ files. (whole : List ℕ) × (files report ≡ Some whole) × (remaining feed ≡ Some whole))
           → IfSome tree (λ files. b.file_failures ≡ count_after u 0)
           → IfSome first (λ bytes. IfSome tree (λ files. IfSome left (λ text. (whole : Text)
-          → files report ≡ Some whole → HasRoom whole text 1 → (run : Run)
-          × ListsTold is_summed m (nat_lt 1 (length names)) files report 1 text names bytes run
-          × Does run r b.out d.out × TellsAll err_old err_new run.notes × (own : Failures) × (failed : ℕ)
-          × (counts run.failures ≡ plus own (failures_from false failed))
-          × Counted own b.input_failures d.input_failures b.file_failures d.file_failures
-          × (y ≡ count_after x failed))))
+          → files report ≡ Some whole → HasRoom whole text 1 → RunsTold is_summed m (nat_lt 1 (length names)) files
+          report 1 text names bytes r b d err_old err_new x y)))
           → Reported first tree b.out d.out b.input_failures d.input_failures u v
       on None tree opened counted lists = tt
       on (Some bytes) None opened counted lists = tt

@@ -6,7 +6,7 @@ use Rattle.request.specs.CommandLine.{Text}
 use Rattle.source.specs.Counts.{count_after}
 use Rattle.source.specs.Written.{Shown}
 use Rattle.sumlist.specs.Lines.{lines}
-use Rattle.sumlist.specs.Report.{IsPossible, Meaning, Outcome, report_from, summary_of, text}
+use Rattle.sumlist.specs.Report.{Files, IsPossible, Meaning, Outcome, report_from, summary_of, text}
 use Rattle.sumlist.specs.Tally.{is_clean}
 use Rattle.sumlist.specs.declared.summary.Summary.{Summary}
 use Rattle.command.specs.Checking.{ListsTold, notes_of}
@@ -86,12 +86,18 @@ pub record KeepsReport {F : Type 0} (old new : Telling F) (a b : Seen) : Type 0 
   pub out : b.out ≡ a.out
 
 -- the run over these lists beside what is left of their report was done; of its failures some are reads of the report
-abbrev pub TellsLists : Bool → Meaning → Bool → Text → Option Text → ℕ → List Text → Result ℕ Fault → Seen → Seen
-    → Shown → Shown → ℕ → ℕ → Type 0
-TellsLists is_summed m are_named report left n names r old new err_old err_new x y = IfTold old (λ bytes files.
-    IfSome left (λ text. (whole : Text) → files report ≡ Some whole → HasRoom whole text n → (run : Run)
-    × ListsTold is_summed m are_named files report n text names bytes run × Does run r old.out new.out
+abbrev pub RunsTold : Bool → Meaning → Bool → Files → Text → ℕ → Text → List Text → List ℕ → Result ℕ Fault → Seen
+    → Seen → Shown → Shown → ℕ → ℕ → Type 0
+RunsTold is_summed m are_named files report n left names bytes r old new err_old err_new x y = (run : Run)
+    × ListsTold is_summed m are_named files report n left names bytes run × Does run r old.out new.out
     × TellsAll err_old err_new run.notes × (own : Failures) × (failed : ℕ)
     × (counts run.failures ≡ plus own (failures_from false failed))
     × Counted own old.input_failures new.input_failures old.file_failures new.file_failures
-    × (y ≡ count_after x failed)))
+    × (y ≡ count_after x failed)
+
+-- the same where the bytes, the files and the report are told
+abbrev pub TellsLists : Bool → Meaning → Bool → Text → Option Text → ℕ → List Text → Result ℕ Fault → Seen → Seen
+    → Shown → Shown → ℕ → ℕ → Type 0
+TellsLists is_summed m are_named report left n names r old new err_old err_new x y = IfTold old (λ bytes files.
+    IfSome left (λ text. (whole : Text) → files report ≡ Some whole → HasRoom whole text n
+    → RunsTold is_summed m are_named files report n text names bytes r old new err_old err_new x y))
