@@ -93,6 +93,11 @@ def one_run(program, source, about, files):
     with open("report", "wb") as file:
         file.write(whole.out)
     told = check(program, [*words, "--summary", "--told", "report"], names)
+    if refused:
+        # it ends at the first list that cannot be read
+        end = whole.err.index(refused) + len(refused)
+        same(f"{about}, told to a list", told, (1, b"", whole.err[:end]))
+        return
     same(f"{about}, told", told, (whole.status, b"", whole.err))
     report, number = changed(source, whole.out)
     if number:

@@ -20,7 +20,7 @@ use Rattle.command.proofs.Refused.{ends, not_both, refused_ends}
 
 -- ---- one list
 
-status_light : (b : Bool) (s : ℕ) → s ≡ (if b then 0 else 1) → s ≢ 3
+pub status_light : (b : Bool) (s : ℕ) → s ≡ (if b then 0 else 1) → s ≢ 3
 status_light true s is e = omega (arith, is, e)
 status_light false s is e = omega (arith, is, e)
 

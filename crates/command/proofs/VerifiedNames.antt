@@ -18,7 +18,7 @@ use Rattle.command.proofs.Refused.{Does-refused, counts-replicate, pair, unread_
 use Rattle.command.proofs.Tagging.{Taken}
 
 -- a name that does not open is not too long
-unopened : (name : Text) (content : Option (List ℕ)) (t : Trouble) → MayRefuse 0 name content t
+pub unopened : (name : Text) (content : Option (List ℕ)) (t : Trouble) → MayRefuse 0 name content t
     → (t ≡ too_long name → ⊥) → MayFail name (λ _. ⊥) t
 unopened name content t (inl p) other = inl p
 unopened name content t (inr (inl p)) other = inr (inl p)

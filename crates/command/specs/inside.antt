@@ -14,3 +14,4 @@ pub mod Joining
 pub mod Verifying
 pub mod Hashed
 pub mod Reported
+pub mod Told

@@ -1,18 +1,24 @@
 // The command `check` with `--told`: what a report on lists does not say.
 
-ghost use Rattle.std.specs.Prelude.{◌≡◌, ◌≤◌, ◌+◌, if◌then◌else◌, map};
+ghost use Rattle.std.specs.Prelude.{◌≡◌, ◌≤◌, ◌<◌, ◌+◌, ◌⊎◌, [], IfSome, MatchResult, Ok, Some, if◌then◌else◌};
+ghost use Rattle.std.specs.Prelude.{length, map, nat_lt, option_map, true};
 ghost use Rattle.std.specs.List.{sum_by};
+ghost use Rattle.source.specs.Counts.{count_after};
 ghost use Rattle.sumlist.specs.Tally.{is_clean};
+ghost use Rattle.sumlist.specs.inside.Telling.{left};
 ghost use Rattle.task.specs.Tasks.{in_file};
 ghost use Rattle.command.specs.Checking.{ListsRun};
-ghost use Rattle.command.specs.Lines.{opens_of};
+ghost use Rattle.command.specs.Lines.{content_of, is_input, opens_of};
 ghost use Rattle.command.specs.Run.{TellsAll};
+ghost use Rattle.command.specs.inside.Faults.{of_tell};
+ghost use Rattle.command.specs.inside.Reading.{Leaves, failed};
 ghost use Rattle.command.specs.inside.Rules.{EntriesRun, entries_opens, meaning};
-ghost use Rattle.command.specs.inside.Seen.{DoesRun, OpensAtMost};
+ghost use Rattle.command.specs.inside.Seen.{DoesRun, IfTold, OpensAtMost};
 ghost use Rattle.command.specs.inside.Streams.{SameStreams};
+ghost use Rattle.command.specs.inside.Told.{CountsList, KeepsReport, SumsUp, TellsList, TellsLists};
+ghost use Rattle.command.specs.inside.Troubles.{cannot_read, other_line, trouble_of};
 
 use crate::fault::Fault;
-use crate::lines::settle;
 use crate::reports::{hint, note, short_keyed, title_of};
 use crate::rule::ShortKeyed;
 use crate::session::{Session, Streams, open_file};
@@ -22,11 +28,10 @@ use sumlist::{ReportReader, Summary, TellFault, Tree, tell_list};
 use task::Entries;
 
 impl<'i, 't, 'o, L: Feed, T: Tree, W: Sink> Session<'i, 't, 'o, L, T, W> {
-    /// Tells on `err` of each list what the run told that printed a report on them, and answers its status. The lists
-    /// and the report are read once, side by side, and no file of a list is opened. A key is read and judged first, as
-    /// for the report. Goes on with the next list after one that can't be read to its end, which is told. The faults
-    /// that end it are `CannotRead` and `TooLong` of the report, `OtherLine` for the first line of it that is not that
-    /// of its entry, and `OutOfMemory`.
+    /// Reports on `err` of each list what the run reported that printed a report on them, and answers its status. The
+    /// lists and the report are read once, side by side, and no file of a list is opened. A key is read and judged
+    /// first, as for the report. The faults that end it are `CannotRead` and `TooLong` of a list or of the report,
+    /// `OtherLine` for the first line of the report that is not that of its entry, and `OutOfMemory`.
     pub fn print_told<'n, E: Sink>(
         &mut self,
         entries: Entries<'n>,
@@ -68,7 +73,7 @@ impl<'i, 't, 'o, L: Feed, T: Tree, W: Sink> Session<'i, 't, 'o, L, T, W> {
         }
     }
 
-    // Tells of lists whose entries are these, by the report of this name.
+    // Reports on lists whose entries are these, by the report of this name.
     fn tell_lists<'n, E: Sink>(
         &mut self,
         entries: &sumlist::Entries<'_, ShortKeyed>,
@@ -91,51 +96,98 @@ impl<'i, 't, 'o, L: Feed, T: Tree, W: Sink> Session<'i, 't, 'o, L, T, W> {
             entries,
             report: ReportReader::new(&mut feed),
             name: report,
-            lines: 0,
+            next: 1,
         };
         let answer = self.tell_each(&mut told, is_summed, lists, err);
         self.tree.close(feed);
         answer
     }
 
-    // Tells of each list what its lines in the report come to.
+    // Reports on each list by its lines in the report.
     fn tell_each<'n, F: Feed, E: Sink>(
         &mut self,
         told: &mut Telling<'_, '_, '_, 'n, F>,
         is_summed: bool,
         lists: &[&'n str],
         err: &mut E,
-    ) -> Result<u8, Fault<'n>> {
+    ) -> Result<u8, Fault<'n>>
+        ensures run { TellsLists is_summed (meaning told.old.entries.now) (nat_lt 1 (length (map (λ n. n.now) lists.entry.now)))
+            told.old.name.now (left F.remaining told.old.report) told.old.next (map (λ n. n.now) lists.entry.now) result
+            (⟦<Self as Streams>⟧.seen self.old) (⟦<Self as Streams>⟧.seen self.new)
+            (E.shown err.old) (E.shown err.new)
+            (F.failure_count told.old.report.feed.now) (F.failure_count told.new.report.feed.now) }
+        ensures files { (⟦<Self as Streams>⟧.seen self.new).files ≡ (⟦<Self as Streams>⟧.seen self.old).files }
+        ensures opens { OpensAtMost (sum_by opens_of (map (λ n. n.now) lists.entry.now))
+            (⟦<Self as Streams>⟧.seen self.old) (⟦<Self as Streams>⟧.seen self.new) }
+        ensures same { SameStreams self.old self.new
+            × (told.new.report.feed.ghost_name ≡ told.old.report.feed.ghost_name) }
+    {
         let are_named = lists.len() > 1;
         let mut status: u8 = 0;
         for name in lists {
             let title = title_of(are_named, name);
-            match self.tell_named(told, title, name) {
-                Ok(answer) => {
-                    let summary = answer?;
-                    note(title, is_summed, &Ok(summary), err);
-                    hint(name, told.entries, &Ok(summary), err);
-                    status = status.max(status_of(&summary));
-                }
-                Err(fault) => status = status.max(settle(err, fault)?),
-            }
+            status = status.max(self.tell_one(told, title, is_summed, name, err)?);
         }
         told.end()?;
         Ok(status)
     }
 
-    // The numbers of the list of this name, or the fault of the report that ends the run; or the fault of the list.
+    // Reports on the list of this name, and answers its status.
+    fn tell_one<'n, F: Feed, E: Sink>(
+        &mut self,
+        told: &mut Telling<'_, '_, '_, 'n, F>,
+        title: Option<&str>,
+        is_summed: bool,
+        name: &'n str,
+        err: &mut E,
+    ) -> Result<u8, Fault<'n>>
+        ensures list { TellsList is_summed (meaning told.old.entries.now) (option_map (λ n. n.now) title.entry)
+            told.old.name.now (left F.remaining told.old.report) told.old.next
+            (left F.remaining told.new.report) told.new.next name.entry.now result
+            (⟦<Self as Streams>⟧.seen self.old) (⟦<Self as Streams>⟧.seen self.new)
+            (E.shown err.old) (E.shown err.new)
+            (F.failure_count told.old.report.feed.now) (F.failure_count told.new.report.feed.now) }
+        ensures gave { Leaves (is_input name.entry.now) result
+            (⟦<Self as Streams>⟧.seen self.old).bytes (⟦<Self as Streams>⟧.seen self.new).bytes }
+        ensures kept { KeepsReport told.old told.new (⟦<Self as Streams>⟧.seen self.old)
+            (⟦<Self as Streams>⟧.seen self.new) }
+        ensures opens { OpensAtMost (opens_of name.entry.now) (⟦<Self as Streams>⟧.seen self.old)
+            (⟦<Self as Streams>⟧.seen self.new) }
+        ensures same { SameStreams self.old self.new }
+    {
+        let summary = self.tell_named(told, title, name)?;
+        let answer = Ok(summary);
+        note(title, is_summed, &answer, err);
+        hint(name, told.entries, &answer, err);
+        Ok(status_of(&summary))
+    }
+
+    // The numbers of the list of this name.
     fn tell_named<'n, F: Feed>(
         &mut self,
         told: &mut Telling<'_, '_, '_, 'n, F>,
         title: Option<&str>,
         name: &'n str,
-    ) -> Result<Result<Summary, Fault<'n>>, Fault<'n>> {
+    ) -> Result<Summary, Fault<'n>>
+        ensures summed { IfTold (⟦<Self as Streams>⟧.seen self.old) (λ bytes files.
+            IfSome (left F.remaining told.old.report) (λ text. SumsUp (meaning told.old.entries.now)
+            (option_map (λ n. n.now) title.entry) told.old.name.now text told.old.next
+            (left F.remaining told.new.report) told.new.next name.entry.now (content_of name.entry.now bytes files)
+            result (F.failure_count told.old.report.feed.now) (F.failure_count told.new.report.feed.now)
+            (CountsList name.entry.now (⟦<Self as Streams>⟧.seen self.old) (⟦<Self as Streams>⟧.seen self.new)))) }
+        ensures gave { Leaves (is_input name.entry.now) result
+            (⟦<Self as Streams>⟧.seen self.old).bytes (⟦<Self as Streams>⟧.seen self.new).bytes }
+        ensures kept { KeepsReport told.old told.new (⟦<Self as Streams>⟧.seen self.old)
+            (⟦<Self as Streams>⟧.seen self.new) }
+        ensures opens { OpensAtMost (opens_of name.entry.now) (⟦<Self as Streams>⟧.seen self.old)
+            (⟦<Self as Streams>⟧.seen self.new) }
+        ensures same { SameStreams self.old self.new }
+    {
         read_named!(self, name, 0, tell_feed(told, title, name))
     }
 }
 
-// Lists that are told of beside their report.
+// Lists that are read beside their report.
 #[derive(Drop)]
 struct Telling<'e, 'k, 'f, 'n, F: Feed> {
     alloc: Global,
@@ -143,25 +195,24 @@ struct Telling<'e, 'k, 'f, 'n, F: Feed> {
     report: ReportReader<'f, F>,
     // the name of the report
     name: &'n str,
-    // how many of its lines came so far
-    lines: u64,
+    // the number of its next line
+    next: u64,
 }
 
 impl<'e, 'k, 'f, 'n, F: Feed> Telling<'e, 'k, 'f, 'n, F> {
-    // Refuses a line behind those of all lists.
-    fn end(&mut self) -> Result<(), Fault<'n>> {
+    // Refuses a line after those of all lists.
+    fn end(&mut self) -> Result<(), Fault<'n>>
+        ensures ends { IfSome (left F.remaining self.old.report) (λ text. MatchResult result (λ _. text ≡ [])
+            (λ fault. (trouble_of fault ≡ cannot_read self.old.name.now)
+            ⊎ ((0 < length text) × (trouble_of fault ≡ other_line self.old.name.now self.old.next)))) }
+        ensures counted { F.failure_count self.new.report.feed.now
+            ≡ count_after (F.failure_count self.old.report.feed.now) (failed true (Some []) result).input }
+        ensures same { self.new.report.feed.ghost_name ≡ self.old.report.feed.ghost_name }
+    {
         match self.report.has_more() {
             Ok(false) => Ok(()),
-            Ok(true) => Err(self.other_line()),
+            Ok(true) => Err(Fault::OtherLine(self.name, self.next)),
             Err(_) => Err(Fault::CannotRead(self.name)),
-        }
-    }
-
-    // The fault of the next line, which is not the one that has to come.
-    fn other_line(&self) -> Fault<'n> {
-        match self.lines.checked_add(1) {
-            Some(number) => Fault::OtherLine(self.name, number),
-            None => Fault::TooLong(self.name),
         }
     }
 
@@ -170,14 +221,16 @@ impl<'e, 'k, 'f, 'n, F: Feed> Telling<'e, 'k, 'f, 'n, F> {
         &self,
         answer: Result<Summary, TellFault>,
         list: &'n str,
-    ) -> Result<Result<Summary, Fault<'n>>, Fault<'n>> {
+    ) -> Result<Summary, Fault<'n>>
+        ensures { result ≡ of_tell answer list.entry self.now.name self.now.next }
+    {
         match answer {
-            Ok(summary) => Ok(Ok(summary)),
+            Ok(summary) => Ok(summary),
             Err(TellFault::ListRead) => Err(Fault::CannotRead(list)),
             Err(TellFault::ListTooLong) => Err(Fault::TooLong(list)),
-            Err(TellFault::ReportRead) => Ok(Err(Fault::CannotRead(self.name))),
-            Err(TellFault::ReportTooLong) => Ok(Err(Fault::TooLong(self.name))),
-            Err(TellFault::OtherLine) => Ok(Err(self.other_line())),
+            Err(TellFault::ReportRead) => Err(Fault::CannotRead(self.name)),
+            Err(TellFault::ReportTooLong) => Err(Fault::TooLong(self.name)),
+            Err(TellFault::OtherLine) => Err(Fault::OtherLine(self.name, self.next)),
             Err(TellFault::OutOfMemory) => Err(Fault::OutOfMemory),
         }
     }
@@ -196,14 +249,23 @@ fn tell_feed<'n, F: Feed, L: Feed>(
     title: Option<&str>,
     name: &'n str,
     list: &mut L,
-) -> Result<Result<Summary, Fault<'n>>, Fault<'n>> {
+) -> Result<Summary, Fault<'n>>
+    ensures summed { IfSome (L.remaining list.old) (λ bytes. IfSome (left F.remaining told.old.report) (λ text.
+        SumsUp (meaning told.old.entries.now) (option_map (λ n. n.now) title.entry) told.old.name.now text
+        told.old.next (left F.remaining told.new.report) told.new.next name.entry.now (Some bytes) result
+        (F.failure_count told.old.report.feed.now) (F.failure_count told.new.report.feed.now)
+        (λ failed. L.failure_count list.new ≡ count_after (L.failure_count list.old) failed))) }
+    ensures gave { Leaves true result (L.remaining list.old) (L.remaining list.new) }
+    ensures kept { (told.new.name ≡ told.old.name) × (told.new.entries ≡ told.old.entries)
+        × (told.new.report.feed.ghost_name ≡ told.old.report.feed.ghost_name) }
+{
     let answer = tell_list(
         told.alloc,
         list,
         told.entries,
         title,
         &mut told.report,
-        &mut told.lines,
+        &mut told.next,
     );
     told.settled(answer, name)
 }

@@ -1,14 +1,15 @@
 -- What a run of the program prints, tells and answers, by its words, standard input and files.
-use Rattle.std.specs.Prelude.{◌⊎◌, ◌≡◌, ◌≤◌, ◌+◌, ℕ, List, None, [], ◌∷◌, Ok, Err, MatchResult, length, sum_by}
+use Rattle.std.specs.Prelude.{◌⊎◌, ◌≡◌, ◌≤◌, ◌+◌, ℕ, List, [], ◌∷◌, Ok, Err, MatchResult, length, sum_by}
 use Rattle.std.specs.Option.{option_map_or}
 use Rattle.source.specs.Written.{Shown}
 use Rattle.sumlist.specs.Lines.{lines}
 use Rattle.sumlist.specs.Naming.{names}
 use Rattle.sumlist.specs.Report.{Files, keyed, unkeyed}
 use Rattle.sumlist.specs.Shared.{every}
+use Rattle.sumlist.specs.declared.share.Share.{Share}
 use Rattle.request.specs.CommandLine.{AreRead, ErrorKind, Given, IsWrong, Text}
-use Rattle.task.specs.Tasks.{Asked, asked, checks, checks_tags, derives, in_file, joins, prints_line, prints_lines}
-use Rattle.task.specs.Tasks.{prints_part, prints_parts, prints_starts, tags, these, verifies}
+use Rattle.task.specs.Tasks.{Asked, Source, asked, checks, checks_tags, derives, in_file, joins, prints_line}
+use Rattle.task.specs.Tasks.{prints_lines, prints_part, prints_parts, prints_starts, tags, these, verifies}
 use Rattle.command.specs.Checking.{ListsRun}
 use Rattle.command.specs.Run.{Counted, Prints, Run, Runs, out_of_memory, prints, stops}
 use Rattle.command.specs.Cutting.{EachRuns, PartRuns, StartsRuns}
@@ -35,6 +36,12 @@ TaskRuns (prints_parts chunks name) files input = EachRuns chunks name files inp
 TaskRuns (verifies parts name) files input = VerifyRuns parts name files input
 TaskRuns (joins stretch bytes wanted name lists) files input = JoinRuns stretch bytes wanted name lists files input
 
+-- how many files are opened for lists at most: each of them, and one for each of its lines, or their report
+abbrev pub list_opens : Source Share → List Text → Files → List ℕ → ℕ
+list_opens (these share) lists files input =
+    sum_by (λ list. opens_of list + length (option_map_or lines (content_of list input files) [])) lists
+list_opens (in_file report) lists files input = 1 + sum_by opens_of lists
+
 -- how many files it opens at most: a list, and each of what it names, included; of a share its own
 abbrev pub most_opens : Asked → Files → List ℕ → ℕ
 most_opens (prints_lines sum (these found) s) files input = key_opens sum + sum_by opens_of
@@ -43,11 +50,9 @@ most_opens (prints_lines sum (in_file list) s) files input = key_opens sum + (op
     + length (option_map_or (λ bytes. every s.others s.waiting (names bytes)) (content_of list input files) []))
 most_opens (prints_line sum wanted name file) files input = key_opens sum + opens_of file
 most_opens (derives derived is_raw name) files input = 1
-most_opens (checks kind is_summed (in_file report) lists) files input = 1 + sum_by opens_of lists
-most_opens (checks kind is_summed (these share) lists) files input =
-    sum_by (λ list. opens_of list + length (option_map_or lines (content_of list input files) [])) lists
+most_opens (checks kind is_summed by lists) files input = list_opens by lists files input
 most_opens (checks_tags mac n key is_summed by lists) files input =
-    key_opens (tags mac false key) + most_opens (checks None is_summed by lists) files input
+    key_opens (tags mac false key) + list_opens by lists files input
 most_opens (prints_part first chunks name) files input = opens_of name
 most_opens (prints_starts chunks name) files input = 55
 most_opens (prints_parts chunks name) files input = opens_of name

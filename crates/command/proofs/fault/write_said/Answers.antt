@@ -23,5 +23,10 @@ returns-in_ok-write_visible-in-BadLine g c =
     c.in_ok-write_visible-in-BadLine.ensures
     (rw c.line_complaint.ensures at c.write_number-in-BadLine.ensures))
 
+pub returns-in_ok-write_visible-in-OtherLine : goal.returns-in_ok-write_visible-in-OtherLine
+returns-in_ok-write_visible-in-OtherLine g c =
+    rw c.in-OtherLine.is (Writes-after _ _ _ _ (visible c.in-OtherLine.report.now) _
+    c.in_ok-write_visible-in-OtherLine.ensures c.write_number-in-OtherLine.ensures)
+
 pub returns-in-BytesBehind : goal.returns-in-BytesBehind
 returns-in-BytesBehind g c = rw c.in-BytesBehind.is c.write_of-in-BytesBehind.ensures

@@ -1,0 +1,20 @@
+use Rattle.std.proofs.Common.{map, refl, sym}
+use Rattle.command.specs.inside.Rules.{meaning}
+use Rattle.command.specs.inside.Streams.{seen_of}
+use Rattle.command.proofs.Told.{report_none, report_read}
+use Rattle.command.proofs.session.Session.tell_lists.Goals as goal
+
+pub returns-in_err-feed-clause-run : goal.returns-in_err-feed-clause-run
+returns-in_err-feed-clause-run g c =
+    report_none c.args.is_summed (meaning c.args.entries.now) c.args.report.now (map (λ n. n.now) c.args.lists.now) _
+    _ _ _ _ c.in_err-feed.field-0.0 _ _ _ _ c.from_residual.ensures.1 c.in_err-feed.ensures.opened
+    c.in_err-feed.ensures.counted refl
+
+pub returns-clause-run : goal.returns-clause-run
+returns-clause-run g c =
+    let see = seen_of g.L.Feed.remaining g.L.Feed.failure_count g.T.Tree.files g.T.Tree.failure_count
+    g.T.Tree.opens g.W.Sink.shown in
+    report_read c.args.is_summed (meaning c.args.entries.now) c.args.report.now (map (λ n. n.now) c.args.lists.now) _
+    _ _ g.T.F.Feed.remaining c.in_ok-feed.feed _ _ (see c.tell_each-answer.old.self) (see c.tell_each-answer.new.self)
+    _ _ _ _ c.in_ok-feed.ensures.opened c.open_file.ensures.kept c.in_ok-feed.ensures.counted
+    c.new.ensures.left c.in_ok-feed.ensures.fresh c.tell_each-answer.ensures.run c.close.ensures.counted

@@ -1,0 +1,22 @@
+use Rattle.std.proofs.Common.{refl}
+use Rattle.command.specs.inside.Rules.{meaning}
+use Rattle.command.specs.inside.Streams.{seen_of}
+use Rattle.command.proofs.Telling.{TellsAll-append}
+use Rattle.command.proofs.Told.{list_noted, list_stopped}
+use Rattle.command.proofs.session.Session.tell_one.Goals as goal
+
+pub returns-in_err-summary-clause-list : goal.returns-in_err-summary-clause-list
+returns-in_err-summary-clause-list g c =
+    let see = seen_of g.L.Feed.remaining g.L.Feed.failure_count g.T.Tree.files g.T.Tree.failure_count
+    g.T.Tree.opens g.W.Sink.shown in
+    list_stopped c.args.is_summed _ _ _ _ _ _ _ _ (see c.args.self.now) (see c.tell_named.new.self) _ _ _ _
+    c.in_err-summary.field-0.0 _ c.in_err-summary.ensures.summed c.from_residual.ensures.1 refl
+
+pub returns-clause-list : goal.returns-clause-list
+returns-clause-list g c =
+    let see = seen_of g.L.Feed.remaining g.L.Feed.failure_count g.T.Tree.files g.T.Tree.failure_count
+    g.T.Tree.opens g.W.Sink.shown in
+    rw c.status_of.ensures (list_noted c.args.is_summed (meaning c.args.told.now.entries.now) _ _ _ _ _ _ _
+    (see c.args.self.now) (see c.tell_named.new.self) _ _ _ _
+    c.in_ok-summary.summary c.in_ok-summary.ensures.summed
+    (TellsAll-append _ _ _ _ _ c.note.ensures c.hint.ensures))

@@ -1,0 +1,12 @@
+use Rattle.command.proofs.Told.{feed_left, feed_sums}
+use Rattle.command.proofs.told.tell_feed.Goals as goal
+
+pub returns-clause-summed : goal.returns-clause-summed
+returns-clause-summed g c =
+    rw c.settled.ensures (feed_sums _ _ c.args.name c.args.told.now.name _ _ _ _ _ _ _ _ _ _
+    c.tell_list-answer.result c.tell_list-answer.ensures.told c.tell_list-answer.ensures.reads
+    c.tell_list-answer.ensures.report_reads c.tell_list-answer.ensures.gave)
+
+pub returns-clause-gave : goal.returns-clause-gave
+returns-clause-gave g c = rw c.settled.ensures (feed_left _ _ c.tell_list-answer.result c.args.name _ _ _
+    c.tell_list-answer.ensures.gave c.tell_list-answer.ensures.end)
