@@ -28,12 +28,12 @@ use Rattle.command.proofs.Sharing.{status}
 abbrev pub Quiet : Run → Type 0
 Quiet r = r.notes ++ (end_of r.ending).1 ≡ []
 
--- neither of two lists without elements has one
+-- two lists without an element
 nil_both : {A : Type 0} (xs ys : List A) → xs ++ ys ≡ [] → (xs ≡ []) × (ys ≡ [])
 nil_both [] ys none = (refl, none)
 nil_both (x ∷ xs) ys none = cc
 
--- its ending is a status
+-- the run ends with a status, not with a trouble
 abbrev pub Ends : Run → Type 0
 Ends r = (s : ℕ) × (r.ending ≡ Ok s)
 
@@ -74,7 +74,7 @@ followed_ends : (first rest : Run) → Ends rest → Ends (followed first rest)
 followed_ends first rest (s, ends) =
     (max (status first) s, ap (result_map_both (max (status first)) (λ t. t)) ends)
 
--- a name that is refused has a trouble
+-- the run over a name that is refused ends with a trouble
 refused_stops : (most : ℕ) (b : Bool) (name : Text) (content : Option Text) (stop : Run)
     → IsRefused most b name content stop → Ends stop → ⊥
 refused_stops most b name content stop (inl (inl is)) ends = stopped stop _ (ap (λ (r : Run). r.ending) is) ends
@@ -95,7 +95,7 @@ module _ (m : Meaning) (is_summed : Bool) (files : Files) (many : Bool) where
   abbrev pub Over : List Text → Share → List ℕ → Run → Type 0
   Over lists s input run = RunsAll is_input One lists s input run
 
-  -- what a run that ends well leaves of standard input
+  -- what the run over a list that is read to its end leaves of standard input
   abbrev pub left_of : Text → List ℕ → List ℕ
   left_of name input = if is_input name then [] else input
 
@@ -116,7 +116,7 @@ module _ (m : Meaning) (is_summed : Bool) (files : Files) (many : Bool) where
       on false = refl
       on true = refl
 
-  -- what the run of a share over a list comes to, if it ends well
+  -- the run of a share over a list that is read to its end
   pub record Listed (name : Text) (s : Share) (content : Option (List ℕ)) (run : Run) (next : Share) : Type 0 where
     pub bytes : List ℕ
     pub is : content ≡ Some bytes
@@ -149,6 +149,7 @@ module _ (m : Meaning) (is_summed : Bool) (files : Files) (many : Bool) where
     abbrev pub share_at : ℕ → Share
     share_at k = record { others = n; waiting = k }
 
+    -- the run of a share over lists that reports nothing: that over the first, and that over the others
     pub record Head (name : Text) (lists : List Text) (k : ℕ) (input : List ℕ) (run : Run) : Type 0 where
       pub first : Run
       pub next : Share
@@ -186,7 +187,7 @@ module _ (m : Meaning) (is_summed : Bool) (files : Files) (many : Bool) where
               is = is;
             }
 
-    -- the runs of all shares over lists: a run over them, with the lines of which each share has its own
+    -- one run over lists, and the lines that it prints, of which each share prints its own
     pub record Made (lists : List Text) (input : List ℕ) (shares : ℕ → Run) : Type 0 where
       pub run : Run
       pub ends : Ends run
@@ -200,7 +201,7 @@ module _ (m : Meaning) (is_summed : Bool) (files : Files) (many : Bool) where
       pub most_within : most ≤ n
       pub most_same : status (shares most) ≡ status run
 
-    -- each share, the last one for numbers beyond
+    -- the runs of the shares; any number above n stands for the last
     abbrev pub Did : List Text → List ℕ → (ℕ → Run) → Type 0
     Did lists input shares = (k : ℕ) → Quiet (shares k) × Over lists (share_at (min k n)) input (shares k)
 
@@ -219,7 +220,7 @@ module _ (m : Meaning) (is_summed : Bool) (files : Files) (many : Bool) where
       most_same = ap status (did 0).1;
     }
 
-    -- over one list and others
+    -- a list and others: outcomes of the whole list are merged from those of the shares
     module _ (name : Text) (lists : List Text) (input : List ℕ) (shares : ℕ → Run)
         (heads : (k : ℕ) → Head name lists (min k n) input (shares k)) where
       abbrev bytes : List ℕ
@@ -244,12 +245,12 @@ module _ (m : Meaning) (is_summed : Bool) (files : Files) (many : Bool) where
       within_min : (k : ℕ) → k ≤ n → min k n ≡ k
       within_min k within = omega arith
 
-      -- a share has its own of the outcomes that are merged
+      -- a share makes the same of them
       own_whole : (k : ℕ) → k ≤ n → shared n (min k n) (outcomes k) ≡ shared n k whole
       own_whole k within =
           ap (λ j. shared n j (outcomes k)) (within_min k within) ∙ all_merged.same k within
 
-      -- the share that waits for so many entries behind the list
+      -- the share that passes over j entries after the list before its next, and its run over the other lists
       abbrev share_of : ℕ → ℕ
       share_of j = turns.back (min j n)
 
@@ -267,7 +268,7 @@ module _ (m : Meaning) (is_summed : Bool) (files : Files) (many : Bool) where
           let h = heads (share_of j) in
           (h.quiet, subst (λ w. Over lists (share_at w) (left_of name input) (behind j)) (waits j) h.runs)
 
-      -- the share that comes from this one
+      -- how many share k passes over
       abbrev waiting : ℕ → ℕ
       waiting k = (shared n k whole).1
 
@@ -275,7 +276,7 @@ module _ (m : Meaning) (is_summed : Bool) (files : Files) (many : Bool) where
       comes k within = ap (λ j. (heads j).rest)
           (ap turns.back (within_min (waiting k) (turns.within k within)) ∙ turns.again k within)
 
-      -- what is said of the list, and of those after it
+      -- the lines of the list's report
       abbrev spoken_here : Spoken (title name) 1 whole
       spoken_here = spoken (title name) 1 whole
 
@@ -293,7 +294,7 @@ module _ (m : Meaning) (is_summed : Bool) (files : Files) (many : Bool) where
           ∙ ap (λ s. max s (status h.rest)) (h.here.status
           ∙ ap (λ (r : List Outcome × ℕ). bad r.0) (own_whole k within))
 
-      -- the run of all over the list
+      -- the run over the whole list
       abbrev all_first : Run
       all_first = let own = shared 0 0 whole in let s = summary_of own.0 in
           record (prints (report_from (title name) 1 own.0) (if is_clean s then 0 else 1)) {

@@ -1,4 +1,4 @@
--- The outcomes of the shares of a list are those of one run over it, one of each share in turn.
+-- The outcomes of a list that its shares have in turn are outcomes of the whole list.
 use Rattle.std.proofs.Common.{◌≡◌, ◌∙◌, ◌==◌, ℕ, ◌≤◌, suc, zero, List, [], ◌∷◌, ap, sym, refl, subst, arith, inl, inr}
 use Rattle.std.proofs.Common.{Bool, true, false, ◌⊎◌, if◌then◌else◌}
 use Rattle.std.proofs.lemmas.Bool.Decides.{nat_tests}
@@ -9,7 +9,7 @@ use Rattle.sumlist.proofs.SharedLines.{entry_apart, own_at, passed_at, skipped_a
 
 -- ---- the turns of the shares
 
--- the share whose turn it is after that of this one, and before it
+-- of n + 1 shares, the one that comes after this one, and the one before it
 abbrev pub after : ℕ → ℕ → ℕ
 after n j = if j == n then 0 else suc j
 
@@ -30,10 +30,11 @@ after-before n (suc k) within = grind (arith, nat_tests)
 
 -- ---- one outcome before others
 
+-- before what a share makes of the others
 abbrev pub put : Outcome → List Outcome × ℕ → List Outcome × ℕ
 put o r = (o ∷ r.0, r.1)
 
--- what a share is told of it
+-- what a share makes of it that passes over k entries before its next
 abbrev pub seen : ℕ → ℕ → Outcome → Outcome
 seen n zero o = o
 seen n (suc k) o = skipped
@@ -54,6 +55,7 @@ is_skipped (told name v) = inr (λ e. cc)
 
 -- ---- one run for all shares
 
+-- all outcomes but the first
 abbrev behind : List Outcome → List Outcome
 behind [] = []
 behind (o ∷ os) = os
@@ -62,7 +64,7 @@ module _ (files : Files) (m : Meaning) (n : ℕ) where
   abbrev pub Each : List (List ℕ) → (ℕ → List Outcome) → Type 0
   Each lines os = (k : ℕ) → k ≤ n → AllAllowed files m lines (os k)
 
-  -- outcomes of which a share has what it has of its own
+  -- outcomes of the whole list, of which each share makes what it makes of its own
   pub record Merged (lines : List (List ℕ)) (os : ℕ → List Outcome) : Type 0 where
     pub whole : List Outcome
     pub allowed : AllAllowed files m lines whole
@@ -73,6 +75,7 @@ module _ (files : Files) (m : Meaning) (n : ℕ) where
   none k (o ∷ os) allowed = absurd allowed
 
   module _ (line : List ℕ) (lines : List (List ℕ)) where
+    -- the outcome of a line before others
     pub record First (os : List Outcome) : Type 0 where
       pub first : Outcome
       pub allowed : Allowed files m line first
@@ -83,6 +86,7 @@ module _ (files : Files) (m : Meaning) (n : ℕ) where
     first_of [] allowed = absurd allowed
     first_of (o ∷ os) (here, rest) = record { first = o; allowed = here; is = refl; rest = rest }
 
+    -- the line is no entry, and the same share is next
     pass : (os : ℕ → List Outcome) → Each (line ∷ lines) os → IsSkipped line
         → Merged lines (λ k. behind (os k)) → Merged (line ∷ lines) os
     pass os each is r = record {
@@ -95,6 +99,7 @@ module _ (files : Files) (m : Meaning) (n : ℕ) where
           ∙ sym (skipped_before n k r.whole);
     }
 
+    -- the outcome is that of the share whose turn it is, and the one after it is next
     take_turn : (os : ℕ → List Outcome) → Each (line ∷ lines) os → (IsSkipped line → ⊥)
         → Merged lines (λ j. behind (os (after n j))) → Merged (line ∷ lines) os
     take_turn os each entry r = record {
@@ -139,7 +144,7 @@ module _ (files : Files) (m : Meaning) (n : ℕ) where
 
 -- ---- the turns after some outcomes
 
--- each share waits for another number of entries, and one of them for each number below theirs
+-- no two shares pass over as many entries before their next, and for each number up to n there is a share that does
 pub record Moves (n : ℕ) (os : List Outcome) : Type 0 where
   pub back : ℕ → ℕ
   pub back_within : (j : ℕ) → j ≤ n → back j ≤ n
@@ -195,7 +200,7 @@ moves n (o ∷ os) = elim (is_skipped o) [
   | inr apart ↦ moves_other n o os apart (moves n os)
 ]
 
--- one share that has no others takes all
+-- a share without others has all
 pub all_own : (os : List Outcome) → shared 0 0 os ≡ (os, 0)
 all_own [] = refl
 all_own (o ∷ os) = elim (is_skipped o) [

@@ -1,4 +1,4 @@
--- A list is clean if each share of it is.
+-- A list is clean exactly if each share of it is.
 use Rattle.std.proofs.Common.{◌≡◌, ◌∙◌, ◌==◌, ◌&&◌, ℕ, ◌+◌, ◌≤◌, suc, zero, List, [], ◌∷◌, ap, sym, refl, subst}
 use Rattle.std.proofs.Common.{arith, inl, inr, max}
 use Rattle.std.proofs.Common.{Bool, true, false, if◌then◌else◌}
@@ -23,7 +23,7 @@ bad_in o = 1
 abbrev pub bad : List Outcome → ℕ
 bad os = if is_clean (summary_of os) then 0 else 1
 
--- how many are bad
+-- how many lines are neither
 abbrev faults : Summary → ℕ
 faults s = s.failed + s.missing + s.unreadable + s.too_long + s.malformed
 
@@ -79,9 +79,9 @@ bad_none : bad [] ≡ 0
 unfolding summary_of
 bad_none = refl
 
--- ---- that of shares
+-- ---- those of a share
 
--- how bad a share of outcomes is
+-- how bad they are
 abbrev pub bad_own : ℕ → ℕ → List Outcome → ℕ
 bad_own n k os = bad (shared n k os).0
 

@@ -68,7 +68,7 @@ decimal_free : (n : ℕ) → HasNo 10 (decimal n)
 unfolding digits
 decimal_free n = digits_free 64 n [] free_nil
 
--- ---- a text is a line
+-- ---- the text of an outcome is a line
 
 pub record Line (t : List ℕ) : Type 0 where
   pub line : List ℕ
@@ -114,7 +114,7 @@ text_line list n (told name v) apart = verdict_line name n list v
 abbrev pub lined : List (List ℕ) → List ℕ
 lined ls = flat_map (λ l. l ++ 10 ∷ []) ls
 
--- the lines of what is said of outcomes: each share has those of its own
+-- the lines of the report on outcomes, before others: a share prints its own of them
 pub record Spoken (list : Option (List ℕ)) (i : ℕ) (os : List Outcome) : Type 0 where
   pub said : List (List ℕ)
   pub free : AllByRecursion (HasNo 10) said
@@ -122,7 +122,7 @@ pub record Spoken (list : Option (List ℕ)) (i : ℕ) (os : List Outcome) : Typ
   pub own : (n k : ℕ) (more : List (List ℕ)) → let r = shared n k os in
       lined (every n k (said ++ more)) ≡ report_from list i r.0 ++ lined (every n r.1 more)
 
--- what a share says after a line
+-- what a share prints of outcomes and of the lines after them
 abbrev told_after : Option (List ℕ) → ℕ → ℕ → List (List ℕ) → List Outcome × ℕ → List ℕ
 told_after list i n more r = report_from list i r.0 ++ lined (every n r.1 more)
 
@@ -167,7 +167,7 @@ spoken list i (o ∷ os) = elim (is_skipped o) [
   | inr apart ↦ spoken_other list i o os apart (spoken list (i + 1) os)
 ]
 
--- ---- lines that stand one after another
+-- ---- lines after one another
 
 pub lines-lined : (ls : List (List ℕ)) → AllByRecursion (HasNo 10) ls → lines (lined ls) ≡ ls
 lines-lined [] free = refl
