@@ -2,6 +2,7 @@
 use Rattle.std.proofs.Common.{◌≡◌, ◌≢◌, ◌∙◌, ◌==◌, ◌++◌, ℕ, ◌-◌, ◌^◌, ◌<◌, ◌≤◌, min, max, List, [], ◌∷◌, length, ap}
 use Rattle.std.proofs.Common.{ap₂, sym, refl, subst, arith, inl, inr}
 use Rattle.std.proofs.Common.{Bool, true, false, if◌then◌else◌, Option, Some, None, Result, Ok, Err, nat_lt}
+use Rattle.std.proofs.lemmas.Bool.{cases_lt}
 use Rattle.std.proofs.lemmas.Bool.Decides.{nat_tests}
 use Rattle.std.specs.List.{AllByRecursion}
 use Rattle.std.specs.Prelude.{MatchBool, replicate}
@@ -314,11 +315,54 @@ module _ (m : Meaning) (is_summed : Bool) (files : Files) (many : Bool) where
           all_first (record { others = 0; waiting = (shared 0 0 whole).1 })) (sym (heads 0).here.is)
           (whole, all_merged.allowed, inl (refl, refl))
 
-      together : Made lists (left_of name input) behind → Made (name ∷ lists) input shares
-      together r = record {
-        run = followed all_first r.run;
-        ends = followed_ends all_first r.run r.ends;
-        whole = (
+      -- and the other lists
+      module _ (r : Made lists (left_of name input) behind) where
+        abbrev run : Run
+        run = followed all_first r.run
+
+        run_status : status run ≡ max (bad whole) (status r.run)
+        run_status = followed_status all_first r.run r.ends ∙ ap (λ s. max s (status r.run)) first_status
+
+        rest_text : (k : ℕ) → k ≤ n → (heads k).rest.text ≡ lined (every n (waiting k) r.said)
+        rest_text k within = ap (λ (x : Run). x.text) (sym (comes k within))
+            ∙ r.own (waiting k) (turns.within k within)
+
+        rest_below : (k : ℕ) → k ≤ n → status (heads k).rest ≤ status r.run
+        rest_below k within = subst (λ (x : Run). status x ≤ status r.run) (comes k within)
+            (r.below (waiting k) (turns.within k within))
+
+        -- a share whose status is that of the run: one of the list, or one of the other lists
+        abbrev Highest : Type 0
+        Highest = (k : ℕ) × (k ≤ n) × (status (shares k) ≡ status run)
+
+        highest_here : status r.run ≤ bad whole → Highest
+        highest_here less =
+            let w = worst n whole in
+            let same = w.same in
+            let rest = rest_below w.k w.within in
+            (w.k, w.within, omega (arith, share_status w.k w.within, same, less, rest, run_status))
+
+        highest_later : bad whole < status r.run → Highest
+        highest_later less =
+            let k = turns.back r.most in
+            let within = turns.back_within r.most r.most_within in
+            let most = bad_below n k whole in
+            let is : (heads k).rest ≡ behind r.most
+            = ap (λ j. (heads (turns.back j)).rest) (sym (within_min r.most r.most_within)) in
+            let same = ap status is ∙ r.most_same in
+            (k, within, omega (arith, share_status k within, same, less, most, run_status))
+
+        highest : Highest
+        highest = elim (cases_lt (bad whole) (status r.run)) [
+          | inl less ↦ highest_later less
+          | inr less ↦ highest_here less
+        ]
+
+        light : status all_first ≢ 3
+        light three = omega (arith, three, first_status, bad_most whole)
+
+        run_over : Over (name ∷ lists) (record { others = 0; waiting = 0 }) input run
+        run_over = (
           all_first,
           record { others = 0; waiting = (shared 0 0 whole).1 },
           one_first,
@@ -330,59 +374,30 @@ module _ (m : Meaning) (is_summed : Bool) (files : Files) (many : Bool) where
                 (sym (ap (λ (p : List Outcome × ℕ). p.1) (all_own whole))) r.whole,
             refl,
           ),
-        );
-        said = spoken_here.said ++ r.said;
-        free = free_append_all spoken_here.said r.said spoken_here.free r.free;
-        all = ap₂ (λ (a b : List ℕ). a ++ b) first_text r.all ∙ sym (spoken_here.all r.said);
-        own = λ k within. share_text k within
-            ∙ ap (λ t. report_from (title name) 1 (shared n k whole).0 ++ t) (rest_text k within)
-            ∙ sym (spoken_here.own n k r.said);
-        below = λ k within. omega (
-          arith,
-          share_status k within,
-          bad_below n k whole,
-          rest_below k within,
-          total,
-        );
-        most = highest.0;
-        most_within = highest.1;
-        most_same = highest.2;
-      }
-        where
-          light : status all_first ≢ 3
-          light three = omega (arith, three, first_status, bad_most whole)
+        )
 
-          rest_text : (k : ℕ) → k ≤ n → (heads k).rest.text ≡ lined (every n (waiting k) r.said)
-          rest_text k within = ap (λ (x : Run). x.text) (sym (comes k within))
-              ∙ r.own (waiting k) (turns.within k within)
-
-          rest_below : (k : ℕ) → k ≤ n → status (heads k).rest ≤ status r.run
-          rest_below k within = subst (λ (x : Run). status x ≤ status r.run) (comes k within)
-              (r.below (waiting k) (turns.within k within))
-
-          total : status (followed all_first r.run) ≡ max (bad whole) (status r.run)
-          total = followed_status all_first r.run r.ends ∙ ap (λ s. max s (status r.run)) first_status
-
-          highest : (k : ℕ) × (k ≤ n) × (status (shares k) ≡ status (followed all_first r.run))
-          highest = on (nat_lt (bad whole) (status r.run)) refl
-            where
-              on : (b : Bool) → nat_lt (bad whole) (status r.run) ≡ b
-                  → (k : ℕ) × (k ≤ n) × (status (shares k) ≡ status (followed all_first r.run))
-              on false at =
-                  let w = worst n whole in
-                  let same = w.same in
-                  let less : status r.run ≤ bad whole = grind (arith, nat_tests) in
-                  let rest = rest_below w.k w.within in
-                  (w.k, w.within, omega (arith, share_status w.k w.within, same, less, rest, total))
-              on true at =
-                  let k = turns.back r.most in
-                  let within = turns.back_within r.most r.most_within in
-                  let less : bad whole < status r.run = grind (arith, nat_tests) in
-                  let most = bad_below n k whole in
-                  let is : (heads k).rest ≡ behind r.most
-                  = ap (λ j. (heads (turns.back j)).rest) (sym (within_min r.most r.most_within)) in
-                  let same = ap status is ∙ r.most_same in
-                  (k, within, omega (arith, share_status k within, same, less, most, total))
+        together : Made (name ∷ lists) input shares
+        together = record {
+          run = run;
+          ends = followed_ends all_first r.run r.ends;
+          whole = run_over;
+          said = spoken_here.said ++ r.said;
+          free = free_append_all spoken_here.said r.said spoken_here.free r.free;
+          all = ap₂ (λ (a b : List ℕ). a ++ b) first_text r.all ∙ sym (spoken_here.all r.said);
+          own = λ k within. share_text k within
+              ∙ ap (λ t. report_from (title name) 1 (shared n k whole).0 ++ t) (rest_text k within)
+              ∙ sym (spoken_here.own n k r.said);
+          below = λ k within. omega (
+            arith,
+            share_status k within,
+            bad_below n k whole,
+            rest_below k within,
+            run_status,
+          );
+          most = highest.0;
+          most_within = highest.1;
+          most_same = highest.2;
+        }
 
     made : (lists : List Text) (input : List ℕ) (shares : ℕ → Run) → Did lists input shares → Made lists input shares
     made [] input shares did = none input shares did
