@@ -10,6 +10,7 @@ pub mod Sizes
 pub mod Naming
 pub mod Shared
 pub mod Sharing
+pub mod SharedChecks
 pub mod Outputs
 pub mod Comparing
 pub mod Tagging

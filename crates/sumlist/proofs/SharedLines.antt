@@ -14,16 +14,16 @@ use Rattle.sumlist.specs.inside.Stepped.{LineShared, Passes, Shares}
 
 -- ---- one outcome before others
 
-skipped_at : (n k : ℕ) (os : List Outcome) → let rest = shared n k os in
+pub skipped_at : (n k : ℕ) (os : List Outcome) → let rest = shared n k os in
     shared n k (skipped ∷ os) ≡ (skipped ∷ rest.0, rest.1)
 skipped_at n k os = refl
 
-own_at : (n : ℕ) (o : Outcome) (os : List Outcome) → (o ≡ skipped → ⊥) → let rest = shared n n os in
+pub own_at : (n : ℕ) (o : Outcome) (os : List Outcome) → (o ≡ skipped → ⊥) → let rest = shared n n os in
     shared n zero (o ∷ os) ≡ (o ∷ rest.0, rest.1)
 own_at n skipped os apart = absurd (apart refl)
 own_at n o os apart = refl
 
-passed_at : (n k : ℕ) (o : Outcome) (os : List Outcome) → (o ≡ skipped → ⊥) → let rest = shared n k os in
+pub passed_at : (n k : ℕ) (o : Outcome) (os : List Outcome) → (o ≡ skipped → ⊥) → let rest = shared n k os in
     shared n (suc k) (o ∷ os) ≡ (skipped ∷ rest.0, rest.1)
 passed_at n k skipped os apart = absurd (apart refl)
 passed_at n k o os apart = refl
@@ -53,12 +53,12 @@ shared-settled n (suc k) (o ∷ os) none =
 
 module _ (files : Files) (m : Meaning) (line : List ℕ) where
   -- the outcome of a line that is not skipped is another
-  entry_apart : (o : Outcome) → Allowed files m line o → (IsSkipped line → ⊥) → o ≡ skipped → ⊥
+  pub entry_apart : (o : Outcome) → Allowed files m line o → (IsSkipped line → ⊥) → o ≡ skipped → ⊥
   entry_apart skipped allowed entry is = entry allowed
   entry_apart o allowed entry is = grind arith
 
   -- and that of one that is skipped is that
-  skipped_one : (o : Outcome) → Allowed files m line o → IsSkipped line → o ≡ skipped
+  pub skipped_one : (o : Outcome) → Allowed files m line o → IsSkipped line → o ≡ skipped
   skipped_one skipped allowed is = refl
   skipped_one malformed allowed is = absurd (allowed.0 is)
   skipped_one (foreign l) allowed is = absurd (foreign_unskipped m line l allowed is)

@@ -1,0 +1,430 @@
+-- The runs of all shares of a check are one run.
+use Rattle.std.proofs.Common.{◌≡◌, ◌≢◌, ◌∙◌, ◌==◌, ◌++◌, ℕ, ◌-◌, ◌^◌, ◌<◌, ◌≤◌, min, max, List, [], ◌∷◌, length, ap}
+use Rattle.std.proofs.Common.{ap₂, sym, refl, subst, arith, inl, inr}
+use Rattle.std.proofs.Common.{Bool, true, false, if◌then◌else◌, Option, Some, None, Result, Ok, Err, nat_lt}
+use Rattle.std.proofs.lemmas.Bool.{cases_lt}
+use Rattle.std.proofs.lemmas.Bool.Decides.{nat_tests}
+use Rattle.std.specs.List.{AllByRecursion}
+use Rattle.std.specs.Prelude.{MatchBool, replicate}
+use Rattle.std.specs.Result.{result_map_both}
+use Rattle.request.specs.CommandLine.{Text}
+use Rattle.sumlist.specs.Lines.{lines}
+use Rattle.sumlist.specs.Report.{AllAllowed, Files, Meaning, Outcome, report_from, summary_of}
+use Rattle.sumlist.specs.Shared.{every, shared}
+use Rattle.sumlist.specs.Tally.{is_clean}
+use Rattle.sumlist.specs.declared.share.Share.{Share}
+use Rattle.sumlist.specs.inside.Cut.{HasNo}
+use Rattle.sumlist.proofs.InTurn.{Merged, Moves, all_own, merged, moves}
+use Rattle.sumlist.proofs.SharedTally.{bad, bad_below, bad_most, bad_own, worst}
+use Rattle.sumlist.proofs.SharedTexts.{Spoken, free_append_all, free_every, lined, lines-lined, spoken}
+use Rattle.command.specs.Checking.{ListRuns, notes_of}
+use Rattle.command.specs.Laws.{ChecksAreRun}
+use Rattle.command.specs.Lines.{content_of, is_input}
+use Rattle.command.specs.Run.{IsRefused, LeftBy, Run, RunsAll, cannot_write, end_of, followed, prints}
+use Rattle.command.proofs.Going.{off_3}
+use Rattle.command.proofs.Sharing.{status}
+
+-- ---- runs that report nothing
+
+abbrev pub Quiet : Run → Type 0
+Quiet r = r.notes ++ (end_of r.ending).1 ≡ []
+
+-- two lists without an element
+nil_both : {A : Type 0} (xs ys : List A) → xs ++ ys ≡ [] → (xs ≡ []) × (ys ≡ [])
+nil_both [] ys none = (refl, none)
+nil_both (x ∷ xs) ys none = cc
+
+-- the run ends with a status, not with a trouble
+abbrev pub Ends : Run → Type 0
+Ends r = (s : ℕ) × (r.ending ≡ Ok s)
+
+ends_quiet : (r : Run) → (end_of r.ending).1 ≡ [] → Ends r
+ends_quiet r none = on r.ending refl none
+  where
+    on : (e : Result ℕ (ℕ × Text)) → r.ending ≡ e → (end_of e).1 ≡ [] → Ends r
+    on (Ok s) is none = (s, is)
+    on (Err t) is none = cc
+
+quiet_ends : (r : Run) → Quiet r → Ends r
+quiet_ends r quiet = ends_quiet r (nil_both r.notes (end_of r.ending).1 quiet).1
+
+quiet_rest : (first rest : Run) → Quiet (followed first rest) → Ends first × Quiet rest
+quiet_rest first rest quiet =
+    let both = nil_both (followed first rest).notes (end_of (followed first rest).ending).1 quiet in
+    let notes = nil_both first.notes ((end_of first.ending).1 ++ rest.notes) both.0 in
+    let after = nil_both (end_of first.ending).1 rest.notes notes.1 in
+    (ends_quiet first after.0, ap₂ (λ (a b : List Text). a ++ b) after.1 (last rest.ending both.1))
+  where
+    last : (e : Result ℕ (ℕ × Text)) → (end_of (result_map_both (max (status first)) (λ t. t) e)).1 ≡ []
+        → (end_of e).1 ≡ []
+    last (Ok s) none = refl
+    last (Err t) none = cc
+
+stopped : (r : Run) (t : ℕ × Text) → r.ending ≡ Err t → Ends r → ⊥
+stopped r t is (s, ends) = cc
+
+followed_status : (first rest : Run) → Ends rest → status (followed first rest) ≡ max (status first) (status rest)
+followed_status first rest (s, ends) = on rest.ending ends
+  where
+    on : (e : Result ℕ (ℕ × Text)) → e ≡ Ok s
+        → (end_of (result_map_both (max (status first)) (λ t. t) e)).0 ≡ max (status first) (end_of e).0
+    on (Ok r) is = refl
+    on (Err t) is = cc
+
+followed_ends : (first rest : Run) → Ends rest → Ends (followed first rest)
+followed_ends first rest (s, ends) =
+    (max (status first) s, ap (result_map_both (max (status first)) (λ t. t)) ends)
+
+-- the run over a name that is refused ends with a trouble
+refused_stops : (most : ℕ) (b : Bool) (name : Text) (content : Option Text) (stop : Run)
+    → IsRefused most b name content stop → Ends stop → ⊥
+refused_stops most b name content stop (inl (inl is)) ends = stopped stop _ (ap (λ (r : Run). r.ending) is) ends
+refused_stops most b name content stop (inl (inr is)) ends = stopped stop _ (ap (λ (r : Run). r.ending) is) ends
+refused_stops most b name None stop (inr is) ends = absurd is
+refused_stops most b name (Some m) stop (inr (long, is)) ends =
+    stopped stop _ (ap (λ (r : Run). r.ending) is) ends
+
+-- ---- the run over a list, and those after it
+
+module _ (m : Meaning) (is_summed : Bool) (files : Files) (many : Bool) where
+  abbrev pub title : Text → Option Text
+  title name = if many then Some name else None
+
+  abbrev pub One : Text → Share → List ℕ → Run → Share → Type 0
+  One name s input = ListRuns is_summed files m (title name) name s (content_of name input files)
+
+  abbrev pub Over : List Text → Share → List ℕ → Run → Type 0
+  Over lists s input run = RunsAll is_input One lists s input run
+
+  -- what the run over a list that is read to its end leaves of standard input
+  abbrev pub left_of : Text → List ℕ → List ℕ
+  left_of name input = if is_input name then [] else input
+
+  left_is : (name : Text) (input left : List ℕ) (e : Result ℕ (ℕ × Text)) → (s : ℕ) × (e ≡ Ok s)
+      → LeftBy (is_input name) e input left → left ≡ left_of name input
+  left_is name input left e (s, ends) leaves = on (is_input name) e ends leaves
+    where
+      on : (b : Bool) (e : Result ℕ (ℕ × Text)) → e ≡ Ok s → LeftBy b e input left
+          → left ≡ (if b then [] else input)
+      on false e is leaves = leaves
+      on true (Ok r) is leaves = leaves
+      on true (Err t) is leaves = cc
+
+  left_by : (name : Text) (input : List ℕ) (s : ℕ) → LeftBy (is_input name) (Ok s) input (left_of name input)
+  left_by name input s = on (is_input name)
+    where
+      on : (b : Bool) → LeftBy b (Ok s) input (if b then [] else input)
+      on false = refl
+      on true = refl
+
+  -- the run of a share over a list that is read to its end
+  pub record Listed (name : Text) (s : Share) (content : Option (List ℕ)) (run : Run) (next : Share) : Type 0 where
+    pub bytes : List ℕ
+    pub is : content ≡ Some bytes
+    pub outcomes : List Outcome
+    pub allowed : AllAllowed files m (lines bytes) outcomes
+    pub text : run.text ≡ report_from (title name) 1 (shared s.others s.waiting outcomes).0
+    pub status : status run ≡ bad_own s.others s.waiting outcomes
+    pub moved : next ≡ record s { waiting = (shared s.others s.waiting outcomes).1 }
+
+  listed : (name : Text) (s : Share) (content : Option (List ℕ)) (run : Run) (next : Share) → Ends run
+      → ListRuns is_summed files m (title name) name s content run next → Listed name s content run next
+  listed name s None run next ends (unread, same) =
+      absurd (refused_stops 0 false name None run (inl unread) ends)
+  listed name s (Some bytes) run next ends (os, allowed, inl (is, moved)) = record {
+    bytes = bytes;
+    is = refl;
+    outcomes = os;
+    allowed = allowed;
+    text = ap (λ (r : Run). r.text) is;
+    status = ap status is;
+    moved = moved;
+  }
+  listed name s (Some bytes) run next ends (os, allowed, inr (inl (is, same))) =
+      absurd (stopped run cannot_write (ap (λ (r : Run). r.ending) is) ends)
+  listed name s (Some bytes) run next (r, ends) (os, allowed, inr (inr (front, stop, begins, refused, is, same))) =
+      absurd (refused_stops (2 ^ 64 - 1) (is_input name) name (Some bytes) stop refused
+      (r, sym (ap (λ (r : Run). r.ending) is) ∙ ends))
+
+  module _ (n : ℕ) where
+    abbrev pub share_at : ℕ → Share
+    share_at k = record { others = n; waiting = k }
+
+    -- the run of a share over lists that reports nothing: that over the first, and that over the others
+    pub record Head (name : Text) (lists : List Text) (k : ℕ) (input : List ℕ) (run : Run) : Type 0 where
+      pub first : Run
+      pub next : Share
+      pub here : Listed name (share_at k) (content_of name input files) first next
+      pub rest : Run
+      pub runs : Over lists (share_at (shared n k here.outcomes).1) (left_of name input) rest
+      pub quiet : Quiet rest
+      pub is : run ≡ followed first rest
+
+    head : (name : Text) (lists : List Text) (k : ℕ) (input : List ℕ) (run : Run) → Quiet run
+        → Over (name ∷ lists) (share_at k) input run → Head name lists k input run
+    head name lists k input run quiet (first, next, one, how) = on (status first == 3) refl how
+      where
+        on : (b : Bool) → (status first == 3) ≡ b → MatchBool b (run ≡ first) ((left : List ℕ)
+            × LeftBy (is_input name) first.ending input left × (rest : Run)
+            × Over lists next left rest × (run ≡ followed first rest)) → Head name lists k input run
+        on true at is =
+            let ends = quiet_ends first (subst Quiet is quiet) in
+            let here = listed name (share_at k) (content_of name input files) first next ends one in
+            let three : status first ≡ 3 = grind (arith, nat_tests) in
+            let same = here.status in
+            let most = bad_most (shared n k here.outcomes).0 in
+            absurd (omega arith)
+        on false at (left, leaves, rest, runs, is) =
+            let q = quiet_rest first rest (subst Quiet is quiet) in
+            let here = listed name (share_at k) (content_of name input files) first next q.0 one in
+            let stays = left_is name input left first.ending q.0 leaves in record {
+              first = first;
+              next = next;
+              here = here;
+              rest = rest;
+              runs = subst (λ s. Over lists s (left_of name input) rest) here.moved
+                  (subst (λ i. Over lists next i rest) stays runs);
+              quiet = q.1;
+              is = is;
+            }
+
+    -- one run over lists, and the lines that it prints, of which each share prints its own
+    pub record Made (lists : List Text) (input : List ℕ) (shares : ℕ → Run) : Type 0 where
+      pub run : Run
+      pub ends : Ends run
+      pub whole : Over lists (record { others = 0; waiting = 0 }) input run
+      pub said : List (List ℕ)
+      pub free : AllByRecursion (HasNo 10) said
+      pub all : run.text ≡ lined said
+      pub own : (k : ℕ) → k ≤ n → (shares k).text ≡ lined (every n k said)
+      pub below : (k : ℕ) → k ≤ n → status (shares k) ≤ status run
+      pub most : ℕ
+      pub most_within : most ≤ n
+      pub most_same : status (shares most) ≡ status run
+
+    -- the runs of the shares; any number above n stands for the last
+    abbrev pub Did : List Text → List ℕ → (ℕ → Run) → Type 0
+    Did lists input shares = (k : ℕ) → Quiet (shares k) × Over lists (share_at (min k n)) input (shares k)
+
+    none : (input : List ℕ) (shares : ℕ → Run) → Did [] input shares → Made [] input shares
+    none input shares did = record {
+      run = prints [] 0;
+      ends = (0, refl);
+      whole = refl;
+      said = [];
+      free = tt;
+      all = refl;
+      own = λ k within. ap (λ (r : Run). r.text) (did k).1;
+      below = λ k within. let same = ap status (did k).1 in omega (arith, same);
+      most = 0;
+      most_within = omega arith;
+      most_same = ap status (did 0).1;
+    }
+
+    -- a list and others: outcomes of the whole list are merged from those of the shares
+    module _ (name : Text) (lists : List Text) (input : List ℕ) (shares : ℕ → Run)
+        (heads : (k : ℕ) → Head name lists (min k n) input (shares k)) where
+      abbrev bytes : List ℕ
+      bytes = (heads 0).here.bytes
+
+      same_bytes : (k : ℕ) → (heads k).here.bytes ≡ bytes
+      same_bytes k = let one = (heads k).here.is in let other = (heads 0).here.is in cc
+
+      abbrev outcomes : ℕ → List Outcome
+      outcomes k = (heads k).here.outcomes
+
+      all_merged : Merged files m n (lines bytes) outcomes
+      all_merged = merged files m n (lines bytes) outcomes (λ k within.
+          subst (λ b. AllAllowed files m (lines b) (outcomes k)) (same_bytes k) (heads k).here.allowed)
+
+      abbrev whole : List Outcome
+      whole = all_merged.whole
+
+      abbrev turns : Moves n whole
+      turns = moves n whole
+
+      within_min : (k : ℕ) → k ≤ n → min k n ≡ k
+      within_min k within = omega arith
+
+      -- a share makes the same of them
+      own_whole : (k : ℕ) → k ≤ n → shared n (min k n) (outcomes k) ≡ shared n k whole
+      own_whole k within =
+          ap (λ j. shared n j (outcomes k)) (within_min k within) ∙ all_merged.same k within
+
+      -- the share that passes over j entries after the list before its next, and its run over the other lists
+      abbrev share_of : ℕ → ℕ
+      share_of j = turns.back (min j n)
+
+      abbrev behind : ℕ → Run
+      behind j = (heads (share_of j)).rest
+
+      waits : (j : ℕ) → (shared n (min (share_of j) n) (outcomes (share_of j))).1 ≡ min j n
+      waits j =
+          let below : min j n ≤ n = omega arith in
+          ap (λ (r : List Outcome × ℕ). r.1) (own_whole (share_of j) (turns.back_within (min j n) below))
+          ∙ turns.there (min j n) below
+
+      did_behind : Did lists (left_of name input) behind
+      did_behind j =
+          let h = heads (share_of j) in
+          (h.quiet, subst (λ w. Over lists (share_at w) (left_of name input) (behind j)) (waits j) h.runs)
+
+      -- how many share k passes over
+      abbrev waiting : ℕ → ℕ
+      waiting k = (shared n k whole).1
+
+      comes : (k : ℕ) → k ≤ n → behind (waiting k) ≡ (heads k).rest
+      comes k within = ap (λ j. (heads j).rest)
+          (ap turns.back (within_min (waiting k) (turns.within k within)) ∙ turns.again k within)
+
+      -- the lines of the list's report
+      abbrev spoken_here : Spoken (title name) 1 whole
+      spoken_here = spoken (title name) 1 whole
+
+      share_text : (k : ℕ) → k ≤ n → (shares k).text
+          ≡ report_from (title name) 1 (shared n k whole).0 ++ (heads k).rest.text
+      share_text k within =
+          let h = heads k in
+          ap (λ (r : Run). r.text) h.is ∙ ap (λ t. t ++ h.rest.text) (h.here.text
+          ∙ ap (λ (r : List Outcome × ℕ). report_from (title name) 1 r.0) (own_whole k within))
+
+      share_status : (k : ℕ) → k ≤ n → status (shares k) ≡ max (bad_own n k whole) (status (heads k).rest)
+      share_status k within =
+          let h = heads k in
+          ap status h.is ∙ followed_status h.first h.rest (quiet_ends h.rest h.quiet)
+          ∙ ap (λ s. max s (status h.rest)) (h.here.status
+          ∙ ap (λ (r : List Outcome × ℕ). bad r.0) (own_whole k within))
+
+      -- the run over the whole list
+      abbrev all_first : Run
+      all_first = let own = shared 0 0 whole in let s = summary_of own.0 in
+          record (prints (report_from (title name) 1 own.0) (if is_clean s then 0 else 1)) {
+            notes = notes_of is_summed m (title name) name s;
+            failures = replicate s.unreadable false;
+          }
+
+      first_text : all_first.text ≡ report_from (title name) 1 whole
+      first_text = ap (λ (r : List Outcome × ℕ). report_from (title name) 1 r.0) (all_own whole)
+
+      first_status : status all_first ≡ bad whole
+      first_status = ap (λ (r : List Outcome × ℕ). bad r.0) (all_own whole)
+
+      one_first : One name (record { others = 0; waiting = 0 }) input all_first
+          (record { others = 0; waiting = (shared 0 0 whole).1 })
+      one_first = subst (λ c. ListRuns is_summed files m (title name) name (record { others = 0; waiting = 0 }) c
+          all_first (record { others = 0; waiting = (shared 0 0 whole).1 })) (sym (heads 0).here.is)
+          (whole, all_merged.allowed, inl (refl, refl))
+
+      -- and the other lists
+      module _ (r : Made lists (left_of name input) behind) where
+        abbrev run : Run
+        run = followed all_first r.run
+
+        run_status : status run ≡ max (bad whole) (status r.run)
+        run_status = followed_status all_first r.run r.ends ∙ ap (λ s. max s (status r.run)) first_status
+
+        rest_text : (k : ℕ) → k ≤ n → (heads k).rest.text ≡ lined (every n (waiting k) r.said)
+        rest_text k within = ap (λ (x : Run). x.text) (sym (comes k within))
+            ∙ r.own (waiting k) (turns.within k within)
+
+        rest_below : (k : ℕ) → k ≤ n → status (heads k).rest ≤ status r.run
+        rest_below k within = subst (λ (x : Run). status x ≤ status r.run) (comes k within)
+            (r.below (waiting k) (turns.within k within))
+
+        -- a share whose status is that of the run: one of the list, or one of the other lists
+        abbrev Highest : Type 0
+        Highest = (k : ℕ) × (k ≤ n) × (status (shares k) ≡ status run)
+
+        highest_here : status r.run ≤ bad whole → Highest
+        highest_here less =
+            let w = worst n whole in
+            let same = w.same in
+            let rest = rest_below w.k w.within in
+            (w.k, w.within, omega (arith, share_status w.k w.within, same, less, rest, run_status))
+
+        highest_later : bad whole < status r.run → Highest
+        highest_later less =
+            let k = turns.back r.most in
+            let within = turns.back_within r.most r.most_within in
+            let most = bad_below n k whole in
+            let is : (heads k).rest ≡ behind r.most
+            = ap (λ j. (heads (turns.back j)).rest) (sym (within_min r.most r.most_within)) in
+            let same = ap status is ∙ r.most_same in
+            (k, within, omega (arith, share_status k within, same, less, most, run_status))
+
+        highest : Highest
+        highest = elim (cases_lt (bad whole) (status r.run)) [
+          | inl less ↦ highest_later less
+          | inr less ↦ highest_here less
+        ]
+
+        light : status all_first ≢ 3
+        light three = omega (arith, three, first_status, bad_most whole)
+
+        run_over : Over (name ∷ lists) (record { others = 0; waiting = 0 }) input run
+        run_over = (
+          all_first,
+          record { others = 0; waiting = (shared 0 0 whole).1 },
+          one_first,
+          off_3 _ _ (status all_first) light (
+            left_of name input,
+            left_by name input (status all_first),
+            r.run,
+            subst (λ w. Over lists (record { others = 0; waiting = w }) (left_of name input) r.run)
+                (sym (ap (λ (p : List Outcome × ℕ). p.1) (all_own whole))) r.whole,
+            refl,
+          ),
+        )
+
+        together : Made (name ∷ lists) input shares
+        together = record {
+          run = run;
+          ends = followed_ends all_first r.run r.ends;
+          whole = run_over;
+          said = spoken_here.said ++ r.said;
+          free = free_append_all spoken_here.said r.said spoken_here.free r.free;
+          all = ap₂ (λ (a b : List ℕ). a ++ b) first_text r.all ∙ sym (spoken_here.all r.said);
+          own = λ k within. share_text k within
+              ∙ ap (λ t. report_from (title name) 1 (shared n k whole).0 ++ t) (rest_text k within)
+              ∙ sym (spoken_here.own n k r.said);
+          below = λ k within. omega (
+            arith,
+            share_status k within,
+            bad_below n k whole,
+            rest_below k within,
+            run_status,
+          );
+          most = highest.0;
+          most_within = highest.1;
+          most_same = highest.2;
+        }
+
+    made : (lists : List Text) (input : List ℕ) (shares : ℕ → Run) → Did lists input shares → Made lists input shares
+    made [] input shares did = none input shares did
+    made (name ∷ lists) input shares did =
+        let heads : (k : ℕ) → Head name lists (min k n) input (shares k)
+        = λ k. head name lists (min k n) input (shares k) (did k).0 (did k).1 in
+        together name lists input shares heads (made lists (left_of name input)
+        (behind name lists input shares heads) (did_behind name lists input shares heads))
+
+-- ---- the law
+
+pub checks_are_run : ChecksAreRun
+checks_are_run m is_summed files lists input n shares did = (
+  r.run,
+  r.whole,
+  λ k within. (
+    subst (λ (x : Run). lines x.text ≡ every n k (lines r.run.text)) (clip k within) (
+        ap lines (r.own k within) ∙ lines-lined (every n k r.said) (free_every n k r.said r.free)
+        ∙ ap (every n k) (sym (ap lines r.all ∙ lines-lined r.said r.free))),
+    subst (λ x. status x ≤ status r.run) (clip k within) (r.below k within),
+  ),
+  (r.most, r.most_within, ap status (sym (clip r.most r.most_within)) ∙ r.most_same),
+)
+  where
+    r : Made m is_summed files (nat_lt 1 (length lists)) n lists input (λ k. shares (min k n))
+    r = made m is_summed files (nat_lt 1 (length lists)) n lists input (λ k. shares (min k n))
+        (λ k. did (min k n) (omega arith))
+
+    clip : (k : ℕ) → k ≤ n → shares (min k n) ≡ shares k
+    clip k within = ap shares (omega arith)
