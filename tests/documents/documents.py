@@ -33,7 +33,6 @@ TERMINALS = {
     "crates/sums/src/progress.rt": (r'None \| Some\("" [^)]*\) => false', r'"(\w+)"'),
     "docs/FORMAT.md": (r"If `TERM` is unset, empty, [^.]*, nothing is shown", r"(?<!If )`(\w+)`"),
     "man/sums-hash.1": (r"^\.B TERM\nis unset, empty,\n.*?^nothing is shown", r"^\.BR? (?!TERM$)(\w+)"),
-    "scripts/sums-parallel": (r'kinds = \("", [^)]*\)', r'"(\w+)"'),
     "tests/program/progress": (r"for kind in TERM=dumb [^;]*", r"TERM=(\w+)"),
 }
 COMMANDS = ["hash", "mac", "kdf", "check", "part", "join"]
