@@ -67,7 +67,7 @@ SHARED = (
     "cat key > pipe & sums mac -a blake2b --key-file=pipe f1 f2 more",
     "sums hash -a sha256 f1 more f2 > told; sums hash -a sha256 f1 told more /dev/stdout f2 >> told; cat told")
 # Pipes and devices that a line of a list names: who shares the list opens none.
-REFUSED = ("cat f1 | sums check -a sha256 --summary list-stdin", "sums check -a sha256 list-out > told; cat told",
+REFUSED = ("cat f1 | sums check -a sha256 --summary list-stdin", "sums check -a sha256 list-out > told; status=$?; cat told; exit $status",
            "sums check -a sha256 list-pipe", "sums check -a sha256 --summary list-null",
            "cat more | sums hash -a sha256 --files0-from names-stdin")
 
