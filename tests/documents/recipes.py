@@ -519,8 +519,8 @@ def scale_shares_hash(bench):
         names = ["folder/" + each for each in tree(os.path.join(folder, "folder"))]
         ends(bench.run(text, folder))
         with open(os.path.join(folder, "LIST"), "rb") as file:
-            same(sorted(file.read().splitlines()), sorted(bench.sums(folder, "hash", "-a", "blake3", "--", *names).splitlines()),
-                 "the list")
+            listed = bench.sums(folder, "hash", "-a", "blake3", "--", *names)
+            same(sorted(file.read().splitlines()), sorted(listed.splitlines()), "the list")
 
     bench.judge("docs/SCALE.md shares-hash", case)
 

@@ -1,8 +1,8 @@
 #!/usr/bin/env python3
 """Compares sums-parallel with sums, byte for byte: both streams and the status, for names, lists and faults of every
-kind, by few runs and many, in small and large blocks, by a command that starts the runs and, if it is installed, through
-GNU parallel. Then files that runs must not share, what the process was started with, runs that are killed, hosts that are
-dead, streams that take nothing, and signals.
+kind, by few runs and many, in small and large blocks, by a command that starts the runs and, if it is installed,
+through GNU parallel. Then files that runs must not share, what the process was started with, runs that are killed,
+hosts that are dead, streams that take nothing, and signals.
 usage: tests/program/parallel.py PROGRAM
 """
 
@@ -67,9 +67,12 @@ SHARED = (
     "cat key > pipe & sums mac -a blake2b --key-file=pipe f1 f2 more",
     "sums hash -a sha256 f1 more f2 > told; sums hash -a sha256 f1 told more /dev/stdout f2 >> told; cat told")
 # Pipes and devices that a line of a list names: who shares the list opens none.
-REFUSED = ("cat f1 | sums check -a sha256 --summary list-stdin", "sums check -a sha256 list-out > told; status=$?; cat told; exit $status",
-           "sums check -a sha256 list-pipe", "sums check -a sha256 --summary list-null",
-           "cat more | sums hash -a sha256 --files0-from names-stdin")
+REFUSED = (
+    "cat f1 | sums check -a sha256 --summary list-stdin",
+    "sums check -a sha256 list-out > told; status=$?; cat told; exit $status",
+    "sums check -a sha256 list-pipe",
+    "sums check -a sha256 --summary list-null",
+    "cat more | sums hash -a sha256 --files0-from names-stdin")
 
 
 # ---- the files
@@ -308,7 +311,8 @@ def shared(program):
             file.write(data)
     for text in REFUSED:
         run = by_shell(program, ["-j3", "--block=1"], text)
-        judge(f"{text}: refused", run.status == 1 and (b": UNREADABLE\n" in run.out or b": cannot read\n" in run.err), run)
+        judge(f"{text}: refused", run.status == 1
+              and (b": UNREADABLE\n" in run.out or b": cannot read\n" in run.err), run)
         judge(f"{text}: no other line", b"FAILED" not in run.out and run.out.count(b"\n") > 1, run)
 
 
@@ -549,7 +553,8 @@ def status_3(program):
     same("runs that have no lines", front(path, ["-j2", "check", "-a", "sha256", "good-many"]), (3, b"", b"told\n"))
     path = faulty(program, 'case "$*" in *"--share 1/"*) exit 2 ;; esac')
     run = front(path, ["-j2", "--block=1", "hash", "-a", "sha256", "f0", "f1"])
-    judge("a run that ends with status 2", run.status == 3 and b"ended with status 2; lines are missing" in run.err, run)
+    judge("a run that ends with status 2",
+          run.status == 3 and b"ended with status 2; lines are missing" in run.err, run)
 
 
 def other_lines(program):
@@ -643,14 +648,16 @@ def not_begun(program):
                               (["-j", "1" * 16], 2, b"-j: out of range"),
                               (["-jx"], 2, b"-j: out of range"), (["-j\u0663"], 2, b"-j: out of range"),
                               (["--block="], 2, b"--block: out of range"),
-                              (["-x"], 2, b"-x: no option"), (["--\x1b\x9b\u202e=1"], 2, b"--\\x1b\\x9b\\u202e=1: no option"),
+                              (["-x"], 2, b"-x: no option"),
+                              (["--\x1b\x9b\u202e=1"], 2, b"--\\x1b\\x9b\\u202e=1: no option"),
                               (["--by", "/usr/bin/ssh host"], 2, b"--by: ssh hands its words to a shell: give -S")):
         run = front(program, [*own, *many])
         judge(f"{own}: the status and the text", run.status == status and b"sums-parallel: " + text in run.err, run)
     for words, text in ((["-j"], b"-j: needed"), ([], b"COMMAND: needed")):
         run = front(program, words)
         judge(f"{words}: the status and the text", run.status == 2 and b"sums-parallel: " + text in run.err, run)
-    for words in (["none"], ["join", "-a", "blake3", "f1"], ["hash"], ["kdf", "-a", "hkdf-sha256", "--ikm-file", "f1", "-l9"]):
+    for words in (["none"], ["join", "-a", "blake3", "f1"], ["hash"],
+                  ["kdf", "-a", "hkdf-sha256", "--ikm-file", "f1", "-l9"]):
         same(f"{words} is one run's", front(program, ["--block=1", *words]), harness.run(program, words))
     for words in (many, ["--block=1", *many]):
         same("no sums", front("/nothing/there", words),
@@ -701,8 +708,8 @@ def broken_input(program):
 
 
 def limits(program):
-    """What one run does at a limit of the size of files, with no place for temporary files, and in a folder that is
-    gone."""
+    """What one run does at a limit of the size of files, with another folder for temporary files, and in a folder that
+    is gone."""
     for text in ("ulimit -f 1; sums hash -a sha256 missing many/* > told; echo $?; wc -c < told",
                  "ulimit -f 1; sums check -a sha256 good-many > told; echo $?; wc -c < told"):
         same(text, by_shell(program, ["-j2", "--block=1"], text)[:2], by_shell(program, None, text)[:2])
@@ -710,11 +717,13 @@ def limits(program):
     words = ["hash", "-a", "sha256", "--files0-from", "-"]
     same("another place for temporary files", front(program, words, names, TMPDIR="/nothing"),
          harness.run(program, words, names))
-    script = "import os, sys; os.mkdir('lost'); os.chdir('lost'); os.rmdir('../lost'); os.execv(sys.argv[1], sys.argv[1:])"
+    script = ("import os, sys; os.mkdir('lost'); os.chdir('lost'); os.rmdir('../lost'); "
+              "os.execv(sys.argv[1], sys.argv[1:])")
     shutil.copy(FRONT, "copied")
+    words = ["hash", "-a", "sha256", os.path.abspath("f1"), os.path.abspath("f2")]
     for own in ([], ["--block=1"]):
-        run = harness.run(sys.executable, ["-c", script, sys.executable, "-ISXutf8", "../copied", *own, "hash", "-a", "sha256",
-                                           os.path.abspath("f1"), os.path.abspath("f2")], env={**os.environ, "SUMS": program})
+        run = harness.run(sys.executable, ["-c", script, sys.executable, "-ISXutf8", "../copied", *own, *words],
+                          env={**os.environ, "SUMS": program})
         judge(f"{own} from a folder that is gone", b"Traceback" not in run.err, run)
 
 
@@ -829,7 +838,8 @@ def long_names(program):
     for name in names:
         fill(name, 1)
     run = front(program, [*THERE, "hash", "-a", "sha256", *names])
-    judge("long names", run.status == 2 and b"sums-parallel: -S: the words are too long: give --files0-from" in run.err, run)
+    judge("long names", run.status == 2
+          and b"sums-parallel: -S: the words are too long: give --files0-from" in run.err, run)
     with open("names-long", "wb") as file:
         file.write("\0".join(names).encode())
     words = ["hash", "-a", "sha256", "--files0-from", "names-long"]

@@ -1,7 +1,6 @@
 #!/usr/bin/env python3
-"""Compares random command lines of sums-parallel with one run of sums: both streams and the status. Words, names, lists,
-files of names, parts and standard input are random, and many are wrong. What a line of a list names is a file, so that
-no run has to wait for another one. No part of tools/test.
+"""Compares random command lines of sums-parallel with one run of sums: both streams and the status. Words, names,
+lists, files of names and standard input are random, and many are wrong. No part of tools/test.
 usage: tests/program/random_parallel.py PROGRAM [COUNT] [SEED]    COUNT is 10,000 where it is not named
 """
 
@@ -42,7 +41,8 @@ def lines(program, digests):
         elif kind < 0.6:
             text += random.choice((b"\n", b"# comment\n", b"#\r\n", b"\r\n"))
         elif kind < 0.7:
-            text += random.choice((b"no line\n", b"00  f0\n", b"x" * 70000 + b"\n", b"a\0b\n", b"\xff  f\n", b"\\" * 9 + b"\n"))
+            text += random.choice((b"no line\n", b"00  f0\n", b"x" * 70000 + b"\n", b"a\0b\n", b"\xff  f\n",
+                                   b"\\" * 9 + b"\n"))
         else:
             text += b"%064x  %s\n" % (random.getrandbits(256), os.fsencode(name.replace("\n", "")))
     return text if random.random() < 0.8 else text[:-1]
@@ -85,7 +85,7 @@ def of_names(words, given):
         with open("names", "wb") as file:
             file.write(text)
         return [*words, "--files0-from", random.choice(("names", "names", "names", "missing", "folder"))], given
-    return [*words, random.choice(("--files0-from=-", "--files0-from -"))] if " " not in words else words, text
+    return [*words, *random.choice((["--files0-from=-"], ["--files0-from", "-"]))], text
 
 
 def case(program, digests):
@@ -103,10 +103,9 @@ def case(program, digests):
         words = ["check", *random.choice(([], ["-a", "sha256"], ["-a", "blake3"], ["-a=sha256"])),
                  *random.choice(([], ["--summary"])), *chosen(["list", "list2", "other", "missing", "-", "folder"], 3)]
     else:
-        words = ["part", "-a", "blake3", *random.choice((
-            ["--each", "1"], ["--each", "4"], ["--each", "3"], ["--verify", "parts"], ["--verify", "list"], ["--list"], [])),
-            *random.choice((["large"], ["large"], ["f1"], ["empty"], ["missing"], ["-"], []))]
-    words = [piece for word in words for piece in (word.split(" ") if word.startswith("--files0-from ") else [word])]
+        words = ["part", "-a", "blake3", *random.choice((["--each", "1"], ["--each", "4"], ["--each", "3"], ["--list"],
+                                                         ["--verify", "parts"], ["--verify", "list"], [])),
+                 *random.choice((["large"], ["large"], ["f1"], ["empty"], ["missing"], ["-"], []))]
     for wrong in chosen(WRONG, 1) if random.random() < 0.1 else []:
         place = random.randint(1, len(words))
         words[place:place] = wrong
