@@ -862,10 +862,11 @@ def dead_hosts(program):
     same("a host that answers what it was not asked",
          front(program, ["-S", "2/strange", "--block=1", *words], **ssh), whole)
     same("a dead host beside this machine", front(program, ["-S", "2/dead,2/:", "--block=1", *words], **ssh), whole)
-    for host in ("dead", "breaks"):
+    # of the twelve shares three have no line, and so a short answer, which comes whole before a connection breaks
+    for host, lost in (("dead", 12), ("breaks", 9)):
         run = front(program, ["-S", f"2/{host}", "--block=1", *words], **ssh)
         same(f"a host alone that is {host}", (run.status, run.out), (3, b""))
-        judge(f"a host alone that is {host} is told", run.err.count(b"a run of sums ended with status 255") == 12,
+        judge(f"a host alone that is {host} is told", run.err.count(b"a run of sums ended with status 255") == lost,
               run.err)
 
 
