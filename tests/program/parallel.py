@@ -385,6 +385,18 @@ def shown_at_once(program):
     run.communicate()
 
 
+def refused_at_once(program):
+    """Words that sums does not take are refused while a list is still to come, and none of it is read."""
+    for words in (["check", "-a", "none"], ["check", "--none", "-"], ["hash", "-a", "sha256", "--raw", "--files0-from", "-"]):
+        reading, writing = os.pipe()
+        os.write(writing, b"f1\n")
+        run = subprocess.run([sys.executable, FRONT, *words], stdin=reading, capture_output=True, timeout=60,
+                             env={**os.environ, "SUMS": program})
+        same(f"{words}: refused at once", (run.returncode, os.read(reading, 9)), (2, b"f1\n"))
+        os.close(reading)
+        os.close(writing)
+
+
 def side_by_side(program):
     """Lines of two processes that write into one pipe stay whole."""
     reading, writing = os.pipe()
@@ -908,6 +920,7 @@ def main():
         unwritten(program)
         progress(program)
         shown_at_once(program)
+        refused_at_once(program)
         side_by_side(program)
         for cases in (of_words(), of_few_lists(), of_parts(), of_lists(), of_names(), of_files()):
             compare(program, WAYS, cases)
