@@ -387,7 +387,8 @@ def shown_at_once(program):
 
 def refused_at_once(program):
     """Words that sums does not take are refused while a list is still to come, and none of it is read."""
-    for words in (["check", "-a", "none"], ["check", "--none", "-"], ["hash", "-a", "sha256", "--raw", "--files0-from", "-"]):
+    for words in (["check", "-a", "none"], ["check", "--none", "-"],
+                  ["hash", "-a", "sha256", "--raw", "--files0-from", "-"]):
         reading, writing = os.pipe()
         os.write(writing, b"f1\n")
         run = subprocess.run([sys.executable, FRONT, *words], stdin=reading, capture_output=True, timeout=60,
@@ -840,7 +841,7 @@ def settings(program):
     faulty(program, "")
     text = "mkdir -p '$(touch PWNED) x'; cd '$(touch PWNED) x'; echo 1 > in1; echo 2 > in2; sums hash -a sha256 in1 in2"
     same("-S in a folder of an odd name", by_shell(program, THERE, text), by_shell(program, None, text))
-    run = by_shell(program, THERE, "mkdir gone; cd gone; rmdir ../gone; sums hash -a sha256 /a /b")
+    run = by_shell(program, THERE, "mkdir gone; cd gone; rmdir ../gone; sums hash -a sha256 /etc/passwd /etc/group")
     same("-S in a folder that is gone", run, (3, b"", b"sums-parallel: No such file or directory\n"))
 
 
