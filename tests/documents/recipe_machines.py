@@ -101,6 +101,28 @@ def over_ssh(bench, ssh):
         wanted = bench.sums(folder, "hash", "-a", "blake3", "--", name)
         bench.judge(f"docs/SCALE.md hosts, {name!r}",
                     lambda: ends(bench.run(text, folder, f=name, PARALLEL_SSH=ssh), 0, wanted))
+    folder, listed = listed_files(bench)
+    bench.judge("docs/SCALE.md shares-hosts", lambda: ends(
+        bench.run(bench.text("docs/SCALE.md", "shares-hosts"), folder, PARALLEL_SSH=ssh)))
+    bench.judge("docs/SCALE.md shares-hosts, the report", lambda: reported(folder, listed))
+
+
+def listed_files(bench):
+    """A folder with files of each name and their list, and how many those are."""
+    folder = bench.folder()
+    for number, name in enumerate([*NAMES, *map(str, range(90))]):
+        fill(os.path.join(folder, name), number)
+    names = sorted(os.listdir(folder))
+    with open(os.path.join(folder, "LIST"), "wb") as file:
+        file.write(bench.sums(folder, "hash", "-a", "blake3", "--", *names))
+    return folder, len(names)
+
+
+def reported(folder, count):
+    """The report tells of all files that they are OK."""
+    with open(os.path.join(folder, "report"), "rb") as file:
+        lines = file.read().splitlines()
+    same((len(lines), all(line.endswith(b": OK") for line in lines)), (count, True), "the lines, and whether all are OK")
 
 
 def large_files(bench):
@@ -125,6 +147,7 @@ def scale_slurm(bench):
         if cluster(bench, children):
             arrays(bench)
             steps(bench)
+            shares(bench)
         else:
             bench.missing("Slurm did not start: its recipe was not run")
     finally:
@@ -222,6 +245,23 @@ def steps(bench):
         bench.judge(f"docs/SCALE.md srun, {name!r}", case)
 
 
+def shares(bench):
+    """An array whose tasks check shares of a list, and the job behind it."""
+    folder, count = listed_files(bench)
+    for script in ["share.sh", "told.sh"]:
+        write(folder, script, bench.text("docs/SCALE.md", script))
+    got = bench.run(bench.text("docs/SCALE.md", "shares-slurm"), folder)
+    waited(bench, 900)
+
+    def case():
+        same((got[0], got[2]), (0, b""), "status and standard error")
+        with open(os.path.join(folder, f"slurm-{got[1].split()[-1].decode()}.out"), "rb") as file:
+            same(file.read(), b"", "what the job says")
+        reported(folder, count)
+
+    bench.judge("docs/SCALE.md shares-slurm", case)
+
+
 def waited(bench, seconds):
     until = time.monotonic() + seconds
     while bench.run("squeue -h", bench.work)[1].strip() and time.monotonic() < until:
@@ -249,7 +289,7 @@ class Numbers:
     """What the recipe uses of Spark: numbers in partitions, and what a command prints of them."""
 
     def __init__(self, environment, folder):
-        self.environment, self.folder = environment, folder
+        self.environment, self.folder, self.is_apart = environment, folder, False
 
     def parallelize(self, numbers, count):
         edges = [len(numbers) * i // count for i in range(count + 1)]
@@ -260,16 +300,21 @@ class Numbers:
         self.command, self.checks = shlex.split(command), checkCode
         return self
 
+    def glom(self):
+        self.is_apart = True
+        return self
+
     def collect(self):
-        lines = []
+        lines, apart = [], []
         for partition in self.partitions:
             text = "".join(f"{number}\n" for number in partition)
             done = subprocess.run(self.command, input=text.encode(), stdout=subprocess.PIPE, env=self.environment,
                                   cwd=self.folder)
             if self.checks and done.returncode:
                 raise Wrong(f"status {done.returncode} of the command")
-            lines += [line.decode() for line in done.stdout.split(b"\n") if line]
-        return lines
+            apart.append(done.stdout.decode().split("\n")[:-1])
+            lines += apart[-1]
+        return apart if self.is_apart else lines
 
 
 def scale_spark(bench):
@@ -297,3 +342,8 @@ def scale_spark(bench):
     bench.judge("docs/SCALE.md spark", lambda: case("big", 200000001, 65536))
     for name in NAMES:
         bench.judge(f"docs/SCALE.md spark, {name!r}", lambda: case(name, 4321, 1))
+    folder, count = listed_files(bench)
+    script = write(folder, "script.py", f"import os\n{start}{bench.text('docs/SCALE.md', 'shares-spark')}")
+    got = bench.run(f"{shlex.quote(sys.executable)} {script}", folder)
+    bench.judge("docs/SCALE.md shares-spark", lambda: same((got[0], got[1]), (0, b""), "status and output"))
+    bench.judge("docs/SCALE.md shares-spark, the report", lambda: reported(folder, count))
