@@ -393,8 +393,8 @@ def all_words(program):
 
 def at_work(program):
     """Two runs are at work at a time, each of which waits for the other one for a while."""
-    path = faulty(program, '[ $# = 3 ] || { echo > at_work.$$; n=0; until [ "$(ls at_work.* | wc -l)" -ge 2 ]; do '
-                  'sleep 0.1; n=$((n + 1)); [ $n -lt 100 ] || { echo > alone; break; }; done; }')
+    path = faulty(program, 'case "$*" in *" "[01]/2*) echo > at_work.$$; n=0; until [ "$(ls at_work.* | wc -l)" -ge 2 ]; '
+                  'do sleep 0.1; n=$((n + 1)); [ $n -lt 100 ] || { echo > alone; break; }; done ;; esac')
     run = front(path, ["-j2", "--block=1", "hash", "-a", "sha256", "f1", "f2"])
     same("two runs", run, harness.run(program, ["hash", "-a", "sha256", "f1", "f2"]))
     judge("two runs are at work at a time", not os.path.exists("alone"))
@@ -588,8 +588,11 @@ def status_3(program):
     run = front(path, ["-j2", "--block=1", "hash", "-a", "sha256", "f0", "f1", "f2", "f3"])
     lines = harness.run(program, ["hash", "-a", "sha256", "f0", "f2"]).out
     same("a run that ends with status 3", run, (3, lines, b"told\n"))
-    path = faulty(program, 'case "$*" in *--share*) echo told >&2; exit 3 ;; esac')
+    path = faulty(program, 'case "$*" in *"--share "[01]/2*) echo told >&2; exit 3 ;; esac')
     same("runs that have no lines", front(path, ["-j2", "check", "-a", "sha256", "good-many"]), (3, b"", b"told\n"))
+    path = faulty(program, 'case "$*" in *--share*) exit 3 ;; esac')
+    same("a share that cannot be asked", front(path, ["-j2", "check", "-a", "sha256", "good"]),
+         harness.run(program, ["check", "-a", "sha256", "good"]))
     path = faulty(program, 'case "$*" in *"--share 1/"*) exit 2 ;; esac')
     run = front(path, ["-j2", "--block=1", "hash", "-a", "sha256", "f0", "f1"])
     judge("a run that ends with status 2",
@@ -598,16 +601,22 @@ def status_3(program):
 
 def other_lines(program):
     """Runs whose lines are none, twice there, in another order, or fewer."""
-    with open("twice", "w") as file:
-        file.write('"$@"; "$@"\n')
-    with open("backwards", "w") as file:
-        file.write('"$@" | tac\n')
+    for name, text in (("twice", '"$@"; "$@"'), ("backwards", '"$@" | tac'), ("nothing", ":"),
+                       ("other", '[ "$2" = --version ] && echo sums 0.9 || "$@"')):
+        with open(name, "w") as file:
+            file.write(f'case "$*" in *--share*) {text} ;; *) "$@" ;; esac\n')
+        with open(f"always-{name}", "w") as file:
+            file.write(f"{text}\n")
     for by in ("sh twice", "sh backwards"):
         run = front(program, ["--by", by, "-j3", "check", "-a", "sha256", "good"])
         judge(f"{by}: told of check", run.status in (1, 3) and b": not of this list\n" in run.err, run)
     for words in (["hash", "-a", "sha256", *FEW], ["check", "-a", "sha256", "good"]):
-        same(f"a command that starts nothing, {words[0]}", front(program, ["--by", "true", "--block=1", *words]),
-             harness.run(program, words))
+        same(f"a command that starts no shares, {words[0]}",
+             front(program, ["--by", "sh nothing", "--block=1", *words]), harness.run(program, words))
+        for by in ("sh always-twice", "sh always-nothing", "sh always-other"):
+            run = front(program, ["--by", by, "--block=1", *words])
+            judge(f"{by}, {words[0]}: refused", run.status == 2 and not run.out
+                  and b": does not start one run of this version of sums\n" in run.err, run)
     path = faulty(program, 'case "$*" in *"--share 0/"*) "$sums" "$@" | head -n 1; exit 0 ;; esac')
     run = front(path, ["-j3", "--block=1", "hash", "-a", "sha256", *FEW])
     judge("a run with fewer lines", run.status == 3 and b"different lines; some are missing" in run.err, run)
@@ -670,9 +679,9 @@ def few_runs(program):
     same("a block with --by is eight times as long", begun, [b"hash"])
     for words in (["--each", "8192", "large"], ["--verify", "parts", "large"]):
         begun, _ = runs_of(program, ["-j3"], ["part", "-a", "blake3", *words])
-        same(f"part {words[0]} is shared", begun, [b"part"] * 3)
+        same(f"part {words[0]} is one run", begun, [b"part"])
     begun, _ = runs_of(program, ["-j9"], ["hash", "-a", "sha256", "more", "f1"])
-    judge("no more runs than words", len(begun) < 6, begun)
+    judge("no more runs than words, and one that asks", len(begun) < 7, begun)
     same("-j 1", runs_of(program, ["-j1"], ["check", "-a", "sha256", "good"])[0], [b"check"])
 
 
