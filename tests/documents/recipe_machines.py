@@ -2,7 +2,6 @@
 
 import os
 import pwd
-import re
 import shlex
 import shutil
 import socket
@@ -11,7 +10,7 @@ import sys
 import tempfile
 import time
 
-from recipe_runner import CHUNK, NAMES, Wrong, behind_file, ends, fill, named, same, write
+from recipe_runner import NAMES, Wrong, ends, fill, same, write
 
 
 # ---- Services, and runs over ssh
@@ -102,8 +101,8 @@ def over_ssh(bench, ssh):
         bench.judge(f"docs/SCALE.md hosts, {name!r}",
                     lambda: ends(bench.run(text, folder, f=name, PARALLEL_SSH=ssh), 0, wanted))
     folder, listed = listed_files(bench)
-    bench.judge("docs/SCALE.md shares-hosts", lambda: ends(
-        bench.run(bench.text("docs/SCALE.md", "shares-hosts"), folder, PARALLEL_SSH=ssh)))
+    text = bench.text("docs/SCALE.md", "shares-hosts") + bench.text("docs/SCALE.md", "told")
+    bench.judge("docs/SCALE.md shares-hosts", lambda: ends(bench.run(text, folder, PARALLEL_SSH=ssh)))
     bench.judge("docs/SCALE.md shares-hosts, the report", lambda: reported(folder, listed))
 
 
@@ -145,9 +144,9 @@ def scale_slurm(bench):
     children = []
     try:
         if cluster(bench, children):
-            arrays(bench)
             steps(bench)
             shares(bench)
+            bench.judge("docs/SCALE.md shares-slurm, a task that fails", lambda: failing(bench))
         else:
             bench.missing("Slurm did not start: its recipe was not run")
     finally:
@@ -207,30 +206,6 @@ PartitionName=all Nodes=ALL Default=YES MaxTime=INFINITE State=UP
     return True
 
 
-def arrays(bench):
-    """The recipe with each name, all at once; then the jobs' outputs, when all are done."""
-    text = behind_file(bench, "slurm")
-    cases = []
-    for name, size, chunks in [("big", 200000001, None), *((name, 4321, 1) for name in NAMES), ("many", 1002 * CHUNK, 1)]:
-        folder = bench.folder()
-        fill(os.path.join(folder, name), size)
-        for script in ["job.sh", "join.sh"]:
-            write(folder, script, bench.text("docs/SCALE.md", script))
-        got = bench.run(text if chunks is None else named(text, name, chunks), folder)
-        cases.append((name, folder, got))
-    waited(bench, 900)
-    for name, folder, got in cases:
-        def case():
-            same((got[0], got[2]), (0, b""), "status and standard error")
-            job = re.fullmatch(rb"Submitted batch job (\d+)\n", got[1])
-            if not job:
-                raise Wrong(f"sbatch says {got[1]!r}")
-            with open(os.path.join(folder, f"slurm-{job.group(1).decode()}.out"), "rb") as file:
-                same(file.read(), bench.sums(folder, "hash", "-a", "blake3", "--", name), "the output of the job")
-        bench.judge(f"docs/SCALE.md slurm, {name!r}", case)
-    bench.judge("docs/SCALE.md slurm, a task that fails", lambda: failing(bench, text))
-
-
 def steps(bench):
     """The runs of sums-parallel that srun begins, for a file of each name."""
     text = bench.text("docs/SCALE.md", "srun")
@@ -248,8 +223,8 @@ def steps(bench):
 def shares(bench):
     """An array whose tasks check shares of a list, and the job behind it."""
     folder, count = listed_files(bench)
-    for script in ["share.sh", "told.sh"]:
-        write(folder, script, bench.text("docs/SCALE.md", script))
+    write(folder, "share.sh", bench.text("docs/SCALE.md", "share.sh"))
+    write(folder, "told.sh", "#!/bin/sh\n" + bench.text("docs/SCALE.md", "told"))
     got = bench.run(bench.text("docs/SCALE.md", "shares-slurm"), folder)
     waited(bench, 900)
 
@@ -268,18 +243,17 @@ def waited(bench, seconds):
         time.sleep(0.5)
 
 
-def failing(bench, text):
-    """A file that is not there when the tasks run: the job behind them is ended, and prints nothing."""
+def failing(bench):
+    """Tasks that fail: the job behind them is ended, and prints nothing."""
     folder = bench.folder()
-    fill(os.path.join(folder, "x"), 4321)
-    write(folder, "job.sh", "#!/bin/sh\nexit 1\n")
-    write(folder, "join.sh", bench.text("docs/SCALE.md", "join.sh"))
-    got = bench.run(named(text, "x", 1), folder)
+    write(folder, "share.sh", "#!/bin/sh\nexit 2\n")
+    write(folder, "told.sh", "#!/bin/sh\n" + bench.text("docs/SCALE.md", "told"))
+    got = bench.run(bench.text("docs/SCALE.md", "shares-slurm"), folder)
     same(got[0], 0, "status")
     waited(bench, 120)
     same(bench.run("squeue -h", folder)[1], b"", "jobs that wait")
     job = got[1].split()[-1].decode()
-    same(os.path.exists(os.path.join(folder, f"slurm-{job}.out")), False, "whether the lines were joined")
+    same(os.path.exists(os.path.join(folder, f"slurm-{job}.out")), False, "whether the report was told")
 
 
 # ---- Spark
@@ -289,7 +263,7 @@ class Numbers:
     """What the recipe uses of Spark: numbers in partitions, and what a command prints of them."""
 
     def __init__(self, environment, folder):
-        self.environment, self.folder, self.is_apart = environment, folder, False
+        self.environment, self.folder = environment, folder
 
     def parallelize(self, numbers, count):
         edges = [len(numbers) * i // count for i in range(count + 1)]
@@ -300,26 +274,20 @@ class Numbers:
         self.command, self.checks = shlex.split(command), checkCode
         return self
 
-    def glom(self):
-        self.is_apart = True
-        return self
-
     def collect(self):
-        lines, apart = [], []
+        lines = []
         for partition in self.partitions:
             text = "".join(f"{number}\n" for number in partition)
             done = subprocess.run(self.command, input=text.encode(), stdout=subprocess.PIPE, env=self.environment,
                                   cwd=self.folder)
             if self.checks and done.returncode:
                 raise Wrong(f"status {done.returncode} of the command")
-            apart.append(done.stdout.decode().split("\n")[:-1])
-            lines += apart[-1]
-        return apart if self.is_apart else lines
+            lines += [line.decode() for line in done.stdout.split(b"\n") if line]
+        return lines
 
 
 def scale_spark(bench):
     """The recipe in a Python of its own, where Spark is installed; else over a stand-in of its `pipe`."""
-    text = bench.text("docs/SCALE.md", "spark")
     found = bench.run(f"{shlex.quote(sys.executable)} -c 'import pyspark' && java -version", bench.work)[0] == 0
     if not found:
         bench.missing("Spark is not installed: its recipe was run over a stand-in of `pipe`")
@@ -329,21 +297,10 @@ def scale_spark(bench):
         here = os.path.dirname(os.path.abspath(__file__))
         write(bench.work, "stand_in.py", f"import os\nimport sys\nsys.path.insert(0, {here!r})\n"
               "from recipe_machines import Numbers\ncontext = Numbers(os.environ, '.')\n")
-
-    def case(name, size, chunks):
-        folder = bench.folder()
-        path = os.path.join(folder, name)
-        fill(path, size)
-        script = write(folder, "script.py", f"{start}f, n = {path!r}, {chunks}\n{text}")
-        got = bench.run(f"{shlex.quote(sys.executable)} {script} 2>&3", folder) if found else \
-            bench.run(f"{shlex.quote(sys.executable)} {script}", folder)
-        same((got[0], got[1]), (0, bench.sums(folder, "hash", "-a", "blake3", "--", path)), "status and output")
-
-    bench.judge("docs/SCALE.md spark", lambda: case("big", 200000001, 65536))
-    for name in NAMES:
-        bench.judge(f"docs/SCALE.md spark, {name!r}", lambda: case(name, 4321, 1))
     folder, count = listed_files(bench)
-    script = write(folder, "script.py", f"import os\n{start}{bench.text('docs/SCALE.md', 'shares-spark')}")
-    got = bench.run(f"{shlex.quote(sys.executable)} {script}", folder)
+    script = write(folder, "script.py", start + bench.text("docs/SCALE.md", "shares-spark"))
+    shown = " 2>&3" if found else ""
+    got = bench.run(f"{shlex.quote(sys.executable)} {script}{shown}", folder)
     bench.judge("docs/SCALE.md shares-spark", lambda: same((got[0], got[1]), (0, b""), "status and output"))
+    bench.judge("docs/SCALE.md shares-spark, told", lambda: ends(bench.run(bench.text("docs/SCALE.md", "told"), folder)))
     bench.judge("docs/SCALE.md shares-spark, the report", lambda: reported(folder, count))

@@ -524,7 +524,7 @@ def checked(bench, folder, count):
 
 def scale_shares(bench):
     """A list that is checked in shares: the report and the status of one run, and what is told of a lost output."""
-    text = bench.text("docs/SCALE.md", "shares")
+    text = bench.text("docs/SCALE.md", "shares") + bench.text("docs/SCALE.md", "told")
 
     def case(loses):
         folder = bench.folder()
@@ -564,13 +564,12 @@ RUNS = {
     "README.md": {"first": readme_first, "download": readme_download, "folder": readme_folder, "new": readme_folder,
                   "use": readme_use, "checks": readme_checks},
     "docs/SCALE.md": {"cores": scale_cores, "hosts": scale_hosts, "srun": scale_slurm, "file": scale_parts,
-                      "shares": scale_shares, "shares-hash": scale_shares_hash, "shares-hosts": scale_hosts,
-                      "share.sh": scale_slurm, "told.sh": scale_slurm, "shares-slurm": scale_slurm,
+                      "shares": scale_shares, "told": scale_shares, "shares-hash": scale_shares_hash,
+                      "shares-hosts": scale_hosts, "share.sh": scale_slurm, "shares-slurm": scale_slurm,
                       "shares-spark": scale_spark,
                       "device": scale_parts, "parts": scale_parts, "own": scale_own, "lines": scale_own,
                       "damage-list": scale_damage, "damage-trust": scale_damage, "damage-find": scale_damage,
-                      "damage-mend": scale_damage,
-                      "job.sh": scale_slurm, "join.sh": scale_slurm, "slurm": scale_slurm, "spark": scale_spark},
+                      "damage-mend": scale_damage},
     "docs/FORMAT.md": {"keyed": keyed_list},
     "man/sums.1": {"lines": lambda bench: lines_of(bench, "man/sums.1"), "folder": folders},
     "man/sums-hash.1": {"lines": hash_page},
