@@ -1,7 +1,7 @@
 #!/usr/bin/env python3
 """Compares random command lines of sums-parallel with one run of sums: both streams and the status. Words, names,
-lists, files of names and standard input are random, and many are wrong. No part of tools/test.
-usage: tests/program/random_parallel.py PROGRAM [COUNT] [SEED]    COUNT is 10,000 where it is not named
+lists, files of names and standard input are random, and many are wrong. A release tries 10,000.
+usage: tests/program/random_parallel.py PROGRAM [COUNT] [SEED]    COUNT is 300 where it is not named
 """
 
 import os
@@ -15,7 +15,8 @@ import harness
 import tables
 
 FRONT = os.path.join(os.path.dirname(harness.HERE), "scripts/sums-parallel")
-FILES = ["f0", "f1", "f2", "f3", "f4", "empty", "a b", " a", "größe", "a\\b", "a\nb", "-dash", "large", "x (y) = z"]
+FILES = ["f0", "f1", "f2", "f3", "f4", "empty", "a b", " a", "größe", "a\\b", "a\nb", "-dash", "large", "-large",
+         "x (y) = z"]
 NONE = ["missing", "folder", "f0/x", "", "x" * 300, "dangling"]
 OWN = ([], ["-j2", "--block=1"], ["-j", "3", "--block", "1"], ["-j5", "--block=1"], ["--block=1"],
        ["-j4", "--by", "env A=b", "--block=1"])
@@ -28,7 +29,7 @@ def chosen(among, most):
 
 
 def names(most=8):
-    return [name for name in chosen(FILES * 2 + NONE, most) if name != "large" or random.random() < 0.2]
+    return [name for name in chosen(FILES * 2 + NONE, most) if not name.endswith("large") or random.random() < 0.2]
 
 
 def lines(program, digests):
@@ -54,13 +55,28 @@ def files(program):
     os.symlink("nothing", "dangling")
     for at, name in enumerate(FILES):
         with open(name, "wb") as file:
-            file.write(os.urandom(0 if name == "empty" else 9000 if name == "large" else 37 * at))
+            file.write(os.urandom(0 if name == "empty" else 9000 if name.endswith("large") else 37 * at))
     digests = {name: [] for name in FILES}
-    for words in (["-a", "sha256"], ["-a", "blake3"], ["-a", "sha256", "--tag"], ["-a", "blake2b", "--tag"]):
-        text = harness.run(program, ["hash", *words, "--", *FILES]).out.splitlines(keepends=True)
+    for words in (["hash", "-a", "sha256"], ["hash", "-a", "blake3"], ["hash", "-a", "sha256", "--tag"],
+                  ["hash", "-a", "blake2b", "--tag"], ["mac", "-a", "hmac-sha256", "--key-file", "key"]):
+        text = harness.run(program, [*words, "--", *FILES]).out.splitlines(keepends=True)
         for name, line in zip(FILES, text):
             digests[name].append(line)
     return digests
+
+
+def check_words():
+    """What check is asked, with a key or without one."""
+    words = random.choice(([], ["-a", "sha256"], ["-a", "sha256"], ["-a", "blake3"], ["-a=sha256"],
+                           ["-a", "hmac-sha256", "--key-file", "key"], ["-ahmac-sha256", "--key=0b", "-l", "16"]))
+    lists = chosen(["list", "list", "list2", "other", "missing", "-", "folder"], 3)
+    return ["check", *words, *random.choice(([], ["--summary"], ["--"])), *lists]
+
+
+def one_large():
+    """A file that is hashed in parts."""
+    words = random.sample([["-a", "blake3"], ["-l", "99"], ["--seek=7"], ["--tag"], ["--progress"]], 3)
+    return ["hash", *sum(words, []), *random.choice(([], ["--"])), random.choice(["large", "large", "-large", "f1"])]
 
 
 def hash_words():
@@ -97,11 +113,12 @@ def case(program, digests):
     kind = random.random()
     if kind < 0.3:
         words, given = of_names(hash_words(), given)
-    elif kind < 0.45:
+    elif kind < 0.4:
         words, given = of_names(mac_words(), given)
-    elif kind < 0.85:
-        words = ["check", *random.choice(([], ["-a", "sha256"], ["-a", "blake3"], ["-a=sha256"])),
-                 *random.choice(([], ["--summary"])), *chosen(["list", "list2", "other", "missing", "-", "folder"], 3)]
+    elif kind < 0.5:
+        words = one_large()
+    elif kind < 0.9:
+        words = check_words()
     else:
         words = ["part", "-a", "blake3", *random.choice((["--each", "1"], ["--each", "4"], ["--each", "3"], ["--list"],
                                                          ["--verify", "parts"], ["--verify", "list"], [])),
@@ -127,13 +144,13 @@ def run(command, program, words, given, is_file):
 def main():
     program = harness.program()
     words = harness.arguments(1)[1:]
-    count, seed = int(words[0]) if words else 10000, int(words[1]) if words[1:] else random.getrandbits(32)
+    count, seed = int(words[0]) if words else 300, int(words[1]) if words[1:] else random.getrandbits(32)
     random.seed(seed)
     print(f"seed {seed}", flush=True)
     with harness.folder():
-        digests = files(program)
         with open("key", "wb") as file:
             file.write(b"\x0b" * 32)
+        digests = files(program)
         with open("parts", "wb") as file:
             file.write(harness.run(program, ["part", "-a", "blake3", "--each", "1", "large"]).out)
         for number in range(count):
