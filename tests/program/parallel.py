@@ -60,6 +60,7 @@ SHARED = (
     "sums check -a hmac-sha256 --key-file /dev/stdin --summary tags tags-mixed < \'the key\'",
     "sums check -a hmac-sha256 --key-file \'the key\' --summary < tags-mixed",
     "{ head -c 10 > told; sums check -a sha256 --summary; cat; } < mixed",
+    "cp mixed told; sums check -a sha256 0>> told",
     "cat f1 | sums check -a sha256 list-stdin /dev/stdin",
     "sums hash -a sha256 --files0-from /dev/stdin < /dev/null",
     "sums check -a sha256 < /dev/null",
@@ -625,6 +626,18 @@ def other_lines(program):
             run = front(program, ["--by", by, "--block=1", *words])
             judge(f"{by}, {words[0]}: refused", run.status == 2 and not run.out
                   and b": does not start one run of this version of sums\n" in run.err, run)
+    for how in ("--told", "--told\"*\" -"):
+        path = faulty(program, f'case "$*" in *"{how}"*) kill -9 $$ ;; esac')
+        run = front(path, ["-j3", "check", "-a", "sha256", *how.split()[1:2]], content("good"))
+        same(f"the run with --told is killed, {how}", (run.status, run.err), (
+            3, b"sums-parallel: a run of sums was killed by signal 9; lines are missing\n"))
+    path = faulty(program, 'case "$2 $3" in "--share 1/3") set -- check --share 2/3 -a sha256 good ;; '
+                  '"--share 2/3") set -- check --share 1/3 -a sha256 good ;; esac')
+    run = front(path, ["-j3", "check", "-a", "sha256", "good"])
+    judge("exchanged lines", run.status in (1, 3) and b": line 2: not of this list\n" in run.err, run)
+    path = faulty(program, 'case "$*" in *"--share 1/3"*) "$sums" "$@" | sed "2s/OK/OKAY/"; exit 0 ;; esac')
+    run = front(path, ["-j3", "check", "-a", "sha256", "good"])
+    judge("a changed line", run.status == 1 and b": line 5: not of this list\n" in run.err, run)
     path = faulty(program, 'case "$*" in *"--share 0/"*) "$sums" "$@" | head -n 1; exit 0 ;; esac')
     run = front(path, ["-j3", "--block=1", "hash", "-a", "sha256", *FEW])
     judge("a run with fewer lines", run.status == 3 and b"different lines; some are missing" in run.err, run)
