@@ -6,7 +6,7 @@ import subprocess
 
 # the program over sums, and which commands it has
 PARALLEL = os.path.join(os.path.dirname(os.path.realpath(__file__)), "../scripts/sums-parallel")
-PARALLEL_COMMANDS = "hash check part"
+PARALLEL_COMMANDS = "hash mac check"
 
 
 class Command:

@@ -46,7 +46,6 @@ TERMINALS = {
     "crates/sums/specs/Progress.antt": (r"^is_simple kind = .*?\n\n", r'codes "(\w+)"'),
     "crates/sums/src/progress.rt": (r'None \| Some\("" [^)]*\) => false', r'"(\w+)"'),
     "man/sums-hash.1": (r"^\.B TERM\nis unset, empty,\n.*?^nothing is shown", r"^\.BR? (?!TERM$)(\w+)"),
-    "scripts/sums-parallel": (r'kinds = \("", [^)]*\)', r'"(\w+)"'),
     "tests/program/progress": (r"for kind in TERM=dumb [^;]*", r"TERM=(\w+)"),
 }
 COMMANDS = ["hash", "mac", "kdf", "check", "part", "join"]

@@ -2,7 +2,6 @@
 
 import os
 import pwd
-import re
 import shlex
 import shutil
 import socket
@@ -11,7 +10,7 @@ import sys
 import tempfile
 import time
 
-from recipe_runner import CHUNK, NAMES, Wrong, behind_file, ends, fill, named, same, write
+from recipe_runner import NAMES, Wrong, ends, fill, same, write
 
 
 # ---- Services, and runs over ssh
@@ -101,6 +100,28 @@ def over_ssh(bench, ssh):
         wanted = bench.sums(folder, "hash", "-a", "blake3", "--", name)
         bench.judge(f"docs/SCALE.md hosts, {name!r}",
                     lambda: ends(bench.run(text, folder, f=name, PARALLEL_SSH=ssh), 0, wanted))
+    folder, listed = listed_files(bench)
+    text = bench.text("docs/SCALE.md", "shares-hosts") + bench.text("docs/SCALE.md", "told")
+    bench.judge("docs/SCALE.md shares-hosts", lambda: ends(bench.run(text, folder, PARALLEL_SSH=ssh)))
+    bench.judge("docs/SCALE.md shares-hosts, the report", lambda: reported(folder, listed))
+
+
+def listed_files(bench):
+    """A folder with files of each name and their list, and how many those are."""
+    folder = bench.folder()
+    for number, name in enumerate([*NAMES, *map(str, range(90))]):
+        fill(os.path.join(folder, name), number)
+    names = sorted(os.listdir(folder))
+    with open(os.path.join(folder, "LIST"), "wb") as file:
+        file.write(bench.sums(folder, "hash", "-a", "blake3", "--", *names))
+    return folder, len(names)
+
+
+def reported(folder, count):
+    """The report tells of all files that they are OK."""
+    with open(os.path.join(folder, "report"), "rb") as file:
+        lines = file.read().splitlines()
+    same((len(lines), all(line.endswith(b": OK") for line in lines)), (count, True), "the lines, and whether all are OK")
 
 
 def large_files(bench):
@@ -123,8 +144,9 @@ def scale_slurm(bench):
     children = []
     try:
         if cluster(bench, children):
-            arrays(bench)
             steps(bench)
+            shares(bench)
+            bench.judge("docs/SCALE.md shares-slurm, a task that fails", lambda: failing(bench))
         else:
             bench.missing("Slurm did not start: its recipe was not run")
     finally:
@@ -184,30 +206,6 @@ PartitionName=all Nodes=ALL Default=YES MaxTime=INFINITE State=UP
     return True
 
 
-def arrays(bench):
-    """The recipe with each name, all at once; then the jobs' outputs, when all are done."""
-    text = behind_file(bench, "slurm")
-    cases = []
-    for name, size, chunks in [("big", 200000001, None), *((name, 4321, 1) for name in NAMES), ("many", 1002 * CHUNK, 1)]:
-        folder = bench.folder()
-        fill(os.path.join(folder, name), size)
-        for script in ["job.sh", "join.sh"]:
-            write(folder, script, bench.text("docs/SCALE.md", script))
-        got = bench.run(text if chunks is None else named(text, name, chunks), folder)
-        cases.append((name, folder, got))
-    waited(bench, 900)
-    for name, folder, got in cases:
-        def case():
-            same((got[0], got[2]), (0, b""), "status and standard error")
-            job = re.fullmatch(rb"Submitted batch job (\d+)\n", got[1])
-            if not job:
-                raise Wrong(f"sbatch says {got[1]!r}")
-            with open(os.path.join(folder, f"slurm-{job.group(1).decode()}.out"), "rb") as file:
-                same(file.read(), bench.sums(folder, "hash", "-a", "blake3", "--", name), "the output of the job")
-        bench.judge(f"docs/SCALE.md slurm, {name!r}", case)
-    bench.judge("docs/SCALE.md slurm, a task that fails", lambda: failing(bench, text))
-
-
 def steps(bench):
     """The runs of sums-parallel that srun begins, for a file of each name."""
     text = bench.text("docs/SCALE.md", "srun")
@@ -222,24 +220,40 @@ def steps(bench):
         bench.judge(f"docs/SCALE.md srun, {name!r}", case)
 
 
+def shares(bench):
+    """An array whose tasks check shares of a list, and the job behind it."""
+    folder, count = listed_files(bench)
+    write(folder, "share.sh", bench.text("docs/SCALE.md", "share.sh"))
+    write(folder, "told.sh", "#!/bin/sh\n" + bench.text("docs/SCALE.md", "told"))
+    got = bench.run(bench.text("docs/SCALE.md", "shares-slurm"), folder)
+    waited(bench, 900)
+
+    def case():
+        same((got[0], got[2]), (0, b""), "status and standard error")
+        with open(os.path.join(folder, f"slurm-{got[1].split()[-1].decode()}.out"), "rb") as file:
+            same(file.read(), b"", "what the job says")
+        reported(folder, count)
+
+    bench.judge("docs/SCALE.md shares-slurm", case)
+
+
 def waited(bench, seconds):
     until = time.monotonic() + seconds
     while bench.run("squeue -h", bench.work)[1].strip() and time.monotonic() < until:
         time.sleep(0.5)
 
 
-def failing(bench, text):
-    """A file that is not there when the tasks run: the job behind them is ended, and prints nothing."""
+def failing(bench):
+    """Tasks that fail: the job behind them is ended, and prints nothing."""
     folder = bench.folder()
-    fill(os.path.join(folder, "x"), 4321)
-    write(folder, "job.sh", "#!/bin/sh\nexit 1\n")
-    write(folder, "join.sh", bench.text("docs/SCALE.md", "join.sh"))
-    got = bench.run(named(text, "x", 1), folder)
+    write(folder, "share.sh", "#!/bin/sh\nexit 2\n")
+    write(folder, "told.sh", "#!/bin/sh\n" + bench.text("docs/SCALE.md", "told"))
+    got = bench.run(bench.text("docs/SCALE.md", "shares-slurm"), folder)
     same(got[0], 0, "status")
     waited(bench, 120)
     same(bench.run("squeue -h", folder)[1], b"", "jobs that wait")
     job = got[1].split()[-1].decode()
-    same(os.path.exists(os.path.join(folder, f"slurm-{job}.out")), False, "whether the lines were joined")
+    same(os.path.exists(os.path.join(folder, f"slurm-{job}.out")), False, "whether the report was told")
 
 
 # ---- Spark
@@ -274,7 +288,6 @@ class Numbers:
 
 def scale_spark(bench):
     """The recipe in a Python of its own, where Spark is installed; else over a stand-in of its `pipe`."""
-    text = bench.text("docs/SCALE.md", "spark")
     found = bench.run(f"{shlex.quote(sys.executable)} -c 'import pyspark' && java -version", bench.work)[0] == 0
     if not found:
         bench.missing("Spark is not installed: its recipe was run over a stand-in of `pipe`")
@@ -284,16 +297,10 @@ def scale_spark(bench):
         here = os.path.dirname(os.path.abspath(__file__))
         write(bench.work, "stand_in.py", f"import os\nimport sys\nsys.path.insert(0, {here!r})\n"
               "from recipe_machines import Numbers\ncontext = Numbers(os.environ, '.')\n")
-
-    def case(name, size, chunks):
-        folder = bench.folder()
-        path = os.path.join(folder, name)
-        fill(path, size)
-        script = write(folder, "script.py", f"{start}f, n = {path!r}, {chunks}\n{text}")
-        got = bench.run(f"{shlex.quote(sys.executable)} {script} 2>&3", folder) if found else \
-            bench.run(f"{shlex.quote(sys.executable)} {script}", folder)
-        same((got[0], got[1]), (0, bench.sums(folder, "hash", "-a", "blake3", "--", path)), "status and output")
-
-    bench.judge("docs/SCALE.md spark", lambda: case("big", 200000001, 65536))
-    for name in NAMES:
-        bench.judge(f"docs/SCALE.md spark, {name!r}", lambda: case(name, 4321, 1))
+    folder, count = listed_files(bench)
+    script = write(folder, "script.py", start + bench.text("docs/SCALE.md", "shares-spark"))
+    shown = " 2>&3" if found else ""
+    got = bench.run(f"{shlex.quote(sys.executable)} {script}{shown}", folder)
+    bench.judge("docs/SCALE.md shares-spark", lambda: same((got[0], got[1]), (0, b""), "status and output"))
+    bench.judge("docs/SCALE.md shares-spark, told", lambda: ends(bench.run(bench.text("docs/SCALE.md", "told"), folder)))
+    bench.judge("docs/SCALE.md shares-spark, the report", lambda: reported(folder, count))

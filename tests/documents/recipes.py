@@ -15,6 +15,7 @@ import os
 import re
 import shlex
 import shutil
+import subprocess
 import sys
 import tempfile
 
@@ -508,6 +509,54 @@ def scale_cores(bench):
         bench.judge(f"docs/SCALE.md cores, {name!r}", lambda: case(name, 4321))
 
 
+def checked(bench, folder, count):
+    """A list of files of each name, one of which is another meanwhile; and its report."""
+    names = tree(folder)
+    for number in range(count):
+        fill(os.path.join(folder, f"more{number}"), number)
+    listed = bench.sums(folder, "hash", "-a", "blake3", "--", *names, *(f"more{number}" for number in range(count)))
+    with open(os.path.join(folder, "LIST"), "wb") as file:
+        file.write(b"# a list\n\n" + listed + b"no line\n")
+    fill(os.path.join(folder, "more1"), 5)
+    done = subprocess.run([bench.program, "check", "-a", "blake3", "LIST"], cwd=folder, capture_output=True)
+    return done.returncode, done.stdout, done.stderr
+
+
+def scale_shares(bench):
+    """A list that is checked in shares: the report and the status of one run, and what is told of a lost output."""
+    text = bench.text("docs/SCALE.md", "shares") + bench.text("docs/SCALE.md", "told")
+
+    def case(loses):
+        folder = bench.folder()
+        wanted = checked(bench, folder, 40)
+        got = bench.run(text.replace("paste", "rm out.05; paste") if loses else text, folder)
+        if loses:
+            same((got[0], got[1]), (1, b""), "the status and the output")
+            same(re.fullmatch(rb"sums: report: line \d+: not of this list\n", got[2]) is not None, True, "what is told")
+            return
+        with open(os.path.join(folder, "report"), "rb") as file:
+            same((got[0], file.read()), wanted[:2], "the status and the report")
+
+    bench.judge("docs/SCALE.md shares", lambda: case(False))
+    bench.judge("docs/SCALE.md shares, an output is lost", lambda: case(True))
+
+
+def scale_shares_hash(bench):
+    """The files of a folder that are hashed in shares."""
+    text = bench.text("docs/SCALE.md", "shares-hash")
+
+    def case():
+        folder = bench.folder()
+        os.mkdir(os.path.join(folder, "folder"))
+        names = ["folder/" + each for each in tree(os.path.join(folder, "folder"))]
+        ends(bench.run(text, folder))
+        with open(os.path.join(folder, "LIST"), "rb") as file:
+            listed = bench.sums(folder, "hash", "-a", "blake3", "--", *names)
+            same(sorted(file.read().splitlines()), sorted(listed.splitlines()), "the list")
+
+    bench.judge("docs/SCALE.md shares-hash", case)
+
+
 # ---- All of them
 
 # each recipe of each page, and what runs it
@@ -515,10 +564,12 @@ RUNS = {
     "README.md": {"first": readme_first, "download": readme_download, "folder": readme_folder, "new": readme_folder,
                   "use": readme_use, "checks": readme_checks},
     "docs/SCALE.md": {"cores": scale_cores, "hosts": scale_hosts, "srun": scale_slurm, "file": scale_parts,
+                      "shares": scale_shares, "told": scale_shares, "shares-hash": scale_shares_hash,
+                      "shares-hosts": scale_hosts, "share.sh": scale_slurm, "shares-slurm": scale_slurm,
+                      "shares-spark": scale_spark,
                       "device": scale_parts, "parts": scale_parts, "own": scale_own, "lines": scale_own,
                       "damage-list": scale_damage, "damage-trust": scale_damage, "damage-find": scale_damage,
-                      "damage-mend": scale_damage,
-                      "job.sh": scale_slurm, "join.sh": scale_slurm, "slurm": scale_slurm, "spark": scale_spark},
+                      "damage-mend": scale_damage},
     "docs/FORMAT.md": {"keyed": keyed_list},
     "man/sums.1": {"lines": lambda bench: lines_of(bench, "man/sums.1"), "folder": folders},
     "man/sums-hash.1": {"lines": hash_page},
