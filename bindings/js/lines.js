@@ -31,7 +31,7 @@ function textOf(data) {
 /** A line of a list that is neither skipped nor an entry. */
 export class MalformedLine extends SyntaxError {
   constructor(line, untagged) {
-    super(untagged ? `line ${line} does not say which hash it is of, and none was named` : `line ${line} is malformed`);
+    super(`line ${line} is malformed${untagged ? ': it has no tag, and needs another hash' : ''}`);
     this.name = 'MalformedLine';
     this.line = line;
     /** Whether it would be an entry if some other hash were named. */
@@ -200,7 +200,9 @@ export function lineOfEntry(machine, algorithm, digest, name, options) {
 export function lineOfReport(machine, { name, verdict, line }) {
   if (verdict === 'MALFORMED') return `line ${line}: MALFORMED\n`;
   const number = VERDICTS.indexOf(verdict);
-  if (number < 1) throw new TypeError(`there is no verdict ${String(verdict)}`);
+  if (number < 1) {
+    throw new TypeError(`there is no verdict ${String(verdict)}: the verdicts are ${VERDICTS.slice(1).join(', ')}`);
+  }
   const nameBytes = bytesOfName(name);
   const length = machine.lengthOf('list_report_length', [number], nameBytes);
   return textOf(machine.output(length, [nameBytes], (out, size, ...data) =>

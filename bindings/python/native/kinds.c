@@ -113,7 +113,7 @@ static int init_blake3(PyObject *object, PyObject *args, PyObject *words)
     PyObject *data = NULL, *key = Py_None, *context = Py_None, *threads, *security;
     if (!parse(args, words, self->kind->format, names, &data, &key, &context, &threads, &security)) return -1;
     if (key != Py_None && context != Py_None) {
-        PyErr_SetString(PyExc_ValueError, "give a key or a context");
+        PyErr_SetString(PyExc_ValueError, "give key or derive_key_context, not both");
         return -1;
     }
     struct start start = {.length = (size_t)self->kind->digest_size};
