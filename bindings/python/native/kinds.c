@@ -149,7 +149,8 @@ static PyMethodDef methods_of_blake3[] = {
     {"digest", WITH_WORDS(digest_blake3),
      "digest($self, length=32, *, seek=0)\n--\n\nSo many bytes of the output, from the byte `seek` on."},
     {"hexdigest", WITH_WORDS(hexdigest_blake3),
-     "hexdigest($self, length=32, *, seek=0)\n--\n\nThe same in hexadecimal digits."},
+     "hexdigest($self, length=32, *, seek=0)\n--\n\nBytes of the output, as digest() gives them, in hexadecimal "
+     "digits."},
     EACH_METHOD,
 };
 
@@ -196,7 +197,7 @@ static PyMethodDef methods_of_hmac[] = {
      "digest($self, length=None)\n--\n\nThe tag of the message so far, or its first bytes, half of them at least. "
      "Compare it by\nhmac.compare_digest."},
     {"hexdigest", WITH_WORDS(hexdigest_hmac),
-     "hexdigest($self, length=None)\n--\n\nThe same in hexadecimal digits."},
+     "hexdigest($self, length=None)\n--\n\nThe tag, as digest() gives it, in hexadecimal digits."},
     EACH_METHOD,
 };
 

@@ -210,7 +210,7 @@ pub fn line(hash: Hash, digest: &[u8], name: &str) -> Result<String, Refusal> {
     entry_line(hash, false, digest, name)
 }
 
-/// The same as a tagged line, which names its hash: `SHA256 (name) = digits`.
+/// The line of an entry as a tagged line, which names its hash: `SHA256 (name) = digits`.
 ///
 /// ```
 /// let line = sums_hash::list::tagged_line(sums_hash::list::Hash::Blake2b, &[0x2e], "empty")?;
