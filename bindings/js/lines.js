@@ -147,7 +147,7 @@ function* linesOfPieces(reader, pieces) {
   }
 }
 
-/** The same, of pieces that come. */
+/** All lines of a list but for those that are skipped, of pieces that come. */
 export async function* linesOfStream(reader, pieces) {
   try {
     for await (const piece of pieces) yield* linesOfPiece(reader, piece);
@@ -157,10 +157,10 @@ export async function* linesOfStream(reader, pieces) {
   }
 }
 
-/** Begins a list whose untagged lines are of a hash, or of none where it is null. */
+/** Begins a list whose untagged lines are of a hash, or of none if it is null. */
 export const beginList = (machine, algorithm, isStrict) => new ListReader(machine, hashOfLines(algorithm), isStrict);
 
-/** The entries of a list, as an iterator, or as an asynchronous one where its bytes have to be waited for. */
+/** The entries of a list, as an iterator, or as an asynchronous one if its bytes have to be waited for. */
 export function entriesOf(machine, list, algorithm, options) {
   const { malformed = 'throw' } = optionsOf(options, ['malformed']);
   if (!['throw', 'yield'].includes(malformed)) throw new TypeError("malformed must be 'throw' or 'yield'");
