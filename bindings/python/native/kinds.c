@@ -70,7 +70,7 @@ static int init_blake2(PyObject *object, PyObject *args, PyObject *words)
         return -1;
     struct start start = {.length = (size_t)self->kind->digest_size};
     if (!is_sequential(tree, last_node)) return -1;
-    if (size != Py_None && length_of(size, &start.length) < 0) return -1;
+    if (size != Py_None && judged_length_of(size, &start.length) < 0) return -1;
     if (fill(start.salt, salt, salt_size, "salt") < 0 || fill(start.person, person, salt_size, "person") < 0) return -1;
     if (key && lend(key, &start.key) < 0) return -1;
     return begin_with(self, &start, data);
@@ -176,7 +176,7 @@ static PyObject *tag(PyObject *object, PyObject *args, PyObject *words, const ch
     PyObject *given = Py_None;
     size_t most = (size_t)self->digest_size, length = most;
     if (!parse(args, words, format, names, &given)) return NULL;
-    if (given != Py_None && length_of(given, &length) < 0) return NULL;
+    if (given != Py_None && judged_length_of(given, &length) < 0) return NULL;
     // before there has to be room for it
     if (length > most && judged(object, SUMS_DIGEST_LENGTH) < 0) return NULL;
     return output(self, 0, length);
