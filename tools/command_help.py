@@ -25,11 +25,11 @@ class Option:
         self.names, self.value, self.text, self.is_required = names, value, text, is_required
 
     def about(self):
-        """The beginning of its text, which tells what it is."""
+        """The beginning of its text, which says what it is."""
         return re.split(r"\. |; | \[|: (?=[a-z0-9])", self.text)[0]
 
     def words(self):
-        """What it takes one of, where its text lists that word by word, in one list or several."""
+        """What it takes one of, if its text lists that word by word, in one list or several."""
         lists = re.findall(r": ([a-z0-9-]+(?:(?:, | or )[a-z0-9-]+)*)(?:\. |$)", self.text) if self.value else []
         return list(dict.fromkeys(word for listed in lists for word in re.split(", | or ", listed)))
 

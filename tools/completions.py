@@ -9,7 +9,7 @@ import sys
 
 from command_help import PARALLEL_COMMANDS, read_parallel, read_program
 
-# what options take one of, where the help does not list it word by word
+# what options take one of, if the help does not list it word by word
 WORDS = {"--parts": " ".join(str(1 << exponent) for exponent in range(11))}
 # what the help calls a file that is the value of an option
 FILES = "F", "PARTS"
@@ -64,7 +64,7 @@ _sums() {{
     elif [[ $before == = ]]; then
         before=${{COMP_WORDS[COMP_CWORD - 2]}}
     fi
-    # behind -- all words are files
+    # after -- all words are files
     for ((i = 2; i < COMP_CWORD; i++)); do
         if [[ ${{COMP_WORDS[i]}} == -- ]]; then
             _sums_files
@@ -76,7 +76,7 @@ _sums() {{
 
 
 def bash_values(command):
-    """the lines that tell what stands behind each option of a command"""
+    """the lines that say what follows each option of a command"""
     for takes in dict.fromkeys(filter(None, map(taken, command.options))):
         found = " | ".join(f"{command.name}:{name}" for option in command.options if taken(option) == takes
             for name in option.names)
@@ -86,7 +86,7 @@ def bash_values(command):
 
 
 def bash_words(command, commands):
-    """the lines that tell what the other words of a command are"""
+    """the lines that say what the other words of a command are"""
     if command.takes == "commands":
         yield f"        {command.name}:*)\n"
         yield f"            if ((COMP_CWORD == 2)); then _sums_words {quoted(names(commands))} \"$word\"; fi ;;\n"
@@ -138,7 +138,7 @@ def zsh_option(option):
     value = {"": "", "file": ":file:_files", "-": f":{text}:"}.get(takes, f":value:({takes})")
     ends = "(- *)" if option.names[-1] in ("--help", "--version") else ""
     for name in option.names:
-        # the value stands behind it, or in the same word
+        # the value follows it, or stands in the same word
         joint = ("=" if name.startswith("--") else "+") if takes else ""
         yield quoted(f"{ends}{name}{joint}[{text}]{value}")
 
@@ -179,7 +179,7 @@ function __sums_command_is
     test (count $words) -ge 2; and test "$words[2]" = $argv[1]
 end
 
-# Whether the word that is being written is the one behind this command.
+# Whether the word that is being written is the one after this command.
 function __sums_is_behind
     __sums_command_is $argv[1]; and test (count (commandline -opc)) -eq 2
 end
@@ -268,7 +268,7 @@ _sums_parallel "$@"
 FISH_PARALLEL = """\
 # Completion for fish of the program sums-parallel.
 
-# Whether the first word that is neither an option nor its value is this command, or none where none is named.
+# Whether the first word that is neither an option nor its value is this command, or none if none is named.
 function __sums_parallel_command_is
     set -l words (commandline -opc)
     set -e words[1]

@@ -3,7 +3,7 @@
 # writes that of its own level, and 3 again when it ends, by itself or by a signal. aarch64 has the 2 of x86-64-v2: its
 # vectors have four words, and it has a shuffle of bytes.
 
-# write_level LEVEL CRATES: writes the number of the level into the folder of crates, where another stands there
+# write_level LEVEL CRATES: writes the number of the level into the folder of crates, if another stands there
 write_level() {
     case $1 in x86-64) number=1 ;; aarch64) number=2 ;; *) number=${1#x86-64-v} ;; esac
     grep -qx "    $number" "$2/words/src/levels.rt" || sed -i "s/^    [123]\$/    $number/" "$2/words/src/levels.rt"

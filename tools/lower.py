@@ -2,7 +2,7 @@
 """Writes a module of WebAssembly whose addresses have 64 bits as one whose addresses have 32, which every engine takes.
 usage: tools/lower.py IN OUT
 
-In the code an address stays a number of 64 bits, and is cut to its low 32 where an instruction uses it. So the code,
+In the code an address stays a number of 64 bits, and is cut to its low 32 when an instruction uses it. So the code,
 the places in memory and the types of the exports are those of the first module. The memory of the second ends below
 4 GiB. As long as the first module stays below that too, no address has more than 32 bits, nothing is cut off, and the
 second does what the first does. Custom sections describe the code of the first, and are left out.
@@ -28,7 +28,7 @@ CUSTOM, TYPE, FUNCTIONS, MEMORY, GLOBAL, EXPORT, CODE, DATA, DATA_COUNT = 0, 1, 
 SAME_SECTIONS = (TYPE, FUNCTIONS, GLOBAL, EXPORT, DATA_COUNT)
 OF_64_BITS, WITH_LIMIT = 4, 1  # flags of a memory
 
-# Instructions of one byte. Those that compute have nothing behind them.
+# Instructions of one byte. Those that compute have nothing after them.
 BLOCKS = (0x02, 0x03, 0x04)
 BRANCHES = 0x0E
 WITH_NUMBER = (0x0C, 0x0D, 0x10, *range(0x20, 0x25), CONST_WORD, CONST_WIDE)
@@ -37,7 +37,7 @@ CONST_SINGLE, CONST_DOUBLE = 0x43, 0x44
 LOADS = range(0x28, 0x36)
 STORES = dict(zip(range(0x36, 0x3F), (WORD, WIDE, SINGLE, DOUBLE, WORD, WORD, WIDE, WIDE, WIDE)))
 
-# Instructions of two parts, behind a byte of their own.
+# Instructions of two parts, after a byte of their own.
 MORE, VECTORS = 0xFC, 0xFD
 CONVERSIONS, COPY, FILL = range(0, 8), 10, 11
 VECTOR_LOADS = (*range(0, 11), 92, 93)
@@ -107,7 +107,7 @@ def number(value):
 
 
 def signed_number(value):
-    """A number that is not negative, where one with a sign is read: a group more if the last one looks negative."""
+    """A number that is not negative, if one with a sign is read: a group more if the last one looks negative."""
     groups = bytearray()
     while value > 63:
         groups.append(value & 127 | 128)
@@ -159,7 +159,7 @@ class Function:
         return changed or self.body.data[begin : self.body.at]
 
     def pass_over(self, code):
-        """What stands behind an instruction that stays as it is."""
+        """What follows an instruction that stays as it is."""
         if code in BLOCKS:
             kind = self.body.byte()
             known(kind in (NO_TYPE, *TYPES), "a block with a type of its own")
@@ -177,7 +177,7 @@ class Function:
         """The alignment and the offset of a load or a store."""
         alignment, offset = self.body.number(), self.body.number()
         known(alignment < 64, "another memory")
-        known(offset <= LAST_OFFSET, "an offset behind 4 GiB")
+        known(offset <= LAST_OFFSET, "an offset above 4 GiB")
         return number(alignment) + number(offset)
 
     def cut_below(self, kind):

@@ -16,7 +16,7 @@ TOP = os.path.dirname(os.path.dirname(os.path.realpath(__file__)))
 # What is in the page beside this repository's own code, by the parts of THIRD-PARTY, and the texts of their licences.
 NOTICES = ("1. ", "2. ", "==== MIT ", "==== UNICODE ")
 ONLY_IN_PROGRAM = re.compile(r"^   \w+ +program {3,}.*\n(?: {10,}Copyright.*\n)*", re.M)
-# What a script has in it, each file behind those that it imports.
+# What a script has in it, each file after those that it imports.
 PACKAGE = ["hashes", "bytes", "machine", "message", "sources", "lines", "checking", "library"]
 READING = ["functions", "entries", "listnames", "texts", "lists", "pasted", "names", "places", "plan", "reading"]
 ENGINE = ["verdict", "added", "view", "written", "engine", "worker"]

@@ -25,7 +25,7 @@ export function sized(hash, digits) {
   return Number.isInteger(length) && length >= least && length <= digest ? { hash, length } : null;
 }
 
-/** The functions that digests of so many digits are of where no hash is named: those of usual lengths. */
+/** The functions that digests of so many digits are of if no hash is named: those of usual lengths. */
 export function usual(digits) {
   if (digits < FEWEST_DIGITS) return [];
   const all = Object.keys(HASHES).map((hash) => sized(hash, digits)).filter(Boolean);
@@ -34,7 +34,7 @@ export function usual(digits) {
 
 export const isNotHere = (hash) => `${hash} is not one of the hashes here: ask the maker for SHA-256`;
 
-/** What is said of digests of so many digits where they are those of a hash that is not here, or null. */
+/** What is said of digests of so many digits if they are those of a hash that is not here, or null. */
 export function otherHash(digits) {
   const its = OTHERS[digits];
   return its ? `${digits} digits, as ${its} has them, and ${isNotHere(its)}` : null;

@@ -39,7 +39,7 @@ async function allOf(reader) {
   }
 }
 
-/** Adds an entry to what a folder has. What cannot be read is told, and the rest is added. */
+/** Adds an entry to what a folder has. What cannot be read is reported, and the rest is added. */
 async function gather(entry, path, folder) {
   try {
     if (entry.isFile) {

@@ -10,7 +10,7 @@ export function bakedList(holder) {
   return { name: holder.dataset.name, bytes: Uint8Array.from(atob(holder.textContent), (it) => it.charCodeAt(0)) };
 }
 
-/** What an address asks for behind its #: `sha256=DIGITS`, with `name=` for the file's, or `list=` and its lines. */
+/** What an address asks for after its #: `sha256=DIGITS`, with `name=` for the file's, or `list=` and its lines. */
 export function ofAddress(fragment) {
   const words = new URLSearchParams(fragment.replace(/^#/, ''));
   const name = words.get('name') ?? undefined;

@@ -3,7 +3,7 @@
 
 const HASH = 'sha-?(?:2-)?(?:256|512)|blake2b(?:-\\d+)?|blake2s(?:-\\d+)?|blake2|blake3|b2|b3';
 const LIST = '(?:sum|digest|hash|checksum)(?:s|es)?';
-// What a browser, an editor or a signature puts behind the name of a list.
+// What a browser, an editor or a signature puts after the name of a list.
 const ADDED = /( ?\(\d+\)|\.(txt|text|list|asc|gpg|sign))$/;
 
 /** The hash that a word of a name stands for. */
@@ -26,13 +26,13 @@ const OF_HASH = [
 const SHORT_ENDING = /\.(b2|b3)$/;
 const PLAIN = new RegExp(`(^|[^a-z])(check|sha|md5)?${LIST}$`);
 
-/** A name in lower case, without what was put behind it. */
+/** A name in lower case, without what was put after it. */
 function stem(name) {
   const lower = name.toLowerCase().trim();
   return ADDED.test(lower) ? stem(lower.replace(ADDED, '')) : lower;
 }
 
-/** The hash that the name of a list tells of, or null. */
+/** The hash that the name of a list names, or null. */
 export function hashOfList(name) {
   const own = stem(name);
   for (const form of OF_HASH) {
@@ -42,7 +42,7 @@ export function hashOfList(name) {
   return null;
 }
 
-/** Whether a name is one of a list: `sure`, or `maybe` where its lines decide; '' where it says nothing. */
+/** Whether a name is one of a list: `sure`, or `maybe` if its lines decide; '' if it says nothing. */
 export function listName(name) {
   const own = stem(name);
   if (hashOfList(name)) return SHORT_ENDING.test(own) ? 'maybe' : 'sure';

@@ -23,7 +23,7 @@ function known({ lines }) {
   });
 }
 
-/** The same, where an untagged line may be of each hash whose usual digests are as long. */
+/** The lines of a list of which an untagged one may be of each hash whose usual digests are as long. */
 function open(library, lines, bytes) {
   const all = parseList(library, bytes, ANY).lines;
   return lines.map((line, at) => {
@@ -72,7 +72,7 @@ function withoutArmour(lines, armour) {
 
 /**
  * What a list says, as the library reads it: `lines` of `{ number, entry }`, where an entry is MALFORMED or `{ name, digest, of }`, and notes on
- * it; or the fault of one that is too long. Its hash is the one that was chosen, or that its name tells, or else each
+ * it; or the fault of one that is too long. Its hash is the one that was chosen, or that its name says, or else each
  * that has digests as long as those of its lines, which `isOpen` says of a line.
  */
 export function readList(library, name, bytes, chosen) {

@@ -75,7 +75,7 @@ function say(state, text, notes) {
   byId('notes').replaceChildren(...list(notes));
 }
 
-/** Folds what a list names and was not added, where something else is there to see. */
+/** Folds what a list names and was not added, if something else is there to see. */
 function foldMissing(missing, all) {
   const isFolded = missing > 0 && missing < all;
   byId('fold').hidden = !isFolded;

@@ -1,5 +1,5 @@
 // SPDX-License-Identifier: MIT OR Apache-2.0
-// A digest that is pasted alone, in the forms that people have: bare, behind the name of its hash, in groups, and as
+// A digest that is pasted alone, in the forms that people have: bare, after the name of its hash, in groups, and as
 // sha256:, openssl, Get-FileHash, certutil and gpg --print-md write it.
 import { HASHES } from '../bindings/js/hashes.js';
 import { FEWEST_DIGITS, isNotHere, otherHash, sized, TITLES, usual } from './functions.js';
@@ -66,7 +66,7 @@ function functionsOf(digits, hash) {
 
 /**
  * What a text is that is no list: `{ digest, of, fault }`, the digits of one digest and the functions that it may be
- * of, one where the text or else `chosen` names it. Where it is no such digest, `of` is empty, and `fault` says why.
+ * of, one if the text or else `chosen` names it. If it is no such digest, `of` is empty, and `fault` says why.
  */
 export function pastedDigest(text, chosen) {
   const plain = text.replace(INVISIBLE, '');

@@ -28,7 +28,7 @@ class Item {
     return new Map([[this.path, this.files]]);
   }
 
-  /** What it is called: with the folder that was added, or with a number, where another has the name. */
+  /** What it is called: with the folder that was added, or with a number, if another has the name. */
   get name() {
     return this.place.isFolder ? `${this.place.label}/${this.path}` : this.label;
   }
@@ -146,7 +146,7 @@ export class Places {
 
   /**
    * What a name leads to from a folder, `{ place, folder }`, or from the top of all, `{ selection }`: an item, or none
-   * and the fault that it has. Null where there is nothing.
+   * and the fault that it has. Null if there is nothing.
    */
   named(from, name) {
     if (name.startsWith('/')) return null;

@@ -28,7 +28,7 @@ function rowOf(label, item, of, digest) {
   return item.fault ? { ...settled(label, RESULT.unreadable, [item.fault]), item } : waiting(label, item, of, digest);
 }
 
-/** Of the last part of each name of a list, the name, or null where several names end with it. */
+/** Of the last part of each name of a list, the name, or null if several names end with it. */
 function endingsOf(lines) {
   const endings = new Map();
   for (const { entry } of lines) {

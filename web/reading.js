@@ -1,10 +1,10 @@
 // SPDX-License-Identifier: MIT OR Apache-2.0
-// How files are read: a verdict is of one reading, and what has changed or is gone by then is told.
+// How files are read: a verdict is of one reading, and what has changed or is gone by then is reported.
 import { piecesOfBlob } from '../bindings/js/sources.js';
 
 // A file of up to so many bytes is read as a whole. Only so does Firefox tell that one has grown.
 const WHOLE = 2 ** 20;
-const EDGE = 2 ** 16; // bytes at either end, by which files are told apart
+const EDGE = 2 ** 16; // bytes at either end, by which files are distinguished
 const MOST_COMPARED = 500; // files
 const PATIENCE = 10000; // milliseconds for a file that says to be empty, which may be a pipe
 
@@ -23,7 +23,7 @@ export function faultOf(error) {
   return `this browser did not read it: ${error?.message ?? error}`;
 }
 
-/** All bytes of a file, by the one way that fails in each browser where it has another size by now. */
+/** All bytes of a file, by the one way that fails in each browser if it has another size by now. */
 function wholeFile(file) {
   return new Promise((resolve, reject) => {
     const reader = new FileReader();

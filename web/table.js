@@ -46,7 +46,7 @@ async function copy(text) {
   }
 }
 
-/** Copies a text where a page has no clipboard, as on a server without TLS. */
+/** Copies a text if a page has no clipboard, such as on a server without TLS. */
 function copySelected(text) {
   const area = element('textarea', { value: text, readOnly: true });
   document.body.append(area);

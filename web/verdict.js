@@ -4,7 +4,7 @@ import { RESULT } from './plan.js';
 
 const IN_ORDER = Object.values(RESULT);
 const WRONG = [RESULT.failed, RESULT.unreadable, RESULT.malformed];
-// Of what failed, the names that are told beside the verdict.
+// Of what failed, the names that stand beside the verdict.
 const MOST_NAMES = 3;
 
 const MEANING = {
@@ -39,7 +39,7 @@ function failedNames(rows) {
   return [`FAILED: ${names.join(', ')}${more}.`];
 }
 
-/** What is said where no file was added yet. */
+/** What is said if no file was added yet. */
 function asking(rows, all) {
   const has = (result) => all.some(([it]) => it === result);
   if (has(RESULT.unreadable)) return { state: 'wrong', text: 'The list cannot be read.' };
@@ -49,7 +49,7 @@ function asking(rows, all) {
   return { state: '', text: `Now add the files. The list names ${names === 1 ? 'one' : names}.` };
 }
 
-/** What is said where files were added, and at least one row has a result. */
+/** What is said if files were added, and at least one row has a result. */
 function judging(rows, all) {
   const one = (result) => rows.find((it) => it.result === result)?.label;
   const count = new Map(all);

@@ -19,8 +19,8 @@ export function lineOf(digest, name) {
 }
 
 /**
- * The list of all rows, `{ name, text }`, or null where one of them is no digest. The names count from the folder that
- * was added, where nothing else was.
+ * The list of all rows, `{ name, text }`, or null if one of them is no digest. The names count from the folder that
+ * was added, if nothing else was.
  */
 export function writtenList(rows, places) {
   if (!rows.length || rows.some((it) => it.result !== RESULT.digest)) return null;

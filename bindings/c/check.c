@@ -1,4 +1,4 @@
-/* Checks the files of a list of SHA-256 digests, as SHA256SUMS beside a download:
+/* Checks the files of a list of SHA-256 digests, such as SHA256SUMS beside a download:
  * cc check.c -o check $(pkg-config --cflags --libs sums_hash) && ./check SHA256SUMS
  * SPDX-License-Identifier: MIT OR Apache-2.0 */
 #include <errno.h>
@@ -49,7 +49,11 @@ int main(int argc, char **argv) {
     size_t count;
     int all_are_right = 1;
     FILE *list = argc == 2 ? fopen(argv[1], "rb") : NULL;
-    if (!list || sums_list_init(&state, SUMS_SHA256) != SUMS_OK) return 2;
+    if (!list) {
+        fprintf(stderr, "usage: check LIST, a file of SHA-256 digests that can be read\n");
+        return 2;
+    }
+    if (sums_list_init(&state, SUMS_SHA256) != SUMS_OK) return 2;
     while ((count = fread(piece, 1, sizeof piece, list)) > 0)
         for (size_t at = 0; at < count; at += (size_t)line.taken) {
             if (sums_list_read(&state, &line, piece + at, count - at) != SUMS_OK) return 2;

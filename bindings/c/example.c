@@ -23,6 +23,6 @@ int main(void) {
     if (sums_blake3_output(&state, 0, digest, sizeof digest) != SUMS_OK) return 1;
     print("blake3 ", digest, sizeof digest);
 
-    /* a refusal tells why, and writes nothing */
+    /* a refusal says why, and writes nothing */
     return sums_blake2b(digest, 0, abc, sizeof abc, NULL, 0) == SUMS_DIGEST_LENGTH ? 0 : 1;
 }

@@ -13,7 +13,7 @@
 
 enum { BLOCK = 16384, DIGEST = 32 };
 
-/* The root of one byte or more: 0 where there is no memory for the leaves. */
+/* The root of one byte or more: 0 if there is no memory for the leaves. */
 static int merkle_root(uint8_t root[DIGEST], const uint8_t *data, size_t length) {
     size_t leaves = (length - 1) / BLOCK + 1, width = 1;
     while (width < leaves) width *= 2;

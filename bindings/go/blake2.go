@@ -11,7 +11,7 @@ func NewBLAKE2b(size int, key []byte) (*Hash, error) {
 	return NewBLAKE2bSalted(size, key, nil, nil)
 }
 
-// NewBLAKE2bSalted is the same with a salt and a personalization of 16 bytes each; nil is zeros.
+// NewBLAKE2bSalted begins a message like NewBLAKE2b, with a salt and a personalization of 16 bytes each; nil is zeros.
 func NewBLAKE2bSalted(size int, key, salt, person []byte) (*Hash, error) {
 	var parameters [2][16]byte
 	if err := taken(size, salt, parameters[0][:], person, parameters[1][:]); err != nil {
@@ -31,7 +31,7 @@ func NewBLAKE2s(size int, key []byte) (*Hash, error) {
 	return NewBLAKE2sSalted(size, key, nil, nil)
 }
 
-// NewBLAKE2sSalted is the same with a salt and a personalization of 8 bytes each; nil is zeros.
+// NewBLAKE2sSalted begins a message like NewBLAKE2s, with a salt and a personalization of 8 bytes each; nil is zeros.
 func NewBLAKE2sSalted(size int, key, salt, person []byte) (*Hash, error) {
 	var parameters [2][8]byte
 	if err := taken(size, salt, parameters[0][:], person, parameters[1][:]); err != nil {

@@ -126,7 +126,7 @@ func (o *Output) Seek(offset int64, whence int) (int64, error) {
 	case io.SeekEnd:
 		return 0, errors.New("sums: the output is too long to seek from its end")
 	default:
-		return 0, errors.New("sums: no such whence")
+		return 0, errors.New("sums: no such whence: io.SeekStart and io.SeekCurrent are taken")
 	}
 	to := base + uint64(offset)
 	if (offset < 0) != (to < base) && offset != 0 {

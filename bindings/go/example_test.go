@@ -3,6 +3,7 @@
 package hash_test
 
 import (
+	"errors"
 	"fmt"
 	"io"
 	"strings"
@@ -27,11 +28,11 @@ func Example() {
 	fmt.Printf("%x\n", tag.Sum(nil))
 
 	_, err = hash.NewBLAKE2b(65, nil)
-	fmt.Println(err)
+	fmt.Println(errors.Is(err, hash.ErrDigestLength))
 	// Output:
 	// 508c5e8c327c14e2e1a72ba34eeb452f37458b209ed63a294d999b4c86675982
 	// 9c196e32dc0175f86f4b1cb89289d6619de6bee699e4c378e68309ed97a1a6ab
-	// sums: the function has no output of that length
+	// true
 }
 
 func ExampleBLAKE3_XOF() {

@@ -20,16 +20,23 @@ import (
 
 // What a call is refused for. A refused call has changed nothing.
 var (
-	ErrDigestLength = errors.New("sums: the function has no output of that length")
-	ErrKeyLength    = errors.New("sums: the function takes no key or salt of that length")
+	ErrDigestLength = errors.New("sums: the function has no output of that length: " + digestLengths)
+	ErrKeyLength    = errors.New("sums: the function takes no key or salt of that length: " + keyLengths)
 	ErrInputTooLong = errors.New("sums: the message is longer than the function takes")
-	ErrNotBegun     = errors.New("sums: the message was never begun")
-	ErrEndOfOutput  = errors.New("sums: the output has no such bytes")
-	ErrPieceLength  = errors.New("sums: the function takes no pieces of that length")
+	ErrNotBegun     = errors.New("sums: the message was never begun: NewSHA256 and its like begin one")
+	ErrEndOfOutput  = errors.New("sums: the output has no such bytes: " + outputEnds)
+	ErrPieceLength  = errors.New("sums: a piece must have at least 1 byte")
 	ErrNoAlgorithm  = errors.New("sums: no hash has that number")
-	ErrNoLine       = errors.New("sums: no line has that name")
+	ErrNoLine       = errors.New("sums: no line has that name: it is empty, not UTF-8, holds NUL, or is too long")
 	ErrNoVerdict    = errors.New("sums: no verdict has that number")
 	ErrCopied       = errors.New("sums: a copy of a message's struct is no message: Clone makes one")
+)
+
+const (
+	digestLengths = "SHA-256 and BLAKE3 have digests of 32 bytes, SHA-512 of 64, BLAKE2b of 1 to 64, BLAKE2s of 1 to 32"
+	keyLengths    = "BLAKE2b takes keys of up to 64 bytes and salts of 16, BLAKE2s of up to 32 and of 8, " +
+		"BLAKE3 keys of 32, and the second step of HKDF keys as long as a digest or longer"
+	outputEnds = "that of HKDF ends after 255 digests, that of BLAKE3 after 2^64 - 1 bytes"
 )
 
 // SUMS_OUTPUT_LENGTH never comes: an output is made as long as the digests of all pieces, or as the line.

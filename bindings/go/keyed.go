@@ -7,7 +7,7 @@ import "C"
 
 // ---- HMAC
 
-// NewHMACSHA256 begins a message that HMAC (RFC 2104) over SHA-256 makes a tag of, under a key of any length.
+// NewHMACSHA256 begins a message for a tag by HMAC (RFC 2104) over SHA-256, under a key of any length.
 func NewHMACSHA256(key []byte) (*Hash, error) {
 	begun := hmacSHA256Function.state()
 	at, n := pointer(key)
@@ -15,7 +15,7 @@ func NewHMACSHA256(key []byte) (*Hash, error) {
 	return newHash(&hmacSHA256Function, 32, begun, status)
 }
 
-// NewHMACSHA512 is the same over SHA-512.
+// NewHMACSHA512 begins a message for a tag by HMAC over SHA-512, under a key of any length.
 func NewHMACSHA512(key []byte) (*Hash, error) {
 	begun := hmacSHA512Function.state()
 	at, n := pointer(key)
@@ -23,7 +23,7 @@ func NewHMACSHA512(key []byte) (*Hash, error) {
 	return newHash(&hmacSHA512Function, 64, begun, status)
 }
 
-// NewHMACBLAKE2b is the same over BLAKE2b of 64 bytes.
+// NewHMACBLAKE2b begins a message for a tag by HMAC over BLAKE2b of 64 bytes, under a key of any length.
 func NewHMACBLAKE2b(key []byte) (*Hash, error) {
 	begun := hmacBLAKE2bFunction.state()
 	at, n := pointer(key)
@@ -31,7 +31,7 @@ func NewHMACBLAKE2b(key []byte) (*Hash, error) {
 	return newHash(&hmacBLAKE2bFunction, 64, begun, status)
 }
 
-// NewHMACBLAKE2s is the same over BLAKE2s of 32 bytes.
+// NewHMACBLAKE2s begins a message for a tag by HMAC over BLAKE2s of 32 bytes, under a key of any length.
 func NewHMACBLAKE2s(key []byte) (*Hash, error) {
 	begun := hmacBLAKE2sFunction.state()
 	at, n := pointer(key)
@@ -64,7 +64,7 @@ func HKDFSHA256(size int, material, salt, info []byte) ([]byte, error) {
 	})
 }
 
-// HKDFSHA512 is the same over SHA-512: at most 16,320 bytes.
+// HKDFSHA512 is a key of size bytes, by HKDF over SHA-512: at most 16,320. A nil salt is none.
 func HKDFSHA512(size int, material, salt, info []byte) ([]byte, error) {
 	m, mn := pointer(material)
 	s, sn := pointer(salt)
@@ -74,7 +74,7 @@ func HKDFSHA512(size int, material, salt, info []byte) ([]byte, error) {
 	})
 }
 
-// HKDFBLAKE2b is the same over BLAKE2b of 64 bytes: at most 16,320 bytes.
+// HKDFBLAKE2b is a key of size bytes, by HKDF over BLAKE2b of 64 bytes: at most 16,320. A nil salt is none.
 func HKDFBLAKE2b(size int, material, salt, info []byte) ([]byte, error) {
 	m, mn := pointer(material)
 	s, sn := pointer(salt)
@@ -84,7 +84,7 @@ func HKDFBLAKE2b(size int, material, salt, info []byte) ([]byte, error) {
 	})
 }
 
-// HKDFBLAKE2s is the same over BLAKE2s of 32 bytes: at most 8,160 bytes.
+// HKDFBLAKE2s is a key of size bytes, by HKDF over BLAKE2s of 32 bytes: at most 8,160. A nil salt is none.
 func HKDFBLAKE2s(size int, material, salt, info []byte) ([]byte, error) {
 	m, mn := pointer(material)
 	s, sn := pointer(salt)
@@ -103,7 +103,8 @@ func HKDFExtractSHA256(material, salt []byte) ([]byte, error) {
 	})
 }
 
-// HKDFExpandSHA256 is the second step: a key of size bytes, at most 8,160, of a pseudorandom key of 32 bytes or more.
+// HKDFExpandSHA256 is the second step of HKDF over SHA-256: a key of size bytes, at most 8,160, of a pseudorandom
+// key of 32 bytes or more.
 func HKDFExpandSHA256(size int, prk, info []byte) ([]byte, error) {
 	p, pn := pointer(prk)
 	i, in := pointer(info)
@@ -112,7 +113,7 @@ func HKDFExpandSHA256(size int, prk, info []byte) ([]byte, error) {
 	})
 }
 
-// HKDFExtractSHA512 is the same over SHA-512: 64 bytes.
+// HKDFExtractSHA512 is the first step of HKDF over SHA-512: the pseudorandom key, of 64 bytes.
 func HKDFExtractSHA512(material, salt []byte) ([]byte, error) {
 	m, mn := pointer(material)
 	s, sn := pointer(salt)
@@ -121,7 +122,8 @@ func HKDFExtractSHA512(material, salt []byte) ([]byte, error) {
 	})
 }
 
-// HKDFExpandSHA512 is the same over SHA-512: at most 16,320 bytes, of a pseudorandom key of 64 or more.
+// HKDFExpandSHA512 is the second step of HKDF over SHA-512: a key of size bytes, at most 16,320, of a pseudorandom
+// key of 64 bytes or more.
 func HKDFExpandSHA512(size int, prk, info []byte) ([]byte, error) {
 	p, pn := pointer(prk)
 	i, in := pointer(info)
@@ -130,7 +132,7 @@ func HKDFExpandSHA512(size int, prk, info []byte) ([]byte, error) {
 	})
 }
 
-// HKDFExtractBLAKE2b is the same over BLAKE2b of 64 bytes: 64 bytes.
+// HKDFExtractBLAKE2b is the first step of HKDF over BLAKE2b of 64 bytes: the pseudorandom key, of 64 bytes.
 func HKDFExtractBLAKE2b(material, salt []byte) ([]byte, error) {
 	m, mn := pointer(material)
 	s, sn := pointer(salt)
@@ -139,7 +141,8 @@ func HKDFExtractBLAKE2b(material, salt []byte) ([]byte, error) {
 	})
 }
 
-// HKDFExpandBLAKE2b is the same over BLAKE2b of 64 bytes: at most 16,320 bytes, of a pseudorandom key of 64 or more.
+// HKDFExpandBLAKE2b is the second step of HKDF over BLAKE2b of 64 bytes: a key of size bytes, at most 16,320, of a
+// pseudorandom key of 64 bytes or more.
 func HKDFExpandBLAKE2b(size int, prk, info []byte) ([]byte, error) {
 	p, pn := pointer(prk)
 	i, in := pointer(info)
@@ -148,7 +151,7 @@ func HKDFExpandBLAKE2b(size int, prk, info []byte) ([]byte, error) {
 	})
 }
 
-// HKDFExtractBLAKE2s is the same over BLAKE2s of 32 bytes: 32 bytes.
+// HKDFExtractBLAKE2s is the first step of HKDF over BLAKE2s of 32 bytes: the pseudorandom key, of 32 bytes.
 func HKDFExtractBLAKE2s(material, salt []byte) ([]byte, error) {
 	m, mn := pointer(material)
 	s, sn := pointer(salt)
@@ -157,7 +160,8 @@ func HKDFExtractBLAKE2s(material, salt []byte) ([]byte, error) {
 	})
 }
 
-// HKDFExpandBLAKE2s is the same over BLAKE2s of 32 bytes: at most 8,160 bytes, of a pseudorandom key of 32 or more.
+// HKDFExpandBLAKE2s is the second step of HKDF over BLAKE2s of 32 bytes: a key of size bytes, at most 8,160, of a
+// pseudorandom key of 32 bytes or more.
 func HKDFExpandBLAKE2s(size int, prk, info []byte) ([]byte, error) {
 	p, pn := pointer(prk)
 	i, in := pointer(info)

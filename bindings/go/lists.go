@@ -98,7 +98,7 @@ func NewListScanner(r io.Reader, alg Algorithm) *ListScanner {
 func (s *ListScanner) KeepMalformed() { s.goesOn = true }
 
 // Scan reads the next entry, which Entry then returns. It is false at the end of the list, at a malformed line, and if the
-// reader fails; Err tells which. If the reader fails, a line that has not ended is not read.
+// reader fails; Err says which. If the reader fails, a line that has not ended is not read.
 func (s *ListScanner) Scan() bool {
 	s.entry = Entry{}
 	for s.err == nil && s.at == s.used && !s.isDone {

@@ -68,7 +68,7 @@ func (m *message) fault() error {
 	return ErrCopied
 }
 
-// Write adds a piece to the message. It fails only where the message would be longer than the function takes, which is
+// Write adds a piece to the message. It fails only if the message would be longer than the function takes, which is
 // 2^61 - 1 bytes at least, and then adds nothing.
 func (m *message) Write(piece []byte) (int, error) {
 	if err := m.fault(); err != nil {

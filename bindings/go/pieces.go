@@ -42,28 +42,28 @@ func SHA256Pieces(data []byte, pieceLen int) ([]byte, error) {
 	})
 }
 
-// SHA512Pieces is the same by SHA-512 (FIPS 180-4, 6.4), with digests of 64 bytes.
+// SHA512Pieces is the digests of the pieces of data by SHA-512 (FIPS 180-4, 6.4), of 64 bytes each.
 func SHA512Pieces(data []byte, pieceLen int) ([]byte, error) {
 	return digests(64, data, pieceLen, func(c piecewise) C.uint32_t {
 		return C.sums_sha512_pieces(c.out, c.outLen, c.in, c.inLen, c.pieceLen)
 	})
 }
 
-// BLAKE2bPieces is the same by BLAKE2b (RFC 7693, 3), with digests of size bytes, 1 to 64.
+// BLAKE2bPieces is the digests of the pieces of data by BLAKE2b (RFC 7693, 3), of size bytes each, 1 to 64.
 func BLAKE2bPieces(size int, data []byte, pieceLen int) ([]byte, error) {
 	return digests(size, data, pieceLen, func(c piecewise) C.uint32_t {
 		return C.sums_blake2b_pieces(c.out, c.outLen, c.digestLen, c.in, c.inLen, c.pieceLen)
 	})
 }
 
-// BLAKE2sPieces is the same by BLAKE2s (RFC 7693, 3), with digests of size bytes, 1 to 32.
+// BLAKE2sPieces is the digests of the pieces of data by BLAKE2s (RFC 7693, 3), of size bytes each, 1 to 32.
 func BLAKE2sPieces(size int, data []byte, pieceLen int) ([]byte, error) {
 	return digests(size, data, pieceLen, func(c piecewise) C.uint32_t {
 		return C.sums_blake2s_pieces(c.out, c.outLen, c.digestLen, c.in, c.inLen, c.pieceLen)
 	})
 }
 
-// BLAKE3Pieces is the same by BLAKE3, with digests of 32 bytes.
+// BLAKE3Pieces is the digests of the pieces of data by BLAKE3, of 32 bytes each.
 func BLAKE3Pieces(data []byte, pieceLen int) ([]byte, error) {
 	return digests(32, data, pieceLen, func(c piecewise) C.uint32_t {
 		return C.sums_blake3_pieces(c.out, c.outLen, c.in, c.inLen, c.pieceLen)

@@ -14,7 +14,7 @@ const arrayTag = getter(ARRAY, Symbol.toStringTag);
 function viewed(view) {
   // undefined of a DataView
   const isArray = arrayTag.call(view) !== undefined;
-  // throws where the buffer is gone, or too short by now
+  // throws if the buffer is gone, or too short by now
   if (isArray) arrayKeys.call(view);
   return new Uint8Array(...(isArray ? ARRAY_PLACE : VIEW_PLACE).map((it) => it.call(view)));
 }
@@ -29,7 +29,7 @@ function hasLength(data, lengthOf) {
     lengthOf.call(data);
     return true;
   } catch (error) {
-    // the error too may be of another realm, and is another one where the stack runs out
+    // the error too may be of another realm, and is another one when the stack runs out
     if (error.name === 'TypeError') return false;
     throw error;
   }

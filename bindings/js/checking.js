@@ -59,7 +59,7 @@ function judgedLine(line, { find, digestOf, inside }) {
  */
 export async function checkList(machine, digestOf, list, find, options) {
   const { hash, inside = false } = optionsOf(options, CHECK_OPTIONS);
-  if (typeof find !== 'function') throw new TypeError('what finds a file by its name must be a function');
+  if (typeof find !== 'function') throw new TypeError('find must be a function that gives the file of a name');
   if (typeof inside !== 'boolean') throw new TypeError('inside must be true or false');
   const pieces = piecesOf(list);
   const reader = beginList(machine, hash, false);

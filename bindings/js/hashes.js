@@ -12,7 +12,7 @@ export const HASHES = {
   blake3: { digest: 32, least: 32, key: 32, salt: 0, state: 1880, hmac: 0 },
 };
 
-/** What `node:crypto` and the web call them, where that is another name. */
+/** What `node:crypto` and the web call them, if that is another name. */
 const ALIASES = {
   'sha-256': 'sha256', 'sha2-256': 'sha256', 'sha-512': 'sha512', 'sha2-512': 'sha512',
   blake2b512: 'blake2b', 'blake2b-512': 'blake2b', blake2s256: 'blake2s', 'blake2s-256': 'blake2s',

@@ -32,9 +32,9 @@ function parametersOf(name, options) {
 function refuseOthers(its, { name, key, salt, personal, context }) {
   const isBlake3 = name === 'blake3';
   if (key && !its.key) throw new TypeError(`${name} takes no key: createHmac does`);
-  if ((salt || personal) && !its.salt) throw new TypeError(`${name} takes no salt and no personal`);
-  if (context && !isBlake3) throw new TypeError(`${name} takes no context`);
-  if (context && key) throw new TypeError('a key and a context exclude each other');
+  if ((salt || personal) && !its.salt) throw new TypeError(`${name} takes no salt and no personal: BLAKE2 does`);
+  if (context && !isBlake3) throw new TypeError(`${name} takes no context: BLAKE3 does`);
+  if (context && key) throw new TypeError('give a key or a context, not both');
   if (key) within(key.length, 'key', { least: isBlake3 ? its.key : 1, most: its.key }, KEY_LENGTH);
   for (const [what, given] of Object.entries({ salt, personal })) {
     if (given) within(given.length, what, { least: its.salt, most: its.salt }, KEY_LENGTH);
@@ -64,7 +64,7 @@ const BEGIN = { sha256: beginSha2, sha512: beginSha2, blake2b: beginBlake2, blak
 /** The name of a hash that HMAC and HKDF stand on. */
 function hmacName(algorithm) {
   const name = hashName(algorithm);
-  if (!HASHES[name].hmac) throw new TypeError(`there is no HMAC over ${name}, which takes a key or a context itself`);
+  if (!HASHES[name].hmac) throw new TypeError(`there is no HMAC or HKDF over ${name}: see createHash and deriveKey`);
   return name;
 }
 

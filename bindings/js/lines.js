@@ -31,7 +31,7 @@ function textOf(data) {
 /** A line of a list that is neither skipped nor an entry. */
 export class MalformedLine extends SyntaxError {
   constructor(line, untagged) {
-    super(untagged ? `line ${line} does not say which hash it is of, and none was named` : `line ${line} is malformed`);
+    super(`line ${line} is malformed${untagged ? ': it has no tag, and needs another hash' : ''}`);
     this.name = 'MalformedLine';
     this.line = line;
     /** Whether it would be an entry if some other hash were named. */
@@ -147,7 +147,7 @@ function* linesOfPieces(reader, pieces) {
   }
 }
 
-/** The same, of pieces that come. */
+/** All lines of a list but for those that are skipped, of pieces that come. */
 export async function* linesOfStream(reader, pieces) {
   try {
     for await (const piece of pieces) yield* linesOfPiece(reader, piece);
@@ -157,10 +157,10 @@ export async function* linesOfStream(reader, pieces) {
   }
 }
 
-/** Begins a list whose untagged lines are of a hash, or of none where it is null. */
+/** Begins a list whose untagged lines are of a hash, or of none if it is null. */
 export const beginList = (machine, algorithm, isStrict) => new ListReader(machine, hashOfLines(algorithm), isStrict);
 
-/** The entries of a list, as an iterator, or as an asynchronous one where its bytes have to be waited for. */
+/** The entries of a list, as an iterator, or as an asynchronous one if its bytes have to be waited for. */
 export function entriesOf(machine, list, algorithm, options) {
   const { malformed = 'throw' } = optionsOf(options, ['malformed']);
   if (!['throw', 'yield'].includes(malformed)) throw new TypeError("malformed must be 'throw' or 'yield'");
@@ -200,7 +200,9 @@ export function lineOfEntry(machine, algorithm, digest, name, options) {
 export function lineOfReport(machine, { name, verdict, line }) {
   if (verdict === 'MALFORMED') return `line ${line}: MALFORMED\n`;
   const number = VERDICTS.indexOf(verdict);
-  if (number < 1) throw new TypeError(`there is no verdict ${String(verdict)}`);
+  if (number < 1) {
+    throw new TypeError(`there is no verdict ${String(verdict)}: the verdicts are ${VERDICTS.slice(1).join(', ')}`);
+  }
   const nameBytes = bytesOfName(name);
   const length = machine.lengthOf('list_report_length', [number], nameBytes);
   return textOf(machine.output(length, [nameBytes], (out, size, ...data) =>

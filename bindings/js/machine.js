@@ -5,7 +5,7 @@ const PAGE = 65536;
 export const CHUNK = 262144;
 /** How many bytes can be there at once, of keys and whatever else has to be there as a whole. */
 export const ROOM = 2 ** 24;
-// Behind what the module itself uses come two pages with the slot, and then input and output. The longest state is that
+// After what the module itself uses come two pages with the slot, and then input and output. The longest state is that
 // of a list, which is longer than one page.
 const SLOT = 2 * PAGE;
 
@@ -51,8 +51,8 @@ const lengthOfAll = (all) => all.reduce((sum, it) => sum + it.length, 0);
  * The module keeps nothing between two calls. A state is an array of bytes, and the one that was used last stays in the
  * slot until another is, so that a message in many pieces is moved once. Nothing has to be released.
  *
- * A call that throws, as where the stack runs out, may leave anything in the module's memory. So the instance is let go
- * before each call and taken back behind it. Where it was not taken back, the next use makes a new one.
+ * A call that throws, such as when the stack runs out, may leave anything in the module's memory. So the instance is let go
+ * before each call and taken back after it. If it was not taken back, the next use makes a new one.
  */
 export class Machine {
   #module;
@@ -126,7 +126,7 @@ export class Machine {
     return BigInt(this.#base);
   }
 
-  /** The place so many bytes behind the begin of input and output, as a word of a call. */
+  /** The place so many bytes after the start of input and output, as a word of a call. */
   input(offset = 0) {
     return BigInt(this.#base + SLOT + offset);
   }

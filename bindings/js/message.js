@@ -12,7 +12,9 @@ const LAST = 2n ** 64n - 1n; // the end of an output
 export function optionsOf(options, known) {
   if (options === undefined || options === null) return {};
   if (typeof options !== 'object') throw new TypeError('options must be an object');
-  for (const name of Object.keys(options)) if (!known.includes(name)) throw new TypeError(`there is no option ${name}`);
+  for (const name of Object.keys(options)) {
+    if (!known.includes(name)) throw new TypeError(`there is no option ${name}: the options are ${known.join(', ')}`);
+  }
   return Object.fromEntries(known.filter((name) => name in options).map((name) => [name, options[name]]));
 }
 

@@ -29,7 +29,7 @@ fn target() -> String {
     env::var("TARGET").unwrap_or_default()
 }
 
-/// What cargo tells of the target under this name.
+/// What cargo says of the target under this name.
 fn told(name: &str) -> String {
     env::var(format!("CARGO_CFG_TARGET_{name}")).unwrap_or_default()
 }
@@ -125,7 +125,7 @@ fn by_pkg_config() {
     let tool = env::var("PKG_CONFIG").unwrap_or_else(|_| "pkg-config".to_owned());
     if host != target() && tool == "pkg-config" {
         panic!(
-            "sums-hash: pkg-config tells of {host}, not of {}: {ADVICE}, or name another in PKG_CONFIG",
+            "sums-hash: pkg-config is for {host}, not for {}: {ADVICE}, or name another in PKG_CONFIG",
             target()
         );
     }

@@ -137,7 +137,7 @@ REFUSED = {
     "a relaxed vector": module([get(0) + b"\xfd\x12" + get(0) + b"\xfd\x12\xfd\x80\2\x1a"]),
     "a load of another memory": module([get(0) + b"\x28\x42\1\0\x1a"]),
     "a copy to another memory": module([get(0) * 3 + b"\xfc\x0a\1\0"]),
-    "an offset behind 4 GiB": module([get(0) + b"\x28\0" + lower.number(2**32) + b"\x1a"]),
+    "an offset above 4 GiB": module([get(0) + b"\x28\0" + lower.number(2**32) + b"\x1a"]),
     "a passive segment": module(data=[b"\1\1x"]),
     "a segment of another memory": module(data=[b"\2\1" + constant(0) + b"\x0b\1x"]),
     "a segment at a negative place": module(data=[b"\0\x42\x7f\x0b\1x"]),

@@ -53,6 +53,17 @@ int number_up_to(unsigned long long most, PyObject *value, unsigned long long *t
     return is_wrong ? -1 : 0;
 }
 
+// A length that the library judges: one that no size_t holds becomes the largest, and is refused with the bounds.
+int judged_length_of(PyObject *value, size_t *to)
+{
+    PyObject *index = PyNumber_Index(value);
+    if (!index) return -1;
+    *to = PyLong_AsSize_t(index); // SIZE_MAX after an OverflowError
+    PyErr_Clear();
+    Py_DECREF(index);
+    return 0;
+}
+
 int length_of(PyObject *value, size_t *to)
 {
     unsigned long long length;

@@ -70,7 +70,7 @@ static int init_blake2(PyObject *object, PyObject *args, PyObject *words)
         return -1;
     struct start start = {.length = (size_t)self->kind->digest_size};
     if (!is_sequential(tree, last_node)) return -1;
-    if (size != Py_None && length_of(size, &start.length) < 0) return -1;
+    if (size != Py_None && judged_length_of(size, &start.length) < 0) return -1;
     if (fill(start.salt, salt, salt_size, "salt") < 0 || fill(start.person, person, salt_size, "person") < 0) return -1;
     if (key && lend(key, &start.key) < 0) return -1;
     return begin_with(self, &start, data);
@@ -113,7 +113,7 @@ static int init_blake3(PyObject *object, PyObject *args, PyObject *words)
     PyObject *data = NULL, *key = Py_None, *context = Py_None, *threads, *security;
     if (!parse(args, words, self->kind->format, names, &data, &key, &context, &threads, &security)) return -1;
     if (key != Py_None && context != Py_None) {
-        PyErr_SetString(PyExc_ValueError, "give a key or a context");
+        PyErr_SetString(PyExc_ValueError, "give key or derive_key_context, not both");
         return -1;
     }
     struct start start = {.length = (size_t)self->kind->digest_size};
@@ -149,7 +149,8 @@ static PyMethodDef methods_of_blake3[] = {
     {"digest", WITH_WORDS(digest_blake3),
      "digest($self, length=32, *, seek=0)\n--\n\nSo many bytes of the output, from the byte `seek` on."},
     {"hexdigest", WITH_WORDS(hexdigest_blake3),
-     "hexdigest($self, length=32, *, seek=0)\n--\n\nThe same in hexadecimal digits."},
+     "hexdigest($self, length=32, *, seek=0)\n--\n\nBytes of the output, as digest() gives them, in hexadecimal "
+     "digits."},
     EACH_METHOD,
 };
 
@@ -175,7 +176,7 @@ static PyObject *tag(PyObject *object, PyObject *args, PyObject *words, const ch
     PyObject *given = Py_None;
     size_t most = (size_t)self->digest_size, length = most;
     if (!parse(args, words, format, names, &given)) return NULL;
-    if (given != Py_None && length_of(given, &length) < 0) return NULL;
+    if (given != Py_None && judged_length_of(given, &length) < 0) return NULL;
     // before there has to be room for it
     if (length > most && judged(object, SUMS_DIGEST_LENGTH) < 0) return NULL;
     return output(self, 0, length);
@@ -196,7 +197,7 @@ static PyMethodDef methods_of_hmac[] = {
      "digest($self, length=None)\n--\n\nThe tag of the message so far, or its first bytes, half of them at least. "
      "Compare it by\nhmac.compare_digest."},
     {"hexdigest", WITH_WORDS(hexdigest_hmac),
-     "hexdigest($self, length=None)\n--\n\nThe same in hexadecimal digits."},
+     "hexdigest($self, length=None)\n--\n\nThe tag, as digest() gives it, in hexadecimal digits."},
     EACH_METHOD,
 };
 

@@ -129,6 +129,15 @@ static uint32_t fill_line(const struct line *line, uint8_t *out, size_t length)
     return sums_list_line(out, length, line->number, (uint32_t)line->is_tagged, DIGEST(line), NAME(line));
 }
 
+static struct bounds bounds_of_line(const struct line *line, uint32_t status)
+{
+    if (status != SUMS_DIGEST_LENGTH) return SAYS(NULL);
+    const struct kind *kind = &kinds[SHA256 + line->number - SUMS_SHA256];
+    size_t most = (size_t)kind->digest_size;
+    if (!kind->salt_size) return SAYS("digest must be %zu bytes", most);
+    return SAYS("digest must be between %zu and %zu bytes", 1, most);
+}
+
 // The bytes of the line. What has no line has a length of 0, and is refused.
 static PyObject *written_line(PyObject *module, const struct line *line)
 {
@@ -137,7 +146,7 @@ static PyObject *written_line(PyObject *module, const struct line *line)
     if (!bytes) return NULL;
     uint32_t status = fill_line(line, (uint8_t *)PyBytes_AsString(bytes), length);
     if (status == SUMS_OK) return bytes;
-    refuse(module, status, SAYS(NULL));
+    refuse(module, status, bounds_of_line(line, status));
     Py_DECREF(bytes);
     return NULL;
 }

@@ -79,6 +79,7 @@ int parse(PyObject *args, PyObject *words, const char *format, char **names, ...
 int lend(PyObject *data, Py_buffer *view);
 PyObject *unless_none(PyObject *given);
 int number_up_to(unsigned long long most, PyObject *value, unsigned long long *to);
+int judged_length_of(PyObject *value, size_t *to);
 int length_of(PyObject *value, size_t *to);
 
 // ---- refusals.c

@@ -21,7 +21,7 @@ static PyObject *reason(PyObject *status)
         [SUMS_PIECE_LENGTH] = "the function takes no pieces of that length",
         [SUMS_OUTPUT_LENGTH] = "the output is not as long as the digests of all pieces, or as the line",
         [SUMS_NO_HASH] = "no hash has that number",
-        [SUMS_NO_LINE] = "no line has that name",
+        [SUMS_NO_LINE] = "no line has that name: it is empty, not UTF-8, holds NUL, or is too long",
         [SUMS_NO_VERDICT] = "no verdict has that number",
     };
     size_t number = PyLong_Check(status) ? PyLong_AsSize_t(status) : 0;

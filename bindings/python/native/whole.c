@@ -171,7 +171,7 @@ static PyObject *hmac_digest(PyObject *module, PyObject *args, PyObject *words)
 // The bytes of a key that HKDF derives. One more than any hash has is refused as every longer key is.
 static int take_length(PyObject *given, struct whole *whole)
 {
-    if (length_of(given, &whole->length) < 0) return -1;
+    if (judged_length_of(given, &whole->length) < 0) return -1;
     if (whole->length > MOST_KEY) whole->length = MOST_KEY + 1;
     return 0;
 }
@@ -231,7 +231,7 @@ static PyObject *digests(struct whole *whole, const struct kind *kind, PyObject 
 {
     whole->digest_size = whole->most_digest_size = (size_t)kind->digest_size;
     if (length_of(piece, &whole->piece_length) < 0) return NULL;
-    if (size && length_of(size, &whole->digest_size) < 0) return NULL;
+    if (size && judged_length_of(size, &whole->digest_size) < 0) return NULL;
     if (lend(data, &whole->in[0]) < 0) return NULL;
     PyObject *bytes = measure(whole) == 0 ? written(whole) : NULL;
     PyBuffer_Release(&whole->in[0]);

@@ -66,6 +66,10 @@ algorithms_guaranteed = frozenset(_HASHES)
 algorithms_available = algorithms_guaranteed
 
 
+def _unsupported(name: str) -> ValueError:
+    return ValueError(f"unsupported hash type {name}: the hashes are {', '.join(_HASHES)}")
+
+
 def new(name: str, data: Buffer = b"", **settings: Any) -> Any:
     """An object of the hash of this name, as hashlib.new; of "hmac-sha256" and its like with key=."""
     if not isinstance(name, str):
@@ -75,7 +79,7 @@ def new(name: str, data: Buffer = b"", **settings: Any) -> Any:
         return _HASHES[lower](data, **settings)
     if lower in _TAGS:
         return _TAGS[lower](msg=data, **settings)
-    raise ValueError(f"unsupported hash type {name}")
+    raise _unsupported(name)
 
 
 def file_digest(fileobj: Any, digest: str | Callable[[], Any], /, *, _bufsize: int = 2**18) -> Any:

@@ -78,7 +78,7 @@ class blake3(_Hasher):
     def digest(self, length: int = 32, *, seek: int = 0) -> bytes:
         """So many bytes of the output, from the byte `seek` on."""
     def hexdigest(self, length: int = 32, *, seek: int = 0) -> str:
-        """The same in hexadecimal digits."""
+        """Bytes of the output, as digest() gives them, in hexadecimal digits."""
 
 class _Hmac(_Hasher):
     digest_size: ClassVar[int]
@@ -88,7 +88,7 @@ class _Hmac(_Hasher):
         hmac.compare_digest.
         """
     def hexdigest(self, length: int | None = None) -> str:
-        """The same in hexadecimal digits."""
+        """The tag, as digest() gives it, in hexadecimal digits."""
 
 class hmac_sha256(_Hmac):
     """HMAC (RFC 2104) over SHA-256, as hmac.new(key, msg, "sha256")."""

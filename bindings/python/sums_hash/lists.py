@@ -15,7 +15,7 @@ import typing
 from collections import abc
 from typing import Any
 
-from . import Buffer, Refused, _native, file_digest
+from . import Buffer, Refused, _native, _unsupported, file_digest
 
 __all__ = [
     "Entry", "MalformedLine", "Report", "Result", "check", "format_line", "format_verdict", "read_list",
@@ -116,7 +116,7 @@ def _number(algorithm: str | None) -> int:
         raise TypeError("algorithm must be a string")
     lower = algorithm.lower() if algorithm.isascii() else algorithm  # some other letters have small ones of ASCII
     if lower not in _HASHES:
-        raise ValueError(f"unsupported hash type {algorithm}")
+        raise _unsupported(algorithm)
     return _NAMES.index(lower)
 
 
@@ -141,7 +141,7 @@ def _blocks(file: typing.BinaryIO) -> abc.Iterator[Buffer]:
 
 def _pieces(source: typing.BinaryIO | Buffer | abc.Iterable[Buffer]) -> abc.Iterator[Buffer]:
     if isinstance(source, str):
-        raise TypeError("a list is a file that is open for bytes, bytes, or an iterable of bytes, not str")
+        raise TypeError("read_list takes a file that is open with mode 'rb', bytes, or an iterable of bytes, not str")
     try:
         return iter((memoryview(source),))  # type: ignore[arg-type]
     except TypeError:
@@ -149,7 +149,7 @@ def _pieces(source: typing.BinaryIO | Buffer | abc.Iterable[Buffer]) -> abc.Iter
 
 
 def _lines(state: _native.ListState, pieces: abc.Iterator[Buffer]) -> abc.Iterator[tuple[int, Entry]]:
-    """What each line is, and the entry, which has no name where the line has none."""
+    """What each line is, and the entry, which has no name if the line has none."""
     for piece in pieces:
         with _view(piece) as view:
             at, size = 0, view.nbytes
@@ -180,7 +180,7 @@ def read_list(
     malformed: typing.Literal["raise", "yield"] = "raise",
 ) -> abc.Iterator[Entry]:
     """The entries of a list, one after another, as they are read. The list is a file that is open for bytes, bytes, or
-    any iterable of bytes. Untagged lines are of the algorithm; where it is None, each line needs a tag. A malformed
+    any iterable of bytes. Untagged lines are of the algorithm; if it is None, each line needs a tag. A malformed
     line raises MalformedLine, or with "yield" is an Entry whose name is None. Empty lines and comments are skipped.
     """
     if malformed not in ("raise", "yield"):
@@ -212,7 +212,7 @@ def _hashed(path: bytes, entry: Entry) -> str:
 
 
 def _leaves(name: str) -> bool:
-    """Whether a name may lead out of the folder, where no link does."""
+    """Whether a name may lead out of the folder, if no link does."""
     return name.startswith("/") or ".." in name.split("/")
 
 
@@ -267,5 +267,5 @@ def format_line(name: str | os.PathLike[str], digest: Buffer, algorithm: str, ta
 def format_verdict(name: str | os.PathLike[str], verdict: str) -> bytes:
     """The line of a report, such as b"disk.iso: OK\\n". The verdicts are those of Result that have a name."""
     if verdict not in _VERDICTS[1:]:
-        raise ValueError(f"no verdict {verdict!r}")
+        raise ValueError(f"no verdict {verdict!r}: the verdicts are {', '.join(_VERDICTS[1:])}")
     return _native.list_report(_VERDICTS.index(verdict), _text(name))

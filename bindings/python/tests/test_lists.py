@@ -263,9 +263,13 @@ class Writing(unittest.TestCase):
             self.assertRaises(ValueError, sums_hash.format_line, name, ABC.digest(), "sha256")
             self.assertRaises(ValueError, sums_hash.format_line, name, ABC.digest(), "sha256", True)
         self.assertEqual(len(sums_hash.format_line("x" * 65_470, ABC.digest(), "sha256")), 65_537)
-        for digest, algorithm in ((bytes(31), "sha256"), (b"", "blake2b"), (bytes(65), "blake2b"),
-                                  (bytes(33), "blake2s"), (bytes(64), "blake3"), (bytes(32), "md5"), (bytes(32), None)):
-            self.assertRaises(ValueError, sums_hash.format_line, "x", digest, algorithm)
+        for digest, algorithm, text in (
+            (bytes(31), "sha256", "digest must be 32 bytes"), (bytes(32), "sha512", "digest must be 64 bytes"),
+            (b"", "blake2b", "digest must be between 1 and 64 bytes"), (bytes(65), "blake2b", "between 1 and 64 bytes"),
+            (bytes(33), "blake2s", "between 1 and 32 bytes"), (bytes(64), "blake3", "must be 32 bytes"),
+            (bytes(32), "md5", "the hashes are sha256, "), (bytes(32), None, "no hash has that number"),
+        ):
+            self.assertRaisesRegex(ValueError, text, sums_hash.format_line, "x", digest, algorithm)
         for name, digest, algorithm in ((b"x", bytes(32), "sha256"), (None, bytes(32), "sha256"),
                                         ("x", ABC.hexdigest(), "sha256"), ("x", bytes(32), 1)):
             self.assertRaises(TypeError, sums_hash.format_line, name, digest, algorithm)

@@ -41,7 +41,8 @@ class AsHashlib(unittest.TestCase):
                 self.assertEqual(getattr(ours, word), getattr(theirs, word))
             self.assertEqual(ours.hexdigest(), theirs.hexdigest())
         for name in ("md5", "sha-256", "", "bla\u212ae2b"):
-            with self.assertRaisesRegex(ValueError, f"^unsupported hash type {name}$"):
+            text = f"^unsupported hash type {name}: the hashes are sha256, sha512, blake2b, blake2s, blake3$"
+            with self.assertRaisesRegex(ValueError, text):
                 sums_hash.new(name)
         self.assertRaises(TypeError, sums_hash.new, 1)
         self.assertRaises(TypeError, sums_hash.new, "hmac-sha256")
@@ -64,12 +65,18 @@ class AsHashlib(unittest.TestCase):
         for text, status, call in (
             (sizes.format(64), 1, lambda: sums_hash.blake2b(digest_size=0)),
             (sizes.format(64), 1, lambda: own(digest_size=65)),
+            (sizes.format(64), 1, lambda: sums_hash.blake2b(digest_size=-1)),
+            (sizes.format(32), 1, lambda: sums_hash.blake2s(digest_size=2**63)),
+            (sizes.format(32), 1, lambda: sums_hash.blake2s_pieces(b"abc", 1, -2**70)),
             (sizes.format(32), 1, lambda: sums_hash.blake2s(b"abc", digest_size=33)),
             (sizes.format(64), 1, lambda: sums_hash.blake2b_pieces(b"abc", 1, 65)),
             (sizes.format(32), 1, lambda: sums_hash.blake2s_pieces(b"abc", 1, digest_size=0)),
             (lengths.format(16, 32), 1, lambda: sums_hash.hmac_sha256(b"").digest(15)),
             (lengths.format(32, 64), 1, lambda: sums_hash.hmac_blake2b(b"").hexdigest(2**60)),
+            (lengths.format(16, 32), 1, lambda: sums_hash.hmac_sha256(b"").digest(-1)),
             (lengths.format(0, 8160), 5, lambda: sums_hash.hkdf("sha256", b"", 8161)),
+            (lengths.format(0, 8160), 5, lambda: sums_hash.hkdf("sha256", b"", -1)),
+            (lengths.format(0, 16320), 5, lambda: sums_hash.hkdf_expand("sha512", bytes(64), 2**64)),
             (lengths.format(0, 16320), 5, lambda: sums_hash.hkdf_expand("BLAKE2B", bytes(64), 2**60)),
             ("prk must be at least 32 bytes", 2, lambda: sums_hash.hkdf_expand("blake2s", bytes(31), 1)),
             ("key must be between 0 and 64 bytes", 2, lambda: sums_hash.blake2b(key=bytes(65))),

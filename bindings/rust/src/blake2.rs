@@ -14,7 +14,7 @@ macro_rules! blake2 {
             checked(unsafe { native::$c_whole(into, out.len(), from, input.len(), key.as_ptr(), key.len()) })
         }
 
-        /// The same with a salt and a personalization.
+        /// Writes a digest like the function without a salt, with a salt and a personalization.
         pub fn $whole_salted(
             out: &mut [u8],
             input: &[u8],
@@ -51,7 +51,7 @@ macro_rules! blake2 {
                 Ok(Self(state))
             }
 
-            /// The same with a salt and a personalization.
+            /// Begins a message like `new`, with a salt and a personalization.
             pub fn salted(
                 digest_len: usize,
                 key: &[u8],

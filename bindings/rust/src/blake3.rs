@@ -20,7 +20,7 @@ pub fn blake3(out: &mut [u8], position: u64, input: &[u8]) -> Result<(), Refusal
     checked(unsafe { native::sums_blake3(out.as_mut_ptr(), out.len(), position, input.as_ptr(), input.len()) })
 }
 
-/// The same under a key.
+/// Writes bytes of the output like [`blake3`], under a key.
 pub fn blake3_keyed(out: &mut [u8], position: u64, input: &[u8], key: &[u8; 32]) -> Result<(), Refusal> {
     let (into, from) = (out.as_mut_ptr(), input.as_ptr());
     checked(unsafe { native::sums_blake3_keyed(into, out.len(), position, from, input.len(), key) })

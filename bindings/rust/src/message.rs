@@ -9,7 +9,7 @@ macro_rules! message {
         pub struct $Message(native::$State);
 
         impl $Message {
-            /// Adds a piece to the message. It is refused where the message would be longer than the function takes,
+            /// Adds a piece to the message. It is refused if the message would be longer than the function takes,
             /// which is 2^61 - 1 bytes at least.
             pub fn update(&mut self, piece: &[u8]) -> Result<(), Refusal> {
                 checked(unsafe { native::$c_update(&mut self.0, piece.as_ptr(), piece.len()) })

@@ -30,17 +30,32 @@ pub enum Refusal {
 impl fmt::Display for Refusal {
     fn fmt(&self, f: &mut fmt::Formatter<'_>) -> fmt::Result {
         match self {
-            Refusal::DigestLength => write!(f, "the function has no output of that length"),
-            Refusal::KeyLength => write!(f, "the function takes no key or salt of that length"),
+            Refusal::DigestLength => write!(
+                f,
+                "the function has no output of that length: SHA-256 and BLAKE3 have digests of 32 bytes, SHA-512 of \
+                 64, BLAKE2b of 1 to 64, BLAKE2s of 1 to 32, and a tag has half of its bytes or more"
+            ),
+            Refusal::KeyLength => write!(
+                f,
+                "the function takes no key or salt of that length: BLAKE2b takes keys of up to 64 bytes, BLAKE2s of up \
+                 to 32, and the second step of HKDF keys as long as a digest or longer"
+            ),
             Refusal::InputTooLong => write!(f, "the message is longer than the function takes"),
-            Refusal::EndOfOutput => write!(f, "the output has no such bytes"),
-            Refusal::PieceLength => write!(f, "the function takes no pieces of that length"),
+            Refusal::EndOfOutput => write!(
+                f,
+                "the output has no such bytes: that of HKDF ends after 255 digests, that of BLAKE3 after 2^64 - 1 \
+                 bytes"
+            ),
+            Refusal::PieceLength => write!(f, "a piece must have at least 1 byte"),
             Refusal::OutputLength => write!(
                 f,
                 "the output is not as long as the digests of all pieces, or as the line"
             ),
             Refusal::NoHash => write!(f, "no hash has that number"),
-            Refusal::NoLine => write!(f, "no line has that name"),
+            Refusal::NoLine => write!(
+                f,
+                "no line has that name: it is empty, not UTF-8, holds NUL, or is too long"
+            ),
             Refusal::NoVerdict => write!(f, "no verdict has that number"),
             Refusal::Other(status) => write!(f, "status {status}"),
         }

@@ -152,7 +152,7 @@ macro_rules! hmac {
     };
 }
 
-/// A key of BLAKE2, which is no key where it has no bytes.
+/// A key of BLAKE2, which is no key if it has no bytes.
 fn some(key: &[u8]) -> Result<&[u8], Refusal> {
     if key.is_empty() {
         Err(Refusal::KeyLength)

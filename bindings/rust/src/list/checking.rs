@@ -66,8 +66,8 @@ pub fn check(list: impl AsRef<Path>, hash: Option<Hash>, folder: impl AsRef<Path
     check_where(list.as_ref(), hash, folder.as_ref(), |_| true)
 }
 
-/// The same, but opens no file whose name leaves the folder: one that begins with `/` or has `..` stands in `outside` of
-/// the report. A symbolic link that stands in the folder is followed.
+/// Checks like [`check`], but opens no file whose name leaves the folder: one that begins with `/` or has `..` is in
+/// `outside` of the report. A symbolic link that stands in the folder is followed.
 pub fn check_inside(list: impl AsRef<Path>, hash: Option<Hash>, folder: impl AsRef<Path>) -> Result<Report, Error> {
     check_where(list.as_ref(), hash, folder.as_ref(), is_inside)
 }

@@ -47,7 +47,9 @@ impl fmt::Display for Error {
     fn fmt(&self, f: &mut fmt::Formatter<'_>) -> fmt::Result {
         match self {
             Error::Malformed { line, untagged: false } => write!(f, "line {line} is malformed"),
-            Error::Malformed { line, untagged: true } => write!(f, "line {line} has no digest of the list's hash"),
+            Error::Malformed { line, untagged: true } => {
+                write!(f, "line {line} is malformed: it has no tag, and needs another hash")
+            }
             Error::Io(fault) => write!(f, "the list was not read: {fault}"),
             Error::Refused(refusal) => refusal.fmt(f),
         }
@@ -191,7 +193,7 @@ impl<R> fmt::Debug for List<R> {
 }
 
 /// The line of an entry with its LF, as `sha256sum` and its like write it: `digits  name`, with a backslash before it and
-/// escapes where the name has a backslash, LF or CR.
+/// escapes if the name has a backslash, LF or CR.
 ///
 /// Refused are a digest of a length that the hash has not, and a name that is empty, has NUL, or makes a line of more
 /// than 65,536 bytes:
@@ -208,7 +210,7 @@ pub fn line(hash: Hash, digest: &[u8], name: &str) -> Result<String, Refusal> {
     entry_line(hash, false, digest, name)
 }
 
-/// The same as a tagged line, which names its hash: `SHA256 (name) = digits`.
+/// The line of an entry as a tagged line, which names its hash: `SHA256 (name) = digits`.
 ///
 /// ```
 /// let line = sums_hash::list::tagged_line(sums_hash::list::Hash::Blake2b, &[0x2e], "empty")?;
