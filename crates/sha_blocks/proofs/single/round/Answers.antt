@@ -1,6 +1,6 @@
 use Rattle.std.proofs.Common.{◌^◌}
 use Rattle.sha_blocks.proofs.Sums.{round_keyed}
-use Rattle.sha_blocks.proofs.ring.round.Goals as goal
+use Rattle.sha_blocks.proofs.single.round.Goals as goal
 
 pub returns : goal.returns
 returns c k w keyed =
