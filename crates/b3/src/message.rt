@@ -1,0 +1,19 @@
+// A message that is in memory as a whole.
+
+ghost use Rattle.std.specs.Prelude.{◌≡◌};
+ghost use Rattle.b3.specs.Modes.{root_of};
+ghost use Rattle.b3.specs.Parts.{mode_parameters};
+ghost use Rattle.b3.specs.inside.Output.{output_root, output_position};
+
+use crate::mode::Mode;
+use crate::output::Output;
+use crate::tree::tree_over;
+
+/// The output of a message, at position 0 (the BLAKE3 paper, section 2.6): what a hasher that has taken it
+/// gives, sooner.
+pub fn output_of(mode: Mode, message: &[u8]) -> Output
+    ensures root { output_root result ≡ root_of (mode_parameters mode) message.now }
+    ensures position { output_position result ≡ 0 }
+{
+    Output::of(tree_over(&mode.parameters(), 0, message))
+}
