@@ -106,6 +106,13 @@ with_blake3() {
     esac
 }
 
+# rt_for LEVEL: sets $rt to the rt by which tools/build builds for this level
+rt_for() {
+    . "$bench/../tools/kit.sh"
+    work=$folder
+    kit_for "$1" "$(dirname "$bench")"
+}
+
 # exports NAME FROM LEVEL CRATE..: proves those crates of the checkout FROM, and above them a static library whose
 # source comes on standard input, all in a copy of their own; the library is then $folder/NAME-LEVEL.a. What is
 # proved in FROM is not proved again.
@@ -134,7 +141,8 @@ exports() {
     # another checkout may have no such file
     [ ! -e "$copy/crates/words/src/levels.rt" ] || write_level "$level" "$copy/crates"
     echo "$0: proving and building the library of $from for $level (at first some minutes)" >&2
-    if ! (cd "$copy/crates/exports" && rt lib --cpu="$level") > "$library.log" 2>&1; then
+    rt_for "$level"
+    if ! (cd "$copy/crates/exports" && "$rt" lib --cpu="$level") > "$library.log" 2>&1; then
         cat "$library.log" >&2
         exit 1
     fi

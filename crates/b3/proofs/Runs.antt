@@ -1,6 +1,7 @@
 -- Subtrees of one size that lie one after the other in a run of chunks.
 use Rattle.std.proofs.Common.{◌≡◌, ℕ, suc, ◌+◌, ◌-◌, ◌*◌, ◌/◌, ◌^◌, ◌<◌, ◌≤◌, List, [], length, take, drop, get_or}
-use Rattle.std.proofs.Common.{refl, sym, ap, ap₂, ◌∙◌, arith, one-mul, add-zero, inl, inr, pow_mono, length-take-le}
+use Rattle.std.proofs.Common.{refl, sym, ap, ap₂, ◌∙◌, arith, one-mul, add-zero, inl, inr, pow_mono, pow-add}
+use Rattle.std.proofs.Common.{length-take-le}
 use Rattle.std.proofs.Math.ListN.{set}
 use Rattle.std.proofs.lemmas.Bool.{cases_lt}
 use Rattle.std.proofs.lemmas.List.{drop-drop, take-append-drop, take_rest, take_all, get_or-set_same}
@@ -113,35 +114,43 @@ module _ (key : List ℕ) (flags c : ℕ) (m : List ℕ) (l level half middle : 
         (lower 2 (omega arith)) (lower 3 (omega arith)) (upper 0 (omega arith)) (upper 1 (omega arith))
         (upper 2 (omega arith)) (upper 3 (omega arith))
 
--- eight of them are joined
-pub joined_eight : (key : List ℕ) (flags c : ℕ) (m : List ℕ) (l : ℕ) (v : List (List ℕ)) → length m ≡ 8192 * 2 ^ l
+-- the halves of a run of eight subtrees
+pub joined_halves : (key : List ℕ) (flags c : ℕ) (m : List ℕ) (l : ℕ) (v : List (List ℕ)) → length m ≡ 8192 * 2 ^ l
     → ((i : ℕ) → i < 8 → get_or v i [] ≡ run_cv key flags c m l (2 ^ l * i))
-    → joined_cv key flags
-    (joined_cv key flags (joined_cv key flags (get_or v 0 []) (get_or v 1 []))
-    (joined_cv key flags (get_or v 2 []) (get_or v 3 [])))
-    (joined_cv key flags (joined_cv key flags (get_or v 4 []) (get_or v 5 []))
-    (joined_cv key flags (get_or v 6 []) (get_or v 7 [])))
-    ≡ run_cv key flags c m (l + 3) 0
-joined_eight key flags c m l v len h =
+    → (joined_cv key flags (joined_cv key flags (get_or v 0 []) (get_or v 1 []))
+    (joined_cv key flags (get_or v 2 []) (get_or v 3 [])) ≡ run_cv key flags c m (l + 2) 0)
+    × (joined_cv key flags (joined_cv key flags (get_or v 4 []) (get_or v 5 []))
+    (joined_cv key flags (get_or v 6 []) (get_or v 7 [])) ≡ run_cv key flags c m (l + 2) (4 * 2 ^ l))
+joined_halves key flags c m l v len h =
     let p : ℕ = 2 ^ l in
     let two : 2 ^ suc l ≡ 2 * p = pow-succ' 2 l in
     let four : 2 ^ suc (suc l) ≡ 2 * 2 ^ suc l = pow-succ' 2 (suc l) in
-    let eight : 2 ^ suc (suc (suc l)) ≡ 2 * 2 ^ suc (suc l) = pow-succ' 2 (suc (suc l)) in
-    let level : suc (suc (suc l)) ≡ l + 3 = omega arith in
+    let level : suc (suc l) ≡ l + 2 = omega arith in
     let start : p * 0 ≡ 0 = omega arith in
-    let a = λ (i : ℕ) (lt : i < 8). h i lt in
+    let middle : p * 4 ≡ 4 * p = omega arith in
     let one = λ (i j : ℕ) (li : i < 8) (lj : j < 8) (e : p * j ≡ p * i + 2 ^ l)
     (f : 1024 * (p * i + 2 ^ suc l) ≤ length m).
-    neighbours key flags c m l (p * i) (p * j) _ _ (h i li) (h j lj) e f in
-    neighbours key flags c m (suc (suc l)) (p * 0) (p * 4) _ _
-    (neighbours key flags c m (suc l) (p * 0) (p * 2) _ _
-    (one 0 1 (omega arith) (omega arith) (omega arith) (omega arith))
-    (one 2 3 (omega arith) (omega arith) (omega arith) (omega arith)) (omega arith) (omega arith))
-    (neighbours key flags c m (suc l) (p * 4) (p * 6) _ _
-    (one 4 5 (omega arith) (omega arith) (omega arith) (omega arith))
-    (one 6 7 (omega arith) (omega arith) (omega arith) (omega arith)) (omega arith) (omega arith))
-    (omega arith) (omega arith)
-    ∙ ap₂ (λ (k j : ℕ). run_cv key flags c m k j) level start
+    neighbours key flags c m l (p * i) (p * j) _ _ (h i li) (h j lj) e f in (
+      neighbours key flags c m (suc l) (p * 0) (p * 2) _ _
+          (one 0 1 (omega arith) (omega arith) (omega arith) (omega arith))
+          (one 2 3 (omega arith) (omega arith) (omega arith) (omega arith)) (omega arith) (omega arith)
+          ∙ ap₂ (λ (k j : ℕ). run_cv key flags c m k j) level start,
+      neighbours key flags c m (suc l) (p * 4) (p * 6) _ _
+          (one 4 5 (omega arith) (omega arith) (omega arith) (omega arith))
+          (one 6 7 (omega arith) (omega arith) (omega arith) (omega arith)) (omega arith) (omega arith)
+          ∙ ap₂ (λ (k j : ℕ). run_cv key flags c m k j) level middle,
+    )
+
+-- both halves
+pub joined_whole : (key : List ℕ) (flags c : ℕ) (m : List ℕ) (l : ℕ) (left right : List ℕ) → length m ≡ 8192 * 2 ^ l
+    → left ≡ run_cv key flags c m (l + 2) 0 → right ≡ run_cv key flags c m (l + 2) (4 * 2 ^ l)
+    → joined_cv key flags left right ≡ run_cv key flags c m (l + 3) 0
+joined_whole key flags c m l left right len is_left is_right =
+    let four : 2 ^ (l + 2) ≡ 2 ^ l * 2 ^ 2 = pow-add 2 l 2 in
+    let eight : 2 ^ suc (l + 2) ≡ 2 * 2 ^ (l + 2) = pow-succ' 2 (l + 2) in
+    let level : suc (l + 2) ≡ l + 3 = omega arith in
+    neighbours key flags c m (l + 2) 0 (4 * 2 ^ l) left right is_left is_right (omega arith) (omega arith)
+    ∙ ap (λ (k : ℕ). run_cv key flags c m k 0) level
 
 -- a run that is one subtree
 pub run_whole : (key : List ℕ) (flags c : ℕ) (m : List ℕ) (l : ℕ) → length m ≡ 1024 * 2 ^ l

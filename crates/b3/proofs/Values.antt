@@ -1,12 +1,28 @@
 -- Chaining values of the chunks of a message, one after the other, cut where the tree is cut.
 use Rattle.std.proofs.Common.{◌≡◌, ℕ, ◌+◌, ◌-◌, ◌*◌, ◌<◌, List, [], take, drop, get_or, refl, sym, ap₂, ◌∙◌, arith}
-use Rattle.std.proofs.Common.{add-zero, length-drop, length-take-le}
+use Rattle.std.proofs.Common.{◌^◌, ap, add-zero, length, length-drop, length-take-le, pow-add, pow_pos}
 use Rattle.std.proofs.lemmas.List.{get_or-drop, get_or-take, take_all}
 use Rattle.b3.specs.Node.{cv}
 use Rattle.b3.specs.Tree.{tree, parent, chunk_count, IsGreatestPowerBelow}
 use Rattle.b3.specs.inside.Runs.{run_cv}
 use Rattle.b3.proofs.Folding.{tree_split}
 use Rattle.b3.proofs.Runs.{run_part, run_shift}
+
+-- the node over the halves of a run of eight subtrees
+pub halves_node : (key : List ℕ) (flags c : ℕ) (m : List ℕ) (l : ℕ) (left right : List ℕ) → length m ≡ 8192 * 2 ^ l
+    → left ≡ run_cv key flags c m (l + 2) 0 → right ≡ run_cv key flags c m (l + 2) (4 * 2 ^ l)
+    → parent key flags left right ≡ tree key flags c m
+unfolding run_cv
+halves_node key flags c m l left right len is_left is_right =
+    let p : ℕ = 4 * 2 ^ l in
+    let power : 2 ^ (l + 2) ≡ p = omega (arith, pow-add 2 l 2) in
+    let cut : IsGreatestPowerBelow p (chunk_count m)
+    = (l + 2, sym power, omega (arith, pow_pos l), omega (arith, pow_pos l)) in
+    let rest : take (1024 * p) (drop (1024 * p) m) ≡ drop (1024 * p) m
+    = take_all (1024 * p) (drop (1024 * p) m) (omega (arith, length-drop (1024 * p) m)) in
+    ap₂ (parent key flags) (is_left ∙ rw (power, add-zero) refl)
+    (is_right ∙ rw power (ap (λ (x : List ℕ). cv (tree key flags (c + p) x)) rest))
+    ∙ sym (tree_split key flags c p m cut)
 
 -- the value of a message of one chunk
 pub one_value : (key : List ℕ) (flags c : ℕ) (m : List ℕ) → chunk_count m ≡ 1

@@ -1,9 +1,10 @@
 // Eight chunks at once, and the subtrees over them (the BLAKE3 paper, section 5.3).
 
-ghost use Rattle.std.specs.Prelude.{◌≡◌, ℕ, ◌+◌, ◌-◌, ◌*◌, ◌<◌, ◌≤◌, ◌^◌, [], length, slice_index, slice_index_or};
+ghost use Rattle.std.specs.Prelude.{◌≡◌, ℕ, ◌+◌, ◌-◌, ◌*◌, ◌<◌, ◌≤◌, ◌^◌, ◌++◌, [], length, slice_index};
+ghost use Rattle.std.specs.Prelude.{slice_index_or};
 ghost use Rattle.b3.specs.inside.Stack.{joined_cv};
 ghost use Rattle.b3.specs.inside.Runs.{run_cv, value_before_last};
-ghost use Rattle.words.specs.inside.Halves.{half8, of_pairs};
+ghost use Rattle.words.specs.inside.Halves.{half8, half_message, of_pairs};
 ghost use Rattle.words.specs.inside.Lanes.{lane8};
 
 use crate::chunk::CHUNK_LEN;
@@ -111,7 +112,7 @@ fn two_chunk_values(
         let message = two::message_halves(bytes, &starts, BLOCK_LEN * j);
         let d = block_flags(parameters.flags, j);
         last = next;
-        next = two::next_halves(turns, last, message, &counters, 64, d);
+        next = two::next_halves::<CHUNKS>(turns, last, message, &counters, 64, d);
     }
     two::half_rows(next, 0, values);
     two::half_rows(last, 0, before);
@@ -145,7 +146,7 @@ fn two_pair_values(
         let right = two::message_halves(bytes, &[s2, s3], BLOCK_LEN * j);
         let d = block_flags(parameters.flags, j);
         last = next;
-        next = two::next_pairs(turns, last, [left, right], &counters, 64, d);
+        next = two::next_pairs::<CHUNKS>(turns, last, [left, right], &counters, 64, d);
     }
     pair_rows(next, values);
     pair_rows(last, before);
@@ -245,12 +246,84 @@ fn join(parameters: &Parameters, left: &[u32; 8], right: &[u32; 8]) -> [u32; 8]
     Node::parent(parameters, left, right).chaining_value()
 }
 
+// The words of two parents, by halves: that over `a` and `b`, and that over `c` and `d`.
+#[inline(always)]
+#[tactic(auto, unfolding(words::specs::inside::Halves::half_message))]
+fn parent_halves(a: u32x8, b: u32x8, c: u32x8, d: u32x8) -> [u32x8; 4]
+    ensures first { half_message 0 result ≡ a ++ b }
+    ensures second { half_message 1 result ≡ c ++ d }
+{
+    [
+        a.shuffle(c, [0, 2, 4, 6, 8, 10, 12, 14]),
+        a.shuffle(c, [1, 3, 5, 7, 9, 11, 13, 15]),
+        b.shuffle(d, [6, 0, 2, 4, 14, 8, 10, 12]),
+        b.shuffle(d, [7, 1, 3, 5, 15, 9, 11, 13]),
+    ]
+}
+
+// The flags of a parent.
+#[inline(always)]
+fn parent_flags(parameters: &Parameters) -> u32
+    ensures { result ≡ parameters.now.flags + 4 }
+{
+    u32::from(parameters.flags) + u32::from(PARENT)
+}
+
+// The chaining values of the parents of neighbours among four.
+fn two_parents(parameters: &Parameters, values: &[[u32; 8]; 4]) -> [[u32; 8]; 2]
+    ensures { (i : ℕ) → i < 2 → slice_index_or result i []
+        ≡ joined_cv parameters.now.key parameters.now.flags (slice_index_or values.now (2 * i) [])
+        (slice_index_or values.now (2 * i + 1) []) }
+{
+    let message = parent_halves(
+        u32x8::from_array(values[0]),
+        u32x8::from_array(values[1]),
+        u32x8::from_array(values[2]),
+        u32x8::from_array(values[3]),
+    );
+    let h = two::same_halves(&parameters.key);
+    let d = parent_flags(parameters);
+    let over = two::next_halves::<PARENTS>(Turns::known(), h, message, &[0; 2], 64, d);
+    let mut rows = [[0; 8]; 8];
+    two::half_rows(over, 0, &mut rows);
+    [rows[0], rows[1]]
+}
+
+// The chaining values of the parents of neighbours among eight, by two pairs side by side.
+fn parents_by_pairs(parameters: &Parameters, values: &[[u32; 8]; 8]) -> [[u32; 8]; 4]
+    ensures { (i : ℕ) → i < 4 → slice_index_or result i []
+        ≡ joined_cv parameters.now.key parameters.now.flags (slice_index_or values.now (2 * i) [])
+        (slice_index_or values.now (2 * i + 1) []) }
+{
+    let left = parent_halves(
+        u32x8::from_array(values[0]),
+        u32x8::from_array(values[1]),
+        u32x8::from_array(values[2]),
+        u32x8::from_array(values[3]),
+    );
+    let right = parent_halves(
+        u32x8::from_array(values[4]),
+        u32x8::from_array(values[5]),
+        u32x8::from_array(values[6]),
+        u32x8::from_array(values[7]),
+    );
+    let h = two::same_halves(&parameters.key);
+    let d = parent_flags(parameters);
+    let over = two::next_pairs::<PARENTS>(Turns::known(), [h, h], [left, right], &[0; 4], 64, d);
+    let mut rows = [[0; 8]; 8];
+    pair_rows(over, &mut rows);
+    [rows[0], rows[1], rows[2], rows[3]]
+}
+
 // The chaining values of the parents of neighbours among eight.
 fn parents(parameters: &Parameters, values: &[[u32; 8]; 8]) -> [[u32; 8]; 4]
     ensures { (i : ℕ) → i < 4 → slice_index_or result i []
         ≡ joined_cv parameters.now.key parameters.now.flags (slice_index_or values.now (2 * i) [])
         (slice_index_or values.now (2 * i + 1) []) }
 {
+    if level() == 3 {
+        return parents_by_pairs(parameters, values);
+    }
     let blocks = [
         pair(&values[0], &values[1]),
         pair(&values[2], &values[3]),
@@ -310,16 +383,31 @@ fn subtree_lanes(parameters: &Parameters, first: u64, level: u32, bytes: &[u8]) 
     parent_lanes(parameters, left, right)
 }
 
+/// The chaining values of the two halves of a subtree of 8 * 2 ^ level chunks.
+pub(crate) fn subtree_halves(
+    parameters: &Parameters,
+    first: u64,
+    level: u32,
+    bytes: &[u8],
+) -> [[u32; 8]; 2]
+    requires length { length bytes.now ≡ 8192 * 2 ^ level }
+    requires numbers { first + 8 * 2 ^ level < 2 ^ 64 }
+    ensures left { slice_index_or result 0 []
+        ≡ run_cv parameters.now.key parameters.now.flags first bytes.now (level + 2) 0 }
+    ensures right { slice_index_or result 1 []
+        ≡ run_cv parameters.now.key parameters.now.flags first bytes.now (level + 2) (4 * 2 ^ level) }
+{
+    let values = lane_rows(subtree_lanes(parameters, first, level, bytes));
+    two_parents(parameters, &parents(parameters, &values))
+}
+
 /// The chaining value of a subtree of 8 * 2 ^ level chunks.
 pub(crate) fn subtree_of(parameters: &Parameters, first: u64, level: u32, bytes: &[u8]) -> [u32; 8]
     requires length { length bytes.now ≡ 8192 * 2 ^ level }
     requires numbers { first + 8 * 2 ^ level < 2 ^ 64 }
     ensures { result ≡ run_cv parameters.now.key parameters.now.flags first bytes.now (level + 3) 0 }
 {
-    let values = lane_rows(subtree_lanes(parameters, first, level, bytes));
-    let over = parents(parameters, &values);
-    let left = join(parameters, &over[0], &over[1]);
-    let right = join(parameters, &over[2], &over[3]);
+    let [left, right] = subtree_halves(parameters, first, level, bytes);
     join(parameters, &left, &right)
 }
 

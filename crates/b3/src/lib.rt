@@ -17,6 +17,7 @@
 pub use chunk::{CHUNK_LEN, MOST_CHUNKS};
 pub use hasher::Blake3;
 pub use laws::{debug_laws, output_laws, state_laws, tree_laws};
+pub use message::output_of;
 pub use mode::Mode;
 pub use node::{BLOCK_LEN, CHUNK_END, CHUNK_START, ROOT};
 pub use output::{EndOfOutput, Output};
@@ -30,6 +31,7 @@ mod chunk;
 mod hasher;
 mod lanes;
 mod laws;
+mod message;
 mod mode;
 mod node;
 mod output;

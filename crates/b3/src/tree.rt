@@ -9,7 +9,7 @@ ghost use Rattle.b3.specs.inside.Runs.{run_cv};
 
 use crate::chunk::{CHUNK_LEN, Chunk};
 use crate::hasher::GROUP_LEN;
-use crate::lanes::{chunk_values, subtree_of};
+use crate::lanes::{chunk_values, subtree_halves, subtree_of};
 use crate::mode::Parameters;
 use crate::node::Node;
 
@@ -95,6 +95,16 @@ fn group_over(parameters: &Parameters, first: u64, bytes: &[u8]) -> Node
     Node::parent(parameters, &left, &right)
 }
 
+// The tree over a run of 8 * 2 ^ level chunks.
+fn run_over(parameters: &Parameters, first: u64, level: u32, bytes: &[u8]) -> Node
+    requires length { length bytes.now ≡ 8192 * 2 ^ level }
+    requires numbers { 1024 * first + length bytes.now ≤ 2 ^ 64 - 1 }
+    ensures { result ≡ tree parameters.now.key parameters.now.flags first bytes.now }
+{
+    let [left, right] = subtree_halves(parameters, first, level, bytes);
+    Node::parent(parameters, &left, &right)
+}
+
 // The chaining value of the tree over `bytes`.
 #[cycle(tree)]
 fn value_over(parameters: &Parameters, first: u64, bytes: &[u8]) -> [u32; 8]
@@ -115,6 +125,9 @@ pub(crate) fn tree_over(parameters: &Parameters, first: u64, bytes: &[u8]) -> No
 {
     if bytes.len() <= CHUNK_LEN {
         return chunk_over(parameters, first, bytes);
+    }
+    if let Some(level) = level_of(bytes.len()) {
+        return run_over(parameters, first, level, bytes);
     }
     if bytes.len() <= GROUP_LEN {
         return group_over(parameters, first, bytes);

@@ -1,4 +1,5 @@
 pub mod ChoiceMajority
+pub mod Quads
 pub mod Rotations
 pub mod Folds
 pub mod Lanes

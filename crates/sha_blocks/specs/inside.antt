@@ -1,3 +1,4 @@
+pub mod Quads
 pub mod Schedules
 pub mod Schedules512
 pub mod Taken

@@ -9,8 +9,8 @@ ghost use Rattle.sha_blocks.specs.inside.Schedules.{AreKeyed, IsAhead, IsKeyedTo
 
 use crate::functions::{choice, majority, sums};
 use crate::one_round;
-use crate::ring::compress_block;
 use crate::schedules::{Schedules, Words, put_schedules, put_words};
+use crate::single::compress_block;
 use std::simd::prelude::*;
 use words::level;
 

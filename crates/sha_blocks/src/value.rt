@@ -9,8 +9,8 @@ ghost use Rattle.sha2.proofs.Absorbing256;
 ghost use Rattle.sha2.proofs.Absorbing512;
 
 use crate::blocks::compress_blocks256;
-use crate::ring::compress_block;
 use crate::sha512;
+use crate::single::compress_block;
 use byteorder::{BigEndian, ByteOrder};
 use words::{IV32, IV64};
 

@@ -38,9 +38,9 @@ pub mod long;
 pub mod mixing;
 pub mod two;
 
-// What `next_lanes` is used for, here and in `four`. All uses compute the same, but each has its own copy of
-// the code: the function is too large for `inline(always)`, and the compiler inlines a copy that has only one
-// caller.
+// What `next_lanes` is used for, here and in `four`, and what stands for it in `two`. All uses compute the
+// same, but each has its own copy of the code: the function is too large for `inline(always)`, and the
+// compiler inlines a copy that has only one caller.
 
 /// The use of `next_lanes` on the blocks of whole chunks.
 pub const CHUNKS: usize = 0;

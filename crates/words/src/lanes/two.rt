@@ -98,10 +98,10 @@ fn permute_halves(m: [u32x8; 4]) -> [u32x8; 4]
     permuted(m[0], m[1], m[2], m[3])
 }
 
-// The seven rounds.
+// The seven rounds. `USE` is that of `next_lanes`, here and below.
 #[inline(always)]
 #[tactic(auto, unfolding(crate::specs::Blake3::rounds3, crate::specs::Blake3::permuted_words))]
-fn rounds_halves(turns: Turns, rows: [u32x8; 4], m: [u32x8; 4]) -> [u32x8; 4]
+fn rounds_halves<const USE: usize>(turns: Turns, rows: [u32x8; 4], m: [u32x8; 4]) -> [u32x8; 4]
     ensures { (i : ℕ) → i < 2 → half16 i result ≡ rounds3 (half16 i rows) (half_message i m) 7 }
 {
     seven_rounds!(round_halves, permute_halves, turns, rows, m)
@@ -122,10 +122,10 @@ fn working_halves(h: [u32x8; 2], t: &[u64; 2], b: u32, d: u32) -> [u32x8; 4]
     ]
 }
 
-/// The first eight words of `compress_3` in each half.
+/// The first eight words of `compress_3` in each half. `USE` is that of `next_lanes`.
 #[inline(always)]
 #[tactic(auto, unfolding(crate::specs::Blake3::compress3))]
-pub fn next_halves(
+pub fn next_halves<const USE: usize>(
     turns: Turns,
     h: [u32x8; 2],
     m: [u32x8; 4],
@@ -136,7 +136,7 @@ pub fn next_halves(
     ensures { (i : ℕ) → i < 2
         → half8 i result ≡ take 8 (compress3 (half8 i h) (half_message i m) (slice_index t.now i) b d) }
 {
-    let [a, b, c, d] = rounds_halves(turns, working_halves(h, t, b, d), m);
+    let [a, b, c, d] = rounds_halves::<USE>(turns, working_halves(h, t, b, d), m);
     [a.xor(c), b.xor(d)]
 }
 
@@ -162,17 +162,21 @@ fn permute_pairs(m: [[u32x8; 4]; 2]) -> [[u32x8; 4]; 2]
 
 #[inline(always)]
 #[tactic(auto, unfolding(crate::specs::Blake3::rounds3, crate::specs::Blake3::permuted_words))]
-fn rounds_pairs(turns: Turns, rows: [[u32x8; 4]; 2], m: [[u32x8; 4]; 2]) -> [[u32x8; 4]; 2]
+fn rounds_pairs<const USE: usize>(
+    turns: Turns,
+    rows: [[u32x8; 4]; 2],
+    m: [[u32x8; 4]; 2],
+) -> [[u32x8; 4]; 2]
     ensures { (k : ℕ) → k < 2 → (i : ℕ) → i < 2 → half16 i (slice_index_or result k [])
         ≡ rounds3 (half16 i (slice_index_or rows k [])) (half_message i (slice_index_or m k [])) 7 }
 {
     seven_rounds!(round_pairs, permute_pairs, turns, rows, m)
 }
 
-/// The first eight words of `compress_3` in each half of two pairs.
+/// The first eight words of `compress_3` in each half of two pairs. `USE` is that of `next_lanes`.
 #[inline(always)]
 #[tactic(auto, unfolding(crate::specs::Blake3::compress3))]
-pub fn next_pairs(
+pub fn next_pairs<const USE: usize>(
     turns: Turns,
     h: [[u32x8; 2]; 2],
     m: [[u32x8; 4]; 2],
@@ -188,7 +192,7 @@ pub fn next_pairs(
         working_halves(h[0], &[t[0], t[1]], b, d),
         working_halves(h[1], &[t[2], t[3]], b, d),
     ];
-    let [v, w] = rounds_pairs(turns, rows, m);
+    let [v, w] = rounds_pairs::<USE>(turns, rows, m);
     [
         [v[0].xor(v[2]), v[1].xor(v[3])],
         [w[0].xor(w[2]), w[1].xor(w[3])],

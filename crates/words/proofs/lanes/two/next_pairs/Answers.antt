@@ -6,7 +6,7 @@ use Rattle.words.proofs.lanes.two.next_pairs.Goals as goal
 
 pub returns : goal.returns
 unfolding compress3
-returns c =
+returns u c =
     below_two _
     (below_two _
     (halves_folded (slice_index_or c.rounds_pairs.result 0 []) _ _ c.xor.ensures.lanes c.xor-2.ensures.lanes 0 (omega arith)
