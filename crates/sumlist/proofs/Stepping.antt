@@ -3,8 +3,9 @@ use Rattle.sumlist.proofs.Common.{◌≡◌, ◌≤◌, ◌+◌, ◌++◌, List,
 use Rattle.sumlist.proofs.Common.{◌∙◌, IfSome, ap, refl, IfSome_then, IsErr, Result, Err, Ok, arith, Appends-nil}
 use Rattle.sumlist.proofs.Common.{Appends-trans, AppendsPrefix, Mark, Meaning, Summary, CheckFault, Files}
 use Rattle.sumlist.proofs.Common.{IsCounted, ListChecked, MatchResult-from_err, Outcome, lines_of, no_lines}
-use Rattle.sumlist.proofs.Common.{true, with_line, ℕ}
+use Rattle.sumlist.proofs.Common.{Consumes, true, with_line, ℕ}
 use Rattle.std.specs.Io.KnownBytes.{IsAtEnd}
+use Rattle.std.proofs.KnownBytes.{Consumes-trans}
 use Rattle.std.proofs.lemmas.Result.{MatchResult-weaker}
 use Rattle.source.proofs.Writing.{AppendsPrefix-after, AppendsPrefix-more, AppendsPrefix-none}
 use Rattle.sumlist.specs.Lines.{IsKept}
@@ -96,6 +97,13 @@ module _ {files : Files} {k : Meaning} {name : Option (List ℕ)} {share : Share
 
 pub IfSome-all : {X : Type 0} (r : Option X) {P : X → Type 0} → ((x : X) → P x) → IfSome r P
 IfSome-all r h = grind arith
+
+-- what was read before, and then
+pub all_read : (whole rest rest' : Option (List ℕ)) (read given : List ℕ) (P : List ℕ → Type 0)
+    → Consumes whole rest read → Consumes rest rest' given → P (read ++ given)
+    → IfSome whole (λ _. (all : List ℕ) × Consumes whole rest' all × P all)
+all_read whole rest rest' read given P before after h =
+    IfSome-all whole (λ _. (read ++ given, Consumes-trans _ _ _ _ _ before after, h))
 
 -- what follows from two clauses on one value
 pub IfSome-two : {X : Type 0} {r s : Option X} {P Q R : X → Type 0} → s ≡ r → IfSome r P → IfSome s Q

@@ -1,9 +1,9 @@
 -- A list that is read beside its report: a line's outcome comes before those of the lines that are left.
-use Rattle.sumlist.proofs.Common.{◌≡◌, ◌<◌, ◌∙◌, ◌+◌, ◌-◌, ◌++◌, ◌∷◌, ℕ, List, [], Option, None, Some, IfSome}
+use Rattle.sumlist.proofs.Common.{◌≡◌, ◌<◌, ◌≤◌, ◌∙◌, ◌+◌, ◌-◌, ◌*◌, ◌^◌, ◌++◌, ◌∷◌, ℕ, List, [], Option, None, Some}
 use Rattle.sumlist.proofs.Common.{true, false, append_assoc, append-nil, ap, sym, refl, subst, arith, length, Verdict}
 use Rattle.sumlist.proofs.Common.{Err, IsEntryIn, IsLine, Listing, Mark, Meaning, Ok, Outcome, Result, Summary}
 use Rattle.sumlist.proofs.Common.{IsCounted, escaped, foreign, inl, keyed, length-append, lines, lines_of, malformed}
-use Rattle.sumlist.proofs.Common.{◌⊎◌, IfSome_then, inr, no_lines, skipped, text, told, unkeyed, with_line}
+use Rattle.sumlist.proofs.Common.{IfSome, IfSome_then, no_lines, skipped, text, told, unkeyed, with_line}
 use Rattle.std.specs.List.{AllZip}
 use Rattle.std.specs.Io.KnownBytes.{IsAtEnd}
 use Rattle.std.specs.Borrow.{Bor}
@@ -112,15 +112,18 @@ module _ (m : Meaning) (name : Option (List ℕ)) (line : List ℕ) (n : ℕ) wh
   other-malformed mark marks None new p = tt
   other-malformed mark marks (Some bytes) new p = no_malformed mark marks bytes p
 
+-- a fault that is neither one of the list nor one of the count of the report's lines
+abbrev pub IsOther : TellFault → Type 0
+IsOther f = (f ≡ fault.ListRead → ⊥) × (f ≡ fault.ListTooLong → ⊥) × (f ≡ fault.ReportTooLong → ⊥)
+
 -- a read of the report is no read of the list
-pub counts-other : (T : Type 0) (f : TellFault) (old new : ℕ) → TellCounts {T = T} (Err f) old new
-    → (f ≡ fault.ListRead → ⊥) × (f ≡ fault.ListTooLong → ⊥)
+pub counts-other : (T : Type 0) (f : TellFault) (old new : ℕ) → TellCounts {T = T} (Err f) old new → IsOther f
 counts-other T fault.ListRead old new h = absurd h
 counts-other T fault.ListTooLong old new h = absurd h
 counts-other T fault.ReportTooLong old new h = absurd h
-counts-other T fault.ReportRead old new h = (λ is. let no = is in cc, λ is. let no = is in cc)
-counts-other T fault.OtherLine old new h = (λ is. let no = is in cc, λ is. let no = is in cc)
-counts-other T fault.OutOfMemory old new h = (λ is. let no = is in cc, λ is. let no = is in cc)
+counts-other T fault.ReportRead old new h = (λ is. let no = is in cc, λ is. let no = is in cc, λ is. let no = is in cc)
+counts-other T fault.OtherLine old new h = (λ is. let no = is in cc, λ is. let no = is in cc, λ is. let no = is in cc)
+counts-other T fault.OutOfMemory old new h = (λ is. let no = is in cc, λ is. let no = is in cc, λ is. let no = is in cc)
 
 pub counted-more : (mark : Mark) (s u : Summary) → IsCounted mark s u → lines_of u ≡ lines_of s + 1
 counted-more mark s u counted = grind arith
@@ -157,6 +160,19 @@ summary-snoc os o = fold-append with_line no_lines os (o ∷ [])
 same_line : (s : Summary) (o : Outcome) → with_line s (outcome_of (mark_of o)) ≡ with_line s o
 same_line s o = grind arith
 
+-- what a report says of a verdict has two bytes at least, and so has each line of it
+verdict-size : (v : Verdict) → 2 ≤ length (verdict_text v)
+verdict-size v = grind arith
+
+text-size : (name : Option (List ℕ)) (n : ℕ) (o : Outcome)
+    → 2 * (1 - part Skipped (mark_of o)) ≤ length (text name n o)
+text-size name n skipped = omega arith
+text-size name n (told k v) = omega (arith, verdict-size v, length-append (escaped k) (verdict_text v))
+text-size None n malformed = omega arith
+text-size None n (foreign l) = omega arith
+text-size (Some list) n malformed = grind (arith, length-append {A = ℕ})
+text-size (Some list) n (foreign l) = grind (arith, length-append {A = ℕ})
+
 -- lines of the bytes of a list were told, and these are left; and so of the report
 pub record Beside (m : Meaning) (name : Option (List ℕ)) (list report : List ℕ) (i j : ℕ) (waiting : List (List ℕ))
     (behind : List ℕ) (s : Summary) : Type 0 where
@@ -169,9 +185,18 @@ pub record Beside (m : Meaning) (name : Option (List ℕ)) (list report : List �
   pub sum : s ≡ summary_of outcomes
   pub size : length outcomes ≡ lines_of s
   pub same : length before ≡ length outcomes
+  pub most : 2 * j + length behind ≤ 2 * i + length report
 
 module _ (m : Meaning) (name : Option (List ℕ)) (list report : List ℕ) (i j : ℕ) (behind : List ℕ) (s : Summary)
     (line : List ℕ) (others : List (List ℕ)) (b : Beside m name list report i j (line ∷ others) behind s) where
+  -- the report is long enough for one line more
+  size-line : (mark : Mark) (rest : Option (List ℕ)) (t : Tells m name line (lines_of s + 1) behind rest (Ok mark))
+      → 2 * (j + (1 - part Skipped mark)) + length t.3 ≤ 2 * i + length report
+  size-line mark rest t =
+      let size = rw t.2 at (text-size name (lines_of s + 1) t.0) in
+      let whole = ap length t.4 ∙ length-append (text name (lines_of s + 1) t.0) t.3 in
+      omega (arith, b.most, size, whole)
+
   -- one line more
   beside-line : (mark : Mark) (rest : Option (List ℕ)) (u : Summary)
       → Tells m name line (lines_of s + 1) behind rest (Ok mark) → IsCounted mark s u
@@ -199,30 +224,30 @@ module _ (m : Meaning) (name : Option (List ℕ)) (list report : List ℕ) (i j 
           sum = grown;
           size = grind (arith, b.size, length-append {A = Outcome});
           same = omega (arith, b.same, length-append os (o ∷ []), length-append b.before (line ∷ []));
+          most = size-line mark rest t;
         },
       )
 
   -- the report does not have the line next, or it was not read
   fault-ends : (rest : Option (List ℕ)) (f : TellFault) → Tells m name line (lines_of s + 1) behind rest (Err f)
-      → (f ≡ fault.ListRead → ⊥) → (f ≡ fault.ListTooLong → ⊥)
-      → Ended m name b.outcomes b.before (line ∷ others) behind rest (Err f)
-  fault-ends rest fault.OtherLine t one two = (
+      → IsOther f → Ended m name b.outcomes b.before (line ∷ others) behind rest report i (Err f)
+  fault-ends rest fault.OtherLine t other = (
     line,
     others,
     refl,
     λ o end p is. let number : length b.before + 1 ≡ lines_of s + 1 = omega (arith, b.same, b.size) in
         t o end p (rw number at is),
   )
-  fault-ends rest fault.ListRead t one two = absurd (one refl)
-  fault-ends rest fault.ListTooLong t one two = absurd (two refl)
-  fault-ends rest fault.ReportRead t one two = tt
-  fault-ends rest fault.ReportTooLong t one two = tt
-  fault-ends rest fault.OutOfMemory t one two = tt
+  fault-ends rest fault.ListRead t other = absurd (other.0 refl)
+  fault-ends rest fault.ListTooLong t other = absurd (other.1 refl)
+  fault-ends rest fault.ReportTooLong t other = absurd (other.2 refl)
+  fault-ends rest fault.ReportRead t other = tt
+  fault-ends rest fault.OutOfMemory t other = tt
 
 -- what is said of such lines
 listed : (m : Meaning) (name : Option (List ℕ)) (list report : List ℕ) (i j : ℕ) (waiting : List (List ℕ))
     (behind : List ℕ) (s : Summary) (b : Beside m name list report i j waiting behind s) (rest : Option (List ℕ))
-    (r : Result Summary TellFault) → Ended m name b.outcomes b.before waiting behind rest r
+    (r : Result Summary TellFault) → Ended m name b.outcomes b.before waiting behind rest report i r
     → ListBeside m name list report i j rest r
 listed m name list report i j waiting behind s b rest r ended = (
   b.outcomes,
@@ -267,6 +292,7 @@ module _ (m : Meaning) (name : Option (List ℕ)) where
     sum = refl;
     size = refl;
     same = refl;
+    most = omega arith;
   }
 
   pub told-none : (list report : Option (List ℕ)) (i : ℕ) → Telling m name list report i i [] list report no_lines
@@ -276,13 +302,10 @@ module _ (m : Meaning) (name : Option (List ℕ)) where
 
   module _ (list report : Option (List ℕ)) (i j : ℕ) (ahead : List ℕ) (rest behind : Option (List ℕ)) (s : Summary)
       (t : Telling m name list report i j ahead rest behind s) where
-    -- a fault of which nothing is said
-    pub told-stopped : (f : TellFault) (end : Option (List ℕ)) → (f ≡ fault.OutOfMemory) ⊎ (f ≡ fault.ReportTooLong)
-        → Listed m name list report i j end (Err f)
-    told-stopped f end (inl is) = rw is (IfSome_then list t.of (λ bytes h. IfSome_then report h (λ text q.
-        listed m name bytes text i j _ q.2 s q.4 end (Err fault.OutOfMemory) tt)))
-    told-stopped f end (inr is) = rw is (IfSome_then list t.of (λ bytes h. IfSome_then report h (λ text q.
-        listed m name bytes text i j _ q.2 s q.4 end (Err fault.ReportTooLong) tt)))
+    -- a growth was refused
+    pub told-stopped : (end : Option (List ℕ)) → Listed m name list report i j end (Err fault.OutOfMemory)
+    told-stopped end = IfSome_then list t.of (λ bytes h. IfSome_then report h (λ text q.
+        listed m name bytes text i j _ q.2 s q.4 end (Err fault.OutOfMemory) tt))
 
     -- the list was not read
     pub told-unread : (f : SourceFault) → Listed m name list report i j behind (Err (of_list f))
@@ -313,15 +336,28 @@ module _ (m : Meaning) (name : Option (List ℕ)) where
       said r end line more is says = subst (λ k. Tells m name line k more end r) count
           (subst (λ x. NextTold m name line n x end r) is says)
 
-      pub told-fault : (f : TellFault) (end : Option (List ℕ)) → (f ≡ fault.ListRead → ⊥) → (f ≡ fault.ListTooLong → ⊥)
+      pub told-fault : (f : TellFault) (end : Option (List ℕ)) → IsOther f
           → ((line : List ℕ) → IsKept kept line → NextTold m name line n behind end (Err f))
           → Listed m name list report i j end (Err f)
-      told-fault f end one two says = IfSome_then list t.of (λ bytes h. IfSome_then report h (λ text q.
+      told-fault f end other says = IfSome_then list t.of (λ bytes h. IfSome_then report h (λ text q.
           let l = next-line q.0 q.1 in
           let b = rw l.4 at q.4 in
           let line = said (Err f) end l.0 q.2 q.3 (says l.0 l.2) in
           listed m name bytes text i j _ q.2 s b end (Err f)
-          (fault-ends m name bytes text i j q.2 s l.0 (lines (ahead' ++ l.1)) b end f line one two)))
+          (fault-ends m name bytes text i j q.2 s l.0 (lines (ahead' ++ l.1)) b end f line other)))
+
+      -- the lines of the report are more than can be counted
+      pub told-too-long : (mark : Mark) (end : Option (List ℕ)) → j < 2 ^ 64 → 2 ^ 64 ≤ j + (1 - part Skipped mark)
+          → ((line : List ℕ) → IsKept kept line → NextTold m name line n behind end (Ok mark))
+          → Listed m name list report i j end (Err fault.ReportTooLong)
+      told-too-long mark end few many says = IfSome_then list t.of (λ bytes h. IfSome_then report h (λ text q.
+          let l = next-line q.0 q.1 in
+          let b = rw l.4 at q.4 in
+          let line = said (Ok mark) end l.0 q.2 q.3 (says l.0 l.2) in
+          let most = size-line m name bytes text i j q.2 s l.0 (lines (ahead' ++ l.1)) b mark end line in
+          listed m name bytes text i j _ q.2 s b end (Err fault.ReportTooLong)
+          (let sum = b.sum in
+          omega (arith, few, many, most, b.counted, b.size, ap (λ (u : Summary). u.skipped) sum))))
 
       pub told-line : (mark : Mark) (u : Summary) (end : Option (List ℕ)) (k : ℕ) → k ≡ j + (1 - part Skipped mark)
           → IsCounted mark s u

@@ -8,8 +8,8 @@ every n k [] = []
 every n zero (x ∷ xs) = x ∷ every n n xs
 every n (suc k) (x ∷ xs) = every n k xs
 
--- what such a share tells of the outcomes of lines, and how many entries it passes over behind them: a line that is
--- skipped is no entry, and of the others' entries there is told as much as of those lines, which is nothing
+-- what such a share reports of the outcomes of lines, and how many entries it passes over after them: a line that is
+-- skipped is no entry, and of the entries of others it reports as much as of such lines, which is nothing
 abbrev pub shared : ℕ → ℕ → List Outcome → List Outcome × ℕ
 shared n k [] = ([], k)
 shared n k (skipped ∷ outcomes) = let rest = shared n k outcomes in (skipped ∷ rest.0, rest.1)

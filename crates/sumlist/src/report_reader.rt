@@ -33,6 +33,7 @@ impl<'f, F: Feed> ReportReader<'f, F> {
     pub fn new(feed: &'f mut F) -> ReportReader<'f, F>
         ensures left { left F.remaining result ≡ F.remaining feed.entry.now }
         ensures counted { F.failure_count result.feed.now ≡ F.failure_count feed.entry.now }
+        ensures same { result.feed.ghost_name ≡ feed.entry.ghost_name }
     {
         ReportReader {
             feed,
@@ -48,6 +49,7 @@ impl<'f, F: Feed> ReportReader<'f, F> {
             IfOk result (HasMore bytes (left F.remaining self.new))) }
         ensures ahead { IfOk result (λ more. more ≡ true → self.new.start < self.new.end) }
         ensures counted { CountsFailure result (F.failure_count self.old.feed.now) (F.failure_count self.new.feed.now) }
+        ensures same { self.new.feed.ghost_name ≡ self.old.feed.ghost_name }
     {
         if self.start < self.end {
             return Ok(true);
@@ -64,6 +66,7 @@ impl<'f, F: Feed> ReportReader<'f, F> {
         ensures taken { IfSome (left F.remaining self.old) (λ bytes.
             IfOk result (TakesVerdict name.now bytes (left F.remaining self.new))) }
         ensures counted { CountsFailure result (F.failure_count self.old.feed.now) (F.failure_count self.new.feed.now) }
+        ensures same { self.new.feed.ghost_name ≡ self.old.feed.ghost_name }
     {
         if !self.take_name(name)? {
             return Ok(None);
@@ -91,6 +94,7 @@ impl<'f, F: Feed> ReportReader<'f, F> {
         ensures taken { IfSome (left F.remaining self.old) (λ bytes. IfOk result
             (Takes (text (option_map (λ n. n.now) list.entry) number malformed) bytes (left F.remaining self.new))) }
         ensures counted { CountsFailure result (F.failure_count self.old.feed.now) (F.failure_count self.new.feed.now) }
+        ensures same { self.new.feed.ghost_name ≡ self.old.feed.ghost_name }
     {
         match list {
             Some(name) => self.take_malformed_of(name, number),
@@ -102,6 +106,7 @@ impl<'f, F: Feed> ReportReader<'f, F> {
         ensures taken { IfSome (left F.remaining self.old) (λ bytes.
             IfOk result (Takes (text (Some list.now) number malformed) bytes (left F.remaining self.new))) }
         ensures counted { CountsFailure result (F.failure_count self.old.feed.now) (F.failure_count self.new.feed.now) }
+        ensures same { self.new.feed.ghost_name ≡ self.old.feed.ghost_name }
     {
         if !self.take_name(list)? {
             return Ok(false);
@@ -115,6 +120,7 @@ impl<'f, F: Feed> ReportReader<'f, F> {
         ensures taken { IfSome (left F.remaining self.old) (λ bytes.
             IfOk result (Takes (text None number malformed) bytes (left F.remaining self.new))) }
         ensures counted { CountsFailure result (F.failure_count self.old.feed.now) (F.failure_count self.new.feed.now) }
+        ensures same { self.new.feed.ghost_name ≡ self.old.feed.ghost_name }
     {
         let mut digits = Buffer::new();
         let digits = digits.format(number).as_bytes();
@@ -126,6 +132,7 @@ impl<'f, F: Feed> ReportReader<'f, F> {
         ensures taken { IfSome (left F.remaining self.old) (λ bytes.
             IfOk result (Takes (escaped name.now) bytes (left F.remaining self.new))) }
         ensures counted { CountsFailure result (F.failure_count self.old.feed.now) (F.failure_count self.new.feed.now) }
+        ensures same { self.new.feed.ghost_name ≡ self.old.feed.ghost_name }
     {
         for byte in name.as_bytes() {
             if !self.take(escape(byte))? {
@@ -141,6 +148,7 @@ impl<'f, F: Feed> ReportReader<'f, F> {
             (left F.remaining self.new ≡ Some bytes) × ((v : Verdict) (rest : List ℕ)
             → bytes ≡ drop 2 (verdict_text_of v) ++ rest → found ≡ Some v))) }
         ensures counted { CountsFailure result (F.failure_count self.old.feed.now) (F.failure_count self.new.feed.now) }
+        ensures same { self.new.feed.ghost_name ≡ self.old.feed.ghost_name }
     {
         if !self.has_more()? {
             return Ok(None);
@@ -153,6 +161,7 @@ impl<'f, F: Feed> ReportReader<'f, F> {
         ensures taken { IfSome (left F.remaining self.old) (λ bytes.
             IfOk result (Takes (joined pieces.now) bytes (left F.remaining self.new))) }
         ensures counted { CountsFailure result (F.failure_count self.old.feed.now) (F.failure_count self.new.feed.now) }
+        ensures same { self.new.feed.ghost_name ≡ self.old.feed.ghost_name }
     {
         for piece in pieces {
             if !self.take(piece)? {
@@ -167,6 +176,7 @@ impl<'f, F: Feed> ReportReader<'f, F> {
         ensures taken { IfSome (left F.remaining self.old) (λ bytes.
             IfOk result (Takes text.now bytes (left F.remaining self.new))) }
         ensures counted { CountsFailure result (F.failure_count self.old.feed.now) (F.failure_count self.new.feed.now) }
+        ensures same { self.new.feed.ghost_name ≡ self.old.feed.ghost_name }
     {
         for byte in text {
             if !self.take_byte(*byte)? {
@@ -181,6 +191,7 @@ impl<'f, F: Feed> ReportReader<'f, F> {
         ensures taken { IfSome (left F.remaining self.old) (λ bytes.
             IfOk result (Takes (byte ∷ []) bytes (left F.remaining self.new))) }
         ensures counted { CountsFailure result (F.failure_count self.old.feed.now) (F.failure_count self.new.feed.now) }
+        ensures same { self.new.feed.ghost_name ≡ self.old.feed.ghost_name }
     {
         if !self.has_more()? {
             return Ok(false);

@@ -1,7 +1,8 @@
 // Lists read beside a report on them.
 
-ghost use Rattle.std.specs.Prelude.{◌≡◌, ◌-◌, ℕ, IfSome, List, OnOk, option_map};
-ghost use Rattle.std.specs.Io.KnownBytes.{IsAtEnd};
+ghost use Rattle.std.specs.Prelude.{◌≡◌, ◌-◌, ◌<◌, ◌^◌, ℕ, IfSome, IsErrOf, List, OnOk, length, option_map};
+ghost use Rattle.std.specs.Io.KnownBytes.{Consumes, IsAtEnd};
+ghost use Rattle.sumlist.specs.Checked.{CountsOnly};
 ghost use Rattle.sumlist.specs.declared.telling.TellFault.TheVariants.{OutOfMemory, ReportRead};
 ghost use Rattle.sumlist.specs.Lines.{IsKept};
 ghost use Rattle.sumlist.specs.Report.{Meaning};
@@ -16,7 +17,7 @@ use crate::{Entries, Line, LineFault, MakesTag, Summary};
 use source::{Feed, ReadFailed, SourceFault};
 use std::alloc::{AllocError, Global};
 
-/// Why a list was not told to its end.
+/// Why a list was not read to its end.
 #[derive(Clone, Copy, Debug, PartialEq, Eq, Drop)]
 pub enum TellFault {
     /// A read of the list failed.
@@ -74,6 +75,13 @@ pub fn tell_list<L: Feed, M: MakesTag, F: Feed>(
         ListBeside (meaning_of M.limit M.makes entries.now) (option_map (λ n. n.now) name.entry) bytes text lines.old
         lines.new (left F.remaining report.new) result)) }
     ensures end { OnOk result (IsAtEnd (L.remaining list.new)) }
+    ensures gave { IfSome (L.remaining list.old) (λ _. (given : List ℕ)
+        × Consumes (L.remaining list.old) (L.remaining list.new) given
+        × (IsErrOf result TellFault.ListTooLong → 2 ^ 64 - 1 < length given)) }
+    ensures reads { CountsOnly TellFault.ListRead result (L.failure_count list.old) (L.failure_count list.new) }
+    ensures report_reads { CountsOnly TellFault.ReportRead result (F.failure_count report.old.feed.now)
+        (F.failure_count report.new.feed.now) }
+    ensures same { report.new.feed.ghost_name ≡ report.old.feed.ghost_name }
 {
     let mut reader = PieceReader::new(alloc)?;
     let mut summary = Summary::new();
@@ -100,7 +108,7 @@ fn line_count(mark: Mark) -> u64
     if mark == Mark::Skipped { 0 } else { 1 }
 }
 
-// What became of a line by the report. A line that was not kept is too long.
+// What became of a line, by the report. A line that was not kept is too long.
 fn tell_line<M: MakesTag, F: Feed>(
     alloc: Global,
     line: Option<&[u8]>,
@@ -114,6 +122,7 @@ fn tell_line<M: MakesTag, F: Feed>(
         (option_map (λ n. n.now) name.entry) whole number bytes (left F.remaining report.new) result) }
     ensures counted { TellCounts result (F.failure_count report.old.feed.now)
         (F.failure_count report.new.feed.now) }
+    ensures same { report.new.feed.ghost_name ≡ report.old.feed.ghost_name }
 {
     let Some(line) = line else {
         return tell_malformed(Mark::Malformed, name, number, report);
@@ -143,6 +152,7 @@ fn tell_malformed<F: Feed>(
         (option_map (λ n. n.now) name.entry) line number bytes (left F.remaining report.new) result) }
     ensures counted { TellCounts result (F.failure_count report.old.feed.now)
         (F.failure_count report.new.feed.now) }
+    ensures same { report.new.feed.ghost_name ≡ report.old.feed.ghost_name }
 {
     if report.take_malformed(name, number)? {
         Ok(mark)

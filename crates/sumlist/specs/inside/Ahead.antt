@@ -12,7 +12,7 @@ use Rattle.sumlist.specs.Shared.{shared}
 use Rattle.sumlist.specs.inside.Marks.{lines_of, unreadable_count}
 
 -- these lines, after those of a summary, have outcomes, of which the tree counted those of the share; they were counted
--- too, their report was appended, and the share goes on behind them; or after a fault a beginning of it was appended
+-- too, their report was appended, and the share goes on after them; or after a fault a beginning of it was appended
 pub record RestChecked (files : Files) (m : Meaning) (name : Option (List ℕ)) (share behind : Share)
     (rest : List (List ℕ)) (s : Summary) (r : Result Summary CheckFault) (count_old count_new : ℕ)
     (old new : Option (List ℕ)) : Type 0 where

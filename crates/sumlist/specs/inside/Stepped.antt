@@ -26,7 +26,7 @@ use Rattle.sumlist.specs.declared.summary.Mark.TheVariants.{Foreign, Malformed}
 use Rattle.sumlist.specs.declared.verdict.Verdict.{Verdict}
 use Rattle.sumlist.specs.declared.verdict.Verdict.TheVariants.{Unreadable}
 
--- what the entries of a list are, where the first two functions say what a function of a key takes and makes
+-- what the entries of a list are; the first two functions say what a function of a key takes and makes
 abbrev pub meaning_of : {M : Type 0} → (M → ℕ) → (M → List ℕ → List ℕ) → Entries M → Meaning
 meaning_of limit makes (Digests kind) = unkeyed kind
 meaning_of limit makes (Tags n f) = keyed n (limit f.now) (makes f.now)
@@ -37,7 +37,7 @@ Makes maker m (Ok tag) = (length m ≤ maker.0) × (tag ≡ maker.1 m)
 Makes maker m (Err Read) = ⊤
 Makes maker m (Err TooLong) = maker.0 < length m
 
--- what a line says in such a list; where memory was wanting, nothing is known of it
+-- what a line says in such a list; if memory ran out, nothing is known of it
 abbrev pub Reads : Meaning → List ℕ → Result Line LineFault → Type 0
 Reads m line (Ok said.Skipped) = IsSkipped line
 Reads m line (Ok (said.Entry e)) = IsEntryIn m line e
@@ -60,7 +60,7 @@ pub record Stepped (files : Files) (m : Meaning) (line : List ℕ) (outcome : Ou
   pub allowed : Allowed files m line outcome
   pub counted : count_new ≡ count_after count_old (unreadable_in outcome)
 
--- the line of this number, in a list of this name where that is told, has an outcome, and its text was appended, or
+-- the line of this number, in a list of this name if it has one, has an outcome, and its text was appended, or
 -- after a fault a beginning of it
 abbrev pub LineChecked : {E : Type 0} → Files → Meaning → Option (List ℕ) → List ℕ → ℕ → Result Mark E → ℕ → ℕ
     → Option (List ℕ) → Option (List ℕ) → Type 0
@@ -77,19 +77,19 @@ StepCounts (Err Write) old new = new ≡ next_count old
 StepCounts (Err OutOfMemory) old new = new ≡ old
 StepCounts (Err ListTooLong) old new = ⊥
 
--- whether a line is another share's, and which share is left behind it: a line that is skipped leaves it as it is
+-- whether a line is another share's, and which share is left after it: a line that is skipped leaves it as it is
 abbrev pub Passes : List ℕ → Share → Share → Bool → Type 0
 Passes line old new true = (IsSkipped line → ⊥) × (old ≡ record new { waiting = suc new.waiting })
 Passes line old new false = (IsSkipped line × (new ≡ old))
     ⊎ ((IsSkipped line → ⊥) × (old.waiting ≡ 0) × (new ≡ record old { waiting = old.others }))
 
--- a share makes `own` of a line's outcome, and goes on with the share behind it
+-- a share makes `own` of a line's outcome, and goes on as the share `behind`
 pub record Shares (share behind : Share) (o own : Outcome) : Type 0 where
   pub others : behind.others ≡ share.others
   pub is : (os : List Outcome) → let rest = shared behind.others behind.waiting os in
       shared share.others share.waiting (o ∷ os) ≡ (own ∷ rest.0, rest.1)
 
--- the line of this number, in a list of this name where that is told, has an outcome, and the text of what the share
+-- the line of this number, in a list of this name if it has one, has an outcome, and the text of what the share
 -- makes of it was appended, or after a fault a beginning of that
 abbrev pub LineShared : {E : Type 0} → Files → Meaning → Option (List ℕ) → Share → Share → List ℕ → ℕ → Result Mark E
     → ℕ → ℕ → Option (List ℕ) → Option (List ℕ) → Type 0

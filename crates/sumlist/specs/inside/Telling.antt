@@ -1,6 +1,6 @@
 -- What a list that is read beside its report comes to.
-use Rattle.std.specs.Prelude.{◌≡◌, ◌<◌, ⊤, ℕ, ◌+◌, ◌-◌, Bool, false, true, List, [], ◌∷◌, ◌++◌, Option, Some, Result}
-use Rattle.std.specs.Prelude.{Ok, Err, MatchOption, drop, length, option_map, take}
+use Rattle.std.specs.Prelude.{◌≡◌, ◌<◌, ⊤, ℕ, ◌+◌, ◌-◌, ◌^◌, Bool, false, true, List, [], ◌∷◌, ◌++◌, Option, Some}
+use Rattle.std.specs.Prelude.{Result, Ok, Err, MatchOption, drop, length, option_map, take}
 use Rattle.std.specs.List.{AllZip}
 use Rattle.source.specs.Counts.{next_count}
 use Rattle.source.specs.declared.pumping.SourceFault.{SourceFault}
@@ -26,7 +26,7 @@ of_list TooLong = ListTooLong
 abbrev pub ahead : {F : Type 0} → ReportReader F → List ℕ
 ahead r = drop r.start (take r.end r.buffer)
 
--- what is left of it, where that is told
+-- what is left of it, if that is known
 abbrev pub left : {F : Type 0} → (F → Option (List ℕ)) → ReportReader F → Option (List ℕ)
 left remaining r = option_map (λ bytes. ahead r ++ bytes) (remaining r.feed.now)
 
@@ -48,15 +48,16 @@ TakesVerdict name bytes rest found = MatchOption found
 
 -- how that ended
 abbrev pub Ended : Meaning → Option (List ℕ) → List Outcome → (before after : List (List ℕ)) → List ℕ → Option (List ℕ)
-    → Result Summary TellFault → Type 0
-Ended m name outcomes before after behind rest (Ok s) =
+    → (report : List ℕ) → ℕ → Result Summary TellFault → Type 0
+Ended m name outcomes before after behind rest report i (Ok s) =
     (after ≡ []) × (s ≡ summary_of outcomes) × (rest ≡ Some behind)
-Ended m name outcomes before after behind rest (Err OtherLine) = (line : List ℕ) × (others : List (List ℕ))
+Ended m name outcomes before after behind rest report i (Err OtherLine) = (line : List ℕ) × (others : List (List ℕ))
     × (after ≡ line ∷ others) × ((o : Outcome) (end : List ℕ) → IsPossible m line o
     → behind ≡ text name (length before + 1) o ++ end → ⊥)
-Ended m name outcomes before after behind rest (Err ListRead) = rest ≡ Some behind
-Ended m name outcomes before after behind rest (Err ListTooLong) = rest ≡ Some behind
-Ended m name outcomes before after behind rest (Err fault) = ⊤
+Ended m name outcomes before after behind rest report i (Err ListRead) = rest ≡ Some behind
+Ended m name outcomes before after behind rest report i (Err ListTooLong) = rest ≡ Some behind
+Ended m name outcomes before after behind rest report i (Err ReportTooLong) = 2 ^ 64 < i + length report
+Ended m name outcomes before after behind rest report i (Err fault) = ⊤
 
 -- lines of a list have the outcomes that the report gives them, whose lines in it are counted: all lines of the list;
 -- or those before one that has none, or before a fault
@@ -66,7 +67,7 @@ ListBeside m name list report i j rest r = (outcomes : List Outcome) × (before 
     × (after : List (List ℕ)) × (lines list ≡ before ++ after) × AllZip (IsPossible m) before outcomes
     × (behind : List ℕ) × (report ≡ report_from name 1 outcomes ++ behind)
     × (j ≡ i + (length outcomes - (summary_of outcomes).skipped))
-    × Ended m name outcomes before after behind rest r
+    × Ended m name outcomes before after behind rest report i r
 
 -- what a report that goes on like this says of the line of this number: it has an outcome of this mark, whose text was
 -- taken; or none whose text comes next

@@ -1,16 +1,8 @@
-use Rattle.sumlist.proofs.Common.{◌++◌, ◌+◌, ◌-◌, ◌<◌, ◌^◌, [], arith, Consumes, IfSome, List, Option}
-use Rattle.sumlist.proofs.Common.{err_from_is_err_and, length, length-append, refl, rules, ℕ}
-use Rattle.std.specs.Prelude.{◌↔◌}
+use Rattle.sumlist.proofs.Common.{◌++◌, [], arith}
+use Rattle.sumlist.proofs.Common.{err_from_is_err_and, length-append, refl, rules, ℕ}
 use Rattle.std.proofs.KnownBytes.{Consumes-nil, Consumes-trans}
-use Rattle.sumlist.proofs.Stepping.{IfSome-all, checks-all, checks-halted, checks-none, opens-none}
+use Rattle.sumlist.proofs.Stepping.{all_read, checks-all, checks-halted, checks-none, opens-none}
 use Rattle.sumlist.proofs.checking.check_list.Goals as goal
-
--- what was read before, and then
-all_read : (whole rest rest' : Option (List ℕ)) (read given : List ℕ) {P : Type 0} → Consumes whole rest read
-    → Consumes rest rest' given → P ↔ (2 ^ 64 - 1 < length read + length given)
-    → IfSome whole (λ _. (all : List ℕ) × Consumes whole rest' all × (P ↔ (2 ^ 64 - 1 < length all)))
-all_read whole rest rest' read given before after h = IfSome-all whole (λ _.
-    (read ++ given, Consumes-trans _ _ _ _ _ before after, rw (length-append read given) h))
 
 pub returns-in_err-new-clause-checked : goal.returns-in_err-new-clause-checked
 returns-in_err-new-clause-checked g c = checks-all (λ _. refl) (checks-halted c.from_residual.ensures.0)
@@ -37,7 +29,8 @@ returns-in_err-step-clause-gave g c =
     let gave = c.in_err-step.ensures.gave in
     let exit = c.from_residual-in_err-step in
     let fault = err_from_is_err_and exit.result exit.ensures.1 in
-    rw (fault.1, fault.2) (all_read _ _ _ i.read gave.0 i.consumed gave.1 (grind arith))
+    rw (fault.1, fault.2) (all_read _ _ _ i.read gave.0 _ i.consumed gave.1
+    (grind (arith, length-append {A = ℕ})))
 
 pub loop-checker-preserved : goal.loop-checker-preserved
 loop-checker-preserved g c =
@@ -65,7 +58,7 @@ pub returns-clause-gave : goal.returns-clause-gave
 returns-clause-gave g c =
     let i = c.loop-checker.invariant in
     let gave = c.in_ok-step.ensures.gave in
-    all_read _ _ _ i.read gave.0 i.consumed gave.1 (grind arith)
+    all_read _ _ _ i.read gave.0 _ i.consumed gave.1 (grind (arith, length-append {A = ℕ}))
 
 pub returns-clause-opens : goal.returns-clause-opens
 returns-clause-opens g c = c.in_ok-step.ensures.opens _ c.loop-checker.invariant.opens

@@ -9,4 +9,5 @@ invariant-loop-byte g l = record {
       → Next (left g.F.Feed.remaining l.self) (escaped (drop l.byte-index l.byte-items)) new r
       → Next (left g.F.Feed.remaining l.initial.self) (escaped l.name) new r;
   counted : g.F.Feed.failure_count l.self.feed.now ≡ g.F.Feed.failure_count l.initial.self.feed.now;
+  same : l.self.feed.ghost_name ≡ l.initial.self.feed.ghost_name;
 }

@@ -19,6 +19,7 @@ loop-piece-preserved g c =
           (texts-then (λ piece. piece.now) c.args.pieces.now c.loop-piece.piece-index _ c.loop-piece-test.true
           (left g.F.Feed.remaining c.loop-piece.self) (left g.F.Feed.remaining c.take.new.self) new r came later);
       counted = search rules;
+      same = search rules;
     }
 
 pub returns-clause-taken : goal.returns-clause-taken

@@ -10,4 +10,5 @@ invariant-loop-piece g l = record {
       → Next (left g.F.Feed.remaining l.self) (joined (drop l.piece-index l.pieces)) new r
       → Next (left g.F.Feed.remaining l.initial.self) (joined l.pieces) new r;
   counted : g.F.Feed.failure_count l.self.feed.now ≡ g.F.Feed.failure_count l.initial.self.feed.now;
+  same : l.self.feed.ghost_name ≡ l.initial.self.feed.ghost_name;
 }

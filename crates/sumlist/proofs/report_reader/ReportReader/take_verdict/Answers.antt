@@ -1,5 +1,4 @@
 use Rattle.sumlist.proofs.Common.{◌∙◌, None, ap, drop}
-use Rattle.sumlist.specs.Report.{verdict_text}
 use Rattle.sumlist.specs.inside.Telling.{left}
 use Rattle.sumlist.proofs.TakenTexts.{verdict-apart, verdict-never, verdict-other, verdict-taken}
 use Rattle.sumlist.proofs.report_reader.ReportReader.take_verdict.Goals as goal
