@@ -1,7 +1,7 @@
 use Rattle.std.proofs.Common.{refl}
 use Rattle.command.specs.inside.Rules.{meaning}
 use Rattle.command.specs.inside.Streams.{seen_of}
-use Rattle.command.proofs.Told.{list_noted, list_stopped}
+use Rattle.command.proofs.ToldLists.{list_noted, list_stopped}
 use Rattle.command.proofs.session.Session.tell_one.Goals as goal
 
 pub returns-in_err-summary-clause-list : goal.returns-in_err-summary-clause-list

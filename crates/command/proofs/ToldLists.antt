@@ -100,7 +100,6 @@ lines_some title k (told name v ∷ os) s = on v (λ after. lines_some title (k 
         → length os + after.skipped ≤ length (report_from title (k + 1) os) + (fold with_line after os).skipped
         → length (told name v ∷ os) + s.skipped
         ≤ length (report_from title k (told name v ∷ os)) + (fold with_line after os).skipped
-    unfolding report_from
     one v after same rest = omega (
       arith,
       same,
@@ -220,13 +219,13 @@ feed_left old new answer name report n P gave end = (given old gave, at_end answ
 -- ---- one list by its name
 
 module _ (m : Meaning) (title : Option Text) (report left : Text) (n : ℕ) (rest : Option Text) (next : ℕ)
-    (name : Text) (content : Option (List ℕ)) (x y : ℕ) (P Q : ℕ → Type 0) (as : (k : ℕ) → P k → Q k) where
+    (name : Text) (content : Option (List ℕ)) (x y : ℕ) (P Q : ℕ → Type 0) (turn : (k : ℕ) → P k → Q k) where
   sums_as : (r : Result Summary Fault) → SumsUp m title report left n rest next name content r x y P
       → SumsUp m title report left n rest next name content r x y Q
-  sums_as (Ok s) (summed, counted, same) = (summed, as 0 counted, same)
-  sums_as (Err f) (inl (may, counted, same)) = inl (may, as (failed_reads content (trouble_of f)) counted, same)
-  sums_as (Err f) (inr (inl (may, counted, same))) = inr (inl (may, as 0 counted, same))
-  sums_as (Err f) (inr (inr (other, counted, same))) = inr (inr (other, as 0 counted, same))
+  sums_as (Ok s) (summed, counted, same) = (summed, turn 0 counted, same)
+  sums_as (Err f) (inl (may, counted, same)) = inl (may, turn (failed_reads content (trouble_of f)) counted, same)
+  sums_as (Err f) (inr (inl (may, counted, same))) = inr (inl (may, turn 0 counted, same))
+  sums_as (Err f) (inr (inr (other, counted, same))) = inr (inr (other, turn 0 counted, same))
 
 module _ (m : Meaning) (title : Option Text) (report : Text) (left : Option Text) (n : ℕ) (rest : Option Text)
     (next : ℕ) (name : Text) (r : Result Summary Fault) (x y : ℕ) where
