@@ -30,6 +30,6 @@ pub mod Behind
 pub mod Gathering
 pub mod Rejoining
 pub mod Telling
-pub mod Told
+pub mod ToldLists
 pub mod Vectors
 pub mod VisibleNames

@@ -16,7 +16,7 @@ ghost use Rattle.command.specs.Checking.{ListRuns, ListsRun, foreign_hint, hints
 ghost use Rattle.command.specs.Visible.{visible};
 ghost use Rattle.command.specs.Lines.{content_of, is_input, opens_of};
 ghost use Rattle.command.specs.Run.{TellsAll};
-ghost use Rattle.command.specs.inside.Faults.{heading, hinted_of, noted_of, of_check};
+ghost use Rattle.command.specs.inside.Faults.{heading, hinted_of, noted_of, of_check, remarks};
 ghost use Rattle.command.specs.inside.Listing.{ListTaken};
 ghost use Rattle.command.specs.inside.Reading.{Leaves, failed};
 ghost use Rattle.command.specs.inside.Reported.{PrintsReport};
@@ -208,14 +208,11 @@ impl<'i, 't, 'o, L: Feed, T: Tree, W: Sink> Session<'i, 't, 'o, L, T, W> {
             (opens_from lines (Some bytes)) (⟦<Self as Streams>⟧.seen self.old) (⟦<Self as Streams>⟧.seen self.new)) }
         ensures same { SameStreams self.old self.new }
     {
-        let is_whole = share.others == 0;
+        let is_alone = share.others == 0;
         let answer = check_list(
             self.alloc, self.input, entries, title, share, self.tree, self.out,
         );
-        if is_whole {
-            note(title, is_summed, &answer, err);
-            hint(name, entries, &answer, err);
-        }
+        remark(is_alone, title, is_summed, name, entries, &answer, err);
         status_of(answer, name)
     }
 }
@@ -251,8 +248,28 @@ pub(crate) fn title_of(are_named: bool, name: &str) -> Option<&str>
     if are_named { Some(name) } else { None }
 }
 
+// Reports on standard error what there is to say of a list, unless there are other shares of it.
+pub(crate) fn remark<E: Sink>(
+    is_alone: bool,
+    list: Option<&str>,
+    is_summed: bool,
+    name: &str,
+    entries: &sumlist::Entries<'_, ShortKeyed>,
+    answer: &Result<Summary, CheckFault>,
+    err: &mut E,
+)
+    ensures { TellsAll (E.shown err.old) (E.shown err.new) (remarks is_alone is_summed
+        (option_map (λ n. n.now) list.entry) name.now (meaning entries.now) answer.now) }
+{
+    if !is_alone {
+        return;
+    }
+    note(list, is_summed, answer, err);
+    hint(name, entries, answer, err);
+}
+
 // Tells the numbers of a list on standard error, in one text: what is not taken of it is dropped.
-pub(crate) fn note<E: Sink>(
+fn note<E: Sink>(
     list: Option<&str>,
     is_summed: bool,
     answer: &Result<Summary, CheckFault>,
@@ -283,7 +300,7 @@ fn write_note<E: Sink>(
 }
 
 // Tells what the report of a list does not say, in one text: what is not taken of it is dropped.
-pub(crate) fn hint<E: Sink>(
+fn hint<E: Sink>(
     name: &str,
     entries: &sumlist::Entries<'_, ShortKeyed>,
     answer: &Result<Summary, CheckFault>,

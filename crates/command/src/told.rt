@@ -19,7 +19,7 @@ ghost use Rattle.command.specs.inside.Told.{CountsList, KeepsReport, SumsUp, Tel
 ghost use Rattle.command.specs.inside.Troubles.{cannot_read, other_line, trouble_of};
 
 use crate::fault::Fault;
-use crate::reports::{hint, note, short_keyed, title_of};
+use crate::reports::{remark, short_keyed, title_of};
 use crate::rule::ShortKeyed;
 use crate::session::{Session, Streams, open_file};
 use source::{Feed, Sink};
@@ -157,8 +157,7 @@ impl<'i, 't, 'o, L: Feed, T: Tree, W: Sink> Session<'i, 't, 'o, L, T, W> {
     {
         let summary = self.tell_named(told, title, name)?;
         let answer = Ok(summary);
-        note(title, is_summed, &answer, err);
-        hint(name, told.entries, &answer, err);
+        remark(true, title, is_summed, name, told.entries, &answer, err);
         Ok(status_of(&summary))
     }
 

@@ -1,5 +1,5 @@
 -- What words ask for, computed: a wrong text, name, bound or order of the settings does not check.
-use Rattle.std.proofs.Common.{◌≡◌, List, [], ◌∷◌, Some, None, Result, Ok, Err, codes, false, option_map, refl}
+use Rattle.std.proofs.Common.{◌≡◌, List, [], ◌∷◌, Some, None, Result, Ok, Err, codes, false, option_map, refl, true}
 use Rattle.std.specs.Int.Count.{count_leading_zeros, ones}
 use Rattle.hex.specs.Hex.{decode_pairs}
 use Rattle.request.proofs.ExampleWords.{clap_on_literals, subcommand_of}

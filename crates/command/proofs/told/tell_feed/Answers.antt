@@ -1,4 +1,4 @@
-use Rattle.command.proofs.Told.{feed_left, feed_sums}
+use Rattle.command.proofs.ToldLists.{feed_left, feed_sums}
 use Rattle.command.proofs.told.tell_feed.Goals as goal
 
 pub returns-clause-summed : goal.returns-clause-summed

@@ -7,6 +7,7 @@ use Rattle.request.specs.CommandLine.{Given, Text, given_of, text_of}
 use Rattle.task.specs.Hashing.{names_several, wanted}
 use Rattle.task.specs.Settings.{file_or_input, files, unless}
 use Rattle.task.specs.Tasks.{Sum, of_files, share_of}
+use Rattle.task.specs.inside.Steps.{allows_share}
 use Rattle.task.specs.inside.Texts.{fault_text}
 use Rattle.task.specs.inside.Views.{sum_shown}
 use Rattle.task.proofs.tasks.of_files.Goals as goal
@@ -43,7 +44,7 @@ is_some-mapped f (Some x) = refl
 no_share : (sum : Sum) (n : ℕ) (g : Given) (bytes : Option (List ℕ)) (fault : Text)
     → (is_some (text_of (codes "files0-from") g) && nat_lt 0 (length (files g))) ≡ false
     → (is_some (text_of (codes "name") g) && (names_several g || not (bytes_eq (file_or_input g) (codes "-")))) ≡ false
-    → wanted n g ≡ Ok bytes → share_of (is_some bytes) g ≡ Err fault → of_files sum n g ≡ Err fault
+    → wanted n g ≡ Ok bytes → share_of (allows_share (is_some bytes) g) g ≡ Err fault → of_files sum n g ≡ Err fault
 no_share sum n g bytes fault a b c d = rw (a, b, c, d) refl
 
 pub returns-in_err-share : goal.returns-in_err-share
@@ -56,4 +57,4 @@ returns-in_err-share c =
     rw (e.1, e.2) (no_share (sum_shown c.args.sum) c.args.length g given (fault_text c.in_err-share.field-0.0)
     (sym c.has_two_sources.ensures ∙ right _ _ c.in_ok-unless.ensures)
     (sym c.has_useless_name.ensures ∙ right _ _ c.in_ok-unless-2.ensures) c.in_ok-wanted.ensures
-    (ap (λ b. share_of b g) (is ∙ sym c.is_some.ensures) ∙ sym c.in_err-share.ensures))
+    (ap (λ b. share_of (allows_share b g) g) (is ∙ sym c.is_some.ensures) ∙ sym c.in_err-share.ensures))

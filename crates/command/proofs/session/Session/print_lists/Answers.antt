@@ -30,7 +30,7 @@ loop-name-preserved g c =
     let is = next_name c.args.lists.now c.loop-name.name-index _ c.loop-name-test.true in
     let most = c.max-status.ensures in
     let report = rw (c.title_of-title.ensures, sym (length-map c.args.lists.now (λ n. n.now)))
-    at c.in_ok-print_report.ensures.report in
+    at c.in_ok-of_one.ensures.report in
     record {
       same = Same-trans _ _ _ c.loop-name.invariant.same c.print_report.ensures.same;
       opens = opens-next (map (λ n. n.now) c.args.lists.now) _ _ _ (see c.args.self.now) (see c.loop-name.self)
@@ -42,8 +42,8 @@ loop-name-preserved g c =
           _ _ _ _ (see c.print_report.new.self) _ is c.loop-name.invariant.goes _ _ (omega (arith, most)) report;
     }
 
-pub returns-in_err-print_report-clause-run : goal.returns-in_err-print_report-clause-run
-returns-in_err-print_report-clause-run g c =
+pub returns-in_err-of_one-clause-run : goal.returns-in_err-of_one-clause-run
+returns-in_err-of_one-clause-run g c =
     let see = seen_of g.L.Feed.remaining g.L.Feed.failure_count g.T.Tree.files g.T.Tree.failure_count
     g.T.Tree.opens g.W.Sink.shown in
     let are_named = nat_lt 1 (length (map (λ n. n.now) c.args.lists.now)) in
@@ -53,10 +53,10 @@ returns-in_err-print_report-clause-run g c =
     (see c.print_report.new.self) _ (next_name c.args.lists.now c.loop-name.name-index _ c.loop-name-test.true)
     c.loop-name.invariant.goes _ _ c.from_residual.ensures.1
     (rw (c.title_of-title.ensures, sym (length-map c.args.lists.now (λ n. n.now)))
-    at c.in_err-print_report.ensures.report)
+    at c.in_err-of_one.ensures.report)
 
-pub returns-in_err-print_report-clause-opens : goal.returns-in_err-print_report-clause-opens
-returns-in_err-print_report-clause-opens g c =
+pub returns-in_err-of_one-clause-opens : goal.returns-in_err-of_one-clause-opens
+returns-in_err-of_one-clause-opens g c =
     let see = seen_of g.L.Feed.remaining g.L.Feed.failure_count g.T.Tree.files g.T.Tree.failure_count
     g.T.Tree.opens g.W.Sink.shown in
     opens-stop (map (λ n. n.now) c.args.lists.now) _ _ _ (see c.args.self.now) (see c.loop-name.self)

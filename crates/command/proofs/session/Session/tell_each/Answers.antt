@@ -6,7 +6,7 @@ use Rattle.command.specs.inside.Streams.{seen_of}
 use Rattle.command.proofs.Going.{Same-trans}
 use Rattle.command.proofs.Names.{next_name}
 use Rattle.command.proofs.Opening.{opens_all, opens_more}
-use Rattle.command.proofs.Told.{goes-beyond, goes-end, goes-next, goes-start, goes-stop}
+use Rattle.command.proofs.ToldLists.{goes-beyond, goes-end, goes-next, goes-start, goes-stop}
 use Rattle.command.proofs.session.Session.tell_each.Goals as goal
 
 pub loop-name-init : goal.loop-name-init

@@ -7,7 +7,7 @@ use Rattle.command.specs.inside.Rules.{meaning}
 use Rattle.command.specs.inside.Seen.{OpensAtMost}
 use Rattle.command.specs.inside.Streams.{SameStreams, seen_of}
 use Rattle.command.specs.inside.Told.{KeepsReport}
-use Rattle.command.proofs.Told.{Goes}
+use Rattle.command.proofs.ToldLists.{Goes}
 use Rattle.command.proofs.session.Session.tell_each.Given as goal
 
 abbrev pub invariant-loop-name : goal.invariant-loop-name

@@ -1,7 +1,7 @@
 use Rattle.std.proofs.Common.{map, refl, sym}
 use Rattle.command.specs.inside.Rules.{meaning}
 use Rattle.command.specs.inside.Streams.{seen_of}
-use Rattle.command.proofs.Told.{report_none, report_read}
+use Rattle.command.proofs.ToldLists.{report_none, report_read}
 use Rattle.command.proofs.session.Session.tell_lists.Goals as goal
 
 pub returns-in_err-feed-clause-run : goal.returns-in_err-feed-clause-run

@@ -1,5 +1,5 @@
 use Rattle.std.proofs.Common.{refl, sym, ◌∙◌}
-use Rattle.command.proofs.Told.{named_file, named_input, named_none}
+use Rattle.command.proofs.ToldLists.{named_file, named_input, named_none}
 use Rattle.command.proofs.session.Session.tell_named.Goals as goal
 
 pub returns-then-eq-clause-summed : goal.returns-then-eq-clause-summed

@@ -1,8 +1,7 @@
 use Rattle.std.proofs.Common.{refl}
 use Rattle.command.specs.inside.Rules.{meaning}
 use Rattle.command.specs.inside.Streams.{seen_of}
-use Rattle.command.proofs.Telling.{TellsAll-append}
-use Rattle.command.proofs.Told.{list_noted, list_stopped}
+use Rattle.command.proofs.ToldLists.{list_noted, list_stopped}
 use Rattle.command.proofs.session.Session.tell_one.Goals as goal
 
 pub returns-in_err-summary-clause-list : goal.returns-in_err-summary-clause-list
@@ -18,5 +17,4 @@ returns-clause-list g c =
     g.T.Tree.opens g.W.Sink.shown in
     rw c.status_of.ensures (list_noted c.args.is_summed (meaning c.args.told.now.entries.now) _ _ _ _ _ _ _
     (see c.args.self.now) (see c.tell_named.new.self) _ _ _ _
-    c.in_ok-summary.summary c.in_ok-summary.ensures.summed
-    (TellsAll-append _ _ _ _ _ c.note.ensures c.hint.ensures))
+    c.in_ok-summary.summary c.in_ok-summary.ensures.summed c.remark.ensures)

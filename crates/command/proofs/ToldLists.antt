@@ -94,13 +94,12 @@ lines_some title k (foreign l ∷ os) s =
     foreign_as : (title : Option Text) → text title k (foreign l) ≡ text title k malformed
     foreign_as None = refl
     foreign_as (Some title) = refl
-lines_some title k (told name v ∷ os) s = on v
+lines_some title k (told name v ∷ os) s = on v (λ after. lines_some title (k + 1) os after)
   where
     one : (v : Verdict) (after : Summary) → after.skipped ≡ s.skipped
         → length os + after.skipped ≤ length (report_from title (k + 1) os) + (fold with_line after os).skipped
         → length (told name v ∷ os) + s.skipped
         ≤ length (report_from title k (told name v ∷ os)) + (fold with_line after os).skipped
-    unfolding report_from
     one v after same rest = omega (
       arith,
       same,
@@ -110,18 +109,20 @@ lines_some title k (told name v ∷ os) s = on v
       length-append (escaped name) (verdict_text v),
     )
 
-    on : (v : Verdict) → length (told name v ∷ os) + s.skipped
+    on : (v : Verdict) → ((after : Summary)
+        → length os + after.skipped ≤ length (report_from title (k + 1) os) + (fold with_line after os).skipped)
+        → length (told name v ∷ os) + s.skipped
         ≤ length (report_from title k (told name v ∷ os)) + (fold with_line s (told name v ∷ os)).skipped
-    on verdict.Matches = one verdict.Matches (with_line s (told name verdict.Matches)) refl
-        (lines_some title (k + 1) os (with_line s (told name verdict.Matches)))
-    on verdict.Differs = one verdict.Differs (with_line s (told name verdict.Differs)) refl
-        (lines_some title (k + 1) os (with_line s (told name verdict.Differs)))
-    on verdict.Missing = one verdict.Missing (with_line s (told name verdict.Missing)) refl
-        (lines_some title (k + 1) os (with_line s (told name verdict.Missing)))
-    on verdict.Unreadable = one verdict.Unreadable (with_line s (told name verdict.Unreadable)) refl
-        (lines_some title (k + 1) os (with_line s (told name verdict.Unreadable)))
-    on verdict.TooLong = one verdict.TooLong (with_line s (told name verdict.TooLong)) refl
-        (lines_some title (k + 1) os (with_line s (told name verdict.TooLong)))
+    on verdict.Matches rest = let after = with_line s (told name verdict.Matches) in
+        one verdict.Matches after refl (rest after)
+    on verdict.Differs rest = let after = with_line s (told name verdict.Differs) in
+        one verdict.Differs after refl (rest after)
+    on verdict.Missing rest = let after = with_line s (told name verdict.Missing) in
+        one verdict.Missing after refl (rest after)
+    on verdict.Unreadable rest = let after = with_line s (told name verdict.Unreadable) in
+        one verdict.Unreadable after refl (rest after)
+    on verdict.TooLong rest = let after = with_line s (told name verdict.TooLong) in
+        one verdict.TooLong after refl (rest after)
 
 lines_few : (title : Option Text) (os : List Outcome)
     → length os - (summary_of os).skipped ≤ length (report_from title 1 os)
@@ -163,21 +164,21 @@ module _ (m : Meaning) (title : Option Text) (name report : Bor Text) (bytes lef
       ))
   sums (Err tell.OtherLine) (os, before, after, cut, possible, behind, split, count, line, others, is, other) reads more
       long = inr (inr (
-    record {
-      outcomes = os;
-      before = before;
-      line = line;
-      others = others;
-      cut = cut ∙ ap (λ a. before ++ a) is;
-      possible = possible;
-      behind = behind;
-      split = split;
-      other = other;
-      is = ap (other_line report.now) count;
-    },
-    omega (arith, reads.1 (λ e. cc)),
-    more.1 (λ e. cc),
-  ))
+        record {
+          outcomes = os;
+          before = before;
+          line = line;
+          others = others;
+          cut = cut ∙ ap (λ a. before ++ a) is;
+          possible = possible;
+          behind = behind;
+          split = split;
+          other = other;
+          is = ap (other_line report.now) count;
+        },
+        omega (arith, reads.1 (λ e. cc)),
+        more.1 (λ e. cc),
+      ))
   sums (Err tell.OutOfMemory) beside reads more long =
       inl (inl refl, omega (arith, reads.1 (λ e. cc)), more.1 (λ e. cc))
 
@@ -218,13 +219,13 @@ feed_left old new answer name report n P gave end = (given old gave, at_end answ
 -- ---- one list by its name
 
 module _ (m : Meaning) (title : Option Text) (report left : Text) (n : ℕ) (rest : Option Text) (next : ℕ)
-    (name : Text) (content : Option (List ℕ)) (x y : ℕ) (P Q : ℕ → Type 0) (as : (k : ℕ) → P k → Q k) where
+    (name : Text) (content : Option (List ℕ)) (x y : ℕ) (P Q : ℕ → Type 0) (turn : (k : ℕ) → P k → Q k) where
   sums_as : (r : Result Summary Fault) → SumsUp m title report left n rest next name content r x y P
       → SumsUp m title report left n rest next name content r x y Q
-  sums_as (Ok s) (summed, counted, same) = (summed, as 0 counted, same)
-  sums_as (Err f) (inl (may, counted, same)) = inl (may, as (failed_reads content (trouble_of f)) counted, same)
-  sums_as (Err f) (inr (inl (may, counted, same))) = inr (inl (may, as 0 counted, same))
-  sums_as (Err f) (inr (inr (other, counted, same))) = inr (inr (other, as 0 counted, same))
+  sums_as (Ok s) (summed, counted, same) = (summed, turn 0 counted, same)
+  sums_as (Err f) (inl (may, counted, same)) = inl (may, turn (failed_reads content (trouble_of f)) counted, same)
+  sums_as (Err f) (inr (inl (may, counted, same))) = inr (inl (may, turn 0 counted, same))
+  sums_as (Err f) (inr (inr (other, counted, same))) = inr (inr (other, turn 0 counted, same))
 
 module _ (m : Meaning) (title : Option Text) (report : Text) (left : Option Text) (n : ℕ) (rest : Option Text)
     (next : ℕ) (name : Text) (r : Result Summary Fault) (x y : ℕ) where
@@ -307,6 +308,13 @@ some_is : {X : Type 0} {P : X → Type 0} (o : Option X) → IsSomeAnd o P → (
 some_is None p = absurd p
 some_is (Some x) p = (x, refl, p)
 
+-- why a report is not read on, by all of it
+stopped : (report : Text) (n : ℕ) (t : Trouble) (whole left : Text) → HasRoom whole left n → MayStop report left n t
+    → MayRefuse (2 ^ 64 - 1) report (Some whole) t
+stopped report n t whole left room (inl p) = inl p
+stopped report n t whole left room (inr (inl p)) = inr (inl p)
+stopped report n t whole left room (inr (inr p)) = inr (inr (p.0, p.1 whole room))
+
 -- what a list that was read to its end leaves of standard input
 left_by : (b : Bool) (s : ℕ) (bytes : List ℕ) (now : Option (List ℕ))
     → (let r : Result ℕ Fault = Ok s in Leaves b r (Some bytes) now) → now ≡ Some (if b then [] else bytes)
@@ -360,7 +368,8 @@ module _ (is_summed : Bool) (m : Meaning) (are_named : Bool) (report : Text) whe
               cut = λ e. cc;
             } in
             let both = follows first (Ok s) b.out c.out err_old err_mid err_mid it_does tells s
-            (λ k ends. let same : k ≡ (if is_clean t then 0 else 1) = cc in status_light (is_clean t) k same) (refl, refl) last.0 r d.out err_new last.2 last.3 in
+            (λ k ends. let same : k ≡ (if is_clean t then 0 else 1) = cc in status_light (is_clean t) k same)
+            (refl, refl) last.0 r d.out err_new last.2 last.3 in
             let none = Counted-quiet (is_input name) _ _ _ _ counted in (
               followed first last.0,
               inr (inr (rw content (
@@ -369,16 +378,18 @@ module _ (is_summed : Bool) (m : Meaning) (are_named : Bool) (report : Text) whe
                 [],
                 sym (append-nil (lines bs)),
                 it.possible,
-                it.behind,
-                it.split,
-                inl (
-                  refl,
-                  last.0,
-                  ap (λ (u : Summary). followed (record (prints [] (if is_clean u then 0 else 1)) {
-                    notes = notes_of is_summed m (title name) name u;
-                  }) last.0) it.same,
-                  subst (λ k. ListsTold is_summed m are_named files report k it.behind names
-                      (if is_input name then [] else bytes) last.0) it.next_is last.1,
+                (
+                  it.behind,
+                  it.split,
+                  inl (
+                    refl,
+                    last.0,
+                    ap (λ (u : Summary). followed (record (prints [] (if is_clean u then 0 else 1)) {
+                      notes = notes_of is_summed m (title name) name u;
+                    }) last.0) it.same,
+                    subst (λ k. ListsTold is_summed m are_named files report k it.behind names
+                        (if is_input name then [] else bytes) last.0) it.next_is last.1,
+                  ),
                 ),
               ))),
               both.does_both,
@@ -449,7 +460,7 @@ module _ (is_summed : Bool) (m : Meaning) (are_named : Bool) (report : Text) whe
             let k = failed_reads (Some whole) t in (
               refusal false (Some whole) t,
               inr (inl (rw is (refused_by (2 ^ 64 - 1) false report (Some whole) t
-                  (stopped (trouble_of g) whole text room may)))),
+                  (stopped report n t whole text room may)))),
               stop t _ (ap trouble_of (sym fault)),
               how.1,
               failures_from (is_input name) 0,
@@ -458,12 +469,6 @@ module _ (is_summed : Bool) (m : Meaning) (are_named : Bool) (report : Text) whe
               counted,
               rw (same_reads whole t) same,
             )
-          where
-            stopped : (t : Trouble) (whole text : Text) → HasRoom whole text n → MayStop report text n t
-                → MayRefuse (2 ^ 64 - 1) report (Some whole) t
-            stopped t whole text room (inl p) = inl p
-            stopped t whole text room (inr (inl p)) = inr (inl p)
-            stopped t whole text room (inr (inr p)) = inr (inr (p.0, p.1 whole room))
         on (Err g) text bytes files whole (inr (inr (other, counted, same))) how is room =
             let same_fault = how.0 in
             let fault : g ≡ f = cc in
@@ -477,9 +482,7 @@ module _ (is_summed : Bool) (m : Meaning) (are_named : Bool) (report : Text) whe
                 it.line ∷ it.others,
                 it.cut,
                 it.possible,
-                it.behind,
-                it.split,
-                inr (it.line, it.others, refl, refl, it.other),
+                (it.behind, it.split, inr (it.line, it.others, refl, refl, it.other)),
               ))),
               stop (other_line report line) [] (ap trouble_of (sym fault) ∙ it.is),
               how.1,
