@@ -1,4 +1,4 @@
-use Rattle.std.proofs.Common.{map, refl}
+use Rattle.std.proofs.Common.{map, refl, sym, ◌∙◌}
 use Rattle.command.specs.inside.Rules.{meaning}
 use Rattle.command.specs.inside.Seen.{Seen}
 use Rattle.command.specs.inside.Streams.{seen_of}
@@ -23,4 +23,5 @@ returns-clause-run g c =
     report_read c.args.is_summed (meaning c.args.entries.now) c.args.report.now (map (λ n. n.now) c.args.lists.now) _
     _ _ g.T.F.Feed.remaining c.in_ok-feed.feed _ _ before (see c.tell_each-answer.new.self)
     _ _ _ _ c.in_ok-feed.ensures.opened c.open_file.ensures.kept c.in_ok-feed.ensures.counted
-    c.new.ensures.left c.in_ok-feed.ensures.fresh c.tell_each-answer.ensures.run c.close.ensures.counted
+    c.new.ensures.left (c.new.ensures.counted ∙ c.in_ok-feed.ensures.fresh) c.tell_each-answer.ensures.run
+    (rw (c.feed-3-1.given.1 (sym (c.tell_each-answer.ensures.same.1 ∙ c.new.ensures.same))) at c.close.ensures.counted)
