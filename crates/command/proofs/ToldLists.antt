@@ -1,7 +1,7 @@
 -- The run of `check` with `--told`: lists are read beside their report.
-use Rattle.std.proofs.Common.{◌≡◌, ◌≢◌, ◌∙◌, ℕ, ◌+◌, ◌-◌, ◌^◌, ◌<◌, ◌≤◌, List, [], ◌∷◌, ◌++◌, length, length-append}
+use Rattle.std.proofs.Common.{◌≡◌, ◌∙◌, ℕ, ◌+◌, ◌-◌, ◌^◌, ◌<◌, ◌≤◌, List, [], ◌∷◌, ◌++◌, length, length-append}
 use Rattle.std.proofs.Common.{Option, Some, None, Bool, true, false, Result, Ok, Err, IfSome, refl, sym, ap, subst}
-use Rattle.std.proofs.Common.{◌⊎◌, append-nil, arith, inl, inr, max, suc}
+use Rattle.std.proofs.Common.{◌⊎◌, append-nil, arith, inl, inr, max}
 use Rattle.std.proofs.lemmas.Bool.Decides.{nat_tests}
 use Rattle.std.proofs.lemmas.Option.{IfSome_then}
 use Rattle.std.proofs.lemmas.Result.{err_from_is_err_and}
@@ -35,16 +35,16 @@ use Rattle.command.specs.inside.Reading.{Leaves, failed}
 use Rattle.command.specs.inside.Seen.{Does, IfTold, Seen}
 use Rattle.command.specs.inside.Told.{CountsList, HasRoom, IsOther, IsSummed, MayStop, RunsTold, SumsUp, TellsList}
 use Rattle.command.specs.inside.Told.{TellsLists}
-use Rattle.command.specs.inside.Troubles.{Counted, Failures, MayRefuse, Trouble, counts, failed_reads, failures_from}
+use Rattle.command.specs.inside.Troubles.{Counted, MayRefuse, Trouble, counts, failed_reads, failures_from}
 use Rattle.command.specs.inside.Troubles.{cannot_read, no_failures, other_line, plus, refusal, shown, too_long}
 use Rattle.command.specs.inside.Troubles.{trouble_of}
 use Rattle.command.specs.declared.fault.Fault.{Fault}
-use Rattle.command.specs.declared.fault.Fault.TheVariants as code
 use Rattle.command.proofs.Going.{follows, raised, raised_none, raised_twice, told_where}
 use Rattle.command.proofs.Listing.{long_list, plus-none, refuse-few}
 use Rattle.command.proofs.Reading.{told_always, told_then}
 use Rattle.command.proofs.Refused.{Counted-after, Counted-none, Counted-quiet, Does-printed, Does-refused}
-use Rattle.command.proofs.Refused.{Counted-as, Counted-refusal, counts-replicate, pair, refused_by, same_reads, unread_by}
+use Rattle.command.proofs.Refused.{Counted-as, Counted-refusal, counts-replicate, pair, refused_by, same_reads}
+use Rattle.command.proofs.Refused.{unread_by}
 use Rattle.command.proofs.Reporting.{status_light}
 use Rattle.command.proofs.VerifiedNames.{unopened}
 
@@ -133,12 +133,12 @@ lines_few title os = let most = lines_some title 1 os (summary_of []) in omega (
 
 module _ (m : Meaning) (title : Option Text) (name report : Bor Text) (bytes left : List ℕ) (n next : ℕ)
     (rest : Option (List ℕ)) (i j x y : ℕ) where
-  sums : (answer : Result Summary TellFault) → ListBeside m title bytes left n next rest answer
+  sums_up : (answer : Result Summary TellFault) → ListBeside m title bytes left n next rest answer
       → CountsOnly tell.ListRead answer i j → CountsOnly tell.ReportRead answer x y
       → (answer ≡ Err tell.ListTooLong → 2 ^ 64 - 1 < length bytes)
       → SumsUp m title report.now left n rest next name.now (Some bytes) (of_tell answer name report next) x y
       (λ failed. j ≡ count_after i failed)
-  sums (Ok s) (os, before, after, cut, possible, behind, split, count, (none, same, rest_is)) reads more long = (
+  sums_up (Ok s) (os, before, after, cut, possible, behind, split, count, (none, same, rest_is)) reads more long = (
     record {
       outcomes = os;
       possible = rw (cut ∙ ap (λ a. before ++ a) none ∙ append-nil before) possible;
@@ -151,35 +151,35 @@ module _ (m : Meaning) (title : Option Text) (name report : Bor Text) (bytes lef
     omega (arith, reads.1 (λ e. cc)),
     more.1 (λ e. cc),
   )
-  sums (Err tell.ListRead) beside reads more long = inl (inr (inl refl), reads.0 refl, more.1 (λ e. cc))
-  sums (Err tell.ListTooLong) beside reads more long =
+  sums_up (Err tell.ListRead) beside reads more long = inl (inr (inl refl), reads.0 refl, more.1 (λ e. cc))
+  sums_up (Err tell.ListTooLong) beside reads more long =
       inl (inr (inr (refl, long refl)), omega (arith, reads.1 (λ e. cc)), more.1 (λ e. cc))
-  sums (Err tell.ReportRead) beside reads more long =
+  sums_up (Err tell.ReportRead) beside reads more long =
       inr (inl (inr (inl refl), omega (arith, reads.1 (λ e. cc)), more.0 refl))
-  sums (Err tell.ReportTooLong) (os, before, after, cut, possible, behind, split, count, many) reads more long =
+  sums_up (Err tell.ReportTooLong) (os, before, after, cut, possible, behind, split, count, many) reads more long =
       inr (inl (
         inr (inr (refl, λ whole room. omega (arith, room, many))),
         omega (arith, reads.1 (λ e. cc)),
         omega (arith, more.1 (λ e. cc)),
       ))
-  sums (Err tell.OtherLine) (os, before, after, cut, possible, behind, split, count, (line, others, is, other)) reads
+  sums_up (Err tell.OtherLine) (os, before, after, cut, possible, behind, split, count, (line, others, is, other)) reads
       more long = inr (inr (
-    record {
-      outcomes = os;
-      before = before;
-      line = line;
-      others = others;
-      cut = cut ∙ ap (λ a. before ++ a) is;
-      possible = possible;
-      behind = behind;
-      split = split;
-      other = other;
-      is = ap (other_line report.now) count;
-    },
-    omega (arith, reads.1 (λ e. cc)),
-    more.1 (λ e. cc),
-  ))
-  sums (Err tell.OutOfMemory) beside reads more long =
+        record {
+          outcomes = os;
+          before = before;
+          line = line;
+          others = others;
+          cut = cut ∙ ap (λ a. before ++ a) is;
+          possible = possible;
+          behind = behind;
+          split = split;
+          other = other;
+          is = ap (other_line report.now) count;
+        },
+        omega (arith, reads.1 (λ e. cc)),
+        more.1 (λ e. cc),
+      ))
+  sums_up (Err tell.OutOfMemory) beside reads more long =
       inl (inl refl, omega (arith, reads.1 (λ e. cc)), more.1 (λ e. cc))
 
 pub feed_sums : (m : Meaning) (title : Option Text) (name report : Bor Text) (coming now left : Option (List ℕ))
@@ -193,7 +193,7 @@ pub feed_sums : (m : Meaning) (title : Option Text) (name report : Bor Text) (co
 feed_sums m title name report None now left n next rest i j x y answer beside reads more gave = tt
 feed_sums m title name report (Some bytes) now None n next rest i j x y answer beside reads more gave = tt
 feed_sums m title name report (Some bytes) now (Some text) n next rest i j x y answer beside reads more gave =
-    sums m title name report bytes text n next rest i j x y answer beside reads more
+    sums_up m title name report bytes text n next rest i j x y answer beside reads more
     (λ is. long_list bytes gave.0 now gave.1 (gave.2 is))
 
 pub feed_left : (old new : Option (List ℕ)) (answer : Result Summary TellFault) (name report : Bor Text) (n : ℕ)
@@ -351,7 +351,8 @@ module _ (is_summed : Bool) (m : Meaning) (are_named : Bool) (report : Text) whe
             → TellsAll err_old err_mid (notes_of is_summed m (title name) name t)
             → c.bytes ≡ Some (if is_input name then [] else bytes) → c.files ≡ Some files
             → files report ≡ Some whole → HasRoom whole text n
-            → RunsTold is_summed m are_named files report n text (name ∷ names) bytes (raised s r) b d err_old err_new x z
+            → RunsTold is_summed m are_named files report n text (name ∷ names) bytes (raised s r) b d err_old err_new
+            x z
         one t text bytes files whole bs content it counted same status tells now_bytes now_files is room =
             let few = lines_few (title name) it.outcomes in
             let split = it.split in
@@ -411,7 +412,8 @@ module _ (is_summed : Bool) (m : Meaning) (are_named : Bool) (report : Text) whe
             (λ f. ((let e : Result ℕ Fault = Ok s in e) ≡ Err f) × (err_mid ≡ err_old))
             → (let one : Result ℕ Fault = Ok s in Leaves (is_input name) one (Some bytes) c.bytes)
             → c.files ≡ Some files → files report ≡ Some whole → HasRoom whole text n
-            → RunsTold is_summed m are_named files report n text (name ∷ names) bytes (raised s r) b d err_old err_new x z
+            → RunsTold is_summed m are_named files report n text (name ∷ names) bytes (raised s r) b d err_old err_new
+            x z
         on (Err f) text bytes files whole sums how gave now_files is room = absurd (let no = how.0 in cc)
         on (Ok t) text bytes files whole (summed, counted, same) how gave now_files is room =
             let found = some_is (content_of name bytes files) summed in
@@ -502,7 +504,8 @@ module _ (is_summed : Bool) (m : Meaning) (are_named : Bool) (report : Text) whe
             let same_fault = how.0 in
             let fault : g ≡ f = cc in
             let found = some_is (content_of name bytes files) other in
-            beyond text bytes files found.0 (trouble_of g) found.1 found.2 (ap trouble_of (sym fault)) how.1 counted same
+            beyond text bytes files found.0 (trouble_of g) found.1 found.2 (ap trouble_of (sym fault)) how.1 counted
+            same
 
   -- ---- after the last list
 
@@ -583,8 +586,8 @@ module _ (is_summed : Bool) (m : Meaning) (are_named : Bool) (report : Text) whe
       goes-next s after most list gave kept r d err_new w q =
           subst (λ t. TellsLists is_summed m are_named report whole k all t a d err_old err_new x w)
           (raised_twice status s after r most)
-          (goes (raised s r) d err_new w (rw is (tells-more name more left rest n next b c err_mid err_next y z out s r d
-          err_new w list gave kept q)))
+          (goes (raised s r) d err_new w (rw is (tells-more name more left rest n next b c err_mid err_next y z out s r
+          d err_new w list gave kept q)))
 
       pub goes-stop : (f : Fault) (answer : Result ℕ Fault) → IsErrAnd answer (λ g. g ≡ f)
           → Listed name names left rest n next b c err_mid err_next y z out (Err f)
