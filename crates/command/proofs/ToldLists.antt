@@ -1,7 +1,7 @@
 -- The run of `check` with `--told`: lists are read beside their report.
-use Rattle.std.proofs.Common.{◌≡◌, ◌≢◌, ◌∙◌, ℕ, ◌+◌, ◌-◌, ◌^◌, ◌<◌, ◌≤◌, List, [], ◌∷◌, ◌++◌, length, length-append}
+use Rattle.std.proofs.Common.{◌≡◌, ◌∙◌, ℕ, ◌+◌, ◌-◌, ◌^◌, ◌<◌, ◌≤◌, List, [], ◌∷◌, ◌++◌, length, length-append}
 use Rattle.std.proofs.Common.{Option, Some, None, Bool, true, false, Result, Ok, Err, IfSome, refl, sym, ap, subst}
-use Rattle.std.proofs.Common.{◌⊎◌, append-nil, arith, inl, inr, max, suc}
+use Rattle.std.proofs.Common.{◌⊎◌, append-nil, arith, inl, inr, max}
 use Rattle.std.proofs.lemmas.Bool.Decides.{nat_tests}
 use Rattle.std.proofs.lemmas.Option.{IfSome_then}
 use Rattle.std.proofs.lemmas.Result.{err_from_is_err_and}
@@ -35,16 +35,16 @@ use Rattle.command.specs.inside.Reading.{Leaves, failed}
 use Rattle.command.specs.inside.Seen.{Does, IfTold, Seen}
 use Rattle.command.specs.inside.Told.{CountsList, HasRoom, IsOther, IsSummed, MayStop, RunsTold, SumsUp, TellsList}
 use Rattle.command.specs.inside.Told.{TellsLists}
-use Rattle.command.specs.inside.Troubles.{Counted, Failures, MayRefuse, Trouble, counts, failed_reads, failures_from}
+use Rattle.command.specs.inside.Troubles.{Counted, MayRefuse, Trouble, counts, failed_reads, failures_from}
 use Rattle.command.specs.inside.Troubles.{cannot_read, no_failures, other_line, plus, refusal, shown, too_long}
 use Rattle.command.specs.inside.Troubles.{trouble_of}
 use Rattle.command.specs.declared.fault.Fault.{Fault}
-use Rattle.command.specs.declared.fault.Fault.TheVariants as code
 use Rattle.command.proofs.Going.{follows, raised, raised_none, raised_twice, told_where}
 use Rattle.command.proofs.Listing.{long_list, plus-none, refuse-few}
 use Rattle.command.proofs.Reading.{told_always, told_then}
 use Rattle.command.proofs.Refused.{Counted-after, Counted-none, Counted-quiet, Does-printed, Does-refused}
-use Rattle.command.proofs.Refused.{Counted-as, Counted-refusal, counts-replicate, pair, refused_by, same_reads, unread_by}
+use Rattle.command.proofs.Refused.{Counted-as, Counted-refusal, counts-replicate, pair, refused_by, same_reads}
+use Rattle.command.proofs.Refused.{unread_by}
 use Rattle.command.proofs.Reporting.{status_light}
 use Rattle.command.proofs.VerifiedNames.{unopened}
 
@@ -133,12 +133,12 @@ lines_few title os = let most = lines_some title 1 os (summary_of []) in omega (
 
 module _ (m : Meaning) (title : Option Text) (name report : Bor Text) (bytes left : List ℕ) (n next : ℕ)
     (rest : Option (List ℕ)) (i j x y : ℕ) where
-  sums : (answer : Result Summary TellFault) → ListBeside m title bytes left n next rest answer
+  sums_up : (answer : Result Summary TellFault) → ListBeside m title bytes left n next rest answer
       → CountsOnly tell.ListRead answer i j → CountsOnly tell.ReportRead answer x y
       → (answer ≡ Err tell.ListTooLong → 2 ^ 64 - 1 < length bytes)
       → SumsUp m title report.now left n rest next name.now (Some bytes) (of_tell answer name report next) x y
       (λ failed. j ≡ count_after i failed)
-  sums (Ok s) (os, before, after, cut, possible, behind, split, count, none, same, rest_is) reads more long = (
+  sums_up (Ok s) (os, before, after, cut, possible, behind, split, count, (none, same, rest_is)) reads more long = (
     record {
       outcomes = os;
       possible = rw (cut ∙ ap (λ a. before ++ a) none ∙ append-nil before) possible;
@@ -151,19 +151,19 @@ module _ (m : Meaning) (title : Option Text) (name report : Bor Text) (bytes lef
     omega (arith, reads.1 (λ e. cc)),
     more.1 (λ e. cc),
   )
-  sums (Err tell.ListRead) beside reads more long = inl (inr (inl refl), reads.0 refl, more.1 (λ e. cc))
-  sums (Err tell.ListTooLong) beside reads more long =
+  sums_up (Err tell.ListRead) beside reads more long = inl (inr (inl refl), reads.0 refl, more.1 (λ e. cc))
+  sums_up (Err tell.ListTooLong) beside reads more long =
       inl (inr (inr (refl, long refl)), omega (arith, reads.1 (λ e. cc)), more.1 (λ e. cc))
-  sums (Err tell.ReportRead) beside reads more long =
+  sums_up (Err tell.ReportRead) beside reads more long =
       inr (inl (inr (inl refl), omega (arith, reads.1 (λ e. cc)), more.0 refl))
-  sums (Err tell.ReportTooLong) (os, before, after, cut, possible, behind, split, count, many) reads more long =
+  sums_up (Err tell.ReportTooLong) (os, before, after, cut, possible, behind, split, count, many) reads more long =
       inr (inl (
         inr (inr (refl, λ whole room. omega (arith, room, many))),
         omega (arith, reads.1 (λ e. cc)),
         omega (arith, more.1 (λ e. cc)),
       ))
-  sums (Err tell.OtherLine) (os, before, after, cut, possible, behind, split, count, line, others, is, other) reads more
-      long = inr (inr (
+  sums_up (Err tell.OtherLine) (os, before, after, cut, possible, behind, split, count, (line, others, is, other)) reads
+      more long = inr (inr (
         record {
           outcomes = os;
           before = before;
@@ -179,7 +179,7 @@ module _ (m : Meaning) (title : Option Text) (name report : Bor Text) (bytes lef
         omega (arith, reads.1 (λ e. cc)),
         more.1 (λ e. cc),
       ))
-  sums (Err tell.OutOfMemory) beside reads more long =
+  sums_up (Err tell.OutOfMemory) beside reads more long =
       inl (inl refl, omega (arith, reads.1 (λ e. cc)), more.1 (λ e. cc))
 
 pub feed_sums : (m : Meaning) (title : Option Text) (name report : Bor Text) (coming now left : Option (List ℕ))
@@ -193,7 +193,7 @@ pub feed_sums : (m : Meaning) (title : Option Text) (name report : Bor Text) (co
 feed_sums m title name report None now left n next rest i j x y answer beside reads more gave = tt
 feed_sums m title name report (Some bytes) now None n next rest i j x y answer beside reads more gave = tt
 feed_sums m title name report (Some bytes) now (Some text) n next rest i j x y answer beside reads more gave =
-    sums m title name report bytes text n next rest i j x y answer beside reads more
+    sums_up m title name report bytes text n next rest i j x y answer beside reads more
     (λ is. long_list bytes gave.0 now gave.1 (gave.2 is))
 
 pub feed_left : (old new : Option (List ℕ)) (answer : Result Summary TellFault) (name report : Bor Text) (n : ℕ)
@@ -246,8 +246,8 @@ module _ (m : Meaning) (title : Option Text) (report : Text) (left : Option Text
   named_input None tree i j u v is fed same = tt
   named_input (Some bytes) None i j u v is fed same = tt
   named_input (Some bytes) (Some files) i j u v is fed same = rw is (IfSome_then left fed (λ text sums.
-      sums_as m title report text n rest next name (Some bytes) x y _ _
-      (λ k counted. (counted, omega (arith, same))) r sums))
+      sums_as m title report text n rest next name (Some bytes) x y (λ k. j ≡ count_after i k)
+      (λ k. Counted (failures_from true k) i j u v) (λ k counted. (counted, omega (arith, same))) r sums))
 
   -- it is a file that was opened, and closed
   pub named_file : {F : Type 0} (remaining : F → Option (List ℕ)) (feed : F) (first : Option (List ℕ))
@@ -260,7 +260,8 @@ module _ (m : Meaning) (title : Option Text) (report : Text) (left : Option Text
   named_file remaining feed (Some input) (Some files) h i j u v w is opened counted fed fresh closed =
       let sums : Sums (Some opened.0) (λ failed. j ≡ count_after i failed) = rw opened.2 at fed in
       rw (is, opened.1) (IfSome_then left sums (λ text sums.
-      sums_as m title report text n rest next name (Some opened.0) x y _ _
+      sums_as m title report text n rest next name (Some opened.0) x y (λ k. j ≡ count_after i k)
+      (λ k. Counted (failures_from false k) h h u w)
       (λ k read. (omega arith, omega (arith, counted, read, fresh, closed))) r sums))
 
   -- it is a file that did not open
@@ -350,7 +351,8 @@ module _ (is_summed : Bool) (m : Meaning) (are_named : Bool) (report : Text) whe
             → TellsAll err_old err_mid (notes_of is_summed m (title name) name t)
             → c.bytes ≡ Some (if is_input name then [] else bytes) → c.files ≡ Some files
             → files report ≡ Some whole → HasRoom whole text n
-            → RunsTold is_summed m are_named files report n text (name ∷ names) bytes (raised s r) b d err_old err_new x z
+            → RunsTold is_summed m are_named files report n text (name ∷ names) bytes (raised s r) b d err_old err_new
+            x z
         one t text bytes files whole bs content it counted same status tells now_bytes now_files is room =
             let few = lines_few (title name) it.outcomes in
             let split = it.split in
@@ -410,7 +412,8 @@ module _ (is_summed : Bool) (m : Meaning) (are_named : Bool) (report : Text) whe
             (λ f. ((let e : Result ℕ Fault = Ok s in e) ≡ Err f) × (err_mid ≡ err_old))
             → (let one : Result ℕ Fault = Ok s in Leaves (is_input name) one (Some bytes) c.bytes)
             → c.files ≡ Some files → files report ≡ Some whole → HasRoom whole text n
-            → RunsTold is_summed m are_named files report n text (name ∷ names) bytes (raised s r) b d err_old err_new x z
+            → RunsTold is_summed m are_named files report n text (name ∷ names) bytes (raised s r) b d err_old err_new
+            x z
         on (Err f) text bytes files whole sums how gave now_files is room = absurd (let no = how.0 in cc)
         on (Ok t) text bytes files whole (summed, counted, same) how gave now_files is room =
             let found = some_is (content_of name bytes files) summed in
@@ -427,6 +430,34 @@ module _ (is_summed : Bool) (m : Meaning) (are_named : Bool) (report : Text) whe
         stop : (t : Trouble) (failures : List Bool) → trouble_of f ≡ t
             → (let e : Result ℕ Fault = Err f in Does (record (stops (shown t)) { failures = failures }) e b.out c.out)
         stop t failures is = Does-refused t failures f (Err f) b.out c.out refl is out
+
+        nothing : (b : Bool) → counts [] ≡ plus (failures_from b 0) (failures_from false 0)
+        nothing true = refl
+        nothing false = refl
+
+        beyond : (text : Text) (bytes : List ℕ) (files : Files) (bs : List ℕ) (t : Trouble)
+            → content_of name bytes files ≡ Some bs → IsOther m (title name) report bs text n t → trouble_of f ≡ t
+            → err_mid ≡ err_old → CountsList name b c 0 → y ≡ x
+            → RunsTold is_summed m are_named files report n text (name ∷ names) bytes (Err f) b c err_old err_mid x y
+        beyond text bytes files bs t content it is quiet counted same =
+            let line = n + (length it.outcomes - (summary_of it.outcomes).skipped) in (
+              ends_at report line,
+              inr (inr (rw content (
+                it.outcomes,
+                it.before,
+                it.line ∷ it.others,
+                it.cut,
+                it.possible,
+                (it.behind, it.split, inr (it.line, it.others, refl, refl, it.other)),
+              ))),
+              stop (other_line report line) [] (is ∙ it.is),
+              quiet,
+              failures_from (is_input name) 0,
+              0,
+              nothing (is_input name),
+              counted,
+              omega (arith, same),
+            )
 
         on : (answer : Result Summary Fault) (text : Text) (bytes : List ℕ) (files : Files) (whole : List ℕ)
             → SumsUp m (title name) report text n rest next name (content_of name bytes files) answer x y
@@ -473,29 +504,8 @@ module _ (is_summed : Bool) (m : Meaning) (are_named : Bool) (report : Text) whe
             let same_fault = how.0 in
             let fault : g ≡ f = cc in
             let found = some_is (content_of name bytes files) other in
-            let it = found.2 in
-            let line = n + (length it.outcomes - (summary_of it.outcomes).skipped) in (
-              ends_at report line,
-              inr (inr (rw found.1 (
-                it.outcomes,
-                it.before,
-                it.line ∷ it.others,
-                it.cut,
-                it.possible,
-                (it.behind, it.split, inr (it.line, it.others, refl, refl, it.other)),
-              ))),
-              stop (other_line report line) [] (ap trouble_of (sym fault) ∙ it.is),
-              how.1,
-              failures_from (is_input name) 0,
-              0,
-              nothing (is_input name),
-              counted,
-              omega (arith, same),
-            )
-          where
-            nothing : (b : Bool) → counts [] ≡ plus (failures_from b 0) (failures_from false 0)
-            nothing true = refl
-            nothing false = refl
+            beyond text bytes files found.0 (trouble_of g) found.1 found.2 (ap trouble_of (sym fault)) how.1 counted
+            same
 
   -- ---- after the last list
 
@@ -521,6 +531,9 @@ module _ (is_summed : Bool) (m : Meaning) (are_named : Bool) (report : Text) whe
     tells-beyond f how counted = told_always b (λ bytes files. IfSome_then left how (λ text one whole is room.
         on text bytes files whole is one))
       where
+        some : (k : ℕ) → 0 < k → (k == 0) ≡ false
+        some k more = grind (arith, nat_tests)
+
         on : (text : Text) (bytes : List ℕ) (files : Files) (whole : Text) → files report ≡ Some whole
             → (trouble_of f ≡ cannot_read report) ⊎ ((0 < length text) × (trouble_of f ≡ other_line report n))
             → RunsTold is_summed m are_named files report n text [] bytes (Err f) b b err err x y
@@ -546,9 +559,6 @@ module _ (is_summed : Bool) (m : Meaning) (are_named : Bool) (report : Text) whe
           Counted-none b.input_failures _ b.file_failures _ refl (omega arith),
           rw t at counted,
         )
-
-        some : (k : ℕ) → 0 < k → (k == 0) ≡ false
-        some k more = grind (arith, nat_tests)
 
   -- ---- the loop
 
@@ -576,8 +586,8 @@ module _ (is_summed : Bool) (m : Meaning) (are_named : Bool) (report : Text) whe
       goes-next s after most list gave kept r d err_new w q =
           subst (λ t. TellsLists is_summed m are_named report whole k all t a d err_old err_new x w)
           (raised_twice status s after r most)
-          (goes (raised s r) d err_new w (rw is (tells-more name more left rest n next b c err_mid err_next y z out s r d
-          err_new w list gave kept q)))
+          (goes (raised s r) d err_new w (rw is (tells-more name more left rest n next b c err_mid err_next y z out s r
+          d err_new w list gave kept q)))
 
       pub goes-stop : (f : Fault) (answer : Result ℕ Fault) → IsErrAnd answer (λ g. g ≡ f)
           → Listed name names left rest n next b c err_mid err_next y z out (Err f)
@@ -642,6 +652,21 @@ module _ (is_summed : Bool) (m : Meaning) (report : Text) (names : List Text) (r
   report_read remaining feed tree left b d x y u v opened kept counted is fresh lists closed =
       on b.bytes tree opened counted (rw kept at lists)
     where
+      one : (bytes : List ℕ) (files : Files) (whole : Text) → files report ≡ Some whole
+          → b.file_failures ≡ count_after u 0
+          → RunsTold is_summed m (nat_lt 1 (length names)) files report 1 whole names bytes r b d err_old err_new x y
+          → Reported (Some bytes) (Some files) b.out d.out b.input_failures d.input_failures u v
+      one bytes files whole is counted ran =
+          let none = ran.7 in
+          let more = ran.8 in (
+            ran.0,
+            inr (rw is ran.1),
+            ran.2,
+            ran.3,
+            Counted-as _ _ _ _ _ _ ran.6
+                (omega (arith, none.0), omega (arith, counted, none.1, more, fresh, closed)),
+          )
+
       on : (first : Option (List ℕ)) (tree : Option Files)
           → IfSome tree (λ files. (whole : List ℕ) × (files report ≡ Some whole) × (remaining feed ≡ Some whole))
           → IfSome tree (λ files. b.file_failures ≡ count_after u 0)
@@ -652,13 +677,4 @@ module _ (is_summed : Bool) (m : Meaning) (report : Text) (names : List Text) (r
       on None tree opened counted lists = tt
       on (Some bytes) None opened counted lists = tt
       on (Some bytes) (Some files) opened counted lists =
-          let one = (rw (is ∙ opened.2) at lists) opened.0 opened.1 (omega arith) in
-          let none = one.7 in
-          let more = one.8 in (
-            one.0,
-            inr (rw opened.1 one.1),
-            one.2,
-            one.3,
-            Counted-as _ _ _ _ _ _ one.6
-                (omega (arith, none.0), omega (arith, counted, none.1, more, fresh, closed)),
-          )
+          one bytes files opened.0 opened.1 counted ((rw (is ∙ opened.2) at lists) opened.0 opened.1 (omega arith))

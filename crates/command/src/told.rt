@@ -111,8 +111,9 @@ impl<'i, 't, 'o, L: Feed, T: Tree, W: Sink> Session<'i, 't, 'o, L, T, W> {
         lists: &[&'n str],
         err: &mut E,
     ) -> Result<u8, Fault<'n>>
-        ensures run { TellsLists is_summed (meaning told.old.entries.now) (nat_lt 1 (length (map (λ n. n.now) lists.entry.now)))
-            told.old.name.now (left F.remaining told.old.report) told.old.next (map (λ n. n.now) lists.entry.now) result
+        ensures run { TellsLists is_summed (meaning told.old.entries.now)
+            (nat_lt 1 (length (map (λ n. n.now) lists.entry.now))) told.old.name.now
+            (left F.remaining told.old.report) told.old.next (map (λ n. n.now) lists.entry.now) result
             (⟦<Self as Streams>⟧.seen self.old) (⟦<Self as Streams>⟧.seen self.new)
             (E.shown err.old) (E.shown err.new)
             (F.failure_count told.old.report.feed.now) (F.failure_count told.new.report.feed.now) }

@@ -1,5 +1,5 @@
 -- What the reading of lists beside their report came to, by the answers of functions.
-use Rattle.std.specs.Prelude.{◌⊎◌, ◌≡◌, ◌≤◌, ◌<◌, ℕ, ◌+◌, ◌-◌, ◌^◌, Bool, true, false, List, [], ◌∷◌, ◌++◌, Option, Some}
+use Rattle.std.specs.Prelude.{◌⊎◌, ◌≡◌, ◌≤◌, ◌<◌, ℕ, ◌+◌, ◌-◌, ◌^◌, Bool, false, List, [], ◌∷◌, ◌++◌, Option, Some}
 use Rattle.std.specs.Prelude.{IfSome, IsSomeAnd, MatchResult, Result, Ok, Err, if◌then◌else◌, length}
 use Rattle.std.specs.List.{AllZip}
 use Rattle.request.specs.CommandLine.{Text}

@@ -29,3 +29,6 @@ returns-in_ok-keyed-in-Tags-clause-run g c =
     (keyed_line c.in_ok-keyed-in-Tags.keyed.keyed) _ _ _ _ _ _ _ _ _ _ refl c.short_keyed.ensures.files refl refl
     c.in_ok-keyed-in-Tags.ensures.keyed c.in_ok-keyed-in-Tags.ensures.counted
     (rw c.tag_len-length.ensures at c.tell_lists-in-Tags.ensures.run))
+
+pub returns-in-Digests-clause-run : goal.returns-in-Digests-clause-run
+returns-in-Digests-clause-run g c = rw c.in-Digests.is c.tell_lists.ensures.run

@@ -29,8 +29,12 @@ loop-name-preserved g c =
     let i = c.loop-name.invariant in
     let own = c.tell_one.ensures.kept in
     let most = c.max-status.ensures in
-    let list = rw (c.title_of-title.ensures, sym (length-map c.args.lists.now (λ n. n.now)), i.kept.entries, i.kept.name)
-    at c.in_ok-tell_one.ensures.list in
+    let list = rw (
+      c.title_of-title.ensures,
+      sym (length-map c.args.lists.now (λ n. n.now)),
+      i.kept.entries,
+      i.kept.name,
+    ) at c.in_ok-tell_one.ensures.list in
     record {
       same = Same-trans _ _ _ i.same c.tell_one.ensures.same;
       kept = record {
@@ -54,8 +58,12 @@ returns-in_err-tell_one-clause-run g c =
     let see = seen_of g.L.Feed.remaining g.L.Feed.failure_count g.T.Tree.files g.T.Tree.failure_count
     g.T.Tree.opens g.W.Sink.shown in
     let i = c.loop-name.invariant in
-    let list = rw (c.title_of-title.ensures, sym (length-map c.args.lists.now (λ n. n.now)), i.kept.entries, i.kept.name)
-    at c.in_err-tell_one.ensures.list in
+    let list = rw (
+      c.title_of-title.ensures,
+      sym (length-map c.args.lists.now (λ n. n.now)),
+      i.kept.entries,
+      i.kept.name,
+    ) at c.in_err-tell_one.ensures.list in
     goes-stop c.args.is_summed (meaning c.args.told.now.entries.now)
     (nat_lt 1 (length (map (λ n. n.now) c.args.lists.now))) c.args.told.now.name.now _ _ _ _ _ _ c.loop-name.status
     (see c.args.self.now) (see c.loop-name.self) _ _ _ _ i.goes _ _ _ _ (see c.tell_one.new.self) _ _

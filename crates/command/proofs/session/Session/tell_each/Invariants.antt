@@ -1,4 +1,4 @@
-use Rattle.std.proofs.Common.{◌≡◌, ◌×◌, drop, length, map, take}
+use Rattle.std.proofs.Common.{drop, length, map, take}
 use Rattle.std.specs.Prelude.{nat_lt}
 use Rattle.std.specs.List.{sum_by}
 use Rattle.sumlist.specs.inside.Telling.{left}

@@ -1,5 +1,6 @@
-use Rattle.std.proofs.Common.{map, refl, sym}
+use Rattle.std.proofs.Common.{map, refl, sym, ◌∙◌}
 use Rattle.command.specs.inside.Rules.{meaning}
+use Rattle.command.specs.inside.Seen.{Seen}
 use Rattle.command.specs.inside.Streams.{seen_of}
 use Rattle.command.proofs.ToldLists.{report_none, report_read}
 use Rattle.command.proofs.session.Session.tell_lists.Goals as goal
@@ -14,7 +15,13 @@ pub returns-clause-run : goal.returns-clause-run
 returns-clause-run g c =
     let see = seen_of g.L.Feed.remaining g.L.Feed.failure_count g.T.Tree.files g.T.Tree.failure_count
     g.T.Tree.opens g.W.Sink.shown in
+    let before : Seen = record (see c.args.self.now) {
+      files = g.T.Tree.files c.open_file.new.tree;
+      file_failures = g.T.Tree.failure_count c.open_file.new.tree;
+      opens = g.T.Tree.opens c.open_file.new.tree;
+    } in
     report_read c.args.is_summed (meaning c.args.entries.now) c.args.report.now (map (λ n. n.now) c.args.lists.now) _
-    _ _ g.T.F.Feed.remaining c.in_ok-feed.feed _ _ (see c.tell_each-answer.old.self) (see c.tell_each-answer.new.self)
+    _ _ g.T.F.Feed.remaining c.in_ok-feed.feed _ _ before (see c.tell_each-answer.new.self)
     _ _ _ _ c.in_ok-feed.ensures.opened c.open_file.ensures.kept c.in_ok-feed.ensures.counted
-    c.new.ensures.left c.in_ok-feed.ensures.fresh c.tell_each-answer.ensures.run c.close.ensures.counted
+    c.new.ensures.left (c.new.ensures.counted ∙ c.in_ok-feed.ensures.fresh) c.tell_each-answer.ensures.run
+    (rw (c.feed-3-1.given.1 (sym (c.tell_each-answer.ensures.same.1 ∙ c.new.ensures.same))) at c.close.ensures.counted)
