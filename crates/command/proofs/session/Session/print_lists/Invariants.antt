@@ -18,7 +18,7 @@ invariant-loop-name g l =
           (see l.self);
       goes : Goes is_input (list_runs l.is_summed (meaning l.fn.entries) are_named)
           (list_whole l.is_summed (meaning l.fn.entries) are_named)
-          (map (λ n. n.now) l.lists) l.share (map (λ n. n.now) (drop l.name-index l.lists)) l.left l.status
+          (map (λ n. n.now) l.lists) l.fn.share (map (λ n. n.now) (drop l.name-index l.lists)) l.left l.status
           (see l.initial.self)
           (see l.self) (g.E.Sink.shown l.initial.err) (g.E.Sink.shown l.err);
     }
