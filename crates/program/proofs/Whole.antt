@@ -149,15 +149,16 @@ check_opens (Some bytes) None (Digests kind) is_summed share lists x y most = tt
 check_opens (Some bytes) (Some files) (Digests kind) is_summed share lists x y most = omega (arith, most)
 check_opens first tree (Tags short key) is_summed share lists x y most = most
 
--- lists that are told of, and their report, are opened once
+-- lists that are read beside their report are opened once, and so is the report
 pub told_opens : (first : Option (List ℕ)) (tree : Option Files) (entries : Entries) (is_summed : Bool)
-    (report : Text) (lists : List Text) (x y : ℕ)
-    → IfSome first (λ bytes. IfSome tree (λ files. y ≤ x + (entries_opens entries + (1 + sum_by opens_of lists))))
+    (report : Text) (lists : List Text) (x y : ℕ) → y ≤ x + (entries_opens entries + (1 + sum_by opens_of lists))
     → Opens first tree (entries_shown entries is_summed (in_file report) lists) x y
-told_opens None tree (Digests kind) is_summed report lists x y most = tt
-told_opens (Some bytes) None (Digests kind) is_summed report lists x y most = tt
-told_opens (Some bytes) (Some files) (Digests kind) is_summed report lists x y most = omega (arith, most)
-told_opens first tree (Tags short key) is_summed report lists x y most = most
+told_opens first tree (Digests kind) is_summed report lists x y most =
+    opens_always first tree (entries_shown (Digests kind) is_summed (in_file report) lists) x y
+    (λ bytes files. omega (arith, most))
+told_opens first tree (Tags short key) is_summed report lists x y most =
+    opens_always first tree (entries_shown (Tags short key) is_summed (in_file report) lists) x y
+    (λ bytes files. most)
 
 -- the run of a task is that of the request that asks for it
 requested : (r : Given) (task : Asked) (files : Files) (bytes : List ℕ) (run : Run) → asked r ≡ Ok task
