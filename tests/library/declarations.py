@@ -155,9 +155,10 @@ def compare_refusals(header, path):
     wanted = {number: name for number, (name, _) in header.items() if name != "NotBegun"}
     same("refusals in Rust", {int(number): name for number, name in found}, wanted)
     texts = {number: str(sums_hash.Refused(number)) for number in header}
-    # the header's text of a state says more
-    wanted = {number: text[: len(texts.get(number, text))] for number, (_, text) in header.items()}
-    same("refusals in Python", texts, wanted)
+    # one of the two may say more: the header's of a state, and Python's of a name
+    lengths = {number: min(len(text), len(texts[number])) for number, (_, text) in header.items()}
+    wanted = {number: text[: lengths[number]] for number, (_, text) in header.items()}
+    same("refusals in Python", {number: text[: lengths[number]] for number, text in texts.items()}, wanted)
 
 
 def sizes_in_header(path):

@@ -5,6 +5,7 @@ usage: tests/library/library_python.py [TOLD]    with sums_hash on the path; TOL
 
 import hashlib
 import hmac
+import itertools
 import os
 import random
 import sys
@@ -163,7 +164,11 @@ def main():
     refusals()
     for path in harness.arguments(0):
         with open(path) as file:
-            same("the module of Rust", file.read().splitlines(), told_by_rust())
+            told, wanted = file.read().splitlines(), told_by_rust()
+            # after the text of a refusal come the lengths that there are
+            told = [text if line.startswith(f"{text}: ") and text.startswith("refused ") else line
+                    for line, text in itertools.zip_longest(told, wanted, fillvalue="")]
+            same("the module of Rust", told, wanted)
     harness.finish()
 
 
