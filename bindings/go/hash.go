@@ -25,7 +25,7 @@ var (
 	ErrInputTooLong = errors.New("sums: the message is longer than the function takes")
 	ErrNotBegun     = errors.New("sums: the message was never begun: NewSHA256 and its like begin one")
 	ErrEndOfOutput  = errors.New("sums: the output has no such bytes: " + outputEnds)
-	ErrPieceLength  = errors.New("sums: a piece must have at least 1 byte")
+	ErrPieceLength  = errors.New("sums: the function takes no pieces of that length: a piece has 1 byte or more")
 	ErrNoAlgorithm  = errors.New("sums: no hash has that number")
 	ErrNoLine       = errors.New("sums: no line has that name: it is empty, not UTF-8, holds NUL, or is too long")
 	ErrNoVerdict    = errors.New("sums: no verdict has that number")

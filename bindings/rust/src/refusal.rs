@@ -46,7 +46,10 @@ impl fmt::Display for Refusal {
                 "the output has no such bytes: that of HKDF ends after 255 digests, that of BLAKE3 after 2^64 - 1 \
                  bytes"
             ),
-            Refusal::PieceLength => write!(f, "a piece must have at least 1 byte"),
+            Refusal::PieceLength => write!(
+                f,
+                "the function takes no pieces of that length: a piece has 1 byte or more"
+            ),
             Refusal::OutputLength => write!(
                 f,
                 "the output is not as long as the digests of all pieces, or as the line"
