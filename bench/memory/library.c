@@ -74,8 +74,10 @@ static const struct function {
 };
 
 #define MIB 1048576
+// with lengths that end within a chunk of BLAKE3, whose last chunk is hashed by itself
 static const struct row rows[] = {
-    {64}, {128}, {256}, {448}, {512}, {1024}, {2048}, {4096}, {8192}, {12288}, {16384}, {65536}, {MIB},
+    {64},   {128},  {256},  {448},   {512},   {1024},  {1500},  {2048}, {2500},
+    {4096}, {5500}, {8192}, {10000}, {12288}, {16384}, {65536}, {MIB},
 };
 static const size_t lengths[] = {0, 1, 63, 64, 65, 127, 128, 129, 1023, 1024, 1025, 16384, 100000, MIB};
 static const size_t whole[] = {0};
