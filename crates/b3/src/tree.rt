@@ -34,8 +34,8 @@ fn level_of(len: usize) -> Option<u32>
     }
 }
 
-// The node of the chunk of these bytes.
-fn chunk_over(parameters: &Parameters, number: u64, bytes: &[u8]) -> Node
+/// The node of the chunk of these bytes.
+pub(crate) fn chunk_over(parameters: &Parameters, number: u64, bytes: &[u8]) -> Node
     requires { length bytes.now ≤ 1024 }
     ensures { result ≡ tree parameters.now.key parameters.now.flags number bytes.now }
 {
@@ -61,6 +61,22 @@ fn joined_value(parameters: &Parameters, values: &[[u32; 8]]) -> [u32; 8]
     Node::parent(parameters, &left, &right).chaining_value()
 }
 
+// Writes the chaining values of one to eight whole chunks into the first rows: one alone is not worth a vector.
+fn whole_values(parameters: &Parameters, first: u64, bytes: &[u8], values: &mut [[u32; 8]; 8])
+    requires some { 1024 ≤ length bytes.now }
+    requires whole { length bytes.now % 1024 ≡ 0 }
+    requires bound { length bytes.now ≤ 8192 }
+    requires numbers { 1024 * first + length bytes.now ≤ 2 ^ 64 - 1 }
+    ensures { (i : ℕ) → i < length bytes.now / 1024
+        → slice_index_or values.new i [] ≡ run_cv parameters.now.key parameters.now.flags first bytes.now 0 i }
+{
+    if bytes.len() == CHUNK_LEN {
+        values[0] = chunk_over(parameters, first, bytes).chaining_value();
+    } else {
+        chunk_values(parameters, first, bytes, values, &mut [[0; 8]; 8]);
+    }
+}
+
 // The chaining values of two to eight chunks, the first of which has the number `first`.
 fn group_values(parameters: &Parameters, first: u64, bytes: &[u8]) -> [[u32; 8]; 8]
     requires some { 1024 < length bytes.now }
@@ -69,12 +85,12 @@ fn group_values(parameters: &Parameters, first: u64, bytes: &[u8]) -> [[u32; 8];
     ensures { (i : ℕ) → i < chunk_count bytes.now
         → slice_index_or result i [] ≡ run_cv parameters.now.key parameters.now.flags first bytes.now 0 i }
 {
+    let last = bytes.len() / CHUNK_LEN;
     let mut values = [[0; 8]; 8];
-    chunk_values(parameters, first, bytes, &mut values, &mut [[0; 8]; 8]);
+    whole_values(parameters, first, &bytes[..CHUNK_LEN * last], &mut values);
     if bytes.len() % CHUNK_LEN == 0 {
         return values;
     }
-    let last = (bytes.len() - 1) / CHUNK_LEN;
     let rest = chunk_over(parameters, first + last as u64, &bytes[CHUNK_LEN * last..]);
     values[last] = rest.chaining_value();
     values
