@@ -3,7 +3,11 @@
 ghost use Rattle.std.specs.Prelude.{◌≡◌, ◌≤◌, ◌↔◌, IsTrue};
 ghost use Rattle.source.specs.Digest.{IsInRange, digest_len};
 
-use mac::{BlockHash, Sha256Stream, Sha512Stream, hash_laws};
+// The length in bytes of the digests of SHA-256 (FIPS 180-4, section 6.2).
+const SHA256_LEN: usize = 32;
+
+// The length in bytes of the digests of SHA-512 (FIPS 180-4, section 6.4).
+const SHA512_LEN: usize = 64;
 
 /// The length in bytes of the longest digests of BLAKE2b (RFC 7693, section 2.1).
 pub const BLAKE2B_LEN: usize = 64;
@@ -35,10 +39,9 @@ impl Alg {
         ensures value { result ≡ digest_len self }
         ensures bound { IsInRange self → result ≤ 64 }
     {
-        hash_laws();
         match self {
-            Alg::Sha256 => Sha256Stream::OUT,
-            Alg::Sha512 => Sha512Stream::OUT,
+            Alg::Sha256 => SHA256_LEN,
+            Alg::Sha512 => SHA512_LEN,
             Alg::Blake2b(length) | Alg::Blake2s(length) => length,
             Alg::Blake3 => BLAKE3_LEN,
         }

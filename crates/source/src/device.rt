@@ -1,6 +1,6 @@
 // A reader or a writer of std as a feed or a sink.
 
-ghost use Rattle.std.specs.Prelude.{◌≡◌, Err, None, Ok, length, IfOk, MatchResult, OnOk};
+ghost use Rattle.std.specs.Prelude.{◌≡◌, None, length, IfOk, OnOk};
 ghost use Rattle.std.specs.Io.KnownBytes.{Appends, ReadConsumes};
 ghost use Rattle.source.specs.Counts.{CountsFailure};
 ghost use Rattle.source.specs.Read.{IsRead};
@@ -8,7 +8,6 @@ ghost use Rattle.source.specs.Written.{IsWrite};
 ghost use Rattle.source.specs.inside.Device.{device_failures, device_inner};
 
 use crate::{Feed, ReadFailed, Sink, WriteFailed};
-use std::io;
 use std::io::{Read, Write};
 
 /// A reader or a writer, such as a file or a standard stream. It shows neither what is still to come nor what
@@ -35,21 +34,6 @@ impl<R> Device<R> {
     {
         self.inner
     }
-
-    // Passes on what the reader or writer returned, and counts a fault, of any kind, as this failure.
-    fn counted<T, E: Drop>(&mut self, answer: io::Result<T>, failure: E) -> Result<T, E>
-        ensures answer { MatchResult answer (λ given. result ≡ Ok given) (λ _. result ≡ Err failure) }
-        ensures counted { CountsFailure answer (device_failures self.old) (device_failures self.new) }
-        ensures kept { device_inner self.new ≡ device_inner self.old }
-    {
-        match answer {
-            Ok(given) => Ok(given),
-            Err(_) => {
-                self.failures = self.failures.saturating_add(1);
-                Err(failure)
-            }
-        }
-    }
 }
 
 impl<R: Read> Feed for Device<R> {
@@ -66,8 +50,13 @@ impl<R: Read> Feed for Device<R> {
             (R.remaining (device_inner self.new)) result buf.new }
         ensures counted { CountsFailure result (device_failures self.old) (device_failures self.new) }
     {
-        let answer = self.inner.read(buf);
-        self.counted(answer, ReadFailed)
+        match self.inner.read(buf) {
+            Ok(count) => Ok(count),
+            Err(_) => {
+                self.failures = self.failures.saturating_add(1);
+                Err(ReadFailed)
+            }
+        }
     }
 
     fn failures(&self) -> u64
@@ -96,9 +85,13 @@ impl<W: Write> Sink for Device<W> {
             (W.contents (device_inner self.new)) bytes.now) }
         ensures counted { CountsFailure result (device_failures self.old) (device_failures self.new) }
     {
-        let answer = self.inner.write_all(bytes);
-        self.counted(answer, WriteFailed)?;
-        Ok(bytes.len())
+        match self.inner.write_all(bytes) {
+            Ok(()) => Ok(bytes.len()),
+            Err(_) => {
+                self.failures = self.failures.saturating_add(1);
+                Err(WriteFailed)
+            }
+        }
     }
 }
 

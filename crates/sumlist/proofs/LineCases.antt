@@ -43,10 +43,7 @@ module _ (line : List ℕ) (kind : Option Kind) where
   spells_one d e p q =
       same_Some d e (sym (stated-is kind (core line) d p.form) ∙ stated-is kind (core line) e q.form)
 
-  module _ (k : List ℕ) (is : k ≡ core line) (more : IsBlank k → false ≡ true) where
-    unskipped : IsSkipped line → ⊥
-    unskipped s = false≢true (more (subst IsBlank (sym is) s.1))
-
+  module _ (k : List ℕ) (is : k ≡ core line) (unskipped : IsSkipped line → ⊥) where
     -- a line whose core states an entry spells it
     pub spells_if : IsLine line → (e : Listing) → IsStated kind k e → Spells line kind e
     spells_if l e s =
@@ -74,7 +71,7 @@ module _ (line : List ℕ) (kind : Option Kind) where
     | inr bad ↦ inr (inr (λ s. bad s.0, λ e p. bad p.is_line))
     | inl l ↦ elim (blank_cases (core line)) [
       | inl blank ↦ inl (l, blank)
-      | inr more ↦ stated_or_not (core line) refl (λ b. absurd (more b)) l (stated kind (core line)) refl
+      | inr more ↦ stated_or_not (core line) refl (λ s. more s.1) l (stated kind (core line)) refl
     ]
   ]
 
@@ -130,11 +127,8 @@ untagged_cases line kind m = elim (line_cases line (Some Blake2b)) [
 -- the core of a malformed line states an entry of BLAKE2b where the line is untagged, and only there
 module _ (line : List ℕ) (kind : Option Kind) (k : List ℕ) (is : k ≡ core line) (l : IsLine line)
     (m : IsMalformed line kind) where
-  more : IsBlank k → false ≡ true
-  more blank = absurd (m.0 (l, subst IsBlank is blank))
-
   pub stated_any : (e : Listing) → IsStated (Some Blake2b) k e → Spells line (Some Blake2b) e
-  stated_any e s = spells_if line (Some Blake2b) k is more l e s
+  stated_any e s = spells_if line (Some Blake2b) k is m.0 l e s
 
   pub untagged_unstated : ((e : Listing) → IsStated (Some Blake2b) k e → ⊥) → IsUntagged line kind → ⊥
-  untagged_unstated none = untagged_none line kind (λ e s. none e (stated_if line (Some Blake2b) k is more e s))
+  untagged_unstated none = untagged_none line kind (λ e s. none e (stated_if line (Some Blake2b) k is m.0 e s))

@@ -84,7 +84,21 @@ module _ (files : Files) (m : Meaning) (line : List ℕ) where
     is = λ os. passed_at behind.others behind.waiting o os (entry_apart o allowed p.0);
   }
 
-  -- what was done of a line that is passed over
+  -- what was done of a line that is skipped
+  pub line-skipped : (name : Option (List ℕ)) (number : ℕ) (share : Share) (count : ℕ) (old : Option (List ℕ))
+      → IsSkipped line
+      → (let r : Result Mark CheckFault = Ok Skipped in
+      LineShared files m name share share line number r count count old old)
+  line-skipped name number share count old is = (
+    skipped,
+    skipped,
+    is,
+    shares-own share share skipped is (inl (is, refl)),
+    omega arith,
+    (refl, Appends-nil old),
+  )
+
+  -- of one that is passed over
   pub line-passed : (name : Option (List ℕ)) (number : ℕ) (share behind : Share) (count : ℕ) (old : Option (List ℕ))
       → Passes line share behind true
       → (let r : Result Mark CheckFault = Ok Skipped in

@@ -28,7 +28,7 @@ use Rattle.sumlist.specs.inside.Telling.{Ended, ListBeside, TellCounts, Tells, o
 -- ---- one line
 
 -- a malformed line with a look has the text of any other
-same_text : (name : Option (List ℕ)) (n : ℕ) (look : Look) → text name n malformed ≡ text name n (foreign look)
+pub same_text : (name : Option (List ℕ)) (n : ℕ) (look : Look) → text name n malformed ≡ text name n (foreign look)
 same_text None n look = refl
 same_text (Some name) n look = refl
 
@@ -128,11 +128,11 @@ counts-other T fault.OutOfMemory old new h = (λ is. let no = is in cc, λ is. l
 pub counted-more : (mark : Mark) (s u : Summary) → IsCounted mark s u → lines_of u ≡ lines_of s + 1
 counted-more mark s u counted = grind arith
 
--- what is kept of a piece, as it was handed out
-pub kept-piece : (piece : Option (Bor (List ℕ))) (kept : Option (List ℕ))
-    → MatchOption piece (kept ≡ None) (λ p. kept ≡ Some p.now) → option_map (λ p. p.now) piece ≡ kept
-kept-piece None kept is = sym is
-kept-piece (Some p) kept is = sym is
+-- what is kept of a line, as it was handed out
+kept-line : (line : Option (Bor (List ℕ))) (kept : Option (List ℕ))
+    → MatchOption line (kept ≡ None) (λ l. kept ≡ Some l.now) → option_map (λ l. l.now) line ≡ kept
+kept-line None kept is = sym is
+kept-line (Some l) kept is = sym is
 
 -- ---- lines so far
 
@@ -324,50 +324,53 @@ module _ (m : Meaning) (name : Option (List ℕ)) where
     told-all end = IfSome_then list t.of (λ bytes h. IfSome_then report h (λ text q.
         ended bytes text q.0 q.2 q.4 end.0 (rw q.1 at end.1) q.3))
 
-    -- a line was read
-    module _ (kept rest' : Option (List ℕ)) (ahead' : List ℕ) (n : ℕ) (count : n ≡ lines_of s + 1)
-        (next : NextTaken kept rest ahead rest' ahead') where
+    -- a line was read, and this was handed out of it
+    module _ (kept rest' : Option (List ℕ)) (ahead' : List ℕ) (n : ℕ) (count : n ≡ lines_of s)
+        (next : NextTaken kept rest ahead rest' ahead') (line : Option (Bor (List ℕ)))
+        (is : MatchOption line (kept ≡ None) (λ l. kept ≡ Some l.now)) where
+      -- what the report says of it
+      abbrev Says : Option (List ℕ) → Result Mark TellFault → Type 0
+      Says end r = (whole : List ℕ) → IsKept (option_map (λ l. l.now) line) whole
+          → NextTold m name whole (n + 1) behind end r
+
       next-line : (left : List ℕ) → rest ≡ Some left → (line : List ℕ) × (more : List ℕ) × IsKept kept line
           × (rest' ≡ Some more) × (lines (ahead ++ left) ≡ line ∷ lines (ahead' ++ more))
       next-line left is = let h = rw is at next in (h.2.0, h.0, h.2.1, h.1, h.2.2)
 
-      said : (r : Result Mark TellFault) (end : Option (List ℕ)) (line more : List ℕ) → behind ≡ Some more
-          → NextTold m name line n behind end r → Tells m name line (lines_of s + 1) more end r
-      said r end line more is says = subst (λ k. Tells m name line k more end r) count
-          (subst (λ x. NextTold m name line n x end r) is says)
+      said : (r : Result Mark TellFault) (end : Option (List ℕ)) (whole more : List ℕ) → behind ≡ Some more
+          → IsKept kept whole → Says end r → Tells m name whole (lines_of s + 1) more end r
+      said r end whole more still of says = subst (λ k. Tells m name whole (k + 1) more end r) count
+          (subst (λ x. NextTold m name whole (n + 1) x end r) still
+          (says whole (subst (λ k. IsKept k whole) (sym (kept-line line kept is)) of)))
 
-      pub told-fault : (f : TellFault) (end : Option (List ℕ)) → IsOther f
-          → ((line : List ℕ) → IsKept kept line → NextTold m name line n behind end (Err f))
+      pub told-fault : (f : TellFault) (end : Option (List ℕ)) → IsOther f → Says end (Err f)
           → Listed m name list report i j end (Err f)
       told-fault f end other says = IfSome_then list t.of (λ bytes h. IfSome_then report h (λ text q.
           let l = next-line q.0 q.1 in
           let b = rw l.4 at q.4 in
-          let line = said (Err f) end l.0 q.2 q.3 (says l.0 l.2) in
+          let tells = said (Err f) end l.0 q.2 q.3 l.2 says in
           listed m name bytes text i j _ q.2 s b end (Err f)
-          (fault-ends m name bytes text i j q.2 s l.0 (lines (ahead' ++ l.1)) b end f line other)))
+          (fault-ends m name bytes text i j q.2 s l.0 (lines (ahead' ++ l.1)) b end f tells other)))
 
       -- the lines of the report are more than can be counted
       pub told-too-long : (mark : Mark) (end : Option (List ℕ)) → j < 2 ^ 64 → 2 ^ 64 ≤ j + (1 - part Skipped mark)
-          → ((line : List ℕ) → IsKept kept line → NextTold m name line n behind end (Ok mark))
-          → Listed m name list report i j end (Err fault.ReportTooLong)
+          → Says end (Ok mark) → Listed m name list report i j end (Err fault.ReportTooLong)
       told-too-long mark end few many says = IfSome_then list t.of (λ bytes h. IfSome_then report h (λ text q.
           let l = next-line q.0 q.1 in
           let b = rw l.4 at q.4 in
-          let line = said (Ok mark) end l.0 q.2 q.3 (says l.0 l.2) in
-          let most = size-line m name bytes text i j q.2 s l.0 (lines (ahead' ++ l.1)) b mark end line in
+          let tells = said (Ok mark) end l.0 q.2 q.3 l.2 says in
+          let most = size-line m name bytes text i j q.2 s l.0 (lines (ahead' ++ l.1)) b mark end tells in
           listed m name bytes text i j _ q.2 s b end (Err fault.ReportTooLong)
           (let sum = b.sum in
           omega (arith, few, many, most, b.counted, b.size, ap (λ (u : Summary). u.skipped) sum))))
 
       pub told-line : (mark : Mark) (u : Summary) (end : Option (List ℕ)) (k : ℕ) → k ≡ j + (1 - part Skipped mark)
-          → IsCounted mark s u
-          → ((line : List ℕ) → IsKept kept line → NextTold m name line n behind end (Ok mark))
-          → Telling m name list report i k ahead' rest' end u
+          → IsCounted mark s u → Says end (Ok mark) → Telling m name list report i k ahead' rest' end u
       told-line mark u end k up counted says = rw up record {
         of = IfSome_then list t.of (λ bytes h. IfSome_then report h (λ text q.
             let l = next-line q.0 q.1 in
             let b = rw l.4 at q.4 in
-            let line = said (Ok mark) end l.0 q.2 q.3 (says l.0 l.2) in
-            let more = beside-line m name bytes text i j q.2 s l.0 (lines (ahead' ++ l.1)) b mark end u line counted in
+            let tells = said (Ok mark) end l.0 q.2 q.3 l.2 says in
+            let more = beside-line m name bytes text i j q.2 s l.0 (lines (ahead' ++ l.1)) b mark end u tells counted in
             (l.1, l.3, more.0, more.1, more.2)));
       }

@@ -1,8 +1,8 @@
 -- What writing a tagged line did.
 use Rattle.std.specs.Prelude.{◌≡◌, ◌<◌, ◌≤◌, Result, Ok, Err}
 use Rattle.source.specs.Written.{Done, Failed, Shown}
-use Rattle.sumlist.specs.declared.tagging.TaggedFault.{TaggedFault}
-use Rattle.sumlist.specs.declared.tagging.TaggedFault.TheVariants.{Write, TooLong}
+use Rattle.sumlist.specs.declared.labelled.TaggedFault.{TaggedFault}
+use Rattle.sumlist.specs.declared.labelled.TaggedFault.TheVariants.{Write, TooLong}
 use Rattle.sumlist.specs.Entry.{Listing}
 use Rattle.sumlist.specs.Lines.{line_limit}
 use Rattle.sumlist.specs.Tagged.{tagged, tagged_len}

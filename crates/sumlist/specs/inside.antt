@@ -3,7 +3,7 @@ pub mod Held
 pub mod Taking
 pub mod BufferView
 pub mod ReaderView
-pub mod PieceView
+pub mod LineView
 pub mod Ahead
 pub mod Labels
 pub mod EntryView

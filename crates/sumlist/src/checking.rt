@@ -10,14 +10,14 @@ ghost use Rattle.sumlist.specs.Line.{IsSkipped};
 ghost use Rattle.sumlist.specs.Lines.{IsKept, lines};
 ghost use Rattle.sumlist.specs.inside.Ahead.{Checks, OpensEach};
 ghost use Rattle.sumlist.specs.Report.{maker_of, unkeyed};
-ghost use Rattle.sumlist.specs.inside.Stepped.{IsAllowed, LineChecked, LineShared, Passes, StepCounts, meaning_of};
+ghost use Rattle.sumlist.specs.inside.Stepped.{IsAllowed, LineChecked, LineShared, StepCounts, meaning_of};
 ghost use Rattle.sumlist.specs.inside.Stepped.{stop_of};
 ghost use Rattle.sumlist.specs.Tally.{entries_of};
 ghost use Rattle.sumlist.specs.inside.Marks.{entry_by, lines_of, part, unreadable_by};
 ghost use Rattle.sumlist.specs.declared.checking.CheckFault.TheVariants.{OutOfMemory, Write};
 
 use crate::line::is_skipped;
-use crate::piece_reader::PieceReader;
+use crate::line_reader::LineReader;
 use crate::report::{write_malformed, write_verdict};
 use crate::summary::Mark;
 use crate::verdict::{Verdict, check_entry};
@@ -151,7 +151,7 @@ pub fn check_list<L: Feed, M: MakesTag, T: Tree, W: Sink>(
         entries,
         name,
         share: *share,
-        reader: PieceReader::new(alloc)?,
+        reader: LineReader::new(alloc)?,
         summary: Summary::new(),
         lines: 0,
     };
@@ -168,7 +168,7 @@ struct Checker<'e, 'k, 'n, M> {
     name: Option<&'n str>,
     // which of the entries that are left are checked
     share: Share,
-    reader: PieceReader,
+    reader: LineReader,
     summary: Summary,
     // how many lines were checked
     lines: u64,
@@ -252,20 +252,13 @@ impl<'e, 'k, 'n, M: MakesTag> Checker<'e, 'k, 'n, M> {
             × (self.new.reader ≡ self.old.reader) × (self.new.summary ≡ self.old.summary) }
         ensures writes { StepCounts result (W.shown out.old).failures (W.shown out.new).failures }
     {
-        if self.passes_over() {
+        if !self.has_entry() {
+            return Ok(Mark::Skipped);
+        }
+        if !self.share.takes_next() {
             return Ok(Mark::Skipped);
         }
         self.check(tree, out)
-    }
-
-    // Whether the line that was read last is an entry of another share; from then on the entry after it is the next.
-    fn passes_over(&mut self) -> bool
-        ensures passes { (line : List ℕ) → IsKept self.old.reader.kept line
-            → Passes line self.old.share self.new.share result }
-        ensures kept { (self.new.entries ≡ self.old.entries) × (self.new.name ≡ self.old.name)
-            × (self.new.reader ≡ self.old.reader) × (self.new.summary ≡ self.old.summary) }
-    {
-        self.has_entry() && !self.share.takes_next()
     }
 
     // Whether the line that was read last is not skipped.
@@ -273,7 +266,7 @@ impl<'e, 'k, 'n, M: MakesTag> Checker<'e, 'k, 'n, M> {
         ensures { (line : List ℕ) → IsKept self.now.reader.kept line
             → MatchBool result (IsSkipped line → ⊥) (IsSkipped line) }
     {
-        match self.reader.piece() {
+        match self.reader.line() {
             Some(line) => !is_skipped(line),
             None => true,
         }
@@ -294,7 +287,7 @@ impl<'e, 'k, 'n, M: MakesTag> Checker<'e, 'k, 'n, M> {
         ensures kept { T.files tree.new ≡ T.files tree.old }
         ensures writes { StepCounts result (W.shown out.old).failures (W.shown out.new).failures }
     {
-        let Some(line) = self.reader.piece() else {
+        let Some(line) = self.reader.line() else {
             write_malformed(self.name, self.lines + 1, out)?;
             return Ok(Mark::Malformed);
         };

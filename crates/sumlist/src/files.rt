@@ -1,10 +1,9 @@
 // The files of the system, by name.
 
 ghost use Rattle.std.specs.IoError.{error_kind};
-ghost use Rattle.std.specs.Io.Seek.{MovesTo};
-ghost use Rattle.std.specs.Prelude.{◌≡◌, ◌↔◌, ◌⊎◌, ◌<◌, Err, IsTrue, None, Ok, IfErr, IfOk, IsOk, OnOk};
-ghost use Rattle.sumlist.specs.Opening.{OpenCounts, fault_of};
-ghost use Rattle.sumlist.specs.inside.Moved.{IsMoved, refused_seek};
+ghost use Rattle.std.specs.Prelude.{◌≡◌, ◌↔◌, ◌⊎◌, ◌<◌, Err, IsTrue, None, Ok, IfErr, IfOk};
+ghost use Rattle.sumlist.specs.Opening.{fault_of};
+ghost use Rattle.sumlist.specs.inside.Moved.{IsMoved};
 ghost use Rattle.either.specs.declared.Either.TheVariants.{Left};
 
 use crate::tree::{OpenFault, Tree};
@@ -89,18 +88,6 @@ impl<'r, R: Files> FileTree<'r, R> {
     fn is_lost(&self, name: &str) -> bool {
         self.is_shared && self.rt.metadata(name).ok().filter(gives_once).is_some()
     }
-
-    // Hands on what an open came to, and counts it where it failed.
-    fn counted<F>(&mut self, opened: Result<F, OpenFault>) -> Result<F, OpenFault>
-        ensures answer { result ≡ opened }
-        ensures counted { OpenCounts opened (⟦<FileTree<'r, R> as Tree>⟧.failure_count self.old)
-            (⟦<FileTree<'r, R> as Tree>⟧.failure_count self.new) }
-    {
-        if let Err(OpenFault::Failed) = &opened {
-            self.failures = self.failures.saturating_add(1);
-        }
-        opened
-    }
 }
 
 impl<'r, R: Files> Tree for FileTree<'r, R> {
@@ -113,12 +100,19 @@ impl<'r, R: Files> Tree for FileTree<'r, R> {
     ghost files = { λ _. None };
 
     fn open_at(&mut self, name: &str, position: u64) -> Result<Self::F, OpenFault> {
-        if self.is_taken(name) || self.is_lost(name) {
-            return self.counted(Err(OpenFault::Failed));
+        let opened = if self.is_taken(name) || self.is_lost(name) {
+            Err(OpenFault::Failed)
+        } else {
+            opened_at(File::open(self.rt, name), position)
+        };
+        match opened {
+            Ok(reader) => Ok(Device::new(reader)),
+            Err(OpenFault::Failed) => {
+                self.failures = self.failures.saturating_add(1);
+                Err(OpenFault::Failed)
+            }
+            Err(fault) => Err(fault),
         }
-        let opened = File::open(self.rt, name);
-        let reader = self.counted(opened_at(opened, position))?;
-        Ok(Device::new(reader))
     }
 
     fn close(&mut self, feed: Self::F) {
@@ -146,7 +140,8 @@ fn is_once(is_fifo: bool, is_char_device: bool) -> bool
     is_fifo || is_char_device
 }
 
-// What the system's open came to: the file from a position on, or what its failure means.
+// What the system's open came to: the file from a position on, nothing where no file has the position, or what its
+// failure means. The beginning needs no seek, which a pipe refuses.
 fn opened_at<F: Seek + Drop>(
     opened: io::Result<F>,
     position: u64,
@@ -155,35 +150,15 @@ fn opened_at<F: Seek + Drop>(
     ensures start { IfOk opened (λ file. position ≡ 0 → result ≡ Ok (Left file)) }
     ensures moved { IfOk opened (λ file. 0 < position → IsMoved F.stream_position file position result) }
 {
-    match opened {
-        Ok(mut file) => {
-            let moved = move_to(&mut file, position);
-            handed(file, moved)
-        }
-        Err(error) => Err(OpenFault::of(error.kind())),
-    }
-}
-
-// Moves a file to a position. The beginning needs no seek, which a pipe refuses.
-fn move_to<F: Seek>(file: &mut F, position: u64) -> io::Result<()>
-    ensures start { position ≡ 0 → IsOk result × (file.new ≡ file.old) }
-    ensures moved { 0 < position
-        → MovesTo (F.stream_position file.old) (F.stream_position file.new) position result }
-{
+    let mut file = match opened {
+        Ok(file) => file,
+        Err(error) => return Err(OpenFault::of(error.kind())),
+    };
     if position == 0 {
-        return Ok(());
+        return Ok(Either::Left(file));
     }
-    file.seek(SeekFrom::Start(position))?;
-    Ok(())
-}
-
-// What the system's seek came to: the file, nothing where no file has the position, or a fault.
-fn handed<F: Drop>(file: F, moved: io::Result<()>) -> Result<Either<F, Empty>, OpenFault>
-    ensures file { OnOk moved (result ≡ Ok (Left file)) }
-    ensures refused { IfErr moved (λ error. result ≡ refused_seek (error_kind error)) }
-{
-    match moved {
-        Ok(()) => Ok(Either::Left(file)),
+    match file.seek(SeekFrom::Start(position)) {
+        Ok(_) => Ok(Either::Left(file)),
         Err(error) if error.kind() == ErrorKind::InvalidInput => Ok(Either::Right(io::empty())),
         Err(_) => Err(OpenFault::Failed),
     }

@@ -11,9 +11,9 @@ ghost use Rattle.sumlist.specs.Lines.{line_limit};
 ghost use Rattle.sumlist.specs.Report.{verdict_text as verdict_text_of};
 
 use crate::Verdict;
-use crate::escaping::{escape, escaped_len, lead, lead_len, needs_escape, plain_len};
+use crate::escaping::{escape, escaped_len, lead, plain_len};
 use crate::fitting::{LINE_LIMIT, fits, label_len, tagged_fits};
-use crate::labels::{digits_of, label};
+use crate::labels::label;
 use crate::report::verdict_text;
 use crate::writing::tag_digits;
 use itoa::Buffer;
@@ -31,7 +31,7 @@ pub fn entry_len(alg: Alg, is_tagged: bool, name: &[u8]) -> Option<usize>
     let Ok(name) = str::from_utf8(name) else {
         return None;
     };
-    if !fits(digits_of(alg), name) {
+    if !fits(2 * alg.digest_len(), name) {
         return None;
     }
     if is_tagged && !tagged_fits(alg, name) {
@@ -46,12 +46,12 @@ fn counted(alg: Alg, is_tagged: bool, name: &str) -> usize
     requires small { length name.now ≤ line_limit }
     ensures { result ≡ line_len is_tagged alg name.now }
 {
-    let front = lead_len(needs_escape(name));
+    let (front, digits) = (lead(name).len(), 2 * alg.digest_len());
     let name = escaped_len(name.as_bytes());
     if is_tagged {
-        front + label_len(alg) + 2 + name + 4 + digits_of(alg) + 1
+        front + label_len(alg) + 2 + name + 4 + digits + 1
     } else {
-        front + digits_of(alg) + 2 + name + 1
+        front + digits + 2 + name + 1
     }
 }
 

@@ -2,7 +2,7 @@
 
 ghost use Rattle.std.specs.Prelude.{◌≡◌, ℕ, ◌*◌, ◌+◌, ◌<◌, ◌≤◌, ◌↔◌, ◌++◌, IsTrue, MatchOption, length};
 ghost use Rattle.std.specs.Fmt.{decimal};
-ghost use Rattle.source.specs.Digest.{IsInRange, digest_len};
+ghost use Rattle.source.specs.Digest.{IsInRange};
 ghost use Rattle.sumlist.specs.Kinds.{label_of};
 ghost use Rattle.sumlist.specs.Tagged.{IsLabel};
 ghost use Rattle.sumlist.specs.inside.Labels.{Ended, IsNumbered, NotEnded, NotNamed, NotNumbered};
@@ -10,15 +10,6 @@ ghost use Rattle.sumlist.specs.inside.Labels.{Ended, IsNumbered, NotEnded, NotNa
 use crate::Kind;
 use itoa::Buffer;
 use source::{Alg, BLAKE2B_LEN, BLAKE2S_LEN};
-
-// How many digits the tag of an algorithm has.
-pub(crate) fn digits_of(alg: Alg) -> usize
-    requires { IsInRange alg }
-    ensures value { result ≡ 2 * digest_len alg }
-    ensures bound { result ≤ 128 }
-{
-    2 * alg.digest_len()
-}
 
 // The label of an algorithm, and the number of the tag's bits if it ends in one.
 pub(crate) fn label(alg: Alg, number: &mut Buffer) -> (&'static str, &str)

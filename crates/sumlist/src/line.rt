@@ -3,7 +3,7 @@
 ghost use Rattle.std.specs.Prelude.{◌≡◌, ◌≤◌, ◌↔◌, ℕ, List, Some, length, IsTrue, MatchBool, MatchOption};
 ghost use Rattle.sumlist.specs.Entry.{Listing};
 ghost use Rattle.sumlist.specs.inside.Body.{name_of};
-ghost use Rattle.sumlist.specs.inside.Reading.{IsBlank, IsStated, is_slashed, unslashed};
+ghost use Rattle.sumlist.specs.inside.Reading.{IsStated, is_slashed, unslashed};
 ghost use Rattle.sumlist.specs.Line.{IsLine, IsMalformed, IsSkipped, IsUntagged, core as core_of};
 ghost use Rattle.sumlist.specs.Parsed.{Answers};
 ghost use Rattle.sumlist.specs.inside.Looks.{IsUntaggedOf};
@@ -11,8 +11,8 @@ ghost use Rattle.sumlist.specs.inside.Said.{IsSaid};
 ghost use Rattle.sumlist.specs.declared.line.LineFault.TheVariants.{OutOfMemory};
 
 use crate::body::{NameText, build_name, name_text};
+use crate::fields::split_text;
 use crate::fitting::LINE_LIMIT;
-use crate::parts::split_text;
 use crate::{Entry, Kind};
 use source::Alg;
 use std::alloc::{AllocError, Global};
@@ -80,14 +80,13 @@ pub fn parse_line(alloc: Global, line: &[u8], kind: Kind) -> Result<Line, LineFa
 pub fn split_line(line: &[u8], kind: Option<Kind>) -> Said<'_>
     ensures { IsSaid line.now kind result }
 {
+    if is_skipped(line) {
+        return Said::Skipped;
+    }
     if !is_line(line) {
         return Said::Malformed;
     }
-    let core = without_cr(line);
-    if is_blank(core) {
-        return Said::Skipped;
-    }
-    match read_core(core, kind) {
+    match read_core(without_cr(line), kind) {
         Some((alg, tag, name)) => Said::Entry(alg, tag, name),
         None => malformed_said(line, kind),
     }
@@ -150,7 +149,8 @@ pub(crate) fn is_line(line: &[u8]) -> bool
 pub(crate) fn is_skipped(line: &[u8]) -> bool
     ensures { IsTrue result ↔ IsSkipped line.now }
 {
-    is_blank(without_cr(line)) && is_line(line)
+    let core = without_cr(line);
+    (core.is_empty() || core[0] == b'#') && is_line(line)
 }
 
 fn without_cr(line: &[u8]) -> &[u8]
@@ -160,12 +160,6 @@ fn without_cr(line: &[u8]) -> &[u8]
         Some((b'\r', front)) => front,
         _ => line,
     }
-}
-
-fn is_blank(core: &[u8]) -> bool
-    ensures { IsTrue result ↔ IsBlank core.now }
-{
-    core.is_empty() || core[0] == b'#'
 }
 
 // The algorithm and tag of the entry that a core states, and the text that stands for its name.

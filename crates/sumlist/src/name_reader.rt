@@ -7,7 +7,7 @@ ghost use Rattle.std.specs.Result.{result_err};
 ghost use Rattle.source.specs.Faults.{PumpCounts};
 ghost use Rattle.sumlist.specs.Naming.{IsNextName};
 
-use crate::piece_reader::PieceReader;
+use crate::line_reader::LineReader;
 use source::{Feed, SourceFault};
 use std::alloc::{AllocError, Global};
 use std::marker::Model;
@@ -16,7 +16,7 @@ use std::marker::Model;
 /// 4,096 bytes, and at most 65,536 bytes of a name, whatever comes.
 #[derive(Drop)]
 pub struct NameReader {
-    pieces: PieceReader,
+    lines: LineReader,
     // the first fault, which is also the last
     fault: Option<SourceFault>,
 }
@@ -36,7 +36,7 @@ impl NameReader {
         ensures { IfOk result (λ reader. reader ≡ record { ahead = []; name = Some []; fault = None }) }
     {
         Ok(NameReader {
-            pieces: PieceReader::new(alloc)?,
+            lines: LineReader::new(alloc)?,
             fault: None,
         })
     }
@@ -64,8 +64,8 @@ impl NameReader {
         if let Some(fault) = self.fault {
             return Err(fault);
         }
-        self.pieces.count_anew();
-        let found = self.pieces.next(0, feed);
+        self.lines.count_anew();
+        let found = self.lines.next(0, feed);
         self.fault = found.err();
         found
     }
@@ -76,7 +76,7 @@ impl NameReader {
             ((name : List ℕ) → self.now.name ≡ Some name → IsUtf8 name → name ≡ [])
             (λ name. (self.now.name ≡ Some name.now) × (name.now ≢ [])) }
     {
-        let bytes = self.pieces.piece()?;
+        let bytes = self.lines.line()?;
         if bytes.is_empty() {
             return None;
         }

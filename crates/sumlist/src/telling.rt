@@ -10,7 +10,7 @@ ghost use Rattle.sumlist.specs.inside.Marks.{part};
 ghost use Rattle.sumlist.specs.inside.Stepped.{MarksMalformed, meaning_of};
 ghost use Rattle.sumlist.specs.inside.Telling.{ListBeside, TellCounts, Tells, left, of_list};
 
-use crate::piece_reader::PieceReader;
+use crate::line_reader::LineReader;
 use crate::report_reader::ReportReader;
 use crate::summary::Mark;
 use crate::{Entries, Line, LineFault, MakesTag, Summary};
@@ -83,12 +83,12 @@ pub fn tell_list<L: Feed, M: MakesTag, F: Feed>(
         (F.failure_count report.new.feed.now) }
     ensures same { report.new.feed.ghost_name ≡ report.old.feed.ghost_name }
 {
-    let mut reader = PieceReader::new(alloc)?;
+    let mut reader = LineReader::new(alloc)?;
     let mut summary = Summary::new();
     let mut number: u64 = 0;
     while reader.next(b'\n', list)? {
         number += 1;
-        let mark = tell_line(alloc, reader.piece(), entries, name, number, report)?;
+        let mark = tell_line(alloc, reader.line(), entries, name, number, report)?;
         let Some(more) = lines.checked_add(line_count(mark)) else {
             return Err(TellFault::ReportTooLong);
         };

@@ -4,7 +4,7 @@ use Rattle.sumlist.specs.Naming.{Reading}
 use Rattle.sumlist.specs.declared.name_reader.NameReader.TheInside.{Inside}
 
 abbrev pub seen : Inside → Reading
-seen r = record { ahead = r.pieces.ahead; name = r.pieces.kept; fault = r.fault }
+seen r = record { ahead = r.lines.ahead; name = r.lines.kept; fault = r.fault }
 
 -- nothing was read
 abbrev pub fresh : Reading

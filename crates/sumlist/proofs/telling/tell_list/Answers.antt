@@ -1,7 +1,7 @@
 use Rattle.sumlist.proofs.Common.{◌≡◌, ◌∙◌, ◌+◌, ◌-◌, ◌++◌, [], Mark, arith, err_from_is_err_and, lines_of, no_lines}
 use Rattle.sumlist.proofs.Common.{Err, length-append, refl, rules, sym}
 use Rattle.std.specs.Prelude.{IsErrOf, option_map}
-use Rattle.sumlist.proofs.ToldLines.{counted-more, counts-other, kept-piece, told-all, told-fault, told-line, told-none}
+use Rattle.sumlist.proofs.ToldLines.{counted-more, counts-other, told-all, told-fault, told-line, told-none}
 use Rattle.sumlist.proofs.ToldLines.{told-stopped, told-too-long}
 use Rattle.sumlist.specs.declared.summary.Mark.TheVariants.{Skipped}
 use Rattle.std.proofs.KnownBytes.{Consumes-nil, Consumes-trans}
@@ -51,10 +51,7 @@ returns-in_err-mark-clause-told g c =
     let list = g.L.Feed.remaining c.args.list.now in
     let report = left g.F.Feed.remaining c.args.report.now in
     let now = c.loop-reader in
-    let next = rw c.if-branch.true at c.in_ok-next.ensures.piece in
-    let count : now.number + 1 ≡ lines_of now.summary + 1 = omega (arith, now.invariant.counts.number) in
-    let same = kept-piece c.piece.result c.next.new.self.kept c.piece.ensures in
-    let says = rw same at c.in_err-mark.ensures.told in
+    let next = rw c.if-branch.true at c.in_ok-next.ensures.line in
     let f = c.in_err-mark.field-0.0 in
     let other = counts-other Mark f (g.F.Feed.failure_count now.report.feed.now)
     (g.F.Feed.failure_count c.tell_line.new.report.feed.now) c.in_err-mark.ensures.counted in
@@ -62,8 +59,9 @@ returns-in_err-mark-clause-told g c =
     let fault = err_from_is_err_and exit.result exit.ensures.1 in
     rw (fault.1, fault.2) (told-fault m name list report c.args.lines.now now.lines now.reader.ahead
     (g.L.Feed.remaining now.list) (left g.F.Feed.remaining now.report) now.summary now.invariant.said
-    c.next.new.self.kept (g.L.Feed.remaining c.next.new.feed) c.next.new.self.ahead (now.number + 1) count next
-    f (left g.F.Feed.remaining c.tell_line.new.report) other says)
+    c.next.new.self.kept (g.L.Feed.remaining c.next.new.feed) c.next.new.self.ahead now.number
+    now.invariant.counts.number next c.line.result c.line.ensures
+    f (left g.F.Feed.remaining c.tell_line.new.report) other c.in_err-mark.ensures.told)
 
 pub returns-then-is_at_end-clause-told : goal.returns-then-is_at_end-clause-told
 returns-then-is_at_end-clause-told g c =
@@ -72,18 +70,16 @@ returns-then-is_at_end-clause-told g c =
     let list = g.L.Feed.remaining c.args.list.now in
     let report = left g.F.Feed.remaining c.args.report.now in
     let now = c.loop-reader in
-    let next = rw c.if-branch.true at c.in_ok-next.ensures.piece in
-    let count : now.number + 1 ≡ lines_of now.summary + 1 = omega (arith, now.invariant.counts.number) in
-    let same = kept-piece c.piece.result c.next.new.self.kept c.piece.ensures in
-    let says = rw same at c.in_ok-mark.ensures.told in
+    let next = rw c.if-branch.true at c.in_ok-next.ensures.line in
     let end = left g.F.Feed.remaining c.tell_line.new.report in
     let mark = c.in_ok-mark.mark in
     let up : c.in-Some.more ≡ now.lines + (1 - part Skipped mark)
     = grind (arith, c.in-Some.ensures, c.line_count.ensures) in
     let told = told-line m name list report c.args.lines.now now.lines now.reader.ahead
     (g.L.Feed.remaining now.list) (left g.F.Feed.remaining now.report) now.summary now.invariant.said
-    c.next.new.self.kept (g.L.Feed.remaining c.next.new.feed) c.next.new.self.ahead (now.number + 1) count next
-    mark c.count.new.self end c.in-Some.more up c.count.ensures.counted says in
+    c.next.new.self.kept (g.L.Feed.remaining c.next.new.feed) c.next.new.self.ahead now.number
+    now.invariant.counts.number next c.line.result c.line.ensures
+    mark c.count.new.self end c.in-Some.more up c.count.ensures.counted c.in_ok-mark.ensures.told in
     told-all _ _ _ _ _ _ _ _ _ _ told (c.in_ok-next.ensures.end (sym c.is_at_end.ensures ∙ c.if-is_at_end.true))
 
 pub loop-reader-preserved : goal.loop-reader-preserved
@@ -93,18 +89,16 @@ loop-reader-preserved g c =
     let list = g.L.Feed.remaining c.args.list.now in
     let report = left g.F.Feed.remaining c.args.report.now in
     let now = c.loop-reader in
-    let next = rw c.if-branch.true at c.in_ok-next.ensures.piece in
-    let count : now.number + 1 ≡ lines_of now.summary + 1 = omega (arith, now.invariant.counts.number) in
-    let same = kept-piece c.piece.result c.next.new.self.kept c.piece.ensures in
-    let says = rw same at c.in_ok-mark.ensures.told in
+    let next = rw c.if-branch.true at c.in_ok-next.ensures.line in
     let end = left g.F.Feed.remaining c.tell_line.new.report in
     let mark = c.in_ok-mark.mark in
     let up : c.in-Some.more ≡ now.lines + (1 - part Skipped mark)
     = grind (arith, c.in-Some.ensures, c.line_count.ensures) in
     let told = told-line m name list report c.args.lines.now now.lines now.reader.ahead
     (g.L.Feed.remaining now.list) (left g.F.Feed.remaining now.report) now.summary now.invariant.said
-    c.next.new.self.kept (g.L.Feed.remaining c.next.new.feed) c.next.new.self.ahead (now.number + 1) count next
-    mark c.count.new.self end c.in-Some.more up c.count.ensures.counted says in
+    c.next.new.self.kept (g.L.Feed.remaining c.next.new.feed) c.next.new.self.ahead now.number
+    now.invariant.counts.number next c.line.result c.line.ensures
+    mark c.count.new.self end c.in-Some.more up c.count.ensures.counted c.in_ok-mark.ensures.told in
     let more = counted-more mark now.summary c.count.new.self c.count.ensures.counted in
     let forth = c.in_ok-next.ensures.forth c.if-branch.true in
     let gave = c.in_ok-next.ensures.gave in
@@ -150,15 +144,13 @@ returns-in_default-clause-told g c =
     let list = g.L.Feed.remaining c.args.list.now in
     let report = left g.F.Feed.remaining c.args.report.now in
     let now = c.loop-reader in
-    let next = rw c.if-branch.true at c.in_ok-next.ensures.piece in
-    let count : now.number + 1 ≡ lines_of now.summary + 1 = omega (arith, now.invariant.counts.number) in
-    let same = kept-piece c.piece.result c.next.new.self.kept c.piece.ensures in
-    let says = rw same at c.in_ok-mark.ensures.told in
+    let next = rw c.if-branch.true at c.in_ok-next.ensures.line in
     told-too-long m name list report c.args.lines.now now.lines now.reader.ahead
     (g.L.Feed.remaining now.list) (left g.F.Feed.remaining now.report) now.summary now.invariant.said
-    c.next.new.self.kept (g.L.Feed.remaining c.next.new.feed) c.next.new.self.ahead (now.number + 1) count next
+    c.next.new.self.kept (g.L.Feed.remaining c.next.new.feed) c.next.new.self.ahead now.number
+    now.invariant.counts.number next c.line.result c.line.ensures
     c.in_ok-mark.mark (left g.F.Feed.remaining c.tell_line.new.report) (omega arith)
-    (omega (arith, c.in_default.ensures, c.line_count.ensures)) says
+    (omega (arith, c.in_default.ensures, c.line_count.ensures)) c.in_ok-mark.ensures.told
 
 pub returns-in_default-clause-gave : goal.returns-in_default-clause-gave
 returns-in_default-clause-gave g c =

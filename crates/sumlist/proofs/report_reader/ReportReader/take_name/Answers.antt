@@ -6,7 +6,7 @@ use Rattle.sumlist.proofs.report_reader.ReportReader.take_name.Goals as goal
 
 pub returns-then-not-branch-clause-taken : goal.returns-then-not-branch-clause-taken
 returns-then-not-branch-clause-taken g c =
-    let missed = rw (c.if-not-branch.true, c.escape.ensures) at c.in_ok-take.ensures.taken in
+    let missed = rw (c.if-not-branch.true, c.escape.ensures.value) at c.in_ok-take.ensures.taken in
     c.loop-byte.invariant.goes None false
     (texts-not escape_of c.as_bytes-byte-items.result.now c.loop-byte.byte-index 0 c.loop-byte-test.true
     (left g.F.Feed.remaining c.loop-byte.self) (left g.F.Feed.remaining c.take.new.self) None missed)

@@ -1,6 +1,6 @@
 use Rattle.sumlist.proofs.Common.{refl}
 use Rattle.sumlist.proofs.Spelling.{tagged_spells}
-use Rattle.sumlist.proofs.tagging.write_tagged.Goals as goal
+use Rattle.sumlist.proofs.labelled.write_tagged.Goals as goal
 
 pub returns-in-Ok-clause-spells : goal.returns-in-Ok-clause-spells
 returns-in-Ok-clause-spells g c =

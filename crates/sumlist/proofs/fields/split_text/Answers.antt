@@ -1,6 +1,6 @@
 use Rattle.sumlist.proofs.Common.{◌∙◌, arith, nat_tests, nil_from_length, refl, sym}
 use Rattle.sumlist.proofs.Reading.{cut-none, told_by-cut}
-use Rattle.sumlist.proofs.parts.split_text.Goals as goal
+use Rattle.sumlist.proofs.fields.split_text.Goals as goal
 
 pub returns-in_err-word : goal.returns-in_err-word
 returns-in_err-word c = rw (c.from_residual.ensures, cut-none c.args.text.now c.in_err-word.ensures) refl

@@ -1,7 +1,7 @@
--- A reader of pieces as contracts see it.
+-- A reader of lines as contracts see it.
 use Rattle.std.specs.Prelude.{take, drop, Some, if◌then◌else◌}
 use Rattle.sumlist.specs.inside.Taking.{Cutting}
-use Rattle.sumlist.specs.declared.piece_reader.PieceReader.TheInside.{Inside}
+use Rattle.sumlist.specs.declared.line_reader.LineReader.TheInside.{Inside}
 
 abbrev pub seen : Inside → Cutting
 seen r = record {

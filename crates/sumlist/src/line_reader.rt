@@ -1,4 +1,4 @@
-// Pieces of a feed that each end at a byte, one after another.
+// Lines of a feed, one after another, each ended by a byte of the caller's: LF, or NUL between names.
 
 ghost use Rattle.std.specs.Io.KnownBytes.{Consumes, IsAtEnd};
 ghost use Rattle.std.specs.Prelude.{◌≡◌, ◌+◌, ◌-◌, ◌<◌, ◌≤◌, ◌^◌, ◌↔◌, ◌++◌, ℕ, List, Option, Some, None, true, false};
@@ -12,19 +12,19 @@ use source::{Feed, ReadFailed, SourceFault};
 use std::alloc::{AllocError, Global};
 use std::marker::Model;
 
-// Keeps one read of 4,096 bytes, and at most 65,536 bytes of a piece, whatever comes. A piece that came in
-// one read is not copied.
+// Keeps one read of 4,096 bytes, and at most 65,536 bytes of a line, whatever comes. A line that came in one
+// read is not copied.
 #[derive(Drop)]
-pub(crate) struct PieceReader {
+pub(crate) struct LineReader {
     buffer: [u8; 4096],
     // what is read and yet to be taken
     start: usize,
     end: usize,
-    // where the last piece lies, if it is whole in the buffer
+    // where the last line lies, if it is whole in the buffer
     is_whole: bool,
     from: usize,
     len: usize,
-    // what is kept of the piece otherwise
+    // what is kept of the line otherwise
     held: LineBuffer,
     // how many bytes were read
     total: u64,
@@ -36,21 +36,21 @@ pub(crate) struct PieceReader {
     ghost lies: { is_whole ≡ true → from + len ≤ end },
 }
 
-impl Model for PieceReader {
+impl Model for LineReader {
     ghost use Rattle.sumlist.specs.inside.Taking.{Cutting};
-    ghost use Rattle.sumlist.specs.inside.PieceView.{seen};
+    ghost use Rattle.sumlist.specs.inside.LineView.{seen};
 
     ghost Value = { Cutting };
 
     ghost view = { seen };
 }
 
-impl PieceReader {
-    // No piece yet, and nothing read. Memory grows only here.
-    pub(crate) fn new(alloc: Global) -> Result<PieceReader, AllocError>
+impl LineReader {
+    // No line yet, and nothing read. Memory grows only here.
+    pub(crate) fn new(alloc: Global) -> Result<LineReader, AllocError>
         ensures { IfOk result (λ reader. reader ≡ none_taken) }
     {
-        Ok(PieceReader {
+        Ok(LineReader {
             buffer: [0; 4096],
             start: 0,
             end: 0,
@@ -72,11 +72,11 @@ impl PieceReader {
         self.total = (self.end - self.start) as u64;
     }
 
-    // Reads the next piece that ends at this byte, and answers whether there was one; the last piece may lack
-    // the byte. A piece longer than 65,536 bytes is skipped, and not kept. `TooLong` comes exactly if the
+    // Reads the next line that ends at this byte, and answers whether there was one; the last line may lack
+    // the byte. A line longer than 65,536 bytes is skipped, and not kept. `TooLong` comes exactly if the
     // count of bytes read exceeds 2^64 - 1.
     pub(crate) fn next<F: Feed>(&mut self, end: u8, feed: &mut F) -> Result<bool, SourceFault>
-        ensures piece { IfOk result (λ found. IfSome (F.remaining feed.old) (λ bytes.
+        ensures line { IfOk result (λ found. IfSome (F.remaining feed.old) (λ bytes.
             (left : List ℕ) × (F.remaining feed.new ≡ Some left)
             × IsNextPiece end found self.new.kept (self.old.ahead ++ bytes) (self.new.ahead ++ left))) }
         ensures forth { IfOk result (λ found. found ≡ true
@@ -92,7 +92,7 @@ impl PieceReader {
         self.held.clear();
         self.is_whole = false;
         self.is_at_end = false;
-        'pieces: loop {
+        'lines: loop {
             if self.take(end) {
                 return Ok(true);
             }
@@ -127,16 +127,16 @@ impl PieceReader {
         Ok(count != 0)
     }
 
-    // Whether the feed has ended, so that no piece follows.
+    // Whether the feed has ended, so that no line follows.
     pub(crate) fn is_at_end(&self) -> bool
         ensures { result ≡ self.now.is_at_end }
     {
         self.is_at_end
     }
 
-    // The piece that was read last, unless it is longer than 65,536 bytes.
-    pub(crate) fn piece(&self) -> Option<&[u8]>
-        ensures { MatchOption result (self.now.kept ≡ None) (λ piece. self.now.kept ≡ Some piece.now) }
+    // The line that was read last, unless it is longer than 65,536 bytes.
+    pub(crate) fn line(&self) -> Option<&[u8]>
+        ensures { MatchOption result (self.now.kept ≡ None) (λ line. self.now.kept ≡ Some line.now) }
     {
         if !self.is_whole {
             return self.held.line();
@@ -145,12 +145,12 @@ impl PieceReader {
         Some(&read[..self.len])
     }
 
-    // Whether the piece that was read last has no bytes.
+    // Whether the line that was read last has no bytes.
     fn is_empty(&self) -> bool
         ensures { IsTrue result ↔ (self.now.kept ≡ Some []) }
     {
-        match self.piece() {
-            Some(piece) => piece.is_empty(),
+        match self.line() {
+            Some(line) => line.is_empty(),
             None => false,
         }
     }
@@ -161,20 +161,20 @@ impl PieceReader {
         ensures { IsTaken end result self.old self.new }
     {
         let (_, ahead) = self.buffer[..self.end].split_at(self.start);
-        let Some((piece, _)) = split_at_byte(ahead, end) else {
+        let Some((line, _)) = split_at_byte(ahead, end) else {
             self.held.append(ahead);
             self.start = self.end;
             return false;
         };
         let start = self.start;
-        self.start += piece.len() + 1;
+        self.start += line.len() + 1;
         if !self.held.is_empty() {
-            self.held.append(piece);
+            self.held.append(line);
             return true;
         }
         self.is_whole = true;
         self.from = start;
-        self.len = piece.len();
+        self.len = line.len();
         true
     }
 }

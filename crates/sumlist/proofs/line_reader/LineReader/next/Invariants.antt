@@ -1,10 +1,10 @@
 use Rattle.sumlist.proofs.Common.{◌≡◌, ◌-◌, ◌^◌, ◌+◌, ◌<◌, ◌++◌, List, ℕ, false, length, Consumes}
 use Rattle.sumlist.specs.Lines.{IsKept}
 use Rattle.sumlist.specs.inside.Cut.{HasNo}
-use Rattle.sumlist.proofs.piece_reader.PieceReader.next.Given as goal
+use Rattle.sumlist.proofs.line_reader.LineReader.next.Given as goal
 
-abbrev pub invariant-pieces : goal.invariant-pieces
-invariant-pieces g l = record {
+abbrev pub invariant-lines : goal.invariant-lines
+invariant-lines g l = record {
   read : List ℕ;
   consumed : Consumes (g.F.Feed.remaining l.initial.feed) (g.F.Feed.remaining l.feed) read;
   front : List ℕ;
@@ -20,5 +20,5 @@ invariant-pieces g l = record {
   };
 }
 
-abbrev pub decreases-pieces : goal.decreases-pieces
-decreases-pieces g l = 2 ^ 64 - l.self.total
+abbrev pub decreases-lines : goal.decreases-lines
+decreases-lines g l = 2 ^ 64 - l.self.total
