@@ -15,7 +15,7 @@ ghost use Rattle.command.specs.inside.Reading.{Leaves, Reads, failed};
 ghost use Rattle.command.specs.declared.fault.Fault.TheVariants.{BadName};
 
 use crate::fault::Fault;
-use crate::making::{Made, write_made};
+use crate::making::{Made, write_beside};
 use crate::session::absorb_feed;
 use b3::{Blake3, CHUNK_LEN, Mode, Output};
 use blake2::{Blake2b, Blake2s};
@@ -152,8 +152,8 @@ pub(crate) fn write_digest<W: Sink>(
         ((digest_line requested).text name.now (made_bytes made)) }
 {
     match requested.form {
-        Form::Plain => write_made(made, false, name, out),
-        Form::Raw => write_made(made, true, name, out),
+        Form::Plain => write_beside(made, false, name, out),
+        Form::Raw => write_beside(made, true, name, out),
         Form::Tagged => write_tagged_line(requested.alg(), name, &made.into_tag(), out),
     }
 }

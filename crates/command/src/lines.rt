@@ -24,7 +24,7 @@ ghost use Rattle.command.specs.declared.fault.Fault.TheVariants.{BadName};
 use crate::digests::{digest_of_feed, listable, part_buffer, write_digest};
 use crate::fault::{Fault, tell};
 use crate::keying::rule_of;
-use crate::making::{Made, is_made, write_made};
+use crate::making::{Made, is_made, write_beside};
 use crate::output::named;
 use crate::rule::Rule;
 use crate::session::{Session, Streams, open_file};
@@ -317,6 +317,6 @@ fn write_sum<W: Sink>(rule: &Rule, made: Made, name: &str, out: &mut W) -> Resul
 {
     match rule {
         Rule::Digest(hashing) => write_digest(hashing.requested, made, name, out),
-        Rule::Tag(keyed) => write_made(made, keyed.tagging.is_raw, name, out),
+        Rule::Tag(keyed) => write_beside(made, keyed.tagging.is_raw, name, out),
     }
 }

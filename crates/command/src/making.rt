@@ -6,11 +6,12 @@ ghost use Rattle.b3.specs.inside.Output.{output_position, output_root};
 ghost use Rattle.source.specs.Written.{Writes};
 ghost use Rattle.command.specs.inside.Keys.{HasBytes, IsWanted, made_bytes};
 ghost use Rattle.command.specs.inside.Making.{made_len};
-ghost use Rattle.command.specs.inside.Printing.{printed_beside};
+ghost use Rattle.command.specs.inside.Printing.{printed, printed_beside};
 
-use crate::output::{PIECE, write_beside, write_output_beside};
+use crate::output::{PIECE, write_bytes, write_output};
 use b3::Output;
 use source::{Sink, WriteFailed};
+use sumlist::{write_end, write_lead};
 use words::Tag;
 
 /// Bytes of a digest or tag.
@@ -33,8 +34,8 @@ impl Made {
         match self {
             Made::Tag(tag) => tag,
             Made::Output(mut output, length) => {
-                let mut room = [0; 64];
-                let (bytes, _) = room.split_at_mut(length as usize);
+                let mut buffer = [0; 64];
+                let (bytes, _) = buffer.split_at_mut(length as usize);
                 output.fill(bytes).unwrap();
                 Tag::of(bytes).unwrap()
             }
@@ -43,7 +44,7 @@ impl Made {
 }
 
 /// Writes the bytes themselves, or the line of their digits and a name.
-pub(crate) fn write_made<W: Sink>(
+pub(crate) fn write_beside<W: Sink>(
     made: Made,
     is_raw: bool,
     name: &str,
@@ -52,9 +53,22 @@ pub(crate) fn write_made<W: Sink>(
     requires { HasBytes made }
     ensures { Writes result (W.shown out.old) (W.shown out.new) (printed_beside is_raw name.now (made_bytes made)) }
 {
+    if is_raw {
+        return write_made(made, true, out);
+    }
+    write_lead(name, out)?;
+    write_made(made, false, out)?;
+    write_end(name, out)
+}
+
+// Writes the bytes themselves, or their digits.
+fn write_made<W: Sink>(made: Made, is_raw: bool, out: &mut W) -> Result<(), WriteFailed>
+    requires { HasBytes made }
+    ensures { Writes result (W.shown out.old) (W.shown out.new) (printed is_raw (made_bytes made)) }
+{
     match made {
-        Made::Tag(tag) => write_beside(tag.bytes(), is_raw, name, out),
-        Made::Output(output, length) => write_output_beside(output, length, is_raw, name, out),
+        Made::Tag(tag) => write_bytes(tag.bytes(), is_raw, out),
+        Made::Output(output, length) => write_output(output, length, is_raw, out),
     }
 }
 

@@ -6,7 +6,7 @@ ghost use Rattle.source.specs.Written.{Writes};
 ghost use Rattle.command.specs.Visible as spec;
 ghost use Rattle.command.specs.Visible.{visible, visible_char};
 
-use crate::output::write_digits;
+use crate::output::write_bytes;
 use source::{Sink, WriteFailed, write_all};
 
 /// Writes any name as a text of one line without a command to a terminal: in the escaped form of lists, with
@@ -58,6 +58,6 @@ fn write_code<W: Sink>(
         (before.now ++ (encode_lower number.now ++ after.now)) }
 {
     write_all(out, before.as_bytes())?;
-    write_digits(number, out)?;
+    write_bytes(number, false, out)?;
     write_all(out, after.as_bytes())
 }

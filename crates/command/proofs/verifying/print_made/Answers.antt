@@ -3,14 +3,14 @@ use Rattle.std.specs.Prelude.{option_map}
 use Rattle.command.proofs.Answering.{said_failed, same_bytes}
 use Rattle.command.proofs.verifying.print_made.Goals as goal
 
-pub returns-in_err-write_made-clause-said : goal.returns-in_err-write_made-clause-said
-returns-in_err-write_made-clause-said g c stretch =
+pub returns-in_err-write_beside-clause-said : goal.returns-in_err-write_beside-clause-said
+returns-in_err-write_beside-clause-said g c stretch =
     rw (ap (option_map (λ tag. tag.now)) c.in_default.is)
-    (said_failed _ 0 _ _ _ c.from_residual.ensures.1 c.in_err-write_made.ensures)
+    (said_failed _ 0 _ _ _ c.from_residual.ensures.1 c.in_err-write_beside.ensures)
 
 pub returns-in_default-clause-said : goal.returns-in_default-clause-said
 returns-in_default-clause-said g c stretch =
-    rw (ap (option_map (λ tag. tag.now)) c.in_default.is) (refl, c.in_ok-write_made.ensures)
+    rw (ap (option_map (λ tag. tag.now)) c.in_default.is) (refl, c.in_ok-write_beside.ensures)
 
 pub returns-clause-said : goal.returns-clause-said
 returns-clause-said g c stretch =
