@@ -1,6 +1,6 @@
 // The digest of a file, for a line of a list.
 
-ghost use Rattle.std.specs.Prelude.{◌≡◌, ◌≢◌, ◌≤◌, ◌-◌, ◌*◌, ◌^◌, ℕ, [], length, vec_len, Some, true, IfOk, IfSome};
+ghost use Rattle.std.specs.Prelude.{◌≡◌, ◌≢◌, ◌-◌, ◌*◌, ◌^◌, ℕ, [], length, vec_len, Some, true, IfOk, IfSome};
 ghost use Rattle.std.specs.Prelude.{IsErrOf, MatchResult};
 ghost use Rattle.b3.specs.Modes.{hash_root};
 ghost use Rattle.b3.specs.inside.Output.{output_root};
@@ -52,12 +52,12 @@ pub(crate) fn listable<'n>(requested: Requested, name: &'n str) -> Result<(), Fa
 /// empty.
 pub(crate) fn digest_of_feed<'n, F: Feed>(
     requested: Requested,
-    run: &mut [u8],
+    buffer: &mut [u8],
     name: &'n str,
     feed: &mut F,
 ) -> Result<Made, Fault<'n>>
     requires digest { HasDigest requested }
-    requires run { length run.old ≢ 0 → (e : ℕ) × (length run.old ≡ 1024 * 2 ^ e) }
+    requires buffer { length buffer.old ≢ 0 → (e : ℕ) × (length buffer.old ≡ 1024 * 2 ^ e) }
     ensures made { IfSome (F.remaining feed.old) (λ bytes.
         Reads (digest_line requested).limit (λ m made. made_bytes made ≡ (digest_line requested).bytes m)
         name.entry.now (Some bytes) result) }
@@ -86,7 +86,7 @@ pub(crate) fn digest_of_feed<'n, F: Feed>(
             Ok(Made::Tag(hasher.finish()))
         }
         Hash::Blake3 => {
-            let mut output = output_of_feed(run, name, feed)?;
+            let mut output = output_of_feed(buffer, name, feed)?;
             output.seek(requested.stretch.position);
             Ok(Made::Output(output, requested.stretch.length))
         }
@@ -115,11 +115,11 @@ fn plain_digest<'n, F: Feed>(alg: Alg, name: &'n str, feed: &mut F) -> Result<Ma
 
 // BLAKE3's output of all that a feed gives, in parts as long as the buffer, if the buffer is not empty.
 fn output_of_feed<'n, F: Feed>(
-    run: &mut [u8],
+    buffer: &mut [u8],
     name: &'n str,
     feed: &mut F,
 ) -> Result<Output, Fault<'n>>
-    requires { length run.old ≢ 0 → (e : ℕ) × (length run.old ≡ 1024 * 2 ^ e) }
+    requires { length buffer.old ≢ 0 → (e : ℕ) × (length buffer.old ≡ 1024 * 2 ^ e) }
     ensures output { IfSome (F.remaining feed.old) (λ bytes. Reads (2 ^ 64 - 1)
         (λ m output. output_root output ≡ hash_root m) name.entry.now (Some bytes) result) }
     ensures counted { F.failure_count feed.new
@@ -127,12 +127,12 @@ fn output_of_feed<'n, F: Feed>(
     ensures gave { Leaves true result (F.remaining feed.old) (F.remaining feed.new) }
     ensures memory { IsErrOf result Fault.OutOfMemory → ⊥ }
 {
-    if run.is_empty() {
+    if buffer.is_empty() {
         let mut hasher = Blake3::new();
         absorb_feed(&mut hasher, name, feed)?;
         return Ok(hasher.output());
     }
-    match output_in_parts(Mode::Hash, feed, run) {
+    match output_in_parts(Mode::Hash, feed, buffer) {
         Ok(output) => Ok(output),
         Err(fault) => Err(Fault::of_source(fault, name)),
     }

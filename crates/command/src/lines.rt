@@ -2,7 +2,7 @@
 // whether that of one is the one that is wanted.
 
 ghost use Rattle.std.specs.Prelude.{◌≡◌, ◌≢◌, ◌≤◌, ◌+◌, ◌*◌, ◌^◌, ◌⊎◌, ℕ, [], false, length, vec_len, map, true};
-ghost use Rattle.std.specs.Prelude.{IfOk, IfSome, IsErr, IsErrOf, IsOk, MatchResult, None, Some, option_map};
+ghost use Rattle.std.specs.Prelude.{IfOk, IfSome, IsErr, IsErrOf, MatchResult, None, Some, option_map};
 ghost use Rattle.std.specs.List.{sum_by};
 ghost use Rattle.source.specs.Counts.{count_after};
 ghost use Rattle.source.specs.Written.{Writes};
@@ -14,7 +14,7 @@ ghost use Rattle.command.specs.Keying.{LineRuns, SumRuns};
 ghost use Rattle.command.specs.Lines.{FitsPlace, key_opens, opens_of};
 ghost use Rattle.command.specs.Run.{TellsAll};
 ghost use Rattle.command.specs.inside.Hashed.{PassesOver, PrintsName, Settles};
-ghost use Rattle.command.specs.inside.Keys.{HasBytes, MakesOf, PrintsAnswer, made_bytes};
+ghost use Rattle.command.specs.inside.Keys.{HasBytes, PrintsAnswer, made_bytes};
 ghost use Rattle.command.specs.inside.Reading.{Leaves, Reads, failed};
 ghost use Rattle.command.specs.inside.Rules.{IsSized, TakesRoom, WantsRoom, line_by};
 ghost use Rattle.command.specs.inside.Seen.{DoesRun, OpensAtMost};
@@ -142,6 +142,8 @@ impl<'i, 't, 'o, L: Feed, T: Tree, W: Sink> Session<'i, 't, 'o, L, T, W> {
         }
     }
 
+    // Prints the line of a file under a name, which is judged before the file is opened, or whether its digest or
+    // tag is the one that is wanted.
     fn print_compared<'n>(
         &mut self,
         rule: &Rule,
@@ -158,7 +160,8 @@ impl<'i, 't, 'o, L: Feed, T: Tree, W: Sink> Session<'i, 't, 'o, L, T, W> {
         ensures memory { IsErrOf result Fault.OutOfMemory
             → TakesRoom rule.now ⊎ (T.wants_memory ≡ true) }
     {
-        let made = self.make(rule, name, file)?;
+        named_by(rule, name)?;
+        let made = self.made_of_file(rule, file)?;
         let Some(bytes) = wanted else {
             write_sum(rule, made, name, self.out)?;
             return Ok(0);
@@ -166,26 +169,7 @@ impl<'i, 't, 'o, L: Feed, T: Tree, W: Sink> Session<'i, 't, 'o, L, T, W> {
         print_verdict(is_made(made, bytes), name, self.out)
     }
 
-    // The digest or tag of a file under a name, which is judged before the file is opened.
-    fn make<'n>(&mut self, rule: &Rule, name: &'n str, file: &'n str) -> Result<Made, Fault<'n>>
-        ensures made { IfContent file.entry.now (⟦<Self as Streams>⟧.seen self.old) (λ content. MakesOf
-            (λ bytes made. made_bytes made ≡ bytes) (line_by rule.now) name.entry.now
-            file.entry.now content result) }
-        ensures has { IfOk result HasBytes }
-        ensures sized { IfOk result (IsSized rule.now) }
-        ensures fits { IsOk result → FitsPlace (line_by rule.now).place name.now }
-        ensures read { AfterReading file.entry.now result (⟦<Self as Streams>⟧.seen self.old)
-            (⟦<Self as Streams>⟧.seen self.new) }
-        ensures out { (⟦<Self as Streams>⟧.seen self.new).out ≡ (⟦<Self as Streams>⟧.seen self.old).out }
-        ensures same { SameStreams self.old self.new }
-        ensures memory { IsErrOf result Fault.OutOfMemory
-            → TakesRoom rule.now ⊎ (T.wants_memory ≡ true) }
-    {
-        named_by(rule, name)?;
-        self.made_of_file(rule, file)
-    }
-
-    // That of a file; the buffer of its parts is made before it is opened.
+    // The digest or tag of a file; the buffer of its parts is made before it is opened.
     fn made_of_file<'n>(&mut self, rule: &Rule, name: &'n str) -> Result<Made, Fault<'n>>
         ensures made { IfContent name.entry.now (⟦<Self as Streams>⟧.seen self.old) (λ content.
             Reads (line_by rule.now).limit (λ m made. made_bytes made ≡ (line_by rule.now).bytes m)
@@ -199,11 +183,11 @@ impl<'i, 't, 'o, L: Feed, T: Tree, W: Sink> Session<'i, 't, 'o, L, T, W> {
         ensures memory { IsErrOf result Fault.OutOfMemory
             → TakesRoom rule.now ⊎ (T.wants_memory ≡ true) }
     {
-        let mut run = run_buffer(self.alloc, rule)?;
+        let mut buffer = buffer_by(self.alloc, rule)?;
         if name == "-" {
-            return made_of_feed(rule, run.as_mut_slice(), name, self.input);
+            return made_of_feed(rule, buffer.as_mut_slice(), name, self.input);
         }
-        made_of_named(rule, run.as_mut_slice(), name, self.tree)
+        made_of_named(rule, buffer.as_mut_slice(), name, self.tree)
     }
 }
 
@@ -246,7 +230,7 @@ fn named_by<'n>(rule: &Rule, name: &'n str) -> Result<(), Fault<'n>>
 }
 
 // The buffer of the parts that a file is hashed in, an empty one where it is hashed whole.
-fn run_buffer(alloc: Global, rule: &Rule) -> Result<Vec<u8>, AllocError>
+fn buffer_by(alloc: Global, rule: &Rule) -> Result<Vec<u8>, AllocError>
     ensures power { IfOk result (λ buffer. vec_len buffer ≢ 0 → (e : ℕ) × (vec_len buffer ≡ 1024 * 2 ^ e)) }
     ensures memory { IsErr result → TakesRoom rule.now }
 {
@@ -262,11 +246,11 @@ fn run_buffer(alloc: Global, rule: &Rule) -> Result<Vec<u8>, AllocError>
 // The digest or tag of the file of this name, by way of this buffer, if that is not empty.
 fn made_of_named<'n, T: Tree>(
     rule: &Rule,
-    run: &mut [u8],
+    buffer: &mut [u8],
     name: &'n str,
     tree: &mut T,
 ) -> Result<Made, Fault<'n>>
-    requires { length run.old ≢ 0 → (e : ℕ) × (length run.old ≡ 1024 * 2 ^ e) }
+    requires { length buffer.old ≢ 0 → (e : ℕ) × (length buffer.old ≡ 1024 * 2 ^ e) }
     ensures made { IfSome (T.files tree.old) (λ files.
         Reads (line_by rule.now).limit (λ m made. made_bytes made ≡ (line_by rule.now).bytes m)
         name.entry.now (files name.entry.now) result) }
@@ -279,7 +263,7 @@ fn made_of_named<'n, T: Tree>(
     ensures memory { IsErrOf result Fault.OutOfMemory → T.wants_memory ≡ true }
 {
     let mut feed = open_file(name, 0, tree)?;
-    let answer = made_of_feed(rule, run, name, &mut feed);
+    let answer = made_of_feed(rule, buffer, name, &mut feed);
     tree.close(feed);
     answer
 }
@@ -287,11 +271,11 @@ fn made_of_named<'n, T: Tree>(
 // The digest or tag of all that a feed gives, by way of this buffer, if that is not empty.
 fn made_of_feed<'n, F: Feed>(
     rule: &Rule,
-    run: &mut [u8],
+    buffer: &mut [u8],
     name: &'n str,
     feed: &mut F,
 ) -> Result<Made, Fault<'n>>
-    requires { length run.old ≢ 0 → (e : ℕ) × (length run.old ≡ 1024 * 2 ^ e) }
+    requires { length buffer.old ≢ 0 → (e : ℕ) × (length buffer.old ≡ 1024 * 2 ^ e) }
     ensures made { IfSome (F.remaining feed.old) (λ bytes.
         Reads (line_by rule.now).limit (λ m made. made_bytes made ≡ (line_by rule.now).bytes m)
         name.entry.now (Some bytes) result) }
@@ -303,7 +287,7 @@ fn made_of_feed<'n, F: Feed>(
     ensures memory { IsErrOf result Fault.OutOfMemory → ⊥ }
 {
     match rule {
-        Rule::Digest(hashing) => digest_of_feed(hashing.requested, run, name, feed),
+        Rule::Digest(hashing) => digest_of_feed(hashing.requested, buffer, name, feed),
         Rule::Tag(keyed) => tag_of_feed(keyed, name, feed),
     }
 }

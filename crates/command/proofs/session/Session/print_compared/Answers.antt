@@ -1,12 +1,30 @@
 use Rattle.std.proofs.Common.{Ok, ap, refl}
 use Rattle.std.specs.Prelude.{option_map}
 use Rattle.std.proofs.lemmas.Result.{err_from_is_err_and}
-use Rattle.command.specs.Lines.{is_input}
+use Rattle.command.specs.Lines.{content_of, is_input}
 use Rattle.command.specs.inside.Rules.{line_by}
 use Rattle.command.specs.inside.Streams.{seen_of}
-use Rattle.command.proofs.Answering.{digest_said, left_failed, line_said, said_failed}
-use Rattle.command.proofs.Reading.{told_then}
+use Rattle.command.specs.inside.Troubles.{trouble_of}
+use Rattle.command.proofs.Answering.{digest_said, left_failed, line_said, misnamed, said_failed, unread_said}
+use Rattle.command.proofs.Reading.{told_always, told_then}
 use Rattle.command.proofs.session.Session.print_compared.Goals as goal
+
+pub returns-in_err-named_by-clause-answer : goal.returns-in_err-named_by-clause-answer
+returns-in_err-named_by-clause-answer g c =
+    let see = seen_of g.L.Feed.remaining g.L.Feed.failure_count g.T.Tree.files g.T.Tree.failure_count
+    g.T.Tree.opens g.W.Sink.shown in
+    told_always (see c.args.self.now) (λ bytes files. misnamed (line_by c.args.rule.now) c.args.name.now
+    c.args.file.now _ (content_of c.args.file.now bytes files) c.in_err-named_by.field-0.0 _ _
+    (ap trouble_of c.in_err-named_by.ensures.0) c.in_err-named_by.ensures.1 c.from_residual.ensures.1)
+
+pub returns-in_err-made-clause-answer : goal.returns-in_err-made-clause-answer
+returns-in_err-made-clause-answer g c =
+    let see = seen_of g.L.Feed.remaining g.L.Feed.failure_count g.T.Tree.files g.T.Tree.failure_count
+    g.T.Tree.opens g.W.Sink.shown in
+    told_then (see c.args.self.now) c.in_err-made.ensures.made (λ bytes files read. unread_said
+    (line_by c.args.rule.now) c.args.name.now c.args.file.now _ (content_of c.args.file.now bytes files)
+    c.in_err-made.field-0.0 _ _ _ c.in_ok-named_by.ensures read c.from_residual-in_err-made.ensures.1
+    c.made_of_file.ensures.out)
 
 pub returns-in_err-write_sum-clause-answer : goal.returns-in_err-write_sum-clause-answer
 returns-in_err-write_sum-clause-answer g c =
@@ -15,9 +33,10 @@ returns-in_err-write_sum-clause-answer g c =
     let l = line_by c.args.rule.now in
     rw (ap (option_map (λ tag. tag.now)) c.in_default.is)
     (told_then (see c.args.self.now) c.in_ok-made.ensures.made
-    (λ bytes files made. line_said l c.args.name.now c.args.file.now c.in_ok-made.made _ _ _ _ made
+    (λ bytes files read. line_said l c.args.name.now c.args.file.now c.in_ok-made.made _ _ _ _
+    (c.in_ok-named_by.ensures, read)
     (said_failed _ 0 _ _ _ c.from_residual-in_err-write_sum.ensures.1
-    (rw c.make.ensures.out at c.in_err-write_sum.ensures))))
+    (rw c.made_of_file.ensures.out at c.in_err-write_sum.ensures))))
 
 pub returns-in_default-clause-answer : goal.returns-in_default-clause-answer
 returns-in_default-clause-answer g c =
@@ -26,8 +45,8 @@ returns-in_default-clause-answer g c =
     let l = line_by c.args.rule.now in
     rw (ap (option_map (λ tag. tag.now)) c.in_default.is)
     (told_then (see c.args.self.now) c.in_ok-made.ensures.made
-    (λ bytes files made. line_said l c.args.name.now c.args.file.now c.in_ok-made.made _ (Ok 0) _ _ made
-    (refl, rw c.make.ensures.out at c.in_ok-write_sum.ensures)))
+    (λ bytes files read. line_said l c.args.name.now c.args.file.now c.in_ok-made.made _ (Ok 0) _ _
+    (c.in_ok-named_by.ensures, read) (refl, rw c.made_of_file.ensures.out at c.in_ok-write_sum.ensures)))
 
 pub returns-clause-answer : goal.returns-clause-answer
 returns-clause-answer g c =
@@ -36,9 +55,9 @@ returns-clause-answer g c =
     let l = line_by c.args.rule.now in
     rw (ap (option_map (λ tag. tag.now)) c.in-Some.is)
     (told_then (see c.args.self.now) c.in_ok-made.ensures.made
-    (λ bytes files made. digest_said l c.args.name.now c.args.file.now c.in_ok-made.made c.in-Some.bytes.now
-    c.is_made.result _ _ _ _ made c.is_made.ensures
-    (rw c.make.ensures.out at c.print_verdict.ensures.said)))
+    (λ bytes files read. digest_said l c.args.name.now c.args.file.now c.in_ok-made.made c.in-Some.bytes.now
+    c.is_made.result _ _ _ _ (c.in_ok-named_by.ensures, read) c.is_made.ensures
+    (rw c.made_of_file.ensures.out at c.print_verdict.ensures.said)))
 
 pub returns-in_err-write_sum-clause-read : goal.returns-in_err-write_sum-clause-read
 returns-in_err-write_sum-clause-read g c =
