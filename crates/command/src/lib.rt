@@ -20,6 +20,25 @@ macro_rules! read_named {
     }};
 }
 
+// The same by a method of a session whose input is that feed.
+macro_rules! read_as_input {
+    ($session:ident, $name:expr, $function:ident($($argument:expr),*)) => {{
+        if $name == "-" {
+            return $session.$function($($argument),*);
+        }
+        let mut feed = open_file($name, 0, $session.tree)?;
+        let mut listed = Session {
+            alloc: $session.alloc,
+            input: &mut feed,
+            tree: $session.tree,
+            out: $session.out,
+        };
+        let answer = listed.$function($($argument),*);
+        $session.tree.close(feed);
+        answer
+    }};
+}
+
 mod cutting;
 mod digests;
 mod each;

@@ -169,19 +169,11 @@ impl<'i, 't, 'o, L: Feed, T: Tree, W: Sink> Session<'i, 't, 'o, L, T, W> {
             (⟦<Self as Streams>⟧.seen self.old) (⟦<Self as Streams>⟧.seen self.new)) }
         ensures same { SameStreams self.old self.new }
     {
-        if name == "-" {
-            return self.check_input(entries, title, is_summed, name, share, err);
-        }
-        let mut list = open_file(name, 0, self.tree)?;
-        let mut listed = Session {
-            alloc: self.alloc,
-            input: &mut list,
-            tree: self.tree,
-            out: self.out,
-        };
-        let answer = listed.check_input(entries, title, is_summed, name, share, err);
-        self.tree.close(list);
-        answer
+        read_as_input!(
+            self,
+            name,
+            check_input(entries, title, is_summed, name, share, err)
+        )
     }
 
     // Checks the list of this name, which is the session's input.

@@ -15,8 +15,8 @@ returns-then-eq-clause-run g c =
     (option_map (λ n. n.now) c.args.title) name c.args.share.now content run c.check_input.new.share)
     _ _ _ _ _ _ _ _ _ _ _ (sym c.eq.ensures ∙ c.if-eq.true) c.check_input.ensures.list c.check_input.ensures.counted
 
-pub returns-in_err-list-clause-run : goal.returns-in_err-list-clause-run
-returns-in_err-list-clause-run g c =
+pub returns-in_err-feed-clause-run : goal.returns-in_err-feed-clause-run
+returns-in_err-feed-clause-run g c =
     let name = c.args.name.now in
     let is = sym c.eq.ensures ∙ c.if-eq.false in
     report_refused name (λ files content run.
@@ -26,7 +26,7 @@ returns-in_err-list-clause-run g c =
     (λ files content t may other.
     refused_list c.args.is_summed files (meaning c.args.entries.now)
     (option_map (λ n. n.now) c.args.title) name c.args.share.now content t may other is)
-    c.from_residual.ensures.1 c.in_err-list.ensures.opened c.in_err-list.ensures.counted refl
+    c.from_residual.ensures.1 c.in_err-feed.ensures.opened c.in_err-feed.ensures.counted refl
 
 pub returns-clause-run : goal.returns-clause-run
 returns-clause-run g c =
@@ -34,31 +34,31 @@ returns-clause-run g c =
     report_file name (λ files content run.
     ListRuns c.args.is_summed files (meaning c.args.entries.now)
     (option_map (λ n. n.now) c.args.title) name c.args.share.now content run c.check_input-answer.new.share)
-    _ _ g.T.F.Feed.remaining c.in_ok-list.list _ _ _ _ _ _ _ _ _ _ _ _ _
-    (sym c.eq.ensures ∙ c.if-eq.false) c.in_ok-list.ensures.opened c.open_file.ensures.kept
-    c.in_ok-list.ensures.counted c.check_input-answer.ensures.list c.in_ok-list.ensures.fresh
-    c.check_input-answer.ensures.counted (rw (c.list-3-1.given.1 (sym c.check_input-answer.ensures.same.input)) at
+    _ _ g.T.F.Feed.remaining c.in_ok-feed.feed _ _ _ _ _ _ _ _ _ _ _ _ _
+    (sym c.eq.ensures ∙ c.if-eq.false) c.in_ok-feed.ensures.opened c.open_file.ensures.kept
+    c.in_ok-feed.ensures.counted c.check_input-answer.ensures.list c.in_ok-feed.ensures.fresh
+    c.check_input-answer.ensures.counted (rw (c.feed-3-1.given.1 (sym c.check_input-answer.ensures.same.input)) at
     c.close.ensures.counted)
 
 pub returns-then-eq-clause-opens : goal.returns-then-eq-clause-opens
 returns-then-eq-clause-opens g c =
     opens_of_input lines c.args.name.now _ _ _ _ (sym c.eq.ensures ∙ c.if-eq.true) c.check_input.ensures.opens
 
-pub returns-in_err-list-clause-opens : goal.returns-in_err-list-clause-opens
-returns-in_err-list-clause-opens g c =
+pub returns-in_err-feed-clause-opens : goal.returns-in_err-feed-clause-opens
+returns-in_err-feed-clause-opens g c =
     opens_of_none lines c.args.name.now _ _ _ _ (sym c.eq.ensures ∙ c.if-eq.false) c.open_file.ensures.opens
 
 pub returns-clause-opens : goal.returns-clause-opens
 returns-clause-opens g c =
-    opens_of_file lines c.args.name.now g.T.F.Feed.remaining c.in_ok-list.list _ _ _ _ _ _ _
-    (sym c.eq.ensures ∙ c.if-eq.false) c.in_ok-list.ensures.opened c.open_file.ensures.kept c.open_file.ensures.opens
+    opens_of_file lines c.args.name.now g.T.F.Feed.remaining c.in_ok-feed.feed _ _ _ _ _ _ _
+    (sym c.eq.ensures ∙ c.if-eq.false) c.in_ok-feed.ensures.opened c.open_file.ensures.kept c.open_file.ensures.opens
     c.check_input-answer.ensures.opens c.close.ensures.opened
 
 pub returns-then-eq-clause-gave : goal.returns-then-eq-clause-gave
 returns-then-eq-clause-gave g c = rw (sym c.eq.ensures ∙ c.if-eq.true) c.check_input.ensures.gave
 
-pub returns-in_err-list-clause-gave : goal.returns-in_err-list-clause-gave
-returns-in_err-list-clause-gave g c = rw (sym c.eq.ensures ∙ c.if-eq.false) refl
+pub returns-in_err-feed-clause-gave : goal.returns-in_err-feed-clause-gave
+returns-in_err-feed-clause-gave g c = rw (sym c.eq.ensures ∙ c.if-eq.false) refl
 
 pub returns-clause-gave : goal.returns-clause-gave
 returns-clause-gave g c = rw (sym c.eq.ensures ∙ c.if-eq.false) refl
