@@ -1,8 +1,8 @@
 #!/usr/bin/env python3
 """Cuts files into parts of each size, joins their lines, and compares with the digest of the whole file, by the
 program and by b3sum where it is installed; lists where parts begin, and hashes files in parts of each size, with each
-option. Then parts that are far behind the first, the lines that `join` refuses, the parts that `part` refuses, and
-parts that come out of one pipe.
+option. Then parts at each of many chunks and of each power of two, names of each length, parts that are far behind the
+first, the lines that `join` refuses, the parts that `part` refuses, and parts that come out of one pipe.
 usage: tests/program/parts.py PROGRAM
 """
 
@@ -14,6 +14,7 @@ import sys
 sys.path.append(os.path.join(os.path.dirname(os.path.realpath(__file__)), ".."))
 
 import harness
+import standards
 import tables
 from harness import judge, same
 
@@ -23,6 +24,7 @@ SIZES = [0, 1, 1023, 1024, 1025, 8192, 8193, 17_000, 150_000, 1_000_000]
 SIZES_OF_HASH = [0, 1, 1024, 1025, 4096, 8193, 17_000, 102_400]
 OPTIONS_OF_HASH = ([], ["-l", "100"], ["--seek", "33", "-l", "70"], ["--tag"])
 VALUE = b"91333b6a7a918b2ebfcb11c419754631802f5790f4fc714bfce637157e9b1d88"
+MODE = standards.mode_of()
 
 
 def run(*words, given=b""):
@@ -165,6 +167,24 @@ def ways():
         more = part("--first", str(first), "--chunks", str(chunks), "-", given=piece + b"more")
         judge(f"{name}: its front", len(piece) < CHUNK * chunks or more == want, more)
     expect("the line of a part", part("--first", "256", given=data[:1]), 0, *LINE_OF_ONE_BYTE)
+
+
+def each_number():
+    """No number of a chunk, of chunks or of the bytes of a name is refused for want of memory."""
+    for first in range(256):
+        value = standards.to_bytes(standards.NARROW, standards.chaining_value(standards.chunk(MODE, first, b"x")))
+        line = f"sums-part-1 blake3 {first} 1 {value.hex()}\n".encode()
+        expect(f"a byte of chunk {first}", part("--first", str(first), given=b"x"), 0, line, b"")
+    want = part("1024")
+    for chunks in (1 << e for e in range(55)):
+        for words in (["--chunks"], ["--first", "0", "--chunks"], ["--each"]):
+            words = [*words, str(chunks)]
+            same(" ".join(words), part(*words, given=content(1024)), want)
+            same(" ".join([*words, "of a file"]), part(*words, "1024"), want)
+    lines, digits = b"".join(lines_of(8193, 4)), whole(8193).out.split(b" ")[0]
+    for name in ("n" * length for length in range(1, 256)):
+        expect(f"a joined line of a name of {len(name)} bytes", join("--name", name, given=lines), 0,
+               digits + f"  {name}\n".encode(), b"")
 
 
 def far_positions():
@@ -388,6 +408,7 @@ with harness.folder():
     hash_in_parts()
     stretches()
     ways()
+    each_number()
     far_positions()
     pipe()
     refused_lines()

@@ -1,8 +1,8 @@
 #!/usr/bin/env python3
 """Runs the program where its streams and files are more than a text: devices that take nothing, inputs and outputs
 that are longer than a buffer, a pipe that comes in two pieces, the names that `find` prints, files that are pipes,
-files of another user, files with names that are nearly another's, streams that are closed, and many files of which few
-may be open at a time.
+files of another user, files with names that are nearly another's or with the number of a pipe, streams that are closed,
+and many files of which few may be open at a time.
 usage: tests/program/streams.py PROGRAM
 """
 
@@ -110,6 +110,8 @@ LONG = b"x" * 300_000
 # How many seconds a run has whose files are pipes, and the number of the user that has no files.
 PATIENCE = 60
 NOBODY = 65534
+# How many files are made at most for one with a given number.
+MOST_FILES = 1_000_000
 CANNOT_READ = b"sums: this: cannot read\n"
 CANNOT_WRITE = b"sums: cannot write\n"
 
@@ -337,6 +339,37 @@ def over(name, words):
         return harness.run(program, words.split(), None, stdin=given)
 
 
+def equal_numbers():
+    """A file with the number that the pipe of a list has, on another device, is not that pipe."""
+    name = f"/dev/shm/numbered{os.getpid()}"
+    given, filling = (os.fdopen(end, mode) for end, mode in zip(os.pipe(), ("rb", "wb")))
+    with given, filling:
+        if not has_number(name, os.fstat(given.fileno()).st_ino):
+            print("there was no file with the number of a pipe: such a file was not tried")
+            return
+        filling.write(ABC + b"  " + name.encode() + b"\n")
+        filling.close()
+        got = harness.run(program, ["check", "-a", "sha256"], None, stdin=given)
+        same("a file with the number of the pipe of its list", got, (0, name.encode() + b": OK\n", b""))
+        os.remove(name)
+
+
+def has_number(name, number):
+    """Makes the file anew until it has this number, if its system gives one number after another up to that."""
+    for _ in range(MOST_FILES):
+        try:
+            write(name, b"abc")
+            found = os.stat(name).st_ino
+            if found == number:
+                return True
+            os.remove(name)
+        except OSError:
+            return False
+        if not 0 < number - found < MOST_FILES:
+            return False
+    return False
+
+
 def few_open_files():
     """Each file is closed before the next one is opened."""
     with open("many-names", "wb") as file:
@@ -365,5 +398,6 @@ with harness.folder():
     terminals()
     closed_streams()
     own_files()
+    equal_numbers()
     few_open_files()
 harness.finish()
