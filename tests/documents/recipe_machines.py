@@ -10,7 +10,7 @@ import sys
 import tempfile
 import time
 
-from recipe_runner import NAMES, Wrong, ends, fill, same, write
+from recipe_runner import CHUNK, NAMES, Wrong, behind_file, ends, fill, named, same, write
 
 
 # ---- Services, and runs over ssh
@@ -146,6 +146,7 @@ def scale_slurm(bench):
         if cluster(bench, children):
             steps(bench)
             shares(bench)
+            arrays(bench)
             bench.judge("docs/SCALE.md shares-slurm, a task that fails", lambda: failing(bench))
         else:
             bench.missing("Slurm did not start: its recipe was not run")
@@ -237,6 +238,23 @@ def shares(bench):
     bench.judge("docs/SCALE.md shares-slurm", case)
 
 
+def arrays(bench):
+    """An array whose tasks hash the parts of a file, of each name, all at once; then the outputs of the jobs behind."""
+    text = behind_file(bench, "parts-slurm")
+    cases = []
+    for name, size, chunks in [("big", 200000001, None), *((name, 4321, 1) for name in NAMES), ("many", 1002 * CHUNK, 1)]:
+        folder = bench.folder()
+        fill(os.path.join(folder, name), size)
+        cases.append((name, folder, bench.run(text if chunks is None else named(text, name, chunks), folder)))
+    waited(bench, 900)
+    for name, folder, got in cases:
+        def case():
+            same((got[0], got[2]), (0, b""), "status and standard error")
+            with open(os.path.join(folder, f"slurm-{got[1].split()[-1].decode()}.out"), "rb") as file:
+                same(file.read(), bench.sums(folder, "hash", "-a", "blake3", "--", name), "the output of the job")
+        bench.judge(f"docs/SCALE.md parts-slurm, {name!r}", case)
+
+
 def waited(bench, seconds):
     until = time.monotonic() + seconds
     while bench.run("squeue -h", bench.work)[1].strip() and time.monotonic() < until:
@@ -304,3 +322,21 @@ def scale_spark(bench):
     bench.judge("docs/SCALE.md shares-spark", lambda: same((got[0], got[1]), (0, b""), "status and output"))
     bench.judge("docs/SCALE.md shares-spark, told", lambda: ends(bench.run(bench.text("docs/SCALE.md", "told"), folder)))
     bench.judge("docs/SCALE.md shares-spark, the report", lambda: reported(folder, count))
+    spark_parts(bench, start, shown)
+
+
+def spark_parts(bench, start, shown):
+    """The parts of a file of each name, and their lines, which the recipe behind it joins."""
+    text = bench.text("docs/SCALE.md", "parts-spark")
+    for name, size, chunks in [("big", 200000001, 65536), *((name, 4321, 1) for name in NAMES)]:
+        folder = bench.folder()
+        fill(os.path.join(folder, name), size)
+        script = write(folder, "script.py", f"{start}import shlex\nf, n, size = {name!r}, {chunks}, {size}\n{text}")
+
+        def case():
+            got = bench.run(f"{shlex.quote(sys.executable)} {script}{shown}", folder)
+            same((got[0], got[1]), (0, b""), "status and output")
+            ends(bench.run(named(behind_file(bench, "lines"), name, chunks), folder), 0,
+                 bench.sums(folder, "hash", "-a", "blake3", "--", name))
+
+        bench.judge(f"docs/SCALE.md parts-spark, {name!r}", case)

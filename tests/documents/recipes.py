@@ -566,7 +566,7 @@ RUNS = {
     "docs/SCALE.md": {"cores": scale_cores, "hosts": scale_hosts, "srun": scale_slurm, "file": scale_parts,
                       "shares": scale_shares, "told": scale_shares, "shares-hash": scale_shares_hash,
                       "shares-hosts": scale_hosts, "share.sh": scale_slurm, "shares-slurm": scale_slurm,
-                      "shares-spark": scale_spark,
+                      "shares-spark": scale_spark, "parts-slurm": scale_slurm, "parts-spark": scale_spark,
                       "device": scale_parts, "parts": scale_parts, "own": scale_own, "lines": scale_own,
                       "damage-list": scale_damage, "damage-trust": scale_damage, "damage-find": scale_damage,
                       "damage-mend": scale_damage},
