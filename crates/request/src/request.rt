@@ -1,9 +1,9 @@
 // What the words of the command line ask for.
 
-ghost use Rattle.std.specs.Prelude.{◌≡◌, ◌≢◌, [], Err, IfOk, OnOk, Some, map, option_map, true};
-ghost use Rattle.clap.specs.Words.{IsAmong, fault_of, has_subcommand, kind_of};
-ghost use Rattle.clap.specs.Words.{subcommand_of, subcommand_rows_of};
-ghost use Rattle.request.specs.CommandLine.{AreRead, all_of, given_of, has_flag, sums_app, text_of};
+ghost use Rattle.std.specs.Prelude.{◌≡◌, ◌≢◌, ◌⊎◌, Err, IfOk, map, option_map};
+ghost use Rattle.clap.specs.Words.{kind_of};
+ghost use Rattle.clap.specs.declared.error.ErrorKind.TheVariants as kind;
+ghost use Rattle.request.specs.CommandLine.{AreRead, all_of, given_of, has_flag, text_of};
 ghost use Rattle.request.specs.declared.request.WordsFault.TheVariants.{OutOfMemory, Words};
 
 use crate::commands::sums_command;
@@ -26,6 +26,19 @@ impl From<AllocError> for WordsFault {
 
     fn from(_error: AllocError) -> WordsFault {
         WordsFault::OutOfMemory
+    }
+}
+
+impl From<Error> for WordsFault {
+    ghost from_gives = { λ error fault. ((fault ≡ OutOfMemory) × (kind_of error ≡ kind.OutOfMemory))
+        ⊎ ((fault ≡ Words error) × (kind_of error ≢ kind.OutOfMemory)) };
+
+    fn from(error: Error) -> WordsFault {
+        if error.kind() == ErrorKind::OutOfMemory {
+            WordsFault::OutOfMemory
+        } else {
+            WordsFault::Words(error)
+        }
     }
 }
 
@@ -101,55 +114,13 @@ pub fn line<'a>(alloc: Global, words: &'a [&'a str]) -> Result<Request<'a>, Word
     ensures fault { (e : _) → result ≡ Err (Words e)
         → AreRead (map (λ w. w.now) words.entry.now) (Err (kind_of e)) }
 {
-    let matches = parsed(
-        alloc,
-        words,
-        Kind::names(),
-        MACS.as_slice(),
-        BOTH.as_slice(),
-    )?;
-    Ok(request_from(matches))
-}
-
-fn parsed<'a>(
-    alloc: Global,
-    words: &'a [&'a str],
-    names: &'a [&'a str],
-    macs: &'a [&'a str],
-    both: &'a [&'a str],
-) -> Result<ArgMatches<'a>, WordsFault>
-    ensures rows { IfOk result (λ m. subcommand_rows_of m
-        ≡ subcommand_of (sums_app names.entry macs.entry both.entry) (map (λ w. w.now) words.entry.now)) }
-    ensures met { IfOk result (λ m. has_subcommand m ≡ true) }
-    ensures passes { OnOk result
-        (fault_of (sums_app names.entry macs.entry both.entry) (map (λ w. w.now) words.entry.now) ≡ []) }
-    ensures fault { (e : _) → result ≡ Err (Words e) → IsAmong (kind_of e)
-        (fault_of (sums_app names.entry macs.entry both.entry) (map (λ w. w.now) words.entry.now)) }
-{
+    let names: &'a [&'a str] = Kind::names();
+    let macs: &'a [&'a str] = &MACS;
+    let both: &'a [&'a str] = &BOTH;
     let command = sums_command(alloc, names, macs, both)?;
-    match command.try_get_matches_from(words) {
-        Ok(matches) => Ok(matches),
-        Err(error) => Err(fault_from(error)),
-    }
-}
-
-fn fault_from(error: Error) -> WordsFault
-    ensures words { (e : _) → result ≡ Words e → (e ≡ error) × (kind_of e ≢ ErrorKind.OutOfMemory) }
-    ensures memory { result ≡ OutOfMemory → kind_of error ≡ ErrorKind.OutOfMemory }
-{
-    if error.kind() == ErrorKind::OutOfMemory {
-        WordsFault::OutOfMemory
-    } else {
-        WordsFault::Words(error)
-    }
-}
-
-fn request_from<'a>(mut matches: ArgMatches<'a>) -> Request<'a>
-    requires { has_subcommand matches ≡ true }
-    ensures { subcommand_rows_of matches.entry ≡ Some (given_of result) }
-{
-    match matches.remove_subcommand() {
-        Some((command, matches)) => Request { command, matches },
-        None => unreachable!(),
-    }
+    let mut matches = command.try_get_matches_from(words)?;
+    let Some((command, matches)) = matches.remove_subcommand() else {
+        unreachable!()
+    };
+    Ok(Request { command, matches })
 }
