@@ -55,8 +55,8 @@ unfolding clap_on_literals sums_app decode_pairs
 hash_name_alone names macs both = refl
 
 mac_after_its_name : Asks (codes "mac" ∷ codes "-ablake2s" ∷ codes "--key-file=k" ∷ codes "-l1"
-    ∷ codes "--verify=blake2s:D1" ∷ codes "f" ∷ [])
-    (Ok (prints_line (tags (Blake2s 1) false (in_file (codes "k"))) (Some (209 ∷ [])) (codes "f") (codes "f")))
+    ∷ codes "--verify=blake2s:AA" ∷ codes "f" ∷ [])
+    (Ok (prints_line (tags (Blake2s 1) false (in_file (codes "k"))) (Some (170 ∷ [])) (codes "f") (codes "f")))
 unfolding clap_on_literals sums_app decode_pairs
 mac_after_its_name names macs both = refl
 
