@@ -9,6 +9,7 @@ use Rattle.sumlist.specs.Report.{Files, Meaning, summary_of}
 use Rattle.sumlist.specs.Shared.{shared}
 use Rattle.sumlist.specs.Tally.{is_clean}
 use Rattle.sumlist.specs.declared.share.Share.{Share}
+use Rattle.task.specs.declared.tasks.Reporting.{Reporting}
 use Rattle.command.specs.Checking.{ListRuns}
 use Rattle.command.specs.Lines.{content_of, is_input, opens_of}
 use Rattle.command.specs.Run.{Run}
@@ -25,17 +26,17 @@ status_light true s is e = omega (arith, is, e)
 status_light false s is e = omega (arith, is, e)
 
 -- the run over a list, which has its name in its report or none
-abbrev pub list_runs : Bool → Meaning → Bool → Files → Text → Share → List ℕ → Run → Share → Type 0
-list_runs is_summed entries are_named files name share input =
-    ListRuns is_summed files entries (if are_named then Some name else None) name share (content_of name input files)
+abbrev pub list_runs : Reporting → Meaning → Bool → Files → Text → Share → List ℕ → Run → Share → Type 0
+list_runs reporting entries are_named files name share input =
+    ListRuns reporting files entries (if are_named then Some name else None) name share (content_of name input files)
 
 -- a list that was read to its end does not end the run
-runs_light : (is_summed : Bool) (files : Files) (entries : Meaning) (list : Option Text) (name : Text)
+runs_light : (reporting : Reporting) (files : Files) (entries : Meaning) (list : Option Text) (name : Text)
     (share : Share) (content : Option (List ℕ)) (run : Run) (behind : Share) (s : ℕ)
-    → ListRuns is_summed files entries list name share content run behind → run.ending ≡ Ok s → s ≢ 3
-runs_light is_summed files entries list name share None run behind s runs is e =
+    → ListRuns reporting files entries list name share content run behind → run.ending ≡ Ok s → s ≢ 3
+runs_light reporting files entries list name share None run behind s runs is e =
     refused_ends 0 false name None run s (inl runs.0) is
-runs_light is_summed files entries list name share (Some bytes) run behind s runs is e = elim runs.2 [
+runs_light reporting files entries list name share (Some bytes) run behind s runs is e = elim runs.2 [
   | inl p ↦
       let own = (shared share.others share.waiting runs.0).0 in
       let same = sym is ∙ ap ends p.0 in
@@ -47,11 +48,11 @@ runs_light is_summed files entries list name share (Some bytes) run behind s run
   ]
 ]
 
-pub list_whole : (is_summed : Bool) (entries : Meaning) (are_named : Bool) (files : Files) (name : Text)
+pub list_whole : (reporting : Reporting) (entries : Meaning) (are_named : Bool) (files : Files) (name : Text)
     (share : Share) (input : List ℕ) (run : Run) (behind : Share) (s : ℕ)
-    → list_runs is_summed entries are_named files name share input run behind → run.ending ≡ Ok s → s ≢ 3
-list_whole is_summed entries are_named files name share input run behind s runs is =
-    runs_light is_summed files entries (if are_named then Some name else None) name share
+    → list_runs reporting entries are_named files name share input run behind → run.ending ≡ Ok s → s ≢ 3
+list_whole reporting entries are_named files name share input run behind s runs is =
+    runs_light reporting files entries (if are_named then Some name else None) name share
     (content_of name input files) run behind s runs is
 
 -- ---- what is opened

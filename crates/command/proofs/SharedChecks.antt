@@ -17,6 +17,7 @@ use Rattle.sumlist.specs.inside.Cut.{HasNo}
 use Rattle.sumlist.proofs.InTurn.{Merged, Moves, all_own, merged, moves}
 use Rattle.sumlist.proofs.SharedTally.{bad, bad_below, bad_most, bad_own, worst}
 use Rattle.sumlist.proofs.SharedTexts.{Spoken, free_append_all, free_every, lined, lines-lined, spoken}
+use Rattle.task.specs.declared.tasks.Reporting.{Reporting}
 use Rattle.command.specs.Checking.{ListRuns, notes_of}
 use Rattle.command.specs.Laws.{ChecksAreRun}
 use Rattle.command.specs.Lines.{content_of, is_input}
@@ -86,12 +87,12 @@ refused_stops most b name (Some m) stop (inr (long, is)) ends =
 
 -- ---- the run over a list, and those after it
 
-module _ (m : Meaning) (is_summed : Bool) (files : Files) (many : Bool) where
+module _ (m : Meaning) (reporting : Reporting) (files : Files) (many : Bool) where
   abbrev pub title : Text → Option Text
   title name = if many then Some name else None
 
   abbrev pub One : Text → Share → List ℕ → Run → Share → Type 0
-  One name s input = ListRuns is_summed files m (title name) name s (content_of name input files)
+  One name s input = ListRuns reporting files m (title name) name s (content_of name input files)
 
   abbrev pub Over : List Text → Share → List ℕ → Run → Type 0
   Over lists s input run = RunsAll is_input One lists s input run
@@ -128,7 +129,7 @@ module _ (m : Meaning) (is_summed : Bool) (files : Files) (many : Bool) where
     pub moved : next ≡ record s { waiting = (shared s.others s.waiting outcomes).1 }
 
   listed : (name : Text) (s : Share) (content : Option (List ℕ)) (run : Run) (next : Share) → Ends run
-      → ListRuns is_summed files m (title name) name s content run next → Listed name s content run next
+      → ListRuns reporting files m (title name) name s content run next → Listed name s content run next
   listed name s None run next ends (unread, same) =
       absurd (refused_stops 0 false name None run (inl unread) ends)
   listed name s (Some bytes) run next ends (os, allowed, inl (is, moved)) = record {
@@ -299,7 +300,7 @@ module _ (m : Meaning) (is_summed : Bool) (files : Files) (many : Bool) where
       abbrev all_first : Run
       all_first = let own = shared 0 0 whole in let s = summary_of own.0 in
           record (prints (report_from (title name) 1 own.0) (if is_clean s then 0 else 1)) {
-            notes = notes_of is_summed m (title name) name s;
+            notes = notes_of reporting m (title name) name s;
             failures = replicate s.unreadable false;
           }
 
@@ -311,7 +312,7 @@ module _ (m : Meaning) (is_summed : Bool) (files : Files) (many : Bool) where
 
       one_first : One name (record { others = 0; waiting = 0 }) input all_first
           (record { others = 0; waiting = (shared 0 0 whole).1 })
-      one_first = subst (λ c. ListRuns is_summed files m (title name) name (record { others = 0; waiting = 0 }) c
+      one_first = subst (λ c. ListRuns reporting files m (title name) name (record { others = 0; waiting = 0 }) c
           all_first (record { others = 0; waiting = (shared 0 0 whole).1 })) (sym (heads 0).here.is)
           (whole, all_merged.allowed, inl (refl, refl))
 
@@ -410,7 +411,7 @@ module _ (m : Meaning) (is_summed : Bool) (files : Files) (many : Bool) where
 -- ---- the law
 
 pub checks_are_run : ChecksAreRun
-checks_are_run m is_summed files lists input n shares did = (
+checks_are_run m reporting files lists input n shares did = (
   r.run,
   r.whole,
   λ k within. (
@@ -422,8 +423,8 @@ checks_are_run m is_summed files lists input n shares did = (
   (r.most, r.most_within, ap status (sym (clip r.most r.most_within)) ∙ r.most_same),
 )
   where
-    r : Made m is_summed files (nat_lt 1 (length lists)) n lists input (λ k. shares (min k n))
-    r = made m is_summed files (nat_lt 1 (length lists)) n lists input (λ k. shares (min k n))
+    r : Made m reporting files (nat_lt 1 (length lists)) n lists input (λ k. shares (min k n))
+    r = made m reporting files (nat_lt 1 (length lists)) n lists input (λ k. shares (min k n))
         (λ k. did (min k n) (omega arith))
 
     clip : (k : ℕ) → k ≤ n → shares (min k n) ≡ shares k

@@ -27,6 +27,7 @@ use Rattle.sumlist.specs.declared.verdict.Verdict.{Verdict}
 use Rattle.sumlist.specs.declared.verdict.Verdict.TheVariants as verdict
 use Rattle.sumlist.specs.inside.Telling.{ListBeside}
 use Rattle.task.specs.Tasks.{in_file}
+use Rattle.task.specs.declared.tasks.Reporting.{Reporting}
 use Rattle.command.specs.Checking.{ListsRun, ListsTold, ends_at, notes_of}
 use Rattle.command.specs.Lines.{content_of, is_input}
 use Rattle.command.specs.Run.{Run, TellsAll, followed, prints, stops}
@@ -284,20 +285,20 @@ module _ (m : Meaning) (title : Option Text) (report : Text) (left : Option Text
 
 -- ---- the notes of a list, and its status
 
-module _ (is_summed : Bool) (m : Meaning) (title : Option Text) (report : Text) (left : Option Text) (n : ℕ)
+module _ (reporting : Reporting) (m : Meaning) (title : Option Text) (report : Text) (left : Option Text) (n : ℕ)
     (rest : Option Text) (next : ℕ) (name : Text) (b c : Seen) (err_old err_new : Shown) (x y : ℕ) where
   abbrev pub Summed : Result Summary Fault → Type 0
   Summed answer = IfTold b (λ bytes files. IfSome left (λ text. SumsUp m title report text n rest next name
       (content_of name bytes files) answer x y (CountsList name b c)))
 
-  pub list_noted : (s : Summary) → Summed (Ok s) → TellsAll err_old err_new (notes_of is_summed m title name s)
-      → TellsList is_summed m title report left n rest next name (Ok (if is_clean s then 0 else 1)) b c err_old err_new
+  pub list_noted : (s : Summary) → Summed (Ok s) → TellsAll err_old err_new (notes_of reporting m title name s)
+      → TellsList reporting m title report left n rest next name (Ok (if is_clean s then 0 else 1)) b c err_old err_new
       x y
   list_noted s summed noted = told_then b summed (λ bytes files one. IfSome_then left one (λ text sums.
       (Ok s, sums, (refl, noted))))
 
   pub list_stopped : (f : Fault) (r : Result ℕ Fault) → Summed (Err f) → IsErrAnd r (λ g. g ≡ f)
-      → err_new ≡ err_old → TellsList is_summed m title report left n rest next name r b c err_old err_new x y
+      → err_new ≡ err_old → TellsList reporting m title report left n rest next name r b c err_old err_new x y
   list_stopped f r summed stop quiet =
       let e = err_from_is_err_and r stop in
       told_then b summed (λ bytes files one. IfSome_then left one (λ text sums.
@@ -327,20 +328,20 @@ plus-file : (b : Bool) (k : ℕ) → failures_from false k ≡ plus (failures_fr
 plus-file true k = pair (omega arith) (omega arith)
 plus-file false k = pair (omega arith) (omega arith)
 
-module _ (is_summed : Bool) (m : Meaning) (are_named : Bool) (report : Text) where
+module _ (reporting : Reporting) (m : Meaning) (are_named : Bool) (report : Text) where
   abbrev title : Text → Option Text
   title name = if are_named then Some name else None
 
   module _ (name : Text) (names : List Text) (left rest : Option Text) (n next : ℕ) (b c : Seen)
       (err_old err_mid : Shown) (x y : ℕ) (out : c.out ≡ b.out) where
     abbrev pub Listed : Result ℕ Fault → Type 0
-    Listed r = TellsList is_summed m (title name) report left n rest next name r b c err_old err_mid x y
+    Listed r = TellsList reporting m (title name) report left n rest next name r b c err_old err_mid x y
 
     -- a list that was summed up, and those after it
     pub tells-more : (s : ℕ) (r : Result ℕ Fault) (d : Seen) (err_new : Shown) (z : ℕ) → Listed (Ok s)
         → (let one : Result ℕ Fault = Ok s in Leaves (is_input name) one b.bytes c.bytes) → c.files ≡ b.files
-        → TellsLists is_summed m are_named report rest next names r c d err_mid err_new y z
-        → TellsLists is_summed m are_named report left n (name ∷ names) (raised s r) b d err_old err_new x z
+        → TellsLists reporting m are_named report rest next names r c d err_mid err_new y z
+        → TellsLists reporting m are_named report left n (name ∷ names) (raised s r) b d err_old err_new x z
     tells-more s r d err_new z list gave kept later = told_where b (λ bytes files at_bytes at_files.
         IfSome_then left (rw (at_bytes, at_files) at list) (λ text list whole is room.
         on list.0 text bytes files whole list.1 list.2 (rw at_bytes at gave) (kept ∙ at_files) is room))
@@ -348,10 +349,10 @@ module _ (is_summed : Bool) (m : Meaning) (are_named : Bool) (report : Text) whe
         one : (t : Summary) (text : Text) (bytes : List ℕ) (files : Files) (whole bs : List ℕ)
             → content_of name bytes files ≡ Some bs → IsSummed m (title name) bs text n rest next t
             → CountsList name b c 0 → y ≡ x → (let e : Result ℕ Fault = Ok s in e) ≡ Ok (if is_clean t then 0 else 1)
-            → TellsAll err_old err_mid (notes_of is_summed m (title name) name t)
+            → TellsAll err_old err_mid (notes_of reporting m (title name) name t)
             → c.bytes ≡ Some (if is_input name then [] else bytes) → c.files ≡ Some files
             → files report ≡ Some whole → HasRoom whole text n
-            → RunsTold is_summed m are_named files report n text (name ∷ names) bytes (raised s r) b d err_old err_new
+            → RunsTold reporting m are_named files report n text (name ∷ names) bytes (raised s r) b d err_old err_new
             x z
         one t text bytes files whole bs content it counted same status tells now_bytes now_files is room =
             let few = lines_few (title name) it.outcomes in
@@ -361,7 +362,7 @@ module _ (is_summed : Bool) (m : Meaning) (are_named : Bool) (report : Text) whe
             let roomy : HasRoom whole it.behind next = omega (arith, few, ap length split, next_is, longer, room) in
             let last = (rw (now_bytes, now_files, it.rest_is) at later) whole is roomy in
             let first : Run = record (prints [] (if is_clean t then 0 else 1)) {
-              notes = notes_of is_summed m (title name) name t;
+              notes = notes_of reporting m (title name) name t;
             } in
             let as_status : s ≡ (if is_clean t then 0 else 1) = cc in
             let it_does : Does first (Ok s) b.out c.out = record {
@@ -387,9 +388,9 @@ module _ (is_summed : Bool) (m : Meaning) (are_named : Bool) (report : Text) whe
                     refl,
                     last.0,
                     ap (λ (u : Summary). followed (record (prints [] (if is_clean u then 0 else 1)) {
-                      notes = notes_of is_summed m (title name) name u;
+                      notes = notes_of reporting m (title name) name u;
                     }) last.0) it.same,
-                    subst (λ k. ListsTold is_summed m are_named files report k it.behind names
+                    subst (λ k. ListsTold reporting m are_named files report k it.behind names
                         (if is_input name then [] else bytes) last.0) it.next_is last.1,
                   ),
                 ),
@@ -408,11 +409,11 @@ module _ (is_summed : Bool) (m : Meaning) (are_named : Bool) (report : Text) whe
             → SumsUp m (title name) report text n rest next name (content_of name bytes files) answer x y
             (CountsList name b c)
             → MatchResult answer (λ t. ((let e : Result ℕ Fault = Ok s in e) ≡ Ok (if is_clean t then 0 else 1))
-            × TellsAll err_old err_mid (notes_of is_summed m (title name) name t))
+            × TellsAll err_old err_mid (notes_of reporting m (title name) name t))
             (λ f. ((let e : Result ℕ Fault = Ok s in e) ≡ Err f) × (err_mid ≡ err_old))
             → (let one : Result ℕ Fault = Ok s in Leaves (is_input name) one (Some bytes) c.bytes)
             → c.files ≡ Some files → files report ≡ Some whole → HasRoom whole text n
-            → RunsTold is_summed m are_named files report n text (name ∷ names) bytes (raised s r) b d err_old err_new
+            → RunsTold reporting m are_named files report n text (name ∷ names) bytes (raised s r) b d err_old err_new
             x z
         on (Err f) text bytes files whole sums how gave now_files is room = absurd (let no = how.0 in cc)
         on (Ok t) text bytes files whole (summed, counted, same) how gave now_files is room =
@@ -422,7 +423,7 @@ module _ (is_summed : Bool) (m : Meaning) (are_named : Bool) (report : Text) whe
 
     -- one that ends the run
     pub tells-stop : (f : Fault) → Listed (Err f)
-        → TellsLists is_summed m are_named report left n (name ∷ names) (Err f) b c err_old err_mid x y
+        → TellsLists reporting m are_named report left n (name ∷ names) (Err f) b c err_old err_mid x y
     tells-stop f list = told_where b (λ bytes files at_bytes at_files.
         IfSome_then left (rw (at_bytes, at_files) at list) (λ text list whole is room.
         on list.0 text bytes files whole list.1 list.2 is room))
@@ -438,7 +439,7 @@ module _ (is_summed : Bool) (m : Meaning) (are_named : Bool) (report : Text) whe
         beyond : (text : Text) (bytes : List ℕ) (files : Files) (bs : List ℕ) (t : Trouble)
             → content_of name bytes files ≡ Some bs → IsOther m (title name) report bs text n t → trouble_of f ≡ t
             → err_mid ≡ err_old → CountsList name b c 0 → y ≡ x
-            → RunsTold is_summed m are_named files report n text (name ∷ names) bytes (Err f) b c err_old err_mid x y
+            → RunsTold reporting m are_named files report n text (name ∷ names) bytes (Err f) b c err_old err_mid x y
         beyond text bytes files bs t content it is quiet counted same =
             let line = n + (length it.outcomes - (summary_of it.outcomes).skipped) in (
               ends_at report line,
@@ -463,10 +464,10 @@ module _ (is_summed : Bool) (m : Meaning) (are_named : Bool) (report : Text) whe
             → SumsUp m (title name) report text n rest next name (content_of name bytes files) answer x y
             (CountsList name b c)
             → MatchResult answer (λ t. ((let e : Result ℕ Fault = Err f in e) ≡ Ok (if is_clean t then 0 else 1))
-            × TellsAll err_old err_mid (notes_of is_summed m (title name) name t))
+            × TellsAll err_old err_mid (notes_of reporting m (title name) name t))
             (λ g. ((let e : Result ℕ Fault = Err f in e) ≡ Err g) × (err_mid ≡ err_old))
             → files report ≡ Some whole → HasRoom whole text n
-            → RunsTold is_summed m are_named files report n text (name ∷ names) bytes (Err f) b c err_old err_mid x y
+            → RunsTold reporting m are_named files report n text (name ∷ names) bytes (Err f) b c err_old err_mid x y
         on (Ok t) text bytes files whole sums how is room = absurd (let no = how.0 in cc)
         on (Err g) text bytes files whole (inl (may, counted, same)) how is room =
             let same_fault = how.0 in
@@ -511,7 +512,7 @@ module _ (is_summed : Bool) (m : Meaning) (are_named : Bool) (report : Text) whe
 
   module _ (left : Option Text) (n : ℕ) (b : Seen) (err : Shown) (x y : ℕ) where
     pub tells-end : IfSome left (λ text. text ≡ []) → y ≡ count_after x 0
-        → TellsLists is_summed m are_named report left n [] (Ok 0) b b err err x y
+        → TellsLists reporting m are_named report left n [] (Ok 0) b b err err x y
     tells-end none same = told_always b (λ bytes files. IfSome_then left none (λ text empty whole is room. (
       prints [] 0,
       inr (rw empty refl),
@@ -527,7 +528,7 @@ module _ (is_summed : Bool) (m : Meaning) (are_named : Bool) (report : Text) whe
     pub tells-beyond : (f : Fault) → IfSome left (λ text. (trouble_of f ≡ cannot_read report)
         ⊎ ((0 < length text) × (trouble_of f ≡ other_line report n)))
         → y ≡ count_after x (failed_reads (Some []) (trouble_of f))
-        → TellsLists is_summed m are_named report left n [] (Err f) b b err err x y
+        → TellsLists reporting m are_named report left n [] (Err f) b b err err x y
     tells-beyond f how counted = told_always b (λ bytes files. IfSome_then left how (λ text one whole is room.
         on text bytes files whole is one))
       where
@@ -536,7 +537,7 @@ module _ (is_summed : Bool) (m : Meaning) (are_named : Bool) (report : Text) whe
 
         on : (text : Text) (bytes : List ℕ) (files : Files) (whole : Text) → files report ≡ Some whole
             → (trouble_of f ≡ cannot_read report) ⊎ ((0 < length text) × (trouble_of f ≡ other_line report n))
-            → RunsTold is_summed m are_named files report n text [] bytes (Err f) b b err err x y
+            → RunsTold reporting m are_named files report n text [] bytes (Err f) b b err err x y
         on text bytes files whole is (inl t) = (
           refusal false (Some whole) (cannot_read report),
           inl (rw is (unread_by false report (Some whole) (cannot_read report) (inr (inl refl)))),
@@ -566,13 +567,13 @@ module _ (is_summed : Bool) (m : Meaning) (are_named : Bool) (report : Text) whe
   abbrev pub Goes : List Text → Option Text → ℕ → List Text → Option Text → ℕ → ℕ → Seen → Seen → Shown → Shown → ℕ
       → ℕ → Type 0
   Goes all whole k names left n status a b err_old err_mid x y = (r : Result ℕ Fault) (d : Seen) (err_new : Shown)
-      (z : ℕ) → TellsLists is_summed m are_named report left n names r b d err_mid err_new y z
-      → TellsLists is_summed m are_named report whole k all (raised status r) a d err_old err_new x z
+      (z : ℕ) → TellsLists reporting m are_named report left n names r b d err_mid err_new y z
+      → TellsLists reporting m are_named report whole k all (raised status r) a d err_old err_new x z
 
   pub goes-start : (all : List Text) (left : Option Text) (n : ℕ) (a : Seen) (err : Shown) (x : ℕ)
       → Goes all left n all left n 0 a a err err x x
   goes-start all left n a err x r d err_new z q =
-      subst (λ t. TellsLists is_summed m are_named report left n all t a d err err_new x z) (raised_none r) q
+      subst (λ t. TellsLists reporting m are_named report left n all t a d err err_new x z) (raised_none r) q
 
   module _ (all : List Text) (whole : Option Text) (k : ℕ) (names : List Text) (left : Option Text) (n status : ℕ)
       (a b : Seen) (err_old err_mid : Shown) (x y : ℕ)
@@ -584,43 +585,43 @@ module _ (is_summed : Bool) (m : Meaning) (are_named : Bool) (report : Text) whe
           → (let one : Result ℕ Fault = Ok s in Leaves (is_input name) one b.bytes c.bytes) → c.files ≡ b.files
           → Goes all whole k more rest next after a c err_old err_next x z
       goes-next s after most list gave kept r d err_new w q =
-          subst (λ t. TellsLists is_summed m are_named report whole k all t a d err_old err_new x w)
+          subst (λ t. TellsLists reporting m are_named report whole k all t a d err_old err_new x w)
           (raised_twice status s after r most)
           (goes (raised s r) d err_new w (rw is (tells-more name more left rest n next b c err_mid err_next y z out s r
           d err_new w list gave kept q)))
 
       pub goes-stop : (f : Fault) (answer : Result ℕ Fault) → IsErrAnd answer (λ g. g ≡ f)
           → Listed name names left rest n next b c err_mid err_next y z out (Err f)
-          → TellsLists is_summed m are_named report whole k all answer a c err_old err_next x z
+          → TellsLists reporting m are_named report whole k all answer a c err_old err_next x z
       goes-stop f answer stopped list =
           let e = err_from_is_err_and answer stopped in
           rw (e.1, e.2) (goes (Err f) c err_next z (rw is
           (tells-stop name more left rest n next b c err_mid err_next y z out f list)))
 
     pub goes-end : (z : ℕ) → names ≡ [] → IfSome left (λ text. text ≡ []) → z ≡ count_after y 0
-        → TellsLists is_summed m are_named report whole k all (Ok status) a b err_old err_mid x z
+        → TellsLists reporting m are_named report whole k all (Ok status) a b err_old err_mid x z
     goes-end z none empty same =
         let last : max status 0 ≡ status = omega arith in
         subst (λ s. let r : Result ℕ Fault = Ok s in
-        TellsLists is_summed m are_named report whole k all r a b err_old err_mid x z) last
+        TellsLists reporting m are_named report whole k all r a b err_old err_mid x z) last
         (goes (Ok 0) b err_mid z (rw none (tells-end left n b err_mid y z empty same)))
 
     pub goes-beyond : (z : ℕ) (f : Fault) (answer : Result ℕ Fault) → names ≡ [] → IsErrAnd answer (λ g. g ≡ f)
         → IfSome left (λ text. (trouble_of f ≡ cannot_read report)
         ⊎ ((0 < length text) × (trouble_of f ≡ other_line report n)))
         → z ≡ count_after y (failed_reads (Some []) (trouble_of f))
-        → TellsLists is_summed m are_named report whole k all answer a b err_old err_mid x z
+        → TellsLists reporting m are_named report whole k all answer a b err_old err_mid x z
     goes-beyond z f answer none stopped how counted =
         let e = err_from_is_err_and answer stopped in
         rw (e.1, e.2) (goes (Err f) b err_mid z (rw none (tells-beyond left n b err_mid y z f how counted)))
 
 -- ---- the report
 
-module _ (is_summed : Bool) (m : Meaning) (report : Text) (names : List Text) (r : Result ℕ Fault)
+module _ (reporting : Reporting) (m : Meaning) (report : Text) (names : List Text) (r : Result ℕ Fault)
     (err_old err_new : Shown) where
   abbrev pub Reported : Option (List ℕ) → Option Files → Shown → Shown → (i j u v : ℕ) → Type 0
   Reported first tree old new i j u v = IfSome first (λ bytes. IfSome tree (λ files.
-      (run : Run) × ListsRun m is_summed (in_file report) files names bytes run × Does run r old new
+      (run : Run) × ListsRun m reporting (in_file report) files names bytes run × Does run r old new
       × TellsAll err_old err_new run.notes × Counted (counts run.failures) i j u v))
 
   -- it did not open
@@ -646,7 +647,7 @@ module _ (is_summed : Bool) (m : Meaning) (report : Text) (names : List Text) (r
       (left : Option Text) (b d : Seen) (x y u v : ℕ)
       → IfSome tree (λ files. (whole : List ℕ) × (files report ≡ Some whole) × (remaining feed ≡ Some whole))
       → b.files ≡ tree → IfSome tree (λ files. b.file_failures ≡ count_after u 0) → left ≡ remaining feed → x ≡ 0
-      → TellsLists is_summed m (nat_lt 1 (length names)) report left 1 names r b d err_old err_new x y
+      → TellsLists reporting m (nat_lt 1 (length names)) report left 1 names r b d err_old err_new x y
       → v ≡ count_after d.file_failures y
       → Reported b.bytes tree b.out d.out b.input_failures d.input_failures u v
   report_read remaining feed tree left b d x y u v opened kept counted is fresh lists closed =
@@ -654,7 +655,7 @@ module _ (is_summed : Bool) (m : Meaning) (report : Text) (names : List Text) (r
     where
       one : (bytes : List ℕ) (files : Files) (whole : Text) → files report ≡ Some whole
           → b.file_failures ≡ count_after u 0
-          → RunsTold is_summed m (nat_lt 1 (length names)) files report 1 whole names bytes r b d err_old err_new x y
+          → RunsTold reporting m (nat_lt 1 (length names)) files report 1 whole names bytes r b d err_old err_new x y
           → Reported (Some bytes) (Some files) b.out d.out b.input_failures d.input_failures u v
       one bytes files whole is counted ran =
           let none = ran.7 in
@@ -671,7 +672,7 @@ module _ (is_summed : Bool) (m : Meaning) (report : Text) (names : List Text) (r
           → IfSome tree (λ files. (whole : List ℕ) × (files report ≡ Some whole) × (remaining feed ≡ Some whole))
           → IfSome tree (λ files. b.file_failures ≡ count_after u 0)
           → IfSome first (λ bytes. IfSome tree (λ files. IfSome left (λ text. (whole : Text)
-          → files report ≡ Some whole → HasRoom whole text 1 → RunsTold is_summed m (nat_lt 1 (length names)) files
+          → files report ≡ Some whole → HasRoom whole text 1 → RunsTold reporting m (nat_lt 1 (length names)) files
           report 1 text names bytes r b d err_old err_new x y)))
           → Reported first tree b.out d.out b.input_failures d.input_failures u v
       on None tree opened counted lists = tt

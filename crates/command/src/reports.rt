@@ -35,7 +35,7 @@ use crate::visible::write_visible;
 use source::{Feed, Sink, WriteFailed, write_all};
 use std::alloc::Global;
 use sumlist::{CheckFault, Kind, Look, Share, Summary, Tree, check_list, write_summary};
-use task::{Entries, Key, ShortMac, Tagging};
+use task::{Entries, Key, Reporting, ShortMac, Tagging};
 
 impl<'i, 't, 'o, L: Feed, T: Tree, W: Sink> Session<'i, 't, 'o, L, T, W> {
     /// Prints the report of a share of each list, and goes on with the next after a list that can't be read to its
@@ -50,12 +50,12 @@ impl<'i, 't, 'o, L: Feed, T: Tree, W: Sink> Session<'i, 't, 'o, L, T, W> {
     pub fn print_reports<'n, E: Sink>(
         &mut self,
         entries: Entries<'n>,
-        is_summed: bool,
+        reporting: Reporting,
         share: Share,
         lists: &[&'n str],
         err: &mut E,
     ) -> Result<u8, Fault<'n>>
-        ensures run { DoesRun (λ bytes files. EntriesRun entries.entry is_summed (these share) files
+        ensures run { DoesRun (λ bytes files. EntriesRun entries.entry reporting (these share) files
             (map (λ n. n.now) lists.entry.now) bytes)
             (λ notes. TellsAll (E.shown err.old) (E.shown err.new) notes)
             result (⟦<Self as Streams>⟧.seen self.old) (⟦<Self as Streams>⟧.seen self.new) }
@@ -70,7 +70,7 @@ impl<'i, 't, 'o, L: Feed, T: Tree, W: Sink> Session<'i, 't, 'o, L, T, W> {
             Entries::Digests(kind) => {
                 self.print_lists(
                     &sumlist::Entries::Digests(kind),
-                    is_summed,
+                    reporting,
                     share,
                     lists,
                     err,
@@ -81,7 +81,7 @@ impl<'i, 't, 'o, L: Feed, T: Tree, W: Sink> Session<'i, 't, 'o, L, T, W> {
                 let length = short.mac.tag_len() as usize;
                 self.print_lists(
                     &sumlist::Entries::Tags(length, &keyed),
-                    is_summed,
+                    reporting,
                     share,
                     lists,
                     err,
@@ -94,12 +94,12 @@ impl<'i, 't, 'o, L: Feed, T: Tree, W: Sink> Session<'i, 't, 'o, L, T, W> {
     fn print_lists<'n, E: Sink>(
         &mut self,
         entries: &sumlist::Entries<'_, ShortKeyed>,
-        is_summed: bool,
+        reporting: Reporting,
         share: Share,
         lists: &[&'n str],
         err: &mut E,
     ) -> Result<u8, Fault<'n>>
-        ensures run { DoesRun (λ bytes files. ListsRun (meaning entries.now) is_summed (these share) files
+        ensures run { DoesRun (λ bytes files. ListsRun (meaning entries.now) reporting (these share) files
             (map (λ n. n.now) lists.entry.now) bytes)
             (λ notes. TellsAll (E.shown err.old) (E.shown err.new) notes)
             result (⟦<Self as Streams>⟧.seen self.old) (⟦<Self as Streams>⟧.seen self.new) }
@@ -114,7 +114,7 @@ impl<'i, 't, 'o, L: Feed, T: Tree, W: Sink> Session<'i, 't, 'o, L, T, W> {
         let mut status: u8 = 0;
         for name in lists {
             let title = title_of(are_named, name);
-            let of_one = self.print_report(entries, title, is_summed, name, &mut left, err)?;
+            let of_one = self.print_report(entries, title, reporting, name, &mut left, err)?;
             status = status.max(of_one);
         }
         Ok(status)
@@ -126,12 +126,12 @@ impl<'i, 't, 'o, L: Feed, T: Tree, W: Sink> Session<'i, 't, 'o, L, T, W> {
         &mut self,
         entries: &sumlist::Entries<'_, ShortKeyed>,
         title: Option<&str>,
-        is_summed: bool,
+        reporting: Reporting,
         name: &str,
         share: &mut Share,
         err: &mut E,
     ) -> Result<u8, Fault<'f>>
-        ensures report { PrintsReport is_summed (meaning entries.now)
+        ensures report { PrintsReport reporting (meaning entries.now)
             (option_map (λ n. n.now) title.entry) name.entry.now share.old share.new result
             (⟦<Self as Streams>⟧.seen self.old) (⟦<Self as Streams>⟧.seen self.new)
             (E.shown err.old) (E.shown err.new) }
@@ -140,7 +140,7 @@ impl<'i, 't, 'o, L: Feed, T: Tree, W: Sink> Session<'i, 't, 'o, L, T, W> {
             (⟦<Self as Streams>⟧.seen self.old) (⟦<Self as Streams>⟧.seen self.new)) }
         ensures same { SameStreams self.old self.new }
     {
-        match self.check_named(entries, title, is_summed, name, share, err) {
+        match self.check_named(entries, title, reporting, name, share, err) {
             Ok(status) => Ok(status),
             Err(fault) => settle(err, fault),
         }
@@ -151,12 +151,12 @@ impl<'i, 't, 'o, L: Feed, T: Tree, W: Sink> Session<'i, 't, 'o, L, T, W> {
         &mut self,
         entries: &sumlist::Entries<'_, ShortKeyed>,
         title: Option<&str>,
-        is_summed: bool,
+        reporting: Reporting,
         name: &'n str,
         share: &mut Share,
         err: &mut E,
     ) -> Result<u8, Fault<'n>>
-        ensures run { DoesRun (λ bytes files run. ListRuns is_summed files (meaning entries.now)
+        ensures run { DoesRun (λ bytes files run. ListRuns reporting files (meaning entries.now)
             (option_map (λ n. n.now) title.entry) name.entry.now share.old (content_of name.entry.now bytes files) run
             share.new)
             (λ notes. TellsAll (E.shown err.old) (E.shown err.new) notes)
@@ -172,7 +172,7 @@ impl<'i, 't, 'o, L: Feed, T: Tree, W: Sink> Session<'i, 't, 'o, L, T, W> {
         read_as_input!(
             self,
             name,
-            check_input(entries, title, is_summed, name, share, err)
+            check_input(entries, title, reporting, name, share, err)
         )
     }
 
@@ -181,13 +181,13 @@ impl<'i, 't, 'o, L: Feed, T: Tree, W: Sink> Session<'i, 't, 'o, L, T, W> {
         &mut self,
         entries: &sumlist::Entries<'_, ShortKeyed>,
         title: Option<&str>,
-        is_summed: bool,
+        reporting: Reporting,
         name: &'n str,
         share: &mut Share,
         err: &mut E,
     ) -> Result<u8, Fault<'n>>
         ensures list { IfTold (⟦<Self as Streams>⟧.seen self.old) (λ bytes files. ListTaken
-            (λ run. ListRuns is_summed files (meaning entries.now) (option_map (λ n. n.now) title.entry)
+            (λ run. ListRuns reporting files (meaning entries.now) (option_map (λ n. n.now) title.entry)
             name.entry.now share.old (Some bytes) run share.new)
             name.entry.now bytes result
             (W.shown self.old.out.now) (W.shown self.new.out.now) (E.shown err.old) (E.shown err.new)
@@ -204,7 +204,7 @@ impl<'i, 't, 'o, L: Feed, T: Tree, W: Sink> Session<'i, 't, 'o, L, T, W> {
         let answer = check_list(
             self.alloc, self.input, entries, title, share, self.tree, self.out,
         );
-        remark(is_alone, title, is_summed, name, entries, &answer, err);
+        remark(is_alone, title, reporting, name, entries, &answer, err);
         status_of(answer, name)
     }
 }
@@ -244,34 +244,34 @@ pub(crate) fn title_of(are_named: bool, name: &str) -> Option<&str>
 pub(crate) fn remark<E: Sink>(
     is_alone: bool,
     list: Option<&str>,
-    is_summed: bool,
+    reporting: Reporting,
     name: &str,
     entries: &sumlist::Entries<'_, ShortKeyed>,
     answer: &Result<Summary, CheckFault>,
     err: &mut E,
 )
-    ensures { TellsAll (E.shown err.old) (E.shown err.new) (remarks is_alone is_summed
+    ensures { TellsAll (E.shown err.old) (E.shown err.new) (remarks is_alone reporting
         (option_map (λ n. n.now) list.entry) name.now (meaning entries.now) answer.now) }
 {
     if !is_alone {
         return;
     }
-    note(list, is_summed, answer, err);
+    note(list, reporting, answer, err);
     hint(name, entries, answer, err);
 }
 
 // Tells the numbers of a list on standard error, in one text: what is not taken of it is dropped.
 fn note<E: Sink>(
     list: Option<&str>,
-    is_summed: bool,
+    reporting: Reporting,
     answer: &Result<Summary, CheckFault>,
     err: &mut E,
 )
     ensures { TellsAll (E.shown err.old) (E.shown err.new)
-        (noted_of is_summed (option_map (λ n. n.now) list.entry) answer.now) }
+        (noted_of reporting (option_map (λ n. n.now) list.entry) answer.now) }
 {
     match answer {
-        Ok(summary) if is_summed => {
+        Ok(summary) if reporting.is_summed => {
             let _ = write_note(list, summary, err);
         }
         _ => {}

@@ -25,7 +25,7 @@ use crate::session::{Session, Streams, open_file};
 use source::{Feed, Sink};
 use std::alloc::Global;
 use sumlist::{ReportReader, Summary, TellFault, Tree, tell_list};
-use task::Entries;
+use task::{Entries, Reporting};
 
 impl<'i, 't, 'o, L: Feed, T: Tree, W: Sink> Session<'i, 't, 'o, L, T, W> {
     /// Reports on `err` of each list what the run reported that printed a report on them, and answers its status. The
@@ -35,12 +35,12 @@ impl<'i, 't, 'o, L: Feed, T: Tree, W: Sink> Session<'i, 't, 'o, L, T, W> {
     pub fn print_told<'n, E: Sink>(
         &mut self,
         entries: Entries<'n>,
-        is_summed: bool,
+        reporting: Reporting,
         report: &'n str,
         lists: &[&'n str],
         err: &mut E,
     ) -> Result<u8, Fault<'n>>
-        ensures run { DoesRun (λ bytes files. EntriesRun entries.entry is_summed (in_file report.entry.now) files
+        ensures run { DoesRun (λ bytes files. EntriesRun entries.entry reporting (in_file report.entry.now) files
             (map (λ n. n.now) lists.entry.now) bytes)
             (λ notes. TellsAll (E.shown err.old) (E.shown err.new) notes)
             result (⟦<Self as Streams>⟧.seen self.old) (⟦<Self as Streams>⟧.seen self.new) }
@@ -53,7 +53,7 @@ impl<'i, 't, 'o, L: Feed, T: Tree, W: Sink> Session<'i, 't, 'o, L, T, W> {
             Entries::Digests(kind) => {
                 self.tell_lists(
                     &sumlist::Entries::Digests(kind),
-                    is_summed,
+                    reporting,
                     report,
                     lists,
                     err,
@@ -64,7 +64,7 @@ impl<'i, 't, 'o, L: Feed, T: Tree, W: Sink> Session<'i, 't, 'o, L, T, W> {
                 let length = short.mac.tag_len() as usize;
                 self.tell_lists(
                     &sumlist::Entries::Tags(length, &keyed),
-                    is_summed,
+                    reporting,
                     report,
                     lists,
                     err,
@@ -77,12 +77,12 @@ impl<'i, 't, 'o, L: Feed, T: Tree, W: Sink> Session<'i, 't, 'o, L, T, W> {
     fn tell_lists<'n, E: Sink>(
         &mut self,
         entries: &sumlist::Entries<'_, ShortKeyed>,
-        is_summed: bool,
+        reporting: Reporting,
         report: &'n str,
         lists: &[&'n str],
         err: &mut E,
     ) -> Result<u8, Fault<'n>>
-        ensures run { DoesRun (λ bytes files. ListsRun (meaning entries.now) is_summed (in_file report.entry.now) files
+        ensures run { DoesRun (λ bytes files. ListsRun (meaning entries.now) reporting (in_file report.entry.now) files
             (map (λ n. n.now) lists.entry.now) bytes)
             (λ notes. TellsAll (E.shown err.old) (E.shown err.new) notes)
             result (⟦<Self as Streams>⟧.seen self.old) (⟦<Self as Streams>⟧.seen self.new) }
@@ -98,7 +98,7 @@ impl<'i, 't, 'o, L: Feed, T: Tree, W: Sink> Session<'i, 't, 'o, L, T, W> {
             name: report,
             next: 1,
         };
-        let answer = self.tell_each(&mut told, is_summed, lists, err);
+        let answer = self.tell_each(&mut told, reporting, lists, err);
         self.tree.close(feed);
         answer
     }
@@ -107,11 +107,11 @@ impl<'i, 't, 'o, L: Feed, T: Tree, W: Sink> Session<'i, 't, 'o, L, T, W> {
     fn tell_each<'n, F: Feed, E: Sink>(
         &mut self,
         told: &mut Telling<'_, '_, '_, 'n, F>,
-        is_summed: bool,
+        reporting: Reporting,
         lists: &[&'n str],
         err: &mut E,
     ) -> Result<u8, Fault<'n>>
-        ensures run { TellsLists is_summed (meaning told.old.entries.now)
+        ensures run { TellsLists reporting (meaning told.old.entries.now)
             (nat_lt 1 (length (map (λ n. n.now) lists.entry.now))) told.old.name.now
             (left F.remaining told.old.report) told.old.next (map (λ n. n.now) lists.entry.now) result
             (⟦<Self as Streams>⟧.seen self.old) (⟦<Self as Streams>⟧.seen self.new)
@@ -127,7 +127,7 @@ impl<'i, 't, 'o, L: Feed, T: Tree, W: Sink> Session<'i, 't, 'o, L, T, W> {
         let mut status: u8 = 0;
         for name in lists {
             let title = title_of(are_named, name);
-            status = status.max(self.tell_one(told, title, is_summed, name, err)?);
+            status = status.max(self.tell_one(told, title, reporting, name, err)?);
         }
         told.end()?;
         Ok(status)
@@ -138,11 +138,11 @@ impl<'i, 't, 'o, L: Feed, T: Tree, W: Sink> Session<'i, 't, 'o, L, T, W> {
         &mut self,
         told: &mut Telling<'_, '_, '_, 'n, F>,
         title: Option<&str>,
-        is_summed: bool,
+        reporting: Reporting,
         name: &'n str,
         err: &mut E,
     ) -> Result<u8, Fault<'n>>
-        ensures list { TellsList is_summed (meaning told.old.entries.now) (option_map (λ n. n.now) title.entry)
+        ensures list { TellsList reporting (meaning told.old.entries.now) (option_map (λ n. n.now) title.entry)
             told.old.name.now (left F.remaining told.old.report) told.old.next
             (left F.remaining told.new.report) told.new.next name.entry.now result
             (⟦<Self as Streams>⟧.seen self.old) (⟦<Self as Streams>⟧.seen self.new)
@@ -158,7 +158,7 @@ impl<'i, 't, 'o, L: Feed, T: Tree, W: Sink> Session<'i, 't, 'o, L, T, W> {
     {
         let summary = self.tell_named(told, title, name)?;
         let answer = Ok(summary);
-        remark(true, title, is_summed, name, told.entries, &answer, err);
+        remark(true, title, reporting, name, told.entries, &answer, err);
         Ok(status_of(&summary))
     }
 

@@ -1,6 +1,6 @@
 -- A run of the program is that of its request, with the last trouble told.
 use Rattle.std.proofs.Common.{◌≡◌, ℕ, List, [], ◌∷◌, ◌++◌, Option, Some, None, Result, Ok, Err, IfOk, IfSome, refl}
-use Rattle.std.proofs.Common.{sym, ap, ◌∙◌, ◌⊎◌, ◌+◌, ◌≤◌, Bool, false, inl, inr, subst, append-nil, arith}
+use Rattle.std.proofs.Common.{sym, ap, ◌∙◌, ◌⊎◌, ◌+◌, ◌≤◌, false, inl, inr, subst, append-nil, arith}
 use Rattle.std.specs.Prelude.{length, sum_by}
 use Rattle.std.specs.Option.{option_map_or}
 use Rattle.std.proofs.KnownBytes.{Appends-nil}
@@ -17,6 +17,7 @@ use Rattle.task.specs.Tasks.{Asked, Source, asked, in_file, these}
 use Rattle.task.specs.declared.fault.UsageFault.{UsageFault}
 use Rattle.task.specs.declared.tasks.Entries.{Entries}
 use Rattle.task.specs.declared.tasks.Entries.TheVariants.{Digests, Tags}
+use Rattle.task.specs.declared.tasks.Reporting.{Reporting}
 use Rattle.task.specs.inside.Texts.{fault_text}
 use Rattle.task.specs.inside.Views.{entries_shown}
 use Rattle.command.specs.Lines.{content_of, opens_of}
@@ -129,35 +130,35 @@ quiet_task (Some bytes) (Some files) task shown answer out_old out_new err i j u
     rw same (h.0, (h.1, most bytes files), h.2, rw h.3 refl, h.4)
 
 -- lists are checked as what their entries are asks for
-pub told_check : (first : Option (List ℕ)) (tree : Option Files) (entries : Entries) (is_summed : Bool)
+pub told_check : (first : Option (List ℕ)) (tree : Option Files) (entries : Entries) (reporting : Reporting)
     (by : Source Share) (lists : List Text) (answer : Result ℕ Fault) (out_old out_new err_old err_new : Shown)
     (i j u v : ℕ)
-    → IfSome first (λ bytes. IfSome tree (λ files. (run : Run) × EntriesRun entries is_summed by files lists bytes run
+    → IfSome first (λ bytes. IfSome tree (λ files. (run : Run) × EntriesRun entries reporting by files lists bytes run
     × Does run answer out_old out_new × TellsAll err_old err_new run.notes × Counted run.failures i j u v))
-    → Tellingly first tree (entries_shown entries is_summed by lists) answer out_old out_new err_old err_new i j u v
-told_check first tree (Digests kind) is_summed by lists answer out_old out_new err_old err_new i j u v h = h
-told_check first tree (Tags short key) is_summed by lists answer out_old out_new err_old err_new i j u v h = h
+    → Tellingly first tree (entries_shown entries reporting by lists) answer out_old out_new err_old err_new i j u v
+told_check first tree (Digests kind) reporting by lists answer out_old out_new err_old err_new i j u v h = h
+told_check first tree (Tags short key) reporting by lists answer out_old out_new err_old err_new i j u v h = h
 
 -- and open as many files
-pub check_opens : (first : Option (List ℕ)) (tree : Option Files) (entries : Entries) (is_summed : Bool)
+pub check_opens : (first : Option (List ℕ)) (tree : Option Files) (entries : Entries) (reporting : Reporting)
     (share : Share) (lists : List Text) (x y : ℕ) → IfSome first (λ bytes. IfSome tree (λ files. y ≤ x
     + (entries_opens entries
     + sum_by (λ list. opens_of list + length (option_map_or lines (content_of list bytes files) [])) lists)))
-    → Opens first tree (entries_shown entries is_summed (these share) lists) x y
-check_opens None tree (Digests kind) is_summed share lists x y most = tt
-check_opens (Some bytes) None (Digests kind) is_summed share lists x y most = tt
-check_opens (Some bytes) (Some files) (Digests kind) is_summed share lists x y most = omega (arith, most)
-check_opens first tree (Tags short key) is_summed share lists x y most = most
+    → Opens first tree (entries_shown entries reporting (these share) lists) x y
+check_opens None tree (Digests kind) reporting share lists x y most = tt
+check_opens (Some bytes) None (Digests kind) reporting share lists x y most = tt
+check_opens (Some bytes) (Some files) (Digests kind) reporting share lists x y most = omega (arith, most)
+check_opens first tree (Tags short key) reporting share lists x y most = most
 
 -- lists that are read beside their report are opened once, and so is the report
-pub told_opens : (first : Option (List ℕ)) (tree : Option Files) (entries : Entries) (is_summed : Bool)
+pub told_opens : (first : Option (List ℕ)) (tree : Option Files) (entries : Entries) (reporting : Reporting)
     (report : Text) (lists : List Text) (x y : ℕ) → y ≤ x + (entries_opens entries + (1 + sum_by opens_of lists))
-    → Opens first tree (entries_shown entries is_summed (in_file report) lists) x y
-told_opens first tree (Digests kind) is_summed report lists x y most =
-    opens_always first tree (entries_shown (Digests kind) is_summed (in_file report) lists) x y
+    → Opens first tree (entries_shown entries reporting (in_file report) lists) x y
+told_opens first tree (Digests kind) reporting report lists x y most =
+    opens_always first tree (entries_shown (Digests kind) reporting (in_file report) lists) x y
     (λ bytes files. omega (arith, most))
-told_opens first tree (Tags short key) is_summed report lists x y most =
-    opens_always first tree (entries_shown (Tags short key) is_summed (in_file report) lists) x y
+told_opens first tree (Tags short key) reporting report lists x y most =
+    opens_always first tree (entries_shown (Tags short key) reporting (in_file report) lists) x y
     (λ bytes files. most)
 
 -- the run of a task is that of the request that asks for it

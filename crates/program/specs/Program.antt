@@ -27,9 +27,9 @@ TaskRuns (prints_lines sum (in_file list) s) files input =
 TaskRuns (prints_line sum wanted name file) files input =
     SumRuns sum files (λ l. LineRuns wanted l name file input files)
 TaskRuns (derives derived is_raw name) files input = KdfRuns derived is_raw name files
-TaskRuns (checks kind is_summed by lists) files input = ListsRun (unkeyed kind) is_summed by files lists input
-TaskRuns (checks_tags mac n key is_summed by lists) files input =
-    SumRuns (tags mac false key) files (λ l. ListsRun (keyed n l.limit l.bytes) is_summed by files lists input)
+TaskRuns (checks kind reporting by lists) files input = ListsRun (unkeyed kind) reporting by files lists input
+TaskRuns (checks_tags mac n key reporting by lists) files input =
+    SumRuns (tags mac false key) files (λ l. ListsRun (keyed n l.limit l.bytes) reporting by files lists input)
 TaskRuns (prints_part first chunks name) files input = PartRuns first chunks name files input
 TaskRuns (prints_starts chunks name) files input = StartsRuns chunks name files
 TaskRuns (prints_parts chunks name) files input = EachRuns chunks name files input
@@ -50,8 +50,8 @@ most_opens (prints_lines sum (in_file list) s) files input = key_opens sum + (op
     + length (option_map_or (λ bytes. every s.others s.waiting (names bytes)) (content_of list input files) []))
 most_opens (prints_line sum wanted name file) files input = key_opens sum + opens_of file
 most_opens (derives derived is_raw name) files input = 1
-most_opens (checks kind is_summed by lists) files input = list_opens by lists files input
-most_opens (checks_tags mac n key is_summed by lists) files input =
+most_opens (checks kind reporting by lists) files input = list_opens by lists files input
+most_opens (checks_tags mac n key reporting by lists) files input =
     key_opens (tags mac false key) + list_opens by lists files input
 most_opens (prints_part first chunks name) files input = opens_of name
 most_opens (prints_starts chunks name) files input = 55

@@ -156,15 +156,15 @@ fn do_task<'n, 'i, 't, 'o, L: Feed, T: Tree, W: Sink, E: Sink>(
         } => session.print_key(&derivation, is_raw, material),
         Task::Check {
             entries,
-            is_summed,
+            reporting,
             verdicts,
             lists,
         } => match verdicts {
             Verdicts::Files(share) => {
-                session.print_reports(entries, is_summed, share, lists.as_slice(), err)
+                session.print_reports(entries, reporting, share, lists.as_slice(), err)
             }
             Verdicts::Report(name) => {
-                session.print_told(entries, is_summed, name, lists.as_slice(), err)
+                session.print_told(entries, reporting, name, lists.as_slice(), err)
             }
         },
     }

@@ -96,23 +96,23 @@ unfolding clap_on_literals sums_app
 kdf_context names macs both = refl
 
 check_input : Asks (codes "check" ∷ [])
-    (Ok (checks None false (these (record { others = 0; waiting = 0 })) (codes "-" ∷ [])))
+    (Ok (checks None (record { is_summed = false }) (these (record { others = 0; waiting = 0 })) (codes "-" ∷ [])))
 unfolding clap_on_literals sums_app
 check_input names macs both = refl
 
 check_tags : Asks (codes "check" ∷ codes "-ablake2s" ∷ codes "-l8" ∷ codes "--key-file=k" ∷ codes "l" ∷ [])
-    (Ok (checks_tags (Blake2s 8) 8 (in_file (codes "k")) false (these (record { others = 0; waiting = 0 }))
-    (codes "l" ∷ [])))
+    (Ok (checks_tags (Blake2s 8) 8 (in_file (codes "k")) (record { is_summed = false })
+    (these (record { others = 0; waiting = 0 })) (codes "l" ∷ [])))
 unfolding clap_on_literals sums_app
 check_tags names macs both = refl
 
 check_share : Asks (codes "check" ∷ codes "--share=2/3" ∷ codes "l" ∷ [])
-    (Ok (checks None false (these (record { others = 2; waiting = 2 })) (codes "l" ∷ [])))
+    (Ok (checks None (record { is_summed = false }) (these (record { others = 2; waiting = 2 })) (codes "l" ∷ [])))
 unfolding clap_on_literals sums_app
 check_share names macs both = refl
 
 check_told : Asks (codes "check" ∷ codes "--summary" ∷ codes "--told=r" ∷ codes "l" ∷ [])
-    (Ok (checks None true (in_file (codes "r")) (codes "l" ∷ [])))
+    (Ok (checks None (record { is_summed = true }) (in_file (codes "r")) (codes "l" ∷ [])))
 unfolding clap_on_literals sums_app
 check_told names macs both = refl
 

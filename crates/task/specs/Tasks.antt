@@ -25,6 +25,7 @@ use Rattle.task.specs.declared.parameters.HmacHash.{HmacHash}
 use Rattle.task.specs.declared.parameters.HmacHash.TheVariants as over
 use Rattle.task.specs.declared.tagging.Mac.{Mac}
 use Rattle.task.specs.declared.tagging.Mac.TheVariants.{Hmac, Blake2b, Blake2s, Blake3}
+use Rattle.task.specs.declared.tasks.Reporting.{Reporting}
 
 -- how a key is derived: by HKDF over a hash, with its length, the salt and the info, or under BLAKE3's context
 pub data Derived : Type 0 where
@@ -46,8 +47,8 @@ pub data Asked : Type 0 where
   prints_lines : Sum → Source (List Text) → Share → Asked
   prints_line : Sum → Option (List ℕ) → Text → Text → Asked
   derives : Derived → Bool → Text → Asked
-  checks : Option Kind → Bool → Source Share → List Text → Asked
-  checks_tags : Mac → ℕ → Source (List ℕ) → Bool → Source Share → List Text → Asked
+  checks : Option Kind → Reporting → Source Share → List Text → Asked
+  checks_tags : Mac → ℕ → Source (List ℕ) → Reporting → Source Share → List Text → Asked
   prints_part : ℕ → Option ℕ → Text → Asked
   prints_starts : ℕ → Text → Asked
   prints_parts : ℕ → Text → Asked
@@ -170,7 +171,7 @@ check g = (if is_some (text_of (codes "key") g) || is_some (text_of (codes "key-
       kind ← given (λ s t. ok_or (lookup (bytes_eq t) kinds) one_key) (codes "a") g
       absent not_for (codes "l" ∷ []) g
       Ok (checks kind))) >>= (λ lists. verdicts g
-    >>= (λ by. Ok (lists (has_flag (codes "summary") g) by (names_or_input g))))
+    >>= (λ by. Ok (lists (record { is_summed = has_flag (codes "summary") g }) by (names_or_input g))))
 
 -- only BLAKE3 has parts
 abbrev pub has_parts : Kind → Result (Unit {0}) Text

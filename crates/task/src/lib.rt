@@ -7,7 +7,7 @@ pub use hashing::{Form, Hash, Hashing, Requested, Stretch};
 pub use parameters::HmacHash;
 pub use parting::{Joining, PartLength, Place};
 pub use tagging::{Key, Mac, ShortMac, Tagging};
-pub use tasks::{Entries, Names, Sum, Task, Verdicts};
+pub use tasks::{Entries, Names, Reporting, Sum, Task, Verdicts};
 
 mod derivation;
 mod fault;

@@ -76,6 +76,13 @@ pub enum Verdicts<'a> {
     Report(&'a str),
 }
 
+/// What is told of each list beside the verdicts.
+#[derive(Clone, Copy, Debug)]
+pub struct Reporting {
+    /// Whether how many lines had each outcome is told.
+    pub is_summed: bool,
+}
+
 /// What a run is to do. A name `-` of a file or a list is standard input; names are judged as they
 /// are used.
 #[derive(Debug, Drop)]
@@ -130,11 +137,10 @@ pub enum Task<'a> {
         is_raw: bool,
         material: &'a str,
     },
-    /// Report on lists of such entries, one at least, with a summary of each where that is asked for; or tell what a
-    /// report on them does not say.
+    /// Report on lists of such entries, one at least, or tell what a report on them does not say.
     Check {
         entries: Entries<'a>,
-        is_summed: bool,
+        reporting: Reporting,
         verdicts: Verdicts<'a>,
         lists: Vec<&'a str>,
     },
@@ -331,9 +337,12 @@ fn check<'a>(alloc: Global, request: &Request<'a>) -> Result<Task<'a>, TaskFault
     let entries = Entries::of(alloc, request)?;
     let verdicts = Verdicts::of(request)?;
     let lists = names_or_input(alloc, request)?;
+    let reporting = Reporting {
+        is_summed: request.has("summary"),
+    };
     Ok(Task::Check {
         entries,
-        is_summed: request.has("summary"),
+        reporting,
         verdicts,
         lists,
     })

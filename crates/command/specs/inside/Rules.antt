@@ -1,5 +1,5 @@
 -- The rule of the lines that a command prints, as the code holds it, and how it is had.
-use Rattle.std.specs.Prelude.{◌⊎◌, ◌≡◌, ⊤, Bool, true, false, List, Option, None, ℕ, IsSome}
+use Rattle.std.specs.Prelude.{◌⊎◌, ◌≡◌, ⊤, true, false, List, Option, None, ℕ, IsSome}
 use Rattle.request.specs.CommandLine.{Text}
 use Rattle.sumlist.specs.Report.{Files, Meaning, keyed as under_key, unkeyed}
 use Rattle.sumlist.specs.declared.entries.Entries.{Entries}
@@ -10,6 +10,7 @@ use Rattle.task.specs.inside.Possible.{mac_len}
 use Rattle.task.specs.inside.Views.{key_shown}
 use Rattle.task.specs.declared.tasks.Entries.{Entries as TaskEntries}
 use Rattle.task.specs.declared.tasks.Entries.TheVariants.{Digests, Tags}
+use Rattle.task.specs.declared.tasks.Reporting.{Reporting}
 use Rattle.task.specs.declared.tasks.Sum.{Sum as CodeSum}
 use Rattle.task.specs.declared.tasks.Sum.TheVariants as code
 use Rattle.command.specs.Checking.{ListsRun}
@@ -40,10 +41,10 @@ abbrev pub meaning : Entries ShortKeyed → Meaning
 meaning = meaning_of (λ k. (keyed_line k.keyed).limit) (λ k. (keyed_line k.keyed).bytes)
 
 -- the run of `check` over such lists: a key is read and judged before any of them
-abbrev pub EntriesRun : TaskEntries → Bool → Source Share → Files → List Text → List ℕ → Run → Type 0
-EntriesRun (Digests kind) is_summed by files lists input = ListsRun (unkeyed kind) is_summed by files lists input
-EntriesRun (Tags short key) is_summed by files lists input = SumRuns (tags short.mac false (key_shown key)) files
-    (λ l. ListsRun (under_key (mac_len short.mac) l.limit l.bytes) is_summed by files lists input)
+abbrev pub EntriesRun : TaskEntries → Reporting → Source Share → Files → List Text → List ℕ → Run → Type 0
+EntriesRun (Digests kind) reporting by files lists input = ListsRun (unkeyed kind) reporting by files lists input
+EntriesRun (Tags short key) reporting by files lists input = SumRuns (tags short.mac false (key_shown key)) files
+    (λ l. ListsRun (under_key (mac_len short.mac) l.limit l.bytes) reporting by files lists input)
 
 -- how often a file is opened for the key of their entries
 abbrev pub entries_opens : TaskEntries → ℕ

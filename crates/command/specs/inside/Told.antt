@@ -9,6 +9,7 @@ use Rattle.sumlist.specs.Lines.{lines}
 use Rattle.sumlist.specs.Report.{Files, IsPossible, Meaning, Outcome, report_from, summary_of, text}
 use Rattle.sumlist.specs.Tally.{is_clean}
 use Rattle.sumlist.specs.declared.summary.Summary.{Summary}
+use Rattle.task.specs.declared.tasks.Reporting.{Reporting}
 use Rattle.command.specs.Checking.{ListsTold, notes_of}
 use Rattle.command.specs.Lines.{content_of, is_input}
 use Rattle.command.specs.Run.{Run, TellsAll}
@@ -69,13 +70,13 @@ CountsList name old new failed = Counted (failures_from (is_input name) failed) 
     old.file_failures new.file_failures
 
 -- the same of a list of this name, whose notes were reported, and its status answered
-abbrev pub TellsList : Bool → Meaning → Option Text → Text → Option Text → ℕ → Option Text → ℕ → Text
+abbrev pub TellsList : Reporting → Meaning → Option Text → Text → Option Text → ℕ → Option Text → ℕ → Text
     → Result ℕ Fault → Seen → Seen → Shown → Shown → ℕ → ℕ → Type 0
-TellsList is_summed m title report left n rest next name r old new err_old err_new x y = IfTold old (λ bytes files.
+TellsList reporting m title report left n rest next name r old new err_old err_new x y = IfTold old (λ bytes files.
     IfSome left (λ text. (answer : Result Summary Fault)
     × SumsUp m title report text n rest next name (content_of name bytes files) answer x y (CountsList name old new)
     × MatchResult answer (λ s. (r ≡ Ok (if is_clean s then 0 else 1))
-    × TellsAll err_old err_new (notes_of is_summed m title name s)) (λ fault. (r ≡ Err fault) × (err_new ≡ err_old))))
+    × TellsAll err_old err_new (notes_of reporting m title name s)) (λ fault. (r ≡ Err fault) × (err_new ≡ err_old))))
 
 -- what the reading of a list leaves as it is
 pub record KeepsReport {F : Type 0} (old new : Telling F) (a b : Seen) : Type 0 where
@@ -86,18 +87,18 @@ pub record KeepsReport {F : Type 0} (old new : Telling F) (a b : Seen) : Type 0 
   pub out : b.out ≡ a.out
 
 -- the run over these lists beside what is left of their report was done; of its failures some are reads of the report
-abbrev pub RunsTold : Bool → Meaning → Bool → Files → Text → ℕ → Text → List Text → List ℕ → Result ℕ Fault → Seen
+abbrev pub RunsTold : Reporting → Meaning → Bool → Files → Text → ℕ → Text → List Text → List ℕ → Result ℕ Fault → Seen
     → Seen → Shown → Shown → ℕ → ℕ → Type 0
-RunsTold is_summed m are_named files report n left names bytes r old new err_old err_new x y = (run : Run)
-    × ListsTold is_summed m are_named files report n left names bytes run × Does run r old.out new.out
+RunsTold reporting m are_named files report n left names bytes r old new err_old err_new x y = (run : Run)
+    × ListsTold reporting m are_named files report n left names bytes run × Does run r old.out new.out
     × TellsAll err_old err_new run.notes × (own : Failures) × (failed : ℕ)
     × (counts run.failures ≡ plus own (failures_from false failed))
     × Counted own old.input_failures new.input_failures old.file_failures new.file_failures
     × (y ≡ count_after x failed)
 
 -- the same where the bytes, the files and the report are told
-abbrev pub TellsLists : Bool → Meaning → Bool → Text → Option Text → ℕ → List Text → Result ℕ Fault → Seen → Seen
+abbrev pub TellsLists : Reporting → Meaning → Bool → Text → Option Text → ℕ → List Text → Result ℕ Fault → Seen → Seen
     → Shown → Shown → ℕ → ℕ → Type 0
-TellsLists is_summed m are_named report left n names r old new err_old err_new x y = IfTold old (λ bytes files.
+TellsLists reporting m are_named report left n names r old new err_old err_new x y = IfTold old (λ bytes files.
     IfSome left (λ text. (whole : Text) → files report ≡ Some whole → HasRoom whole text n
-    → RunsTold is_summed m are_named files report n text names bytes r old new err_old err_new x y))
+    → RunsTold reporting m are_named files report n text names bytes r old new err_old err_new x y))

@@ -24,8 +24,8 @@ keeps_input (prints_lines sum (in_file list) share) = bytes_eq list (codes "-")
 keeps_input (prints_lines sum (these names) share) = has_key_file sum && have_input names
 keeps_input (prints_line sum wanted name file) = has_key_file sum && bytes_eq file (codes "-")
 keeps_input (verifies parts file) = bytes_eq file (codes "-")
-keeps_input (checks kind is_summed by lists) = have_input lists
-keeps_input (checks_tags mac n key is_summed by lists) = have_input lists
+keeps_input (checks kind reporting by lists) = have_input lists
+keeps_input (checks_tags mac n key reporting by lists) = have_input lists
 keeps_input task = false
 
 -- so many chunks in bytes, where a u64 holds them
@@ -41,6 +41,6 @@ most_read task = None
 -- other runs do the other shares, and read the same files
 abbrev pub is_shared : Asked → Bool
 is_shared (prints_lines sum names share) = nat_lt 0 share.others
-is_shared (checks kind is_summed (these share) lists) = nat_lt 0 share.others
-is_shared (checks_tags mac n key is_summed (these share) lists) = nat_lt 0 share.others
+is_shared (checks kind reporting (these share) lists) = nat_lt 0 share.others
+is_shared (checks_tags mac n key reporting (these share) lists) = nat_lt 0 share.others
 is_shared task = false

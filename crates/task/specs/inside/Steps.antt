@@ -10,13 +10,14 @@ use Rattle.sumlist.specs.declared.share.Share.{Share}
 use Rattle.task.specs.Settings.{◌>>=◌, ◌>>◌, absent, given, named, names_or_input, needed, not_for, number_in, unless}
 use Rattle.task.specs.Tasks.{Asked, Derived, Source, checks, checks_tags, derived, has_parts, macs, one_key, under_key}
 use Rattle.task.specs.declared.tagging.Mac.{Mac}
+use Rattle.task.specs.declared.tasks.Reporting.{Reporting}
 
 -- the keyed function of a request, with the length of its tags, which for BLAKE3 is so many bytes at most
 abbrev pub mac_of : ℕ → Given → Result (Mac × ℕ) Text
 mac_of most g = needed (named (macs most)) (codes "a") g >>= (λ f. f g)
 
 -- what is asked of lists: under a key, that they have its tags, else digests
-abbrev pub entries : Given → Result (Bool → Source Share → List Text → Asked) Text
+abbrev pub entries : Given → Result (Reporting → Source Share → List Text → Asked) Text
 entries g = if is_some (text_of (codes "key") g) || is_some (text_of (codes "key-file") g)
     then under_key 64 g >>= (λ k. Ok (checks_tags k.0 k.1 k.2)) else (do
       kind ← given (λ s t. ok_or (lookup (bytes_eq t) kinds) one_key) (codes "a") g

@@ -1,5 +1,5 @@
 -- The tasks of the code as the definitions have them.
-use Rattle.std.specs.Prelude.{ℕ, Bool, List, Vec, map, option_map}
+use Rattle.std.specs.Prelude.{ℕ, List, Vec, map, option_map}
 use Rattle.std.specs.Borrow.{Bor}
 use Rattle.request.specs.CommandLine.{Text}
 use Rattle.sumlist.specs.declared.share.Share.{Share}
@@ -15,6 +15,7 @@ use Rattle.task.specs.declared.tasks.Entries.{Entries}
 use Rattle.task.specs.declared.tasks.Entries.TheVariants.{Digests, Tags}
 use Rattle.task.specs.declared.tasks.Names.{Names}
 use Rattle.task.specs.declared.tasks.Names.TheVariants.{Given as GivenNames, From}
+use Rattle.task.specs.declared.tasks.Reporting.{Reporting}
 use Rattle.task.specs.declared.tasks.Sum.{Sum as CodeSum}
 use Rattle.task.specs.declared.tasks.Sum.TheVariants.{Digest, Tag}
 use Rattle.task.specs.declared.tasks.Task.{Task}
@@ -46,7 +47,7 @@ verdicts_shown (Files share) = these share
 verdicts_shown (Report name) = in_file name.now
 
 -- what is asked of lists, by what their entries are
-abbrev pub entries_shown : Entries → Bool → Source Share → List Text → Asked
+abbrev pub entries_shown : Entries → Reporting → Source Share → List Text → Asked
 entries_shown (Digests kind) = checks kind
 entries_shown (Tags short key) = checks_tags short.mac (mac_len short.mac) (key_shown key)
 
@@ -66,5 +67,5 @@ task_shown (code.Verify parts name) = verifies parts.now name.now
 task_shown (code.Join joining wanted name lists) =
     joins joining.stretch joining.bytes (option_map (λ v. v.items) wanted) name.now (texts_of lists)
 task_shown (code.Kdf derivation is_raw material) = derives (derivation_shown derivation) is_raw material.now
-task_shown (code.Check entries is_summed verdicts lists) =
-    entries_shown entries is_summed (verdicts_shown verdicts) (texts_of lists)
+task_shown (code.Check entries reporting verdicts lists) =
+    entries_shown entries reporting (verdicts_shown verdicts) (texts_of lists)

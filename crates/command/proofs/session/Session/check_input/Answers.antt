@@ -5,7 +5,7 @@ use Rattle.command.proofs.session.Session.check_input.Goals as goal
 
 pub returns-clause-list : goal.returns-clause-list
 returns-clause-list g c =
-    rw c.status_of.ensures (list_taken c.args.is_summed _ _ _ (meaning c.args.entries.now)
+    rw c.status_of.ensures (list_taken c.args.reporting _ _ _ (meaning c.args.entries.now)
     (option_map (λ n. n.now) c.args.title) c.args.name c.args.share.now c.check_list-answer.new.share
     c.check_list-answer.result _ _ _ _ _ _ c.check_list-answer.ensures.checked c.check_list-answer.ensures.writes
     c.check_list-answer.ensures.gave c.remark.ensures)

@@ -11,7 +11,7 @@ pub returns-then-eq-clause-run : goal.returns-then-eq-clause-run
 returns-then-eq-clause-run g c =
     let name = c.args.name.now in
     report_input name (λ files content run.
-    ListRuns c.args.is_summed files (meaning c.args.entries.now)
+    ListRuns c.args.reporting files (meaning c.args.entries.now)
     (option_map (λ n. n.now) c.args.title) name c.args.share.now content run c.check_input.new.share)
     _ _ _ _ _ _ _ _ _ _ _ (sym c.eq.ensures ∙ c.if-eq.true) c.check_input.ensures.list c.check_input.ensures.counted
 
@@ -20,11 +20,11 @@ returns-in_err-feed-clause-run g c =
     let name = c.args.name.now in
     let is = sym c.eq.ensures ∙ c.if-eq.false in
     report_refused name (λ files content run.
-    ListRuns c.args.is_summed files (meaning c.args.entries.now)
+    ListRuns c.args.reporting files (meaning c.args.entries.now)
     (option_map (λ n. n.now) c.args.title) name c.args.share.now content run c.args.share.now)
     (g.E.Sink.shown c.args.err.now) (g.E.Sink.shown c.args.err.now) g.T.F.Feed.remaining _ _ _ _ _ _ _ _ is
     (λ files content t may other.
-    refused_list c.args.is_summed files (meaning c.args.entries.now)
+    refused_list c.args.reporting files (meaning c.args.entries.now)
     (option_map (λ n. n.now) c.args.title) name c.args.share.now content t may other is)
     c.from_residual.ensures.1 c.in_err-feed.ensures.opened c.in_err-feed.ensures.counted refl
 
@@ -32,7 +32,7 @@ pub returns-clause-run : goal.returns-clause-run
 returns-clause-run g c =
     let name = c.args.name.now in
     report_file name (λ files content run.
-    ListRuns c.args.is_summed files (meaning c.args.entries.now)
+    ListRuns c.args.reporting files (meaning c.args.entries.now)
     (option_map (λ n. n.now) c.args.title) name c.args.share.now content run c.check_input-answer.new.share)
     _ _ g.T.F.Feed.remaining c.in_ok-feed.feed _ _ _ _ _ _ _ _ _ _ _ _ _
     (sym c.eq.ensures ∙ c.if-eq.false) c.in_ok-feed.ensures.opened c.open_file.ensures.kept

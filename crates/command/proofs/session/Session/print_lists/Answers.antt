@@ -18,8 +18,8 @@ loop-name-init g c =
     record {
       same = record { input = refl; tree = refl; out = refl };
       opens = λ d all. all;
-      goes = goes-start is_input (list_runs c.args.is_summed (meaning c.args.entries.now) are_named)
-          (list_whole c.args.is_summed (meaning c.args.entries.now) are_named) _ c.args.share (see c.args.self.now) _;
+      goes = goes-start is_input (list_runs c.args.reporting (meaning c.args.entries.now) are_named)
+          (list_whole c.args.reporting (meaning c.args.entries.now) are_named) _ c.args.share (see c.args.self.now) _;
     }
 
 pub loop-name-preserved : goal.loop-name-preserved
@@ -36,8 +36,8 @@ loop-name-preserved g c =
       opens = opens-next (map (λ n. n.now) c.args.lists.now) _ _ _ (see c.args.self.now) (see c.loop-name.self)
           (see c.print_report.new.self) is c.loop-name.invariant.opens c.print_report.ensures.opens report.answer
           report.gave report.files;
-      goes = goes-next is_input (list_runs c.args.is_summed (meaning c.args.entries.now) are_named)
-          (list_whole c.args.is_summed (meaning c.args.entries.now) are_named) _ _ _ c.loop-name.status
+      goes = goes-next is_input (list_runs c.args.reporting (meaning c.args.entries.now) are_named)
+          (list_whole c.args.reporting (meaning c.args.entries.now) are_named) _ _ _ c.loop-name.status
           (see c.args.self.now) (see c.loop-name.self) (g.E.Sink.shown c.args.err.now) (g.E.Sink.shown c.loop-name.err)
           _ _ _ _ (see c.print_report.new.self) _ is c.loop-name.invariant.goes _ _ (omega (arith, most)) report;
     }
@@ -47,8 +47,8 @@ returns-in_err-of_one-clause-run g c =
     let see = seen_of g.L.Feed.remaining g.L.Feed.failure_count g.T.Tree.files g.T.Tree.failure_count
     g.T.Tree.opens g.W.Sink.shown in
     let are_named = nat_lt 1 (length (map (λ n. n.now) c.args.lists.now)) in
-    goes-stop is_input (list_runs c.args.is_summed (meaning c.args.entries.now) are_named)
-    (list_whole c.args.is_summed (meaning c.args.entries.now) are_named) _ _ _ c.loop-name.status (see c.args.self.now)
+    goes-stop is_input (list_runs c.args.reporting (meaning c.args.entries.now) are_named)
+    (list_whole c.args.reporting (meaning c.args.entries.now) are_named) _ _ _ c.loop-name.status (see c.args.self.now)
     (see c.loop-name.self) (g.E.Sink.shown c.args.err.now) (g.E.Sink.shown c.loop-name.err) _ _ _ _
     (see c.print_report.new.self) _ (next_name c.args.lists.now c.loop-name.name-index _ c.loop-name-test.true)
     c.loop-name.invariant.goes _ _ c.from_residual.ensures.1
@@ -69,8 +69,8 @@ returns-clause-run g c =
     let see = seen_of g.L.Feed.remaining g.L.Feed.failure_count g.T.Tree.files g.T.Tree.failure_count
     g.T.Tree.opens g.W.Sink.shown in
     let are_named = nat_lt 1 (length (map (λ n. n.now) c.args.lists.now)) in
-    goes-end is_input (list_runs c.args.is_summed (meaning c.args.entries.now) are_named)
-    (list_whole c.args.is_summed (meaning c.args.entries.now) are_named) _ _ _ c.loop-name.status (see c.args.self.now)
+    goes-end is_input (list_runs c.args.reporting (meaning c.args.entries.now) are_named)
+    (list_whole c.args.reporting (meaning c.args.entries.now) are_named) _ _ _ c.loop-name.status (see c.args.self.now)
     (see c.loop-name.self) (g.E.Sink.shown c.args.err.now) (g.E.Sink.shown c.loop-name.err) _
     (ap (map (λ n. n.now)) (drop_all c.loop-name.name-index c.args.lists.now c.loop-name-test.false))
     c.loop-name.invariant.goes

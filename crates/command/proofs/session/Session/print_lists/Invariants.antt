@@ -16,8 +16,8 @@ invariant-loop-name g l =
       same : SameStreams l.initial.self l.self;
       opens : OpensOn (map (λ n. n.now) l.lists) (map (λ n. n.now) (drop l.name-index l.lists)) (see l.initial.self)
           (see l.self);
-      goes : Goes is_input (list_runs l.is_summed (meaning l.fn.entries) are_named)
-          (list_whole l.is_summed (meaning l.fn.entries) are_named)
+      goes : Goes is_input (list_runs l.reporting (meaning l.fn.entries) are_named)
+          (list_whole l.reporting (meaning l.fn.entries) are_named)
           (map (λ n. n.now) l.lists) l.fn.share (map (λ n. n.now) (drop l.name-index l.lists)) l.left l.status
           (see l.initial.self)
           (see l.self) (g.E.Sink.shown l.initial.err) (g.E.Sink.shown l.err);

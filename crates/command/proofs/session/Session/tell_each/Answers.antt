@@ -17,7 +17,7 @@ loop-name-init g c =
       same = record { input = refl; tree = refl; out = refl };
       kept = record { name = refl; entries = refl; feed = refl; files = refl; out = refl };
       opens = omega arith;
-      goes = goes-start c.args.is_summed (meaning c.args.told.now.entries.now)
+      goes = goes-start c.args.reporting (meaning c.args.told.now.entries.now)
           (nat_lt 1 (length (map (λ n. n.now) c.args.lists.now))) c.args.told.now.name.now _ _ _ (see c.args.self.now)
           _ _;
     }
@@ -46,7 +46,7 @@ loop-name-preserved g c =
       };
       opens = opens_more c.args.lists.now c.loop-name.name-index _ c.loop-name-test.true (see c.args.self.now)
           (see c.loop-name.self) (see c.tell_one.new.self) i.opens c.tell_one.ensures.opens;
-      goes = goes-next c.args.is_summed (meaning c.args.told.now.entries.now)
+      goes = goes-next c.args.reporting (meaning c.args.told.now.entries.now)
           (nat_lt 1 (length (map (λ n. n.now) c.args.lists.now))) c.args.told.now.name.now _ _ _ _ _ _
           c.loop-name.status (see c.args.self.now) (see c.loop-name.self) _ _ _ _ i.goes _ _ _ _
           (see c.tell_one.new.self) _ _ (next_name c.args.lists.now c.loop-name.name-index _ c.loop-name-test.true)
@@ -64,7 +64,7 @@ returns-in_err-tell_one-clause-run g c =
       i.kept.entries,
       i.kept.name,
     ) at c.in_err-tell_one.ensures.list in
-    goes-stop c.args.is_summed (meaning c.args.told.now.entries.now)
+    goes-stop c.args.reporting (meaning c.args.told.now.entries.now)
     (nat_lt 1 (length (map (λ n. n.now) c.args.lists.now))) c.args.told.now.name.now _ _ _ _ _ _ c.loop-name.status
     (see c.args.self.now) (see c.loop-name.self) _ _ _ _ i.goes _ _ _ _ (see c.tell_one.new.self) _ _
     (next_name c.args.lists.now c.loop-name.name-index _ c.loop-name-test.true) c.tell_one.ensures.kept.out _ _
@@ -75,7 +75,7 @@ returns-in_err-end-clause-run g c =
     let see = seen_of g.L.Feed.remaining g.L.Feed.failure_count g.T.Tree.files g.T.Tree.failure_count
     g.T.Tree.opens g.W.Sink.shown in
     let i = c.loop-name.invariant in
-    goes-beyond c.args.is_summed (meaning c.args.told.now.entries.now)
+    goes-beyond c.args.reporting (meaning c.args.told.now.entries.now)
     (nat_lt 1 (length (map (λ n. n.now) c.args.lists.now))) c.args.told.now.name.now _ _ _ _ _ _ c.loop-name.status
     (see c.args.self.now) (see c.loop-name.self) _ _ _ _ i.goes _ c.in_err-end.field-0.0 _
     (ap (map (λ n. n.now)) (drop_all c.loop-name.name-index c.args.lists.now c.loop-name-test.false))
@@ -86,7 +86,7 @@ returns-clause-run g c =
     let see = seen_of g.L.Feed.remaining g.L.Feed.failure_count g.T.Tree.files g.T.Tree.failure_count
     g.T.Tree.opens g.W.Sink.shown in
     let i = c.loop-name.invariant in
-    goes-end c.args.is_summed (meaning c.args.told.now.entries.now)
+    goes-end c.args.reporting (meaning c.args.told.now.entries.now)
     (nat_lt 1 (length (map (λ n. n.now) c.args.lists.now))) c.args.told.now.name.now _ _ _ _ _ _ c.loop-name.status
     (see c.args.self.now) (see c.loop-name.self) _ _ _ _ i.goes _
     (ap (map (λ n. n.now)) (drop_all c.loop-name.name-index c.args.lists.now c.loop-name-test.false))

@@ -19,7 +19,7 @@ invariant-loop-name g l =
       kept : KeepsReport l.initial.told l.told (see l.initial.self) (see l.self);
       opens : OpensAtMost (sum_by opens_of (map (λ n. n.now) (take l.name-index l.lists)))
           (see l.initial.self) (see l.self);
-      goes : Goes l.is_summed (meaning l.initial.told.entries.now)
+      goes : Goes l.reporting (meaning l.initial.told.entries.now)
           (nat_lt 1 (length (map (λ n. n.now) l.lists))) l.initial.told.name.now
           (map (λ n. n.now) l.lists) (left g.F.Feed.remaining l.initial.told.report) l.initial.told.next
           (map (λ n. n.now) (drop l.name-index l.lists)) (left g.F.Feed.remaining l.told.report) l.told.next l.status

@@ -7,7 +7,7 @@ use Rattle.command.proofs.session.Session.tell_lists.Goals as goal
 
 pub returns-in_err-feed-clause-run : goal.returns-in_err-feed-clause-run
 returns-in_err-feed-clause-run g c =
-    report_none c.args.is_summed (meaning c.args.entries.now) c.args.report.now (map (λ n. n.now) c.args.lists.now) _
+    report_none c.args.reporting (meaning c.args.entries.now) c.args.report.now (map (λ n. n.now) c.args.lists.now) _
     _ _ _ _ c.in_err-feed.field-0.0 _ _ _ _ c.from_residual.ensures.1 c.in_err-feed.ensures.opened
     c.in_err-feed.ensures.counted refl
 
@@ -20,7 +20,7 @@ returns-clause-run g c =
       file_failures = g.T.Tree.failure_count c.open_file.new.tree;
       opens = g.T.Tree.opens c.open_file.new.tree;
     } in
-    report_read c.args.is_summed (meaning c.args.entries.now) c.args.report.now (map (λ n. n.now) c.args.lists.now) _
+    report_read c.args.reporting (meaning c.args.entries.now) c.args.report.now (map (λ n. n.now) c.args.lists.now) _
     _ _ g.T.F.Feed.remaining c.in_ok-feed.feed _ _ before (see c.tell_each-answer.new.self)
     _ _ _ _ c.in_ok-feed.ensures.opened c.open_file.ensures.kept c.in_ok-feed.ensures.counted
     c.new.ensures.left (c.new.ensures.counted ∙ c.in_ok-feed.ensures.fresh) c.tell_each-answer.ensures.run
