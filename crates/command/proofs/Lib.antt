@@ -11,6 +11,7 @@ pub mod Naming
 pub mod Shared
 pub mod Sharing
 pub mod SharedChecks
+pub mod SharedNames
 pub mod Outputs
 pub mod Comparing
 pub mod Tagging

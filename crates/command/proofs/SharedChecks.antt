@@ -76,8 +76,17 @@ followed_ends : (first rest : Run) → Ends rest → Ends (followed first rest)
 followed_ends first rest (s, ends) =
     (max (status first) s, ap (result_map_both (max (status first)) (λ t. t)) ends)
 
+-- where two runs end with a status, so does the last
+pub followed_last : (first rest : Run) → Ends (followed first rest) → Ends rest
+followed_last first rest (s, ends) = on rest.ending refl ends
+  where
+    on : (e : Result ℕ (ℕ × Text)) → rest.ending ≡ e → result_map_both (max (status first)) (λ t. t) e ≡ Ok s
+        → Ends rest
+    on (Ok r) is same = (r, is)
+    on (Err t) is same = cc
+
 -- the run over a name that is refused ends with a trouble
-refused_stops : (most : ℕ) (b : Bool) (name : Text) (content : Option Text) (stop : Run)
+pub refused_stops : (most : ℕ) (b : Bool) (name : Text) (content : Option Text) (stop : Run)
     → IsRefused most b name content stop → Ends stop → ⊥
 refused_stops most b name content stop (inl (inl is)) ends = stopped stop _ (ap (λ (r : Run). r.ending) is) ends
 refused_stops most b name content stop (inl (inr is)) ends = stopped stop _ (ap (λ (r : Run). r.ending) is) ends

@@ -1,5 +1,5 @@
 -- The runs of all shares are one run over all names.
-use Rattle.std.proofs.Common.{◌≡◌, ◌≢◌, ◌∙◌, ◌==◌, ℕ, ◌+◌, ◌<◌, ◌≤◌, List, [], ◌∷◌, ◌++◌, length, map, max, suc, zero}
+use Rattle.std.proofs.Common.{◌≡◌, ◌≢◌, ◌∙◌, ◌==◌, ℕ, ◌<◌, ◌≤◌, List, [], ◌∷◌, ◌++◌, length, map, max, suc, zero}
 use Rattle.std.proofs.Common.{Bool, true, false, Option, Some, None, Result, Ok, Err, ap, ap₂, sym, subst, refl, arith}
 use Rattle.std.proofs.Common.{append_assoc, inl, inr, nat_lt}
 use Rattle.std.proofs.lemmas.Bool.Decides.{nat_tests}
@@ -9,10 +9,11 @@ use Rattle.std.specs.Result.{result_map_both}
 use Rattle.request.specs.CommandLine.{Text}
 use Rattle.sumlist.specs.Report.{Files}
 use Rattle.sumlist.specs.Shared.{every}
+use Rattle.sumlist.specs.declared.share.Share.{Share}
 use Rattle.sumlist.proofs.Shares.{every-map}
-use Rattle.command.specs.Hashing.{InShare, LinesGiven}
+use Rattle.command.specs.Hashing.{InShare}
 use Rattle.command.specs.Keying.{LineRuns, answer}
-use Rattle.command.specs.Laws.{SharesAreRun}
+use Rattle.command.specs.Laws.{AreShares, SharesAreRun}
 use Rattle.command.specs.Lines.{LineRule, content_of, is_input}
 use Rattle.command.specs.Run.{LeftBy, Prints, Run, RunsAll, end_of, followed, of_name, prints, stops}
 use Rattle.command.proofs.Given.{Ways}
@@ -61,7 +62,7 @@ abbrev pub highest : List Run → ℕ
 highest [] = 0
 highest (r ∷ runs) = max (status r) (highest runs)
 
-together_ends : (runs : List Run) → (together runs).ending ≡ Ok (highest runs)
+pub together_ends : (runs : List Run) → (together runs).ending ≡ Ok (highest runs)
 together_ends [] = refl
 together_ends (r ∷ runs) = ap (result_map_both (max (status r)) (λ t. t)) (together_ends runs)
 
@@ -137,7 +138,7 @@ bare_print : (text : Text) (r : Run) → Prints text 0 r → status r ≡ 1 → 
 bare_print text r (inl is) one = let none : status r ≡ 0 = ap status is in absurd (omega (arith, none, one))
 bare_print text r (inr is) one = let three : status r ≡ 3 = ap status is in absurd (omega (arith, three, one))
 
-bare : (l : LineRule) (files : Files) (name : Text) (input : List ℕ) (r : Run)
+pub bare : (l : LineRule) (files : Files) (name : Text) (input : List ℕ) (r : Run)
     → LineRuns None l name name input files r → status r ≡ 1 → r.text ≡ []
 bare l files name input r (inl p) one = ap (λ (x : Run). x.text) p.1
 bare l files name input r (inr (fits, inl (inl (inl p)))) one = ap (λ (x : Run). x.text) p
@@ -157,24 +158,29 @@ bare l files name input r (inr (fits, inr p)) one = on (content_of name input fi
 
 -- ---- the runs of the names
 
-module _ (l : LineRule) (files : Files) (input : List ℕ) (n : ℕ) (more : 0 < n) where
-  abbrev pub One : Text → Run → Type 0
-  One name = LineRuns None l name name input files
-
-  abbrev pub Both : Text → List ℕ → Run → Type 0
-  Both name given = InShare (record { others = n; waiting = 0 }) (LineRuns None l name name given files)
+-- which of them read standard input, and what the run of one is; one with status 1 prints nothing
+module _ {N : Type 0} (reads : N → Bool) (one : N → List ℕ → Run → Type 0)
+    (bare_one : (name : N) (input : List ℕ) (r : Run) → one name input r → status r ≡ 1 → r.text ≡ [])
+    (input : List ℕ) (n : ℕ) (more : 0 < n) where
+  abbrev pub Both : N → List ℕ → Run → Type 0
+  Both name given = InShare (record { others = n; waiting = 0 }) (one name given)
 
   -- which leaves no state
-  abbrev pub Stated : Text → Unit {0} → List ℕ → Run → Unit {0} → Type 0
+  abbrev pub Stated : N → Unit {0} → List ℕ → Run → Unit {0} → Type 0
   Stated name x given run y = Both name given run
 
+  -- the run over a share of these names
+  abbrev pub Over : Share → List N → Run → Type 0
+  Over s names = RunsAll reads (λ name x given run y. InShare s (one name given) run)
+      (every s.others s.waiting names) (tt {0}) input
+
   -- what a run over names that are not standard input says of the first
-  pub record Head (name : Text) (names : List Text) (r : Run) : Type 0 where
+  pub record Head (name : N) (names : List N) (r : Run) : Type 0 where
     pub plain : Run
-    pub is : One name plain
+    pub is : one name input plain
     pub light : status plain ≢ 3
     pub rest : Run
-    pub runs : RunsAll is_input Stated names tt input rest
+    pub runs : RunsAll reads Stated names tt input rest
     pub few : status rest ≤ 1
     pub same : r ≡ followed (with_line plain) rest
 
@@ -189,13 +195,13 @@ module _ (l : LineRule) (files : Files) (input : List ℕ) (n : ℕ) (more : 0 <
       on (Ok s) ends = let most = rw ends at all in rw ends (omega (arith, most))
       on (Err t) ends = let most = rw ends at all in rw ends (omega (arith, most))
 
-  head : (name : Text) (names : List Text) (r : Run) → is_input name ≡ false
-      → RunsAll is_input Stated (name ∷ names) tt input r → status r ≤ 1 → Head name names r
+  head : (name : N) (names : List N) (r : Run) → reads name ≡ false
+      → RunsAll reads Stated (name ∷ names) tt input r → status r ≤ 1 → Head name names r
   head name names r elsewhere (first, next, (plain, is, how), runs) few = on (status first == 3) refl runs
     where
       on : (b : Bool) → (status first == 3) ≡ b → MatchBool b (r ≡ first) ((left : List ℕ)
-          × LeftBy (is_input name) first.ending input left × (rest : Run)
-          × RunsAll is_input Stated names tt left rest × (r ≡ followed first rest)) → Head name names r
+          × LeftBy (reads name) first.ending input left × (rest : Run)
+          × RunsAll reads Stated names tt left rest × (r ≡ followed first rest)) → Head name names r
       on true at same =
           let three = is_3 _ at in let is = ap status same in absurd (omega (arith, few, three, is))
       on false at (left, leaves, rest, behind, same) =
@@ -206,7 +212,7 @@ module _ (l : LineRule) (files : Files) (input : List ℕ) (n : ℕ) (more : 0 <
             is = is;
             light = λ e. light (ap status line ∙ lined_status plain ∙ e);
             rest = rest;
-            runs = subst (λ (m : List ℕ). RunsAll is_input Stated names tt m rest) stays behind;
+            runs = subst (λ (m : List ℕ). RunsAll reads Stated names tt m rest) stays behind;
             few = rest_few first rest r same few;
             same = same ∙ ap (λ x. followed x rest) line;
           }
@@ -222,20 +228,20 @@ module _ (l : LineRule) (files : Files) (input : List ℕ) (n : ℕ) (more : 0 <
   abbrev turned : Run → (ℕ → Run) → ℕ → Run
   turned rest shares j = if j == n then rest else shares (suc j)
 
-  abbrev pub Did : List Text → (ℕ → Run) → Type 0
+  abbrev pub Did : List N → (ℕ → Run) → Type 0
   Did names shares = (k : ℕ) → k ≤ n
-      → LinesGiven (record { others = n; waiting = k }) l files names input (shares k) × (status (shares k) ≤ 1)
+      → Over (record { others = n; waiting = k }) names (shares k) × (status (shares k) ≤ 1)
 
   -- names have these runs: together they are one over all names, and those of each (n + 1)-th name, with the empty
   -- lines, are that of its share
-  pub record Made (names : List Text) (shares : ℕ → Run) : Type 0 where
+  pub record Made (names : List N) (shares : ℕ → Run) : Type 0 where
     pub ones : List Run
     pub count : length ones ≡ length names
-    pub whole : LinesGiven (record { others = 0; waiting = 0 }) l files names input (together ones)
+    pub whole : Over (record { others = 0; waiting = 0 }) names (together ones)
     pub each : (k : ℕ) → k ≤ n → shares k ≡ together (every n k (map with_line ones))
     pub bare : AreBare ones
 
-  made : (names : List Text) (shares : ℕ → Run) → list_any is_input names ≡ false → Did names shares
+  pub made : (names : List N) (shares : ℕ → Run) → list_any reads names ≡ false → Did names shares
       → Made names shares
   made [] shares none did = record {
     ones = [];
@@ -245,7 +251,7 @@ module _ (l : LineRule) (files : Files) (input : List ℕ) (n : ℕ) (more : 0 <
     bare = tt;
   }
   made (name ∷ names) shares none did =
-      let elsewhere = neither (is_input name) (list_any is_input names) none in
+      let elsewhere = neither (reads name) (list_any reads names) none in
       let zeroth = did 0 (omega arith) in
       let h = head name (every n n names) (shares 0) elsewhere.0 zeroth.0 zeroth.1 in
       let behind = made names (turned h.rest shares) elsewhere.1 (turns h) in record {
@@ -258,20 +264,20 @@ module _ (l : LineRule) (files : Files) (input : List ℕ) (n : ℕ) (more : 0 <
           off_3 _ _ _ h.light (input, stays elsewhere.0 h.plain, together behind.ones, behind.whole, refl),
         );
         each = each h behind;
-        bare = (bare l files name input h.plain h.is, behind.bare);
+        bare = (bare_one name input h.plain h.is, behind.bare);
       }
     where
-      stays : is_input name ≡ false → (first : Run) → LeftBy (is_input name) first.ending input input
+      stays : reads name ≡ false → (first : Run) → LeftBy (reads name) first.ending input input
       stays away first = rw away refl
 
       turns : (h : Head name (every n n names) (shares 0)) → Did names (turned h.rest shares)
       turns h j within = on (j == n) refl
         where
-          on : (b : Bool) → (j == n) ≡ b → LinesGiven (record { others = n; waiting = j }) l files names input
+          on : (b : Bool) → (j == n) ≡ b → Over (record { others = n; waiting = j }) names
               (if b then h.rest else shares (suc j)) × (status (if b then h.rest else shares (suc j)) ≤ 1)
           on true at =
               let is : j ≡ n = grind (arith, nat_tests) in
-              subst (λ k. LinesGiven (record { others = n; waiting = k }) l files names input h.rest
+              subst (λ k. Over (record { others = n; waiting = k }) names h.rest
               × (status h.rest ≤ 1)) (sym is) (h.runs, h.few)
           on false at = let other = is_not j n at in did (suc j) (omega (arith, within, other))
 
@@ -340,26 +346,26 @@ count_said : (runs : List Run) → length (map said_of runs) ≡ length runs
 count_said [] = refl
 count_said (r ∷ runs) = ap suc (count_said runs)
 
-pub shares_are_run : SharesAreRun
-shares_are_run l files found input n shares more none did =
-    let m = made l files input n more found shares none (λ k within. let d = did k within in (d.1, d.0)) in
-    let lined = map with_line m.ones in
-    let whole : status (together m.ones) ≡ highest lined = together_status m.ones ∙ sym (lined_highest m.ones) in
+-- runs of names, together and in shares
+pub are_shares : (n : ℕ) (shares : ℕ → Run) (ones : List Run) → AreBare ones
+    → ((k : ℕ) → k ≤ n → shares k ≡ together (every n k (map with_line ones)))
+    → AreShares n shares (length ones) (together ones)
+are_shares n shares ones bare each =
+    let lined = map with_line ones in
+    let whole : status (together ones) ≡ highest lined = together_status ones ∙ sym (lined_highest ones) in
     let one = reached n lined in (
-      together m.ones,
-      m.whole,
-      map said_of m.ones,
-      count_said m.ones ∙ m.count,
-      notes_told m.ones,
-      plain_text m.ones m.bare,
+      map said_of ones,
+      count_said ones,
+      notes_told ones,
+      plain_text ones bare,
       λ k within.
-          let own = every n k m.ones in
+          let own = every n k ones in
           let is : shares k ≡ together (map with_line own)
-          = m.each k within ∙ ap together (every-map with_line n k m.ones) in
-          let said : every n k (map said_of m.ones) ≡ map said_of own = every-map said_of n k m.ones in
-          let same = ap status (m.each k within) ∙ together_status (every n k lined) in
+          = each k within ∙ ap together (every-map with_line n k ones) in
+          let said : every n k (map said_of ones) ≡ map said_of own = every-map said_of n k ones in
+          let same = ap status (each k within) ∙ together_status (every n k lined) in
           let most = below n k lined in (
-            ap (λ (r : Run). r.text) is ∙ lined_text own (bare_share n k m.ones m.bare)
+            ap (λ (r : Run). r.text) is ∙ lined_text own (bare_share n k ones bare)
                 ∙ ap (flat_map (λ s. unwrap_or s.0 (10 ∷ []))) (sym said),
             ap (λ (r : Run). r.notes) is ∙ lined_notes own ∙ notes_told own ∙ ap (flat_map (λ s. s.1)) (sym said),
             omega (arith, whole, same, most),
@@ -367,6 +373,15 @@ shares_are_run l files found input n shares more none did =
       (
         one.k,
         one.within,
-        ap status (m.each one.k one.within) ∙ together_status (every n one.k lined) ∙ one.same ∙ sym whole,
+        ap status (each one.k one.within) ∙ together_status (every n one.k lined) ∙ one.same ∙ sym whole,
       ),
+    )
+
+pub shares_are_run : SharesAreRun
+shares_are_run l files found input n shares more none did =
+    let m = made is_input (λ name given r. LineRuns None l name name given files r) (bare l files) input n more found
+    shares none (λ k within. let d = did k within in (d.1, d.0)) in (
+      together m.ones,
+      m.whole,
+      subst (λ count. AreShares n shares count (together m.ones)) m.count (are_shares n shares m.ones m.bare m.each),
     )
