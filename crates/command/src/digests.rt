@@ -15,13 +15,13 @@ ghost use Rattle.command.specs.inside.Reading.{Leaves, Reads, failed};
 ghost use Rattle.command.specs.declared.fault.Fault.TheVariants.{BadName};
 
 use crate::fault::Fault;
-use crate::making::{Made, write_beside};
+use crate::making::Made;
 use crate::session::absorb_feed;
 use b3::{Blake3, CHUNK_LEN, Mode, Output};
 use blake2::{Blake2b, Blake2s};
-use source::{Alg, AnyHash, Feed, Sink, WriteFailed, digest_of, output_in_parts};
+use source::{Alg, AnyHash, Feed, digest_of, output_in_parts, pump};
 use std::alloc::{AllocError, Global};
-use sumlist::{fits, tagged_fits, write_tagged_line};
+use sumlist::{fits, tagged_fits};
 use task::{Form, Hash, Requested};
 
 /// Room for a part of this many chunks.
@@ -129,31 +129,13 @@ fn output_of_feed<'n, F: Feed>(
 {
     if buffer.is_empty() {
         let mut hasher = Blake3::new();
-        absorb_feed(&mut hasher, name, feed)?;
-        return Ok(hasher.output());
+        return match pump(&mut hasher, feed) {
+            Ok(()) => Ok(hasher.output()),
+            Err(fault) => Err(Fault::of_source(fault, name)),
+        };
     }
     match output_in_parts(Mode::Hash, feed, buffer) {
         Ok(output) => Ok(output),
         Err(fault) => Err(Fault::of_source(fault, name)),
-    }
-}
-
-/// Writes a digest as it is, or its line with a name.
-pub(crate) fn write_digest<W: Sink>(
-    requested: Requested,
-    made: Made,
-    name: &str,
-    out: &mut W,
-) -> Result<(), WriteFailed>
-    requires digest { HasDigest requested }
-    requires has { HasBytes made }
-    requires sized { made_len made ≡ requested.stretch.length }
-    ensures { Writes result (W.shown out.old) (W.shown out.new)
-        ((digest_line requested).text name.now (made_bytes made)) }
-{
-    match requested.form {
-        Form::Plain => write_beside(made, false, name, out),
-        Form::Raw => write_beside(made, true, name, out),
-        Form::Tagged => write_tagged_line(requested.alg(), name, &made.into_tag(), out),
     }
 }

@@ -21,7 +21,7 @@ ghost use Rattle.command.specs.inside.Seen.{DoesRun, OpensAtMost};
 ghost use Rattle.command.specs.inside.Streams.{AfterReading, IfContent, SameStreams};
 ghost use Rattle.command.specs.declared.fault.Fault.TheVariants.{BadName};
 
-use crate::digests::{digest_of_feed, listable, part_buffer, write_digest};
+use crate::digests::{digest_of_feed, listable, part_buffer};
 use crate::fault::{Fault, tell};
 use crate::keying::rule_of;
 use crate::making::{Made, is_made, write_beside};
@@ -32,8 +32,8 @@ use crate::tags::{tag_digits, tag_of_feed};
 use crate::verifying::{print_verdict, slice_of};
 use source::{Feed, Sink, WriteFailed, write_all};
 use std::alloc::{AllocError, Global};
-use sumlist::{Share, Tree};
-use task::Sum;
+use sumlist::{Share, Tree, write_tagged_line};
+use task::{Form, Sum};
 
 impl<'i, 't, 'o, L: Feed, T: Tree, W: Sink> Session<'i, 't, 'o, L, T, W> {
     /// Prints the line of each file in a share of them, and goes on with the next after a file that can't be
@@ -300,7 +300,14 @@ fn write_sum<W: Sink>(rule: &Rule, made: Made, name: &str, out: &mut W) -> Resul
         ((line_by rule.now).text name.now (made_bytes made)) }
 {
     match rule {
-        Rule::Digest(hashing) => write_digest(hashing.requested, made, name, out),
+        Rule::Digest(hashing) => {
+            let requested = hashing.requested;
+            match requested.form {
+                Form::Plain => write_beside(made, false, name, out),
+                Form::Raw => write_beside(made, true, name, out),
+                Form::Tagged => write_tagged_line(requested.alg(), name, &made.into_tag(), out),
+            }
+        }
         Rule::Tag(keyed) => write_beside(made, keyed.tagging.is_raw, name, out),
     }
 }
