@@ -93,16 +93,22 @@ static const struct inner *inner_of(PyObject *name)
 
 #define NO_INNER " is none of sha256, sha512, blake2b, blake2s"
 
+// A method of str itself, whatever methods a subclass has.
+static PyObject *by_str(const char *method, PyObject *text)
+{
+    return PyObject_CallMethod((PyObject *)&PyUnicode_Type, method, "O", text);
+}
+
 // Finds the hash of a name, in small letters or large ones, as `new` takes it.
 static int find_inner(PyObject *name, struct whole *whole)
 {
     int is_text = PyUnicode_Check(name);
-    PyObject *is_ascii = is_text ? PyObject_CallMethod(name, "isascii", NULL) : NULL;
+    PyObject *is_ascii = is_text ? by_str("isascii", name) : NULL;
     if (is_text && !is_ascii) return -1;
     // some letters outside ASCII have small ones within it
     int may_be = is_ascii == Py_True;
     Py_XDECREF(is_ascii);
-    PyObject *lower = may_be ? PyObject_CallMethod(name, "lower", NULL) : NULL;
+    PyObject *lower = may_be ? by_str("lower", name) : NULL;
     if (may_be && !lower) return -1;
     whole->hash = lower ? inner_of(lower) : NULL;
     Py_XDECREF(lower);

@@ -111,6 +111,14 @@ class Lengths(unittest.TestCase):
         finally:
             sums_hash.blake3.key_size = 32
 
+    def test_of_a_name(self):
+        """The name of a hash is its letters, whatever the methods of its class return."""
+        for answer in (None, 5, b"sha512", "sha512"):
+            methods = {"isascii": lambda _: True, "lower": lambda _, answer=answer: answer}
+            name = type("Name", (str,), methods)("SHA256")
+            self.assertEqual(sums_hash.hmac_digest(b"key", DATA, name), sums_hash.hmac_sha256(b"key", DATA).digest())
+            self.assertEqual(sums_hash.hkdf_extract(name, DATA), sums_hash.hkdf_extract("sha256", DATA))
+
     def test_of_many_pieces(self):
         """Digests for which there is no room are refused, and so are those whose bytes no number counts."""
         with mmap.mmap(-1, 2**40, flags=mmap.MAP_PRIVATE | mmap.MAP_ANONYMOUS, prot=mmap.PROT_READ) as data:
