@@ -140,7 +140,7 @@ func verdictOf(fsys fs.FS, entry *Entry) Verdict {
 	}
 	defer file.Close()
 	h, err := begunBy(entry)
-	if err != nil {
+	if err != nil || isFolder(entry.Name) {
 		return VerdictUnreadable
 	}
 	if _, err := io.Copy(h, file); errors.Is(err, ErrInputTooLong) {
@@ -154,10 +154,15 @@ func verdictOf(fsys fs.FS, entry *Entry) Verdict {
 	return VerdictFailed
 }
 
-// cleaned is a name as a file system takes it: without what means the folder itself. One that leaves the folder, or that
-// is a folder's, stays, and no file system has it.
+// isFolder is whether a name is that of a folder, which no file has.
+func isFolder(name string) bool {
+	return strings.HasSuffix(name, "/") || strings.HasSuffix(name, "/.")
+}
+
+// cleaned is a name as a file system takes it: without what means the folder itself. One that leaves the folder stays,
+// and no file system has it.
 func cleaned(name string) string {
-	if strings.HasPrefix(name, "/") || strings.HasSuffix(name, "/") {
+	if strings.HasPrefix(name, "/") {
 		return name
 	}
 	for _, element := range strings.Split(name, "/") {

@@ -282,6 +282,8 @@ func TestCheckVerdicts(t *testing.T) {
 		{Name: "folder", Verdict: hash.VerdictUnreadable}, {Name: "../abc.txt", Verdict: hash.VerdictUnreadable},
 		{Name: filepath.Join(folder, "abc.txt"), Verdict: hash.VerdictUnreadable},
 		{Name: "abc.txt/", Verdict: hash.VerdictUnreadable}, {Name: "abc.txt/x", Verdict: hash.VerdictUnreadable},
+		{Name: "abc.txt/.", Verdict: hash.VerdictUnreadable}, {Name: "folder/.", Verdict: hash.VerdictUnreadable},
+		{Name: "none/.", Verdict: hash.VerdictMissing}, {Name: "none/", Verdict: hash.VerdictMissing},
 	}
 	for i := range want {
 		want[i].Line = uint64(i + 1)
@@ -289,11 +291,11 @@ func TestCheckVerdicts(t *testing.T) {
 	}
 	list, _ = hash.AppendLine(list, hash.AlgorithmSHA256, make([]byte, 32), "abc.txt")
 	list = append(list, "x\n#\n"+strings.Repeat("0", 128)+"  x"...)
-	want = append(want, hash.Result{Line: 10, Name: "abc.txt", Verdict: hash.VerdictFailed}, hash.Result{Line: 11},
-		hash.Result{Line: 13})
+	want = append(want, hash.Result{Line: 14, Name: "abc.txt", Verdict: hash.VerdictFailed}, hash.Result{Line: 15},
+		hash.Result{Line: 17})
 	write(t, folder, map[string][]byte{"SUMS": list})
 	report, err := hash.Check(os.DirFS(folder), "SUMS", hash.AlgorithmSHA256)
-	summary := "2 OK, 1 failed, 1 missing, 6 unreadable, 0 too long, 2 malformed, 1 skipped"
+	summary := "2 OK, 1 failed, 3 missing, 8 unreadable, 0 too long, 2 malformed, 1 skipped"
 	if err != nil || !reflect.DeepEqual(report.Results, want) || report.Summary() != summary || report.Untagged != 1 {
 		t.Error(err, report.Results, report.Summary())
 	}
