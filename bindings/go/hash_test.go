@@ -187,6 +187,23 @@ func TestCopies(t *testing.T) {
 			t.Error(err)
 		}
 	}
+	// a copy that is put back, so as to undo what came after it
+	for _, change := range []func(h *Hash){
+		func(h *Hash) { must(h.Write([]byte("a"))) }, func(h *Hash) { must(h.Write(make([]byte, 5000))) }, (*Hash).Reset,
+	} {
+		h := NewSHA256()
+		must(h.Write(make([]byte, 1000)))
+		before := *h
+		change(h)
+		before.Reset()
+		if other := h.Clone(); !bytes.Equal(h.Sum(nil), other.Sum(nil)) {
+			t.Error("a copy has reset the message")
+		}
+		*h = before
+		if _, err := h.Write(nil); err != ErrCopied {
+			t.Error(err)
+		}
+	}
 	if _, err := new(BLAKE3).Clone().Write(nil); err != ErrNotBegun {
 		t.Error(err)
 	}

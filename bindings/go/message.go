@@ -45,6 +45,8 @@ const mostWaiting = 1024
 // message is what Hash and BLAKE3 are: what the library knows of it, and the bytes that wait behind that.
 type message struct {
 	self     *message // to tell a copy of the struct, which would share the memory below
+	changes  *int     // of that memory, and
+	made     int      // those of this struct: one that is put back over a later one has made fewer
 	function *function
 	size     int
 	begun    state // as it is before the first byte; nothing writes it any more
@@ -54,18 +56,24 @@ type message struct {
 
 // begin makes a message that follows a state without a byte.
 func (m *message) begin(f *function, size int, begun state) {
-	*m = message{self: m, function: f, size: size, begun: begun}
+	*m = message{self: m, changes: new(int), function: f, size: size, begun: begun}
 }
 
 // fault is what every call on a message refuses.
 func (m *message) fault() error {
-	switch m.self {
-	case m:
-		return nil
-	case nil:
+	switch {
+	case m.self == nil:
 		return ErrNotBegun
+	case m.self != m || m.made != *m.changes:
+		return ErrCopied
 	}
-	return ErrCopied
+	return nil
+}
+
+// change stands before each change of the memory.
+func (m *message) change() {
+	*m.changes++
+	m.made++
 }
 
 // Write adds a piece to the message. It fails only if the message would be longer than the function takes, which is
@@ -74,6 +82,7 @@ func (m *message) Write(piece []byte) (int, error) {
 	if err := m.fault(); err != nil {
 		return 0, err
 	}
+	m.change()
 	if len(m.waiting)+len(piece) > mostWaiting {
 		if err := m.hand(m.waiting); err != nil {
 			return 0, err
@@ -124,8 +133,13 @@ func (m *message) Sum(b []byte) []byte {
 	return all
 }
 
-// Reset begins the message anew, under the same key and parameters.
-func (m *message) Reset() { m.state, m.waiting = nil, m.waiting[:0] }
+// Reset begins the message anew, under the same key and parameters. It does nothing to a copy of the struct.
+func (m *message) Reset() {
+	if m.fault() == nil {
+		m.change()
+		m.state, m.waiting = nil, m.waiting[:0]
+	}
+}
 
 // Size is the number of bytes that Sum appends.
 func (m *message) Size() int { return m.size }
