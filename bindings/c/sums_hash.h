@@ -4,6 +4,8 @@
  * What the caller has to ensure:
  * - A buffer is a pointer and then its length in bytes, below 2^63. If the length is 0 the pointer may be null;
  *   otherwise it is valid for that many bytes. An array such as key[32] and a state are never null.
+ * - Nothing else writes into this memory during the call, as another thread may, or a process that has mapped the same
+ *   file. The calls that read or write lists rely on it.
  * - An output and a state overlap nothing else in the call, and are initialised memory: zeros will do.
  * - A state serves one thread at a time. Calls on different states may run side by side.
  * - 32 KiB of stack.
