@@ -132,7 +132,11 @@ func Check(fsys fs.FS, list string, alg Algorithm) (*Report, error) {
 
 // verdictOf is the verdict on the file of an entry.
 func verdictOf(fsys fs.FS, entry *Entry) Verdict {
-	file, err := fsys.Open(cleaned(entry.Name))
+	name := cleaned(entry.Name)
+	if !fs.ValidPath(name) { // not every file system asks for it
+		return VerdictUnreadable
+	}
+	file, err := fsys.Open(name)
 	if errors.Is(err, fs.ErrNotExist) {
 		return VerdictMissing
 	} else if err != nil {
@@ -160,7 +164,7 @@ func isFolder(name string) bool {
 }
 
 // cleaned is a name as a file system takes it: without what means the folder itself. One that leaves the folder stays,
-// and no file system has it.
+// and is no valid path.
 func cleaned(name string) string {
 	if strings.HasPrefix(name, "/") {
 		return name

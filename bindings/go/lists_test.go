@@ -269,8 +269,22 @@ type never struct{ n int }
 
 func (r never) Read([]byte) (int, error) { return r.n, nil }
 
+// open is a folder as a file system that opens whatever name it gets, up to the root of the system.
+type open string
+
+func (o open) Open(name string) (fs.File, error) {
+	if filepath.IsAbs(name) {
+		return os.Open(name)
+	}
+	return os.Open(string(o) + "/" + name)
+}
+
 func TestCheckVerdicts(t *testing.T) {
-	folder := t.TempDir()
+	folder := filepath.Join(t.TempDir(), "inside")
+	if err := os.Mkdir(folder, 0o777); err != nil {
+		t.Fatal(err)
+	}
+	write(t, filepath.Dir(folder), map[string][]byte{"abc.txt": []byte("abc")})
 	write(t, folder, map[string][]byte{"abc.txt": []byte("abc")})
 	if err := os.Mkdir(filepath.Join(folder, "folder"), 0o777); err != nil {
 		t.Fatal(err)
@@ -294,10 +308,12 @@ func TestCheckVerdicts(t *testing.T) {
 	want = append(want, hash.Result{Line: 14, Name: "abc.txt", Verdict: hash.VerdictFailed}, hash.Result{Line: 15},
 		hash.Result{Line: 17})
 	write(t, folder, map[string][]byte{"SUMS": list})
-	report, err := hash.Check(os.DirFS(folder), "SUMS", hash.AlgorithmSHA256)
 	summary := "2 OK, 1 failed, 3 missing, 8 unreadable, 0 too long, 2 malformed, 1 skipped"
-	if err != nil || !reflect.DeepEqual(report.Results, want) || report.Summary() != summary || report.Untagged != 1 {
-		t.Error(err, report.Results, report.Summary())
+	for _, fsys := range []fs.FS{os.DirFS(folder), open(folder)} {
+		report, err := hash.Check(fsys, "SUMS", hash.AlgorithmSHA256)
+		if err != nil || !reflect.DeepEqual(report.Results, want) || report.Summary() != summary || report.Untagged != 1 {
+			t.Error(err, report.Results, report.Summary())
+		}
 	}
 	if _, err := hash.Check(os.DirFS(folder), "none", hash.AlgorithmSHA256); !errors.Is(err, fs.ErrNotExist) {
 		t.Error(err)
