@@ -9,6 +9,7 @@ typedef struct {
     int is_busy;           // a call has let go of the interpreter
     sums_list_state state; // zeros before it is begun, which C refuses
     sums_list_entry entry;
+    uint8_t piece[65536]; // that C reads
 } List;
 
 // A call on an object at which another one is at work, maybe before a fork, is refused.
@@ -45,15 +46,31 @@ static PyObject *read_of(List *self, uint32_t status)
                          (Py_ssize_t)entry->digest_len, entry->name, (Py_ssize_t)entry->name_len);
 }
 
+// Reads bytes up to the end of a line. C gets copies of them, since it reads a line more than once: meanwhile another
+// thread may write into a bytearray, and another process into a file that is mapped.
+static uint32_t read_copied(List *self, const uint8_t *bytes, size_t length)
+{
+    size_t taken = 0;
+    do {
+        size_t count = length - taken < sizeof self->piece ? length - taken : sizeof self->piece;
+        if (count > 0) memcpy(self->piece, bytes + taken, count);
+        uint32_t status = sums_list_read(&self->state, &self->entry, self->piece, count);
+        if (status != SUMS_OK) return status;
+        taken += self->entry.taken;
+    } while (taken < length && self->entry.kind == SUMS_LINE_NONE);
+    self->entry.taken = taken;
+    return SUMS_OK;
+}
+
 static PyObject *read_piece(List *self, const uint8_t *piece, size_t length)
 {
     const uint8_t *end = length > 0 ? memchr(piece, '\n', length) : NULL;
     size_t line = end ? (size_t)(end - piece) + 1 : length;
     uint32_t status;
-    if (line < LONG) return read_of(self, sums_list_read(&self->state, &self->entry, piece, line));
+    if (line < LONG) return read_of(self, read_copied(self, piece, line));
     self->is_busy = 1;
     Py_BEGIN_ALLOW_THREADS
-    status = sums_list_read(&self->state, &self->entry, piece, line);
+    status = read_copied(self, piece, line);
     Py_END_ALLOW_THREADS
     self->is_busy = 0;
     return read_of(self, status);

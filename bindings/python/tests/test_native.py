@@ -591,6 +591,25 @@ class Lists(unittest.TestCase):
         self.assertEqual(faults, {"another thread is at work on the list"})
         self.assertEqual(state.read(b"\n", 0)[1:3], (1, 2))
 
+    def test_a_map_that_changes(self):
+        """While a line is read another process makes it malformed and an entry again, and it is read as one of them."""
+        told = in_process("""
+import mmap, os, signal
+from sums_hash import _native
+line, parent = b"\\\\" + b"0" * 64 + b"  " + b"\\\\n" * 30000 + b"a\\n", os.getpid()
+shared = mmap.mmap(-1, len(line))
+shared[:] = line
+child = os.fork()
+while child == 0 and os.getppid() == parent:
+    for end in b"\\\\a" * 1000:
+        shared[len(line) - 2] = end
+kinds = {_native.ListState(1).read(shared, 0)[1] for _ in range(5000)}
+os.kill(child, signal.SIGKILL)
+os.waitpid(child, 0)
+print(kinds <= {2, 4})
+""")
+        self.assertEqual(told, "True\n")
+
 
 class Buffers(unittest.TestCase):
     def test_held_for_the_call(self):
