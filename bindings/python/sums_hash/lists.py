@@ -157,14 +157,17 @@ def _lines(state: _native.ListState, pieces: abc.Iterator[Buffer]) -> abc.Iterat
                 taken, kind, *line = state.read(view, at)
                 at += taken
                 if kind != _NONE:
-                    yield kind, _entry(kind, *line)
+                    yield _told(kind, *line)
     _, kind, *line = state.end()
     if kind != _NONE:
-        yield kind, _entry(kind, *line)
+        yield _told(kind, *line)
 
 
-def _entry(kind: int, line: int, algorithm: Any, digest: Any, name: Any) -> Entry:
-    return Entry(name, digest, _NAMES[algorithm or 0], line, kind == _UNTAGGED)
+def _told(kind: int, line: int, algorithm: Any, digest: Any, name: Any) -> tuple[int, Entry]:
+    if kind == _ENTRY and algorithm < len(_NAMES):
+        return kind, Entry(name, digest, _NAMES[algorithm], line)
+    # a later library may have hashes that are not known here
+    return _MALFORMED if kind == _ENTRY else kind, Entry(None, None, None, line, kind == _UNTAGGED)
 
 
 def _entries(lines: abc.Iterator[tuple[int, Entry]], keeps_malformed: bool) -> abc.Iterator[Entry]:

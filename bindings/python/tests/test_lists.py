@@ -119,6 +119,21 @@ class Reading(unittest.TestCase):
             self.assertEqual([entry for entry in entries if entry.name is None], [(None, None, None, number, untagged)])
         self.assertRaises(ValueError, sums_hash.read_list, LINE, malformed="skip")
 
+    def test_a_later_library(self):
+        """A line of a hash that is not known here is malformed, and so is one of a kind that is not."""
+        lines = iter([(4, 1, 6, b"digest", "name"), (5, 2, None, None, None), (4, 3, 5, b"digest", "name")])
+
+        class Later:
+            def read(self, _data, _start):
+                return 1, *next(lines)
+
+            def end(self):
+                return 0, 0, 0, None, None, None
+
+        told = sums_hash.lists._entries(sums_hash.lists._lines(Later(), iter([b"abc"])), True)
+        self.assertEqual(list(told), [(None, None, None, 1, False), (None, None, None, 2, False),
+                                      ("name", b"digest", "blake3", 3, False)])
+
     def test_as_it_comes(self):
         """A line is told before what is behind it is read, and the first piece is read when the first line is wanted."""
         asked = []

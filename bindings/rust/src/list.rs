@@ -165,11 +165,12 @@ impl ListLine {
     /// What the line means.
     pub fn meaning(&self) -> Meaning<'_> {
         match self.0.kind {
+            0 => Meaning::None,
             1 => Meaning::Skipped,
-            2 => Meaning::Malformed,
             3 => Meaning::Untagged,
-            4 => self.entry().expect("the library leaves the numbers of an entry"),
-            _ => Meaning::None,
+            4 => self.entry().unwrap_or(Meaning::Malformed),
+            // a later library may have kinds and hashes that are not known here
+            _ => Meaning::Malformed,
         }
     }
 
@@ -262,4 +263,18 @@ pub fn report_length(verdict: Verdict, name: &str) -> Option<usize> {
 pub fn write_report(out: &mut [u8], verdict: Verdict, name: &str) -> Result<(), Refusal> {
     let (into, about) = (out.as_mut_ptr(), name.as_ptr());
     checked(unsafe { native::sums_list_report(into, out.len(), verdict as u32, about, name.len()) })
+}
+
+#[cfg(test)]
+mod tests {
+    use super::*;
+
+    #[test]
+    fn lines_of_a_later_library() {
+        let mut line = ListLine::new();
+        for (kind, hash) in [(4, 0), (4, 6), (4, u32::MAX), (5, 1), (u32::MAX, 1)] {
+            (line.0.kind, line.0.hash) = (kind, hash);
+            assert_eq!(line.meaning(), Meaning::Malformed);
+        }
+    }
 }
