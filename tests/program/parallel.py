@@ -12,7 +12,6 @@ import pty
 import re
 import resource
 import select
-import shlex
 import shutil
 import signal
 import subprocess
@@ -23,10 +22,9 @@ sys.path.append(os.path.join(os.path.dirname(os.path.realpath(__file__)), ".."))
 
 import harness
 import tables
+from fronts import FRONT, MIB, begun_by, by_shell, compare, content, faulty, fill, front, none_left, runs_of, wait_for
 from harness import judge, same
 
-FRONT = os.path.join(os.path.dirname(harness.HERE), "scripts/sums-parallel")
-MIB = 1 << 20
 NAMES = ["plain", "a b", " a  b ", 'it\'s "so"', "$(touch PWNED)", "`touch PWNED`", "x;touch PWNED;",
          "x&touch PWNED|c>d",
          "a{}b", "{}", "{3}{#}{.}", '{= system("touch PWNED") =}', "-dash", "--help", "--name=x", "a\nb", "a\rb",
@@ -100,14 +98,6 @@ def files():
     os.symlink("nothing", "dangling")
 
 
-def fill(name, size):
-    with open(name, "wb") as file:
-        file.truncate(size)
-        for place in range(0, size, 7 * MIB):
-            file.seek(place)
-            file.write(os.urandom(min(1 << 16, size - place)))
-
-
 def lists(program):
     names = [*NAMES, *FEW]
     good = harness.run(program, ["hash", "-a", "sha256", "--", *names, "just"]).out
@@ -141,11 +131,6 @@ def lists(program):
 
 
 # ---- the cases: a name, the words, and standard input
-
-
-def content(path):
-    with open(path, "rb") as file:
-        return file.read()
 
 
 def of_files():
@@ -295,25 +280,6 @@ def of_many():
     yield "20,000 files by --files0-from", ["hash", "-a", "sha256", "--files0-from", "names-many"], b""
     yield "20,000 files by --files0-from -", ["hash", "-a", "sha256", "--files0-from", "-"], content("names-many")
     yield "20,000 files that are checked", ["check", "-a", "sha256", "--summary", "good-many"], b""
-
-
-def front(program, words, given=b"", **variables):
-    return harness.run(sys.executable, ["-ISXutf8", FRONT, *words], given, timeout=600,
-                       env={**os.environ, "SUMS": program, **variables})
-
-
-def by_shell(program, own, text):
-    """What a line of a shell answers in which sums is sums-parallel with these words, or where there are none sums."""
-    command = shlex.join([program] if own is None else [sys.executable, "-ISXutf8", FRONT, *own])
-    return harness.run("sh", ["-c", f'rm -f told; sums() {{ {command} "$@"; }}; {text}'], timeout=600,
-                       env={**os.environ, "SUMS": program})
-
-
-def compare(program, ways, cases):
-    for name, words, given in cases:
-        wanted = harness.run(program, words, given)
-        for own in ways:
-            same(f"{' '.join(own)} {name}", front(program, [*own, *words], given), wanted)
 
 
 # ---- files that runs must not share
@@ -505,15 +471,6 @@ def early_signal():
     same("an early SIGINT", run, (-signal.SIGINT, b"", b""))
 
 
-def begun_by(begin, words, program):
-    """What the process answers where its processes are begun by these lines of Python, which have `begin` for Popen."""
-    script = ("import errno, os, runpy, signal, subprocess, sys, time\nbegin = subprocess.Popen\n" + begin +
-              "subprocess.Popen = begun_so\nsys.argv[:] = sys.argv[1:]\n"
-              "runpy.run_path(sys.argv[0], run_name='__main__')")
-    return harness.run(sys.executable, ["-c", script, FRONT, "-j2", "--block=1", *words],
-                       env={**os.environ, "SUMS": program})
-
-
 def refused_once(program):
     """If the system refuses to begin a run, there is one."""
     path = faulty(program, "")
@@ -564,16 +521,6 @@ def findings(program):
 
 
 # ---- runs that fail
-
-
-def faulty(program, how):
-    """A program that is sums, but for what lines of sh do first."""
-    path = os.path.abspath("faulty/sums")
-    os.makedirs("faulty", exist_ok=True)
-    with open(path, "w") as file:
-        file.write(f"#!/bin/sh\nsums={program}\n{how}\nexec \"$sums\" \"$@\"\n")
-    os.chmod(path, 0o755)
-    return path
 
 
 def killed(program, own, count):
@@ -670,14 +617,6 @@ def parts(program):
         path = faulty(program, f'case "$1 $*" in "part "*" --first 8192 "*) {does} ;; esac')
         run = front(path, ["hash", "-a", "blake3", "changes"])
         same(f"a file that {name} meanwhile", run, harness.run(program, ["hash", "-a", "blake3", "changes"]))
-
-
-def runs_of(program, own, words):
-    """The commands of the runs that are begun, and what all answers."""
-    with open("begun", "wb"):
-        path = faulty(program, f'echo $1 >> "{os.path.abspath("begun")}"')
-    run = front(path, [*own, *words], PATH=os.path.dirname(path) + ":" + os.environ["PATH"])
-    return content("begun").split(), run
 
 
 def few_runs(program):
@@ -841,20 +780,6 @@ def unwritten(program):
                              stdout=full, stderr=subprocess.PIPE, env={**os.environ, "SUMS": path})
     same("a full device, and a run at work", (run.returncode, run.stderr), (3, b"sums: cannot write\n"))
     none_left("a full device", begun)
-
-
-def none_left(how, begun):
-    """None of the processes is left that runs have told in a file."""
-    left = [f"/proc/{int(process)}" for process in content(begun).split()]
-    judge(f"{how}: no run is left", wait_for(lambda: not any(map(os.path.exists, left))), left)
-
-
-def wait_for(holds):
-    for _ in range(200):
-        if holds():
-            return True
-        time.sleep(0.05)
-    return False
 
 
 def progress(program):
