@@ -1,4 +1,4 @@
-"""What the tests of sums-parallel share: how it is run, by itself and by a shell, over programs that fail, and files."""
+"""What the tests of sums-parallel share: how it is run, by itself and by a shell, over programs that fail; files."""
 
 import os
 import shlex
@@ -73,7 +73,7 @@ def begun_by(begin, words, program):
     script = ("import errno, os, runpy, signal, subprocess, sys, time\nbegin = subprocess.Popen\n" + begin +
               "subprocess.Popen = begun_so\nsys.argv[:] = sys.argv[1:]\n"
               "runpy.run_path(sys.argv[0], run_name='__main__')")
-    return harness.run(sys.executable, ["-c", script, FRONT, "-j2", "--block=1", *words],
+    return harness.run(sys.executable, ["-c", script, FRONT, "-j2", "--block=1", *words], timeout=600,
                        env={**os.environ, "SUMS": program})
 
 
