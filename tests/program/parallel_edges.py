@@ -14,7 +14,7 @@ import time
 sys.path.append(os.path.join(os.path.dirname(os.path.realpath(__file__)), ".."))
 
 import harness
-from fronts import FRONT, MIB, begun_by, by_shell, compare, content, faulty, front, runs_of
+from fronts import FRONT, MIB, begun_by, by_shell, compare, content, faulty, front, runs_of, wait_for
 from harness import judge, same
 
 FEW = [f"f{number}" for number in range(20)]
@@ -174,6 +174,21 @@ def ahead(program):
     judge("a run that is ahead: memory", used.ru_maxrss < 80 << 10, f"{used.ru_maxrss} KiB")
 
 
+def ended(program):
+    """A signal that comes while a run is waited for ends all at once, not when the runs would have been killed."""
+    begun = os.path.abspath("begun")
+    with open(begun, "wb"):
+        path = faulty(program, f'case "$*" in *"--share "[01]/2*) echo >> "{begun}"; sleep 60 ;; esac')
+    run = subprocess.Popen([sys.executable, "-ISXutf8", FRONT, "-j2", "--by", "env A=b", "--block=1", "hash", "-a",
+                            "sha256", "f1", "f2"], stdout=subprocess.DEVNULL, env={**os.environ, "SUMS": path})
+    wait_for(lambda: len(content(begun)) == 2)
+    time.sleep(0.5)
+    start = time.monotonic()
+    run.terminate()
+    run.wait(timeout=60)
+    judge("a signal while a run is waited for", time.monotonic() - start < 8, time.monotonic() - start)
+
+
 def told_ends(program):
     """Lines are shown whatever becomes of the run that compares them, and one that begins late reads them all."""
     words = ["check", "-a", "sha256", "--summary", "long"]
@@ -192,7 +207,8 @@ def main():
     program = harness.program()
     with harness.folder():
         files(program)
-        for tried in wrong_parts, changed, labelled, asked, sizes, without_lines, late, overtaken, ahead, told_ends:
+        for tried in (wrong_parts, changed, labelled, asked, sizes, without_lines, late, overtaken, ahead, ended,
+                      told_ends):
             tried(program)
     harness.finish()
 
