@@ -24,6 +24,7 @@ export class Engine {
   #post;
   #queue = [];
   #isBusy = false;
+  #isDue = false; // whether something has changed that is not judged yet
   #added;
   #number = 0; // of the last command
   #run = null;
@@ -54,8 +55,9 @@ export class Engine {
     this.#isBusy = true;
     try {
       while (this.#queue.length) {
-        const changes = await this.#do(this.#queue.shift());
-        if (changes && !this.#queue.length) await this.#check();
+        const command = this.#queue.shift();
+        await this.#do(command);
+        if (this.#isDue && command.kind !== 'stop' && !this.#queue.length) await this.#check();
       }
     } catch (error) {
       this.#post({ kind: 'broken', message: String(error?.message ?? error) });
@@ -64,14 +66,14 @@ export class Engine {
     }
   }
 
-  /** Does a command, and says whether all is to be checked anew. */
+  /** Does a command, after which all is to be checked anew in most cases. */
   async #do({ kind, number, value }) {
     this.#number = number;
     if (kind === 'stop') return this.#interrupt();
     if (kind === 'write') return this.#write();
     if (kind === 'choose') this.#added.chosen = value;
     else if (kind !== 'go') await this.#added[kind](value);
-    return true;
+    this.#isDue = true;
   }
 
   /** Says what is to be checked, and checks it, until all is done or another command comes. */
@@ -193,6 +195,7 @@ export class Engine {
   }
 
   #judge(run) {
+    this.#isDue = false;
     for (const row of settleOpen(run.rows)) run.view.draw(row);
     const verdict = verdictOf(run.rows, run.isAsking);
     if (run.hasChanged && verdict.state === 'ok') verdict.state = '';
@@ -201,20 +204,22 @@ export class Engine {
     this.#say('verdict', { ...verdict, notes: run.notes, missing, all: run.rows.length, canWrite });
   }
 
-  /** Says how far it came. */
+  /** Says how far it came, or once more what came out if all was read by then. */
   #interrupt() {
-    if (!this.#run) return false;
+    if (!this.#run) return;
     const { rows, view, left } = this.#run;
+    if (!this.#isDue) return this.#judge(this.#run);
     for (const row of rows) if (!row.result) view.draw(row, 'stopped');
     const all = counts(rows.filter((it) => it.result));
     const text = `Stopped: ${[...(all.length ? [told(all)] : []), `${plural(left, 'file')} not read`].join(', ')}`;
     const state = verdictOf(rows.filter((it) => it.result)).state === 'wrong' ? 'wrong' : '';
     this.#say('stopped', { state, text });
-    return false;
   }
 
+  /** Gives the list of all rows. If they have changed since it was offered, they are said anew instead. */
   #write() {
-    this.#post({ kind: 'written', number: this.#number, ...writtenList(this.#run.rows, this.#added.places) });
-    return false;
+    const written = this.#run && writtenList(this.#run.rows, this.#added.places);
+    if (written) this.#post({ kind: 'written', number: this.#number, ...written });
+    else this.#isDue = true;
   }
 }

@@ -120,6 +120,7 @@ const SHOW = {
     drawRows(rows);
     showHidden(hidden);
     say(state, text, []);
+    byId('progress').hidden = false;
     byId('stop').textContent = 'Go on';
     answered(number);
   },

@@ -146,14 +146,35 @@ function otherName(name, taken) {
 /** The page over a disk: what is added, and what it says then. */
 export class Page {
   told = [];
+  #number = 0;
+  #awaited = null;
 
   constructor(library, disk) {
     this.disk = disk;
-    this.engine = new Engine(library, (it) => this.told.push(it));
+    this.engine = new Engine(library, (it) => this.#hear(it));
   }
 
+  #hear(it) {
+    this.told.push(it);
+    if (it.kind !== this.#awaited?.kind) return;
+    const { command } = this.#awaited;
+    this.#awaited = null;
+    this.give(command);
+  }
+
+  /** Gives a command, and does not wait. */
+  give(kind, value) {
+    this.engine.take({ kind, number: ++this.#number, value });
+  }
+
+  /** Gives a command as soon as something of this kind is said. */
+  giveAt(kind, command) {
+    this.#awaited = { kind, command };
+  }
+
+  /** Gives a command, and waits until all is done. */
   async take(kind, value) {
-    this.engine.take({ kind, number: 1, value });
+    this.give(kind, value);
     while (this.engine.isBusy) await new Promise((done) => setImmediate(done));
   }
 
@@ -185,6 +206,12 @@ export class Page {
 
   get verdict() {
     return this.#last('verdict');
+  }
+
+  /** The kind of what was said last, if it answers the last command. */
+  get answer() {
+    const { kind, number } = this.told.at(-1);
+    return number === this.#number ? kind : '';
   }
 
   get isBroken() {

@@ -1,8 +1,9 @@
 // Files and folders that change, and that are added again, in each order that matters: the rows in the end. A file is
-// OK only as it is now, and a name that may mean two files means none.
+// OK only as it is now, and a name that may mean two files means none. A command loses nothing of the one before it.
 // usage: node tests/languages/web/orders.mjs PACKAGE    PACKAGE is the folder of the package, with its module
 import { join, posix, resolve } from 'node:path';
 import { pathToFileURL } from 'node:url';
+import { chosen } from '../../../web/gather.js';
 import { Disk, Page } from './driven.mjs';
 
 const [folder] = process.argv.slice(2);
@@ -284,6 +285,50 @@ const NAMES = {
   },
 };
 
+// ---- commands that come while another one is done
+
+/** What the page shows in the end, and the kind of its answer to the last command. */
+const MEANWHILE = {
+  async 'a list is saved while something is added'(run) {
+    run.write('/x/a', 'evil');
+    run.list('/y/SHA256SUMS', 'a');
+    await run.files('/x/a');
+    run.page.give('add', { ...chosen(run.disk.input('/y/SHA256SUMS')), isList: false });
+    await run.page.take('write');
+    return run.page.answer === 'verdict' ? ['a: FAILED'] : ['a verdict'];
+  },
+  async 'a list is saved while files are read'(run) {
+    run.write('/x/a', 'evil');
+    run.list('/y/SHA256SUMS', 'a');
+    await run.files('/x/a');
+    run.page.giveAt('plan', 'write');
+    await run.files('/y/SHA256SUMS');
+    const isWritten = run.page.told.some((it) => it.kind === 'written');
+    return run.page.answer === 'verdict' && !isWritten ? ['a: FAILED'] : ['a verdict, and no list'];
+  },
+  async 'a list is saved when all begins anew'(run) {
+    run.page.give('give', {});
+    await run.page.take('write');
+    return run.page.answer === 'verdict' ? [] : ['a verdict'];
+  },
+  async 'a stop after all was read'(run) {
+    run.folder('/x/dist', ['a']);
+    await run.input('/x/dist');
+    await run.page.take('stop');
+    return run.page.answer === 'verdict' && run.page.verdict.state === 'ok' ? ['a: OK'] : ['the verdict'];
+  },
+  async 'a stop while something is added'(run) {
+    run.folder('/x/dist', ['a']);
+    run.write('/y/b', 'evil');
+    await run.input('/x/dist');
+    run.page.give('add', { ...chosen(run.disk.input('/y/b')), isList: false });
+    await run.page.take('stop');
+    if (run.page.answer !== 'stopped') return ['a stop'];
+    await run.page.take('go');
+    return ['a: OK', 'b: NOT LISTED'];
+  },
+};
+
 // ---- all of them
 
 /** A row as a case has it: with its list if there are several, and with its detail if a case has that. */
@@ -303,7 +348,7 @@ async function wrongIn(browser, does) {
 
 let passed = 0;
 let failed = 0;
-for (const [what, does] of Object.entries({ ...CHANGES, ...AGAIN, ...NAMES })) {
+for (const [what, does] of Object.entries({ ...CHANGES, ...AGAIN, ...NAMES, ...MEANWHILE })) {
   for (const browser of ['chromium', 'firefox']) {
     const wrong = await wrongIn(browser, does);
     if (wrong) failed++;
