@@ -285,6 +285,21 @@ const NAMES = {
   },
 };
 
+// ---- lists that other lists name
+
+const OF_LISTS = {
+  async 'a list that another list names'(run) {
+    run.list('/x/SHA256SUMS', 'none');
+    const digest = hash('sha512', run.disk.files.get('/x/SHA256SUMS').bytes);
+    run.write('/x/x.sha512', `${digest}  SHA256SUMS\n`);
+    await run.files('/x/SHA256SUMS', '/x/x.sha512');
+    if (run.page.verdict.text !== 'SHA256SUMS: OK') return ['an OK'];
+    run.write('/x/SHA256SUMS', '# another one\n');
+    await run.files('/x/SHA256SUMS');
+    return run.page.verdict.text === 'SHA256SUMS: FAILED' ? ['SHA256SUMS: FAILED by x.sha512'] : ['a FAILED'];
+  },
+};
+
 // ---- commands that come while another one is done
 
 /** What the page shows in the end, and the kind of its answer to the last command. */
@@ -348,7 +363,7 @@ async function wrongIn(browser, does) {
 
 let passed = 0;
 let failed = 0;
-for (const [what, does] of Object.entries({ ...CHANGES, ...AGAIN, ...NAMES, ...MEANWHILE })) {
+for (const [what, does] of Object.entries({ ...CHANGES, ...AGAIN, ...NAMES, ...OF_LISTS, ...MEANWHILE })) {
   for (const browser of ['chromium', 'firefox']) {
     const wrong = await wrongIn(browser, does);
     if (wrong) failed++;
