@@ -83,7 +83,8 @@ export class Engine {
     const { rows, notes } = rowsOf({ places, lists, digests, chosen });
     const jobs = jobsOf(rows);
     const total = jobs.reduce((sum, it) => sum + it.item.file.size, 0);
-    const isAsking = !added.files.length && !jobs.length && (rows.length > 0 || digests.length > 0);
+    const hasFile = added.files.length > 0 || places.closed.length > 0 || jobs.length > 0;
+    const isAsking = !hasFile && (rows.length > 0 || digests.length > 0);
     const view = new View(rows);
     const far = { total, taken: 0, left: jobs.length, begun: performance.now(), told: 0 };
     this.#run = { rows, notes, jobs, lists, view, isAsking, ...far };

@@ -62,7 +62,7 @@ export class Place {
 
   /** Says of a file or a folder why it could not be added. */
   close(path, fault) {
-    this.closed.set(path, fault);
+    this.closed.set(path, { place: this, path, fault });
     for (const folder of foldersOf(path)) this.folders.add(folder);
   }
 
@@ -70,7 +70,8 @@ export class Place {
   at(path) {
     const item = this.items.get(path);
     if (item) return item.fault ? faulty(item.fault, item) : { item, fault: '' };
-    if (this.closed.has(path)) return faulty(this.closed.get(path));
+    const closed = this.closed.get(path);
+    if (closed) return faulty(closed.fault, closed);
     return this.folders.has(`${path}/`) ? faulty(NO_FILE) : null;
   }
 }
@@ -99,6 +100,11 @@ export class Places {
 
   get items() {
     return this.#all.flatMap((place) => [...place.items.values()]);
+  }
+
+  /** What could not be added of folders, `{ place, path, fault }` each. */
+  get closed() {
+    return this.#all.flatMap((place) => [...place.closed.values()]);
   }
 
   folders(name) {

@@ -76,6 +76,7 @@ globalThis.FileReader = class {
 /** Files by their paths, `{ bytes, time }` each. */
 export class Disk {
   files = new Map();
+  closed = new Set(); // paths that the browser cannot read, where they are dropped
   clock = 100;
 
   constructor(browser) {
@@ -127,11 +128,14 @@ export class Disk {
   }
 
   #entry(real, { name, path, top }) {
-    const file = (give) => give(new GivenFile(this, real, { name, path, given: path, top }));
+    const isClosed = this.closed.has(real);
+    const file = (give, refuse) => isClosed ? refuse(fault('NotReadableError'))
+      : give(new GivenFile(this, real, { name, path, given: path, top }));
     if (this.files.has(real)) return { isFile: true, name, file };
     const names = new Set(this.inside(real).map((it) => it.slice(real.length + 1).split('/', 1)[0]));
     const all = [...names].map((it) => this.#entry(`${real}/${it}`, { name: it, path: `${path}/${it}`, top }));
-    return { isDirectory: true, name, createReader: () => ({ readEntries: (give) => give(all.splice(0, 2)) }) };
+    const readEntries = (give, refuse) => isClosed ? refuse(fault('NotReadableError')) : give(all.splice(0, 2));
+    return { isDirectory: true, name, createReader: () => ({ readEntries }) };
   }
 }
 

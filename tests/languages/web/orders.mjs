@@ -285,6 +285,32 @@ const NAMES = {
   },
 };
 
+// ---- what the browser cannot read of a folder
+
+const CLOSED = {
+  async 'a file and a folder that no list names'(run) {
+    run.folder('/x/dist', ['a']);
+    for (const path of ['b', 'c/d']) run.write(`/x/dist/${path}`, 'other');
+    run.disk.closed = new Set(['/x/dist/b', '/x/dist/c']);
+    await run.drop('/x/dist');
+    const rows = ['a: OK', 'dist/b: UNREADABLE', 'dist/c: UNREADABLE'];
+    return run.page.verdict.state === 'wrong' ? rows : ['nothing green'];
+  },
+  async 'a file that a list names, and all files of a folder'(run) {
+    run.folder('/x/dist', ['a', 'b', 'c/d']);
+    run.disk.closed = new Set(['/x/dist/a', '/x/dist/b', '/x/dist/c']);
+    await run.drop('/x/dist');
+    const rows = ['a: UNREADABLE', 'b: UNREADABLE', 'c/d: UNREADABLE'];
+    return run.page.verdict.text === 'Something is wrong: 3 UNREADABLE' ? rows : ['what is wrong'];
+  },
+  async 'a file of which no list is made'(run) {
+    for (const path of ['a', 'b']) run.write(`/x/dist/${path}`, 'good');
+    run.disk.closed = new Set(['/x/dist/b']);
+    await run.drop('/x/dist');
+    return run.page.verdict.canWrite ? ['no list'] : ['dist/a: DIGEST', 'dist/b: UNREADABLE'];
+  },
+};
+
 // ---- lists that other lists name
 
 const OF_LISTS = {
@@ -363,7 +389,7 @@ async function wrongIn(browser, does) {
 
 let passed = 0;
 let failed = 0;
-for (const [what, does] of Object.entries({ ...CHANGES, ...AGAIN, ...NAMES, ...OF_LISTS, ...MEANWHILE })) {
+for (const [what, does] of Object.entries({ ...CHANGES, ...AGAIN, ...NAMES, ...CLOSED, ...OF_LISTS, ...MEANWHILE })) {
   for (const browser of ['chromium', 'firefox']) {
     const wrong = await wrongIn(browser, does);
     if (wrong) failed++;
