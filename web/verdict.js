@@ -62,7 +62,8 @@ function judging(rows, all) {
   // what a list of a folder names, and the folder has not, is no file that nobody asked for
   const lacks = rows.filter((it) => it.result === RESULT.missing && it.isOfFolder).length;
   const rest = all.filter(([it]) => it !== RESULT.ok && (it !== RESULT.missing || lacks));
-  const ok = count.get(RESULT.ok);
+  // of one file there are several rows if several lists name it
+  const ok = new Set(rows.filter((it) => it.result === RESULT.ok).map((it) => it.item)).size;
   const opening = count.has(RESULT.digest) ? 'No list yet' : 'Nothing was compared';
   if (!ok) return { state: '', text: `${opening}: ${told(all)}` };
   const text = ok === 1 ? `${one(RESULT.ok)}: OK` : `${ok} files: OK`;

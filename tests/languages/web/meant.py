@@ -236,7 +236,7 @@ def try_unreported(page, work):
     shown = page.done()
     is_told = any("SHA256SUMS: it has changed since it was added" in it for it in shown["notes"])
     harness.same("a list that is another one by then", (shown["verdict"], shown["state"], is_told),
-        ("2 files: OK", "", True))
+        ("f: OK", "", True))
 
 
 def try_below(page, work):

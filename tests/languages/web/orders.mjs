@@ -311,9 +311,16 @@ const CLOSED = {
   },
 };
 
-// ---- lists that other lists name
+// ---- several lists
 
 const OF_LISTS = {
+  async 'two lists of the same files'(run) {
+    run.folder('/x/dist', ['a', 'b']);
+    run.list('/x/dist/again.sha256', 'a', 'b');
+    await run.input('/x/dist');
+    const rows = ['SHA256SUMS', 'again.sha256'].flatMap((it) => [`a: OK by dist/${it}`, `b: OK by dist/${it}`]);
+    return run.page.verdict.text === '2 files: OK' ? rows : ['two files'];
+  },
   async 'a list that another list names'(run) {
     run.list('/x/SHA256SUMS', 'none');
     const digest = hash('sha512', run.disk.files.get('/x/SHA256SUMS').bytes);
