@@ -1,6 +1,7 @@
 // SPDX-License-Identifier: MIT OR Apache-2.0
 // A digest that is pasted alone, in the forms that people have: bare, after the name of its hash, in groups, and as
 // sha256:, openssl, Get-FileHash, certutil and gpg --print-md write it.
+import { toHex } from '../bindings/js/bytes.js';
 import { HASHES } from '../bindings/js/hashes.js';
 import { FEWEST_DIGITS, isNotHere, otherHash, sized, TITLES, usual } from './functions.js';
 
@@ -9,7 +10,8 @@ const GROUPS = [2, 4, 8, 16];
 const WHOLE_DIGITS = [64, 128];
 const LABEL =
   /(?<![a-z0-9])(sha-?(?:2-)?(?:256|512)|sha-?(?:1|224|384)|sha-?3-\d+|md5|blake2b|blake2s|blake3)(?![a-z])/gi;
-const BASE64 = /(?<![a-z0-9])sha(?:256|512)-([A-Za-z0-9+/]{43,86}={1,2})/i;
+const BASE64 =
+  /(?<![a-z0-9])sha(?:256|512)-((?:[a-z0-9+/]{4}){10,21}(?:[a-z0-9+/]{3}=|[a-z0-9+/]{2}==))(?![a-z0-9+/=])/gi;
 const INVISIBLE = /[\u200b-\u200d\u2060\ufeff]/g;
 const NO_DIGEST = 'it is neither a digest nor the lines of a list';
 const SEVERAL_DIGESTS = 'it has several digests: paste one, or the lines of a list';
@@ -39,17 +41,22 @@ function grouped(text) {
   return found;
 }
 
-/** The digits of each digest in a text, in lower case. */
-function digestsIn(text) {
-  const base64 = BASE64.exec(text);
-  if (base64) return [Array.from(atob(base64[1]), (it) => it.charCodeAt(0).toString(16).padStart(2, '0')).join('')];
+/** The digits of each digest that a text has in hexadecimal digits. */
+function hexadecimalIn(text) {
   const runs = text.match(/(?<![0-9a-z])(?:0x)?[0-9a-f]{8,}(?![0-9a-z])/gi) ?? [];
   const solid = runs.map((it) => it.replace(/^0x/i, '').toLowerCase());
   const long = solid.filter((it) => it.length >= FEWEST_SEEN);
   // one digest over two lines
   const isCut = long.length < 2 && solid.length > 1 && WHOLE_DIGITS.includes(solid.join('').length);
   if (isCut) return [solid.join('')];
-  return [...new Set(long.length ? long : grouped(text).map((it) => it.toLowerCase()))];
+  return long.length ? long : grouped(text).map((it) => it.toLowerCase());
+}
+
+/** The digits of each digest in a text, in lower case. */
+function digestsIn(text) {
+  const digitsOf = (base64) => toHex(Uint8Array.from(atob(base64), (it) => it.charCodeAt(0)));
+  const inBase64 = Array.from(text.matchAll(BASE64), ([, base64]) => digitsOf(base64));
+  return [...new Set([...inBase64, ...hexadecimalIn(text.replace(BASE64, ' '))])];
 }
 
 /** The functions that a digest may be of, or why there are none. */

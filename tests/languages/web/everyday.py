@@ -157,6 +157,7 @@ def try_forms(page, work, program):
         ("sha384:" + "cb" * 48, "SHA-384"),
         ("SHA3-256: " + "3a" * 32, "SHA3-256"), (own[:63], "copied whole"), (own + "0", "copied whole"),
         (f"{own}\n{digest['blake3']}", "several digests"), ("hello", "neither"),
+        (f"sha256-{in_base64} {digest['blake3']}", "several digests"), (f"sha256-{in_base64}=", "neither"),
     ):
         page.paste(text)
         shown = page.done()

@@ -4,6 +4,7 @@
 import { join, posix, resolve } from 'node:path';
 import { pathToFileURL } from 'node:url';
 import { chosen } from '../../../web/gather.js';
+import { ofAddress } from '../../../web/given.js';
 import { Disk, Page } from './driven.mjs';
 
 const [folder] = process.argv.slice(2);
@@ -333,6 +334,43 @@ const OF_LISTS = {
   },
 };
 
+// ---- digests in base64
+
+/** What is shown of a file that is good when a text is pasted. */
+async function pasted(run, text) {
+  run.write('/x/a', 'good');
+  await run.files('/x/a');
+  await run.page.take('paste', text);
+}
+
+const [GOOD, EVIL] = ['good', 'evil'].map((it) => `sha256-${hash('sha256', it, 'base64')}`);
+const NO_OK = ['the pasted text: MALFORMED', 'a: DIGEST'];
+
+const IN_BASE64 = {
+  async 'one'(run) {
+    await pasted(run, GOOD);
+    return ['a: OK'];
+  },
+  async 'two, of which the first is right'(run) {
+    await pasted(run, `${GOOD} ${EVIL}`);
+    return NO_OK;
+  },
+  async 'one, and another one in hexadecimal digits'(run) {
+    await pasted(run, `${GOOD} ${hash('sha256', 'evil')}`);
+    return NO_OK;
+  },
+  async 'one that is too long'(run) {
+    await pasted(run, `${GOOD}=`);
+    return NO_OK;
+  },
+  async 'one in an address that is too long'(run) {
+    run.write('/x/a', 'good');
+    await run.page.take('give', ofAddress(`#sha256=${encodeURIComponent(GOOD.replace('=', '++='))}`));
+    await run.files('/x/a');
+    return ['the digest in the address: MALFORMED', 'a: DIGEST'];
+  },
+};
+
 // ---- commands that come while another one is done
 
 /** What the page shows in the end, and the kind of its answer to the last command. */
@@ -396,7 +434,8 @@ async function wrongIn(browser, does) {
 
 let passed = 0;
 let failed = 0;
-for (const [what, does] of Object.entries({ ...CHANGES, ...AGAIN, ...NAMES, ...CLOSED, ...OF_LISTS, ...MEANWHILE })) {
+const CASES = { ...CHANGES, ...AGAIN, ...NAMES, ...CLOSED, ...OF_LISTS, ...IN_BASE64, ...MEANWHILE };
+for (const [what, does] of Object.entries(CASES)) {
   for (const browser of ['chromium', 'firefox']) {
     const wrong = await wrongIn(browser, does);
     if (wrong) failed++;
