@@ -39,6 +39,7 @@ function send(kind, value) {
 /** Begins with nothing but what came with the page. */
 function begin() {
   worker?.terminate();
+  isBroken = false;
   byId('verdict').textContent = '';
   worker = new Worker(workerUrl);
   worker.onmessage = ({ data }) => SHOW[data.kind](data);

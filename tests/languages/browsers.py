@@ -338,11 +338,13 @@ def try_broken(browser, work):
     broken = re.sub(r'(id="module">)[^<]*', lambda it: it[1] + other, text)
     (work / "broken.html").write_text(broken, encoding="utf-8")
     page = Page(browser, (work / "broken.html").as_uri())
-    for what in ("a module that the browser refuses", "a file is added"):
+    steps = {"a module that the browser refuses": lambda: None, "a file is added": lambda: page.files(work / "a.iso"),
+             "Start over": page.anew}
+    for what, step in steps.items():
+        step()
         shown = page.wait(lambda it: it["verdict"].startswith("This browser cannot run the hashes: "), "verdict")
         harness.judge(what, shown["state"] == "wrong" and not shown["isWorking"], shown["verdict"])
         harness.same(f"{what}: nothing is judged", shown["rows"], [])
-        page.files(work / "a.iso")
 
 
 # ---- what the browser shows and lets through
