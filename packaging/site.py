@@ -26,7 +26,8 @@ import zipfile
 HERE = os.path.dirname(os.path.realpath(__file__))
 TOP = os.path.dirname(HERE)
 LISTS = "SHA256SUMS", "B3SUMS"
-ARCHITECTURES = "amd64", "arm64"
+# what the first page calls each architecture of Debian
+ARCHITECTURES = {"amd64": "x86-64", "arm64": "arm64"}
 # the names of the packages of each kind, as tools/package calls it
 KINDS = {"deb": r".*\.deb", "tar": r"sums-.*-linux-.*\.tar\.xz", "wheel": r".*\.whl", "crate": r".*\.crate",
          "go": r".*-go-.*\.zip", "npm": r".*\.tgz", "page": r"sums-check-.*\.html"}
@@ -94,6 +95,11 @@ class Release:
     def named(self, kind):
         """The packages of this kind."""
         return [name for name in sorted(self.digests) if re.fullmatch(KINDS[kind], name)]
+
+    def processors(self):
+        """What the packages are for, as the first page calls it."""
+        return [called for architecture, called in ARCHITECTURES.items()
+                if any(name.endswith(f"_{architecture}.deb") for name in self.named("deb"))]
 
     def copy(self, out, key):
         """Copies the packages and their lists, signed, into a folder of the version's name, which is then theirs."""
@@ -318,7 +324,8 @@ def make(out, releases, key, site):
     debian(out, releases, key)
     pip(out, releases)
     cargo(out, releases, site)
-    words = {"SITE": site, "FINGERPRINT": key.fingerprint, "MODULE": go(out, releases)}
+    words = {"SITE": site, "FINGERPRINT": key.fingerprint, "MODULE": go(out, releases),
+             "PROCESSORS": " and ".join(release.processors())}
     write(key.export(), out, "key.asc")
     shutil.copyfile(os.path.join(HERE, "site.css"), os.path.join(out, "style.css"))
     run(os.path.join(TOP, "tools/page.py"), "--list", os.path.join(release.folder, "SHA256SUMS"), "--into",
