@@ -4,8 +4,9 @@ documents, and what apt, pip, Cargo and Go take packages from. tools/package sit
 usage: packaging/site.py PACKAGES OUT [EARLIER]..     PACKAGES is a folder that tools/package has made, and each EARLIER
                                                one of a release before it; OUT is a folder that is not there yet
 SITE is the address that OUT will have, and no other name of a host is written. SITE_KEY names the key by which gpg
-signs the lists that have no signature yet, and the Debian repository. Each signature is of the time SOURCE_DATE_EPOCH,
-so that the key has to be older; the bytes of OUT depend on these, the packages and the key alone.
+signs the lists that have no signature yet, and the Debian repository; those of PACKAGES have none of another key. Each
+signature is of the time SOURCE_DATE_EPOCH, so that the key has to be older; the bytes of OUT depend on these, the
+packages and the key alone.
 """
 
 import email.utils
@@ -133,6 +134,12 @@ class Key:
     def sign(self, path, made, *how):
         run("gpg", "--batch", "--local-user", self.fingerprint, "--faked-system-time", f"{self.time}!", *how,
             "--output", made, "--", path)
+
+    def verify(self, path):
+        """Refuses a list whose signature is not this key's."""
+        told = run("gpg", "--batch", "--status-fd", "1", "--verify", "--", f"{path}.asc", path)
+        if not re.search(rf"^\[GNUPG:\] VALIDSIG .* {self.fingerprint}$", told, re.M):
+            raise Refused(f"{path} has the signature of another key")
 
     def export(self):
         return run("gpg", "--batch", "--armor", "--export-options", "export-minimal", "--export", self.fingerprint)
@@ -321,6 +328,8 @@ def make(out, releases, key, site):
             raise Refused(f"{release.folder} has no package of the kind {kind}")
     for each in releases:
         each.copy(out, key)
+    for name in LISTS:
+        key.verify(os.path.join(release.folder, name))
     debian(out, releases, key)
     pip(out, releases)
     cargo(out, releases, site)
@@ -352,8 +361,11 @@ def main(words):
         if not ADDRESS.fullmatch(site):
             raise Refused(f"SITE is no address of a web server: {site}")
         releases = [Release(folder) for folder in (words[0], *words[2:])]
-        if len({release.version for release in releases}) < len(releases):
+        numbers = [tuple(map(int, release.version.split("."))) for release in releases]
+        if len(set(numbers)) < len(numbers):
             raise Refused("two folders have packages of one version")
+        if max(numbers) != numbers[0]:
+            raise Refused(f"{words[0]} has not the newest packages")
         os.mkdir(words[1])
         make(words[1], releases, key, site)
     except (OSError, Refused) as fault:
