@@ -56,9 +56,10 @@ export function whole(value, what, least, most) {
 
 const DIGITS = Array.from({ length: 256 }, (_, byte) => byte.toString(16).padStart(2, '0'));
 
+/** The digits of bytes. */
 export function toHex(data) {
   let digits = '';
-  for (const byte of data) digits += DIGITS[byte];
+  for (const byte of bytesOf(data)) digits += DIGITS[byte];
   return digits;
 }
 

@@ -16,7 +16,7 @@ export const formatReport: Library['formatReport'];
 /** The names of the hashes. */
 export function getHashes(): HashName[];
 /** The digits of bytes, in lower case. */
-export function toHex(data: Uint8Array): string;
+export function toHex(data: Bytes): string;
 
 /** What cannot be done. `status` is its number in `sums_hash.h`. */
 export class Refused extends RangeError {
@@ -35,4 +35,4 @@ export type { BadLine, Checked, CheckedRow, CheckOptions, FileSource, ListEntry,
 export type { Verdict } from './library.js';
 export type { AnyOptions, BufferOptions, Bytes, Digest, Encoding, HashName, HashOptions } from './library.js';
 export type { HashSpelling, HmacName, HmacSpelling, Message, Source, TextEncoding, TextOptions } from './library.js';
-import type { HashName } from './library.js';
+import type { Bytes, HashName } from './library.js';

@@ -7,7 +7,9 @@ import { Readable } from 'node:stream';
 import test from 'node:test';
 import vm from 'node:vm';
 import { Worker } from 'node:worker_threads';
-import { createHash, createHmac, deriveKey, getHashes, hash, hashOf, hashPieces, hkdfSync, Refused } from '../node.js';
+import {
+  createHash, createHmac, deriveKey, getHashes, hash, hashOf, hashPieces, hkdfSync, Refused, toHex,
+} from '../node.js';
 import { bind } from '../library.js';
 
 const refuses = (kind, call) => assert.throws(call, kind, call.toString());
@@ -32,6 +34,7 @@ test('words that no call takes', () => {
     refuses(TypeError, () => createHmac('sha256', data));
     refuses(TypeError, () => hkdfSync('sha256', data, '', '', 1));
     refuses(TypeError, () => deriveKey(data, ''));
+    refuses(TypeError, () => toHex(data));
     for (const option of OF_BYTES) refuses(TypeError, () => createHash('blake2b', { [option]: data }));
   }
   for (const length of [0, -1, 65, 1.5, NaN, Infinity, '32', 2 ** 53, 32n, null]) {
@@ -169,6 +172,7 @@ test('views that lie, and buffers that are gone or short by now', () => {
   assert.equal(hash('sha256', own), hash('sha256', 'abc'));
   assert.equal(hash('sha256', new DataView(Uint8Array.of(0, 97, 98, 99, 0).buffer, 1, 3)), hash('sha256', 'abc'));
   assert.equal(hash('sha256', new Uint16Array([0x6261])), hash('sha256', 'ab'));
+  for (const data of [new Uint16Array([0x6261]), 'ab', new Liar([97, 98])]) assert.equal(toHex(data), '6162');
   assert.equal(hash('sha256', new SharedArrayBuffer(3)), hash('sha256', of(3)));
   const gone = of(3);
   structuredClone(gone.buffer, { transfer: [gone.buffer] });

@@ -31,6 +31,6 @@ message.digest('latin1');
 try {
   library.deriveKey('context', key, 64);
 } catch (error) {
-  if (error instanceof Refused) names.push(`${error.status}`, digits, base64, toHex(output), toHex(pieces));
+  if (error instanceof Refused) names.push(`${error.status}`, digits, base64, toHex(output), toHex(pieces.buffer));
 }
 void [later, sources, deriveKey];
