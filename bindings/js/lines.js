@@ -1,6 +1,6 @@
 // SPDX-License-Identifier: MIT OR Apache-2.0
 // The lines of lists of digests, read and written by the calls of the module.
-import { bytesOf, toHex } from './bytes.js';
+import { bytesOf, toHex, whole } from './bytes.js';
 import { HASHES, hashName } from './hashes.js';
 import { DIGEST_LENGTH, NO_LINE, Refused, within } from './machine.js';
 import { optionsOf } from './message.js';
@@ -198,7 +198,7 @@ export function lineOfEntry(machine, algorithm, digest, name, options) {
 
 /** The line of a report, with its LF. */
 export function lineOfReport(machine, { name, verdict, line }) {
-  if (verdict === 'MALFORMED') return `line ${line}: MALFORMED\n`;
+  if (verdict === 'MALFORMED') return `line ${whole(line, 'line', 1, Number.MAX_SAFE_INTEGER)}: MALFORMED\n`;
   const number = VERDICTS.indexOf(verdict);
   if (number < 1) {
     throw new TypeError(`there is no verdict ${String(verdict)}: the verdicts are ${VERDICTS.slice(1).join(', ')}`);

@@ -126,6 +126,9 @@ test('lines of a report', () => {
     assert.equal(formatReport({ name: 'a\nb', verdict }), `a\\nb: ${verdict}\n`);
   }
   assert.equal(formatReport({ name: null, verdict: 'MALFORMED', line: 7 }), 'line 7: MALFORMED\n');
+  for (const line of [undefined, 0, 1.5, '7', '1: MALFORMED\na: OK\nline 2']) {
+    refuses(RangeError, () => formatReport({ name: null, verdict: 'MALFORMED', line }));
+  }
   for (const verdict of ['ok', '', null, undefined, 1, 'toString']) {
     refuses(TypeError, () => formatReport({ name: 'a', verdict }));
   }
