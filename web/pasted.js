@@ -8,8 +8,9 @@ import { FEWEST_DIGITS, isNotHere, otherHash, sized, TITLES, usual } from './fun
 const FEWEST_SEEN = 32; // digits, those of MD5
 const GROUPS = [2, 4, 8, 16];
 const WHOLE_DIGITS = [64, 128];
-const LABEL =
-  /(?<![a-z0-9])(sha-?(?:2-)?(?:256|512)|sha-?(?:1|224|384)|sha-?3-\d+|md5|blake2b|blake2s|blake3)(?![a-z])/gi;
+const LABELS = 'sha-?(?:2-)?(?:256|512)|sha-?(?:1|224|384)|sha-?3-\\d+(?!\\d)|md5|blake2b|blake2s|blake3';
+// in the name of a file, such as blake3-1.0.tgz, it is none
+const LABEL = new RegExp(`(?<![a-z0-9])(${LABELS})(?![a-z]|(?:[-_]\\S{0,99})?\\.[a-z0-9])`, 'gi');
 const BASE64 =
   /(?<![a-z0-9])sha(?:256|512)-((?:[a-z0-9+/]{4}){10,21}(?:[a-z0-9+/]{3}=|[a-z0-9+/]{2}==))(?![a-z0-9+/=])/gi;
 const INVISIBLE = /[\u200b-\u200d\u2060\ufeff]/g;

@@ -142,7 +142,7 @@ def try_forms(page, work, program):
         f"SHA256 hash of abc:\n{own}\nCertUtil: -hashfile command completed successfully.\n",
         f"SHA256 checksum: {own}", f"blake2b:{digest['blake2b']}", f"BLAKE3 {digest['blake3']}", f"sha256-{in_base64}",
         f"{own[:40]}\u200b{own[40:]}", f"\ufeff{own}", digest["blake2s"], f"{own}\n{own}",
-        f"{own[:40]}\n{own[40:]}",
+        f"{own[:40]}\n{own[40:]}", f"blake3-1.0.tgz: {grouped(upper, 8)}", f"Hash : {upper}\nPath : C:\\sha512.zip",
     )
     page.anew()
     page.files(work / "abc")

@@ -334,7 +334,7 @@ const OF_LISTS = {
   },
 };
 
-// ---- digests in base64
+// ---- digests that are pasted
 
 /** What is shown of a file that is good when a text is pasted. */
 async function pasted(run, text) {
@@ -346,10 +346,18 @@ async function pasted(run, text) {
 const [GOOD, EVIL] = ['good', 'evil'].map((it) => `sha256-${hash('sha256', it, 'base64')}`);
 const NO_OK = ['the pasted text: MALFORMED', 'a: DIGEST'];
 
-const IN_BASE64 = {
-  async 'one'(run) {
+const PASTED = {
+  async 'one in base64'(run) {
     await pasted(run, GOOD);
     return ['a: OK'];
+  },
+  async 'one of a file that is called like a hash'(run) {
+    await pasted(run, `blake3-1.0.tgz: ${hash('sha256', 'good').replace(/.{8}/g, '$& ')}`);
+    return ['a: OK'];
+  },
+  async 'one of another hash, which it names'(run) {
+    await pasted(run, `BLAKE3: ${hash('sha256', 'good')}`);
+    return ['a: FAILED'];
   },
   async 'two, of which the first is right'(run) {
     await pasted(run, `${GOOD} ${EVIL}`);
@@ -434,7 +442,7 @@ async function wrongIn(browser, does) {
 
 let passed = 0;
 let failed = 0;
-const CASES = { ...CHANGES, ...AGAIN, ...NAMES, ...CLOSED, ...OF_LISTS, ...IN_BASE64, ...MEANWHILE };
+const CASES = { ...CHANGES, ...AGAIN, ...NAMES, ...CLOSED, ...OF_LISTS, ...PASTED, ...MEANWHILE };
 for (const [what, does] of Object.entries(CASES)) {
   for (const browser of ['chromium', 'firefox']) {
     const wrong = await wrongIn(browser, does);
