@@ -320,6 +320,13 @@ def index(out, tree, release, words):
 # ---- all of it
 
 
+def check(release, program):
+    """Refuses a B3SUMS that is not of the packages, by the program in them."""
+    done = subprocess.run([program, "check", "-a", "blake3", "B3SUMS"], cwd=release.folder, capture_output=True)
+    if done.returncode or done.stdout.count(b": OK\n") != len(release.digests):
+        raise Refused(f"{release.folder}/B3SUMS is not of the packages")
+
+
 def make(out, releases, key, site):
     """The site of these releases, the newest first."""
     release = releases[0]
@@ -339,8 +346,13 @@ def make(out, releases, key, site):
     shutil.copyfile(os.path.join(HERE, "site.css"), os.path.join(out, "style.css"))
     run(os.path.join(TOP, "tools/page.py"), "--list", os.path.join(release.folder, "SHA256SUMS"), "--into",
         os.path.join(release.folder, release.named("page")[0]), os.path.join(out, "check.html"))
+    tars = release.named("tar")
+    # what this machine runs
+    own = [name for name in tars if name.endswith(f"-{os.uname().machine}.tar.xz")]
     with tempfile.TemporaryDirectory() as tree:
-        run("tar", "-C", tree, "--strip-components=1", "-xf", os.path.join(release.folder, release.named("tar")[0]))
+        run("tar", "-C", tree, "--strip-components=1", "-xf", os.path.join(release.folder, (own or tars)[0]))
+        if own:
+            check(release, os.path.join(tree, "bin/sums"))
         documents(out, os.path.join(tree, "share/doc/sums"), release.version)
         names = manual(out, os.path.join(tree, "share/man"), release.version)
         words["MANUAL"] = ", ".join(f"[{name}](man/{name}.html)" for name in names)
