@@ -19,7 +19,7 @@ use crate::making::Made;
 use crate::session::absorb_feed;
 use b3::{Blake3, CHUNK_LEN, Mode, Output};
 use blake2::{Blake2b, Blake2s};
-use source::{Alg, AnyHash, Feed, digest_of, output_in_parts, pump};
+use source::{Alg, AnyHash, Feed, digest_of, output_in_parts};
 use std::alloc::{AllocError, Global};
 use sumlist::{fits, tagged_fits};
 use task::{Form, Hash, Requested};
@@ -129,10 +129,8 @@ fn output_of_feed<'n, F: Feed>(
 {
     if buffer.is_empty() {
         let mut hasher = Blake3::new();
-        return match pump(&mut hasher, feed) {
-            Ok(()) => Ok(hasher.output()),
-            Err(fault) => Err(Fault::of_source(fault, name)),
-        };
+        absorb_feed(&mut hasher, name, feed)?;
+        return Ok(hasher.output());
     }
     match output_in_parts(Mode::Hash, feed, buffer) {
         Ok(output) => Ok(output),
