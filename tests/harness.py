@@ -3,6 +3,7 @@ cases and the last line, and calls of C that are loaded before the program's own
 script ends at its first case that is wrong."""
 
 import contextlib
+import itertools
 import os
 import shutil
 import subprocess
@@ -84,6 +85,12 @@ def judge(name, is_right, *shown):
 def same(name, got, wanted):
     """Counts a case that has to give this."""
     return judge(name, got == wanted, f"got    {got}", f"wanted {wanted}")
+
+
+def in_turn(outputs):
+    """The lines of these, one of each in turn."""
+    rows = itertools.zip_longest(*(each.splitlines(keepends=True) for each in outputs), fillvalue=b"")
+    return b"".join(line for row in rows for line in row)
 
 
 def finish():

@@ -1,8 +1,9 @@
 #!/usr/bin/env python3
 """Cuts files into parts of each size, joins their lines, and compares with the digest of the whole file, by the
 program and by b3sum where it is installed; lists where parts begin, and hashes files in parts of each size, with each
-option. Then parts at each of many chunks and of each power of two, names of each length, parts that are far behind the
-first, the lines that `join` refuses, the parts that `part` refuses, and parts that come out of one pipe.
+option; the shares of these runs print them too. Then parts at each of many chunks and of each power of two, names of
+each length, parts that are far behind the first, the lines that `join` refuses, the parts that `part` refuses, and
+parts that come out of one pipe.
 usage: tests/program/parts.py PROGRAM
 """
 
@@ -23,6 +24,9 @@ CHUNKS = [1 << e for e in range(11)]
 SIZES = [0, 1, 1023, 1024, 1025, 8192, 8193, 17_000, 150_000, 1_000_000]
 SIZES_OF_HASH = [0, 1, 1024, 1025, 4096, 8193, 17_000, 102_400]
 OPTIONS_OF_HASH = ([], ["-l", "100"], ["--seek", "33", "-l", "70"], ["--tag"])
+# The numbers of shares into which runs are cut, and the most bytes of a file whose parts of each size are compared so.
+SHARES = [1, 2, 5]
+MOST_SHARED = 8193
 VALUE = b"91333b6a7a918b2ebfcb11c419754631802f5790f4fc714bfce637157e9b1d88"
 MODE = standards.mode_of()
 
@@ -77,6 +81,7 @@ def sizes():
             same(f"each part of {chunks} chunks of {size} bytes", part("--each", str(chunks), str(size)), each)
             given = part("--each", str(chunks), given=content(size))
             same(f"each part of {chunks} chunks of {size} bytes of standard input", given, each)
+            in_shares(f"each part of {chunks} chunks of {size} bytes", ["--each", str(chunks), str(size)], each)
             verified(size, chunks, lines)
             for words in ([], ["-l", "100", "--seek", "33"]):
                 answer = join("--name", str(size), "--bytes", str(size), *words, given=b"".join(lines))
@@ -105,7 +110,22 @@ def verified(size, chunks, lines):
             out += f"{first} {length}: {verdict}\n".encode()
         status = int(bool(told) or out.count(b": OK\n") < len(lines))
         answer = part("--verify", "parts", given=other)
-        same(f"{what}, by the parts of {chunks} chunks of {size} bytes", answer, (status, out, told))
+        name = f"{what}, by the parts of {chunks} chunks of {size} bytes"
+        same(name, answer, (status, out, told))
+        if size <= MOST_SHARED or chunks == CHUNKS[-1]:
+            with open("other", "wb") as file:
+                file.write(other)
+            in_shares(name, ["--verify", "parts", "other"], (status, out, told.replace(b"-", b"other")))
+
+
+def in_shares(name, words, want):
+    """The runs of all shares print the lines of the one run in turn, and the highest status is that of it."""
+    status, out, told = want
+    for count in SHARES:
+        shares = [part("--share", f"{k}/{count}", *words) for k in range(count)]
+        same(f"{name}, {count} shares in turn", harness.in_turn([share.out for share in shares]), out)
+        same(f"{name}, the highest status of {count} shares", max(share.status for share in shares), status)
+        same(f"{name}, what {count} shares tell", [share.err for share in shares], [told] * count)
 
 
 def flip(data, place):

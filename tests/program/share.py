@@ -22,12 +22,6 @@ MOST_SHARES = 5
 LINES_A_LIST = 12
 
 
-def in_turn(outputs):
-    """The lines of these, one of each in turn."""
-    rows = itertools.zip_longest(*(each.splitlines(keepends=True) for each in outputs), fillvalue=b"")
-    return b"".join(line for row in rows for line in row)
-
-
 def random_lists_of(source, kind, files):
     """The names of one list or several: `-`, and one that is not there, may be among them."""
     names = [f"list {number}" for number in range(source.choice([1, 1, 2, 3]))]
@@ -85,7 +79,7 @@ def one_run(program, source, about, files):
     whole = check(program, [*words, "--summary"], names)
     count = source.randrange(1, MOST_SHARES + 1)
     shares = [check(program, [*words, "--share", f"{k}/{count}"], names) for k in range(count)]
-    same(f"{about}, {count} shares in turn", in_turn([share.out for share in shares]), whole.out)
+    same(f"{about}, {count} shares in turn", harness.in_turn([share.out for share in shares]), whole.out)
     same(f"{about}, the greatest status", max(share.status for share in shares), whole.status)
     refused = b"sums: none: cannot read\n" if "none" in names else b""
     if count > 1:

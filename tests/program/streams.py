@@ -105,6 +105,9 @@ SHARED = [
     ("hash -a sha256 --share 1/2 abc.txt this", 1, b"\n"),
     ("hash -a sha256 --share 0/2 --files0-from this", 1, b""),
     ("mac -a blake2s --share 0/2 --key-file this abc.txt", 1, b""),
+    ("part -a blake3 --each 1 --share 0/2 this", 1, b""),
+    ("part -a blake3 --verify this --share 0/2 empty", 1, b""),
+    ("part -a blake3 --verify parts --share 1/2 this", 1, b""),
 ]
 LONG = b"x" * 300_000
 # How many seconds a run has whose files are pipes, and the number of the user that has no files.

@@ -23,7 +23,8 @@ use Rattle.source.specs.declared.pumping.SourceFault.TheVariants as source
 use Rattle.source.specs.Written.{Done, Failed, Shown}
 use Rattle.sumlist.specs.Report.{Files}
 use Rattle.command.specs.Run.{Run, stops}
-use Rattle.command.specs.Cutting.{EachRuns, lines_of}
+use Rattle.sumlist.specs.declared.share.Share.{Share}
+use Rattle.command.specs.Cutting.{EachRuns, lines_of, numbers_of}
 use Rattle.command.specs.Lines.{content_of, is_input}
 use Rattle.command.specs.inside.Seen.{Does}
 use Rattle.command.specs.inside.Troubles.{Counted, MayFail, MayRefuse, Trouble, cannot_read, refusal, shown, status_of}
@@ -31,8 +32,9 @@ use Rattle.command.specs.inside.Troubles.{too_long, trouble_of}
 use Rattle.command.specs.declared.fault.Fault.{Fault}
 use Rattle.command.specs.declared.fault.Fault.TheVariants.{CannotWrite}
 use Rattle.command.specs.inside.Faults.{of_source}
-use Rattle.command.specs.inside.Cutting.{PrintsLines, PrintsParts, TakesChunks, TakesPart, part_count}
+use Rattle.command.specs.inside.Cutting.{PrintsLines, PrintsParts, TakesChunks, TakesPart, all_parts, part_count}
 use Rattle.command.specs.inside.Reading.{failed}
+use Rattle.command.proofs.Turns.{every-all}
 use Rattle.command.proofs.CutParts.{IsLimit, told_line, too_long_for_a_number}
 use Rattle.command.proofs.Refused.{Counted-quiet, Counted-refusal, Counted-told, refused_by, unread_by}
 use Rattle.command.proofs.Starting.{counts_none, counts_on}
@@ -118,8 +120,9 @@ each_line n m i = line_of (n * i) (take (1024 * n) (drop (1024 * (n * i)) m)) ++
 abbrev pub each_from : ℕ → List ℕ → ℕ → Text
 each_from n m i = flat_map (each_line n m) (range_with_len i (part_count n m - i))
 
-each_all : (n : ℕ) (m : List ℕ) → lines_of n m ≡ each_from n m 0
-each_all n m = let same : part_count n m - 0 ≡ part_count n m = omega arith in rw same refl
+each_all : (n : ℕ) (m : List ℕ) → lines_of all_parts n m ≡ each_from n m 0
+each_all n m = let same : part_count n m - 0 ≡ part_count n m = omega arith in
+    ap (flat_map (each_line n m)) (every-all (numbers_of n m)) ∙ rw same refl
 
 each_next : (n : ℕ) (m : List ℕ) (i : ℕ) → i < part_count n m
     → each_from n m i ≡ each_line n m i ++ each_from n m (i + 1)
@@ -133,7 +136,7 @@ each_none n m i end = let none : part_count n m - i ≡ 0 = omega (arith, end) i
 pub record EachSoFar (n : ℕ) (m : List ℕ) (i : ℕ) (now : Option (List ℕ)) (old new : Shown) : Type 0 where
   pub left : now ≡ Some (drop (1024 * (n * i)) m)
   pub whole : 1024 * (n * i) ≤ length m
-  pub written : Writing old new (lines_of n m) (each_from n m i)
+  pub written : Writing old new (lines_of all_parts n m) (each_from n m i)
 
 pub each_start : (n : ℕ) (coming : Option (List ℕ)) (old : Shown)
     → IfSome coming (λ m. EachSoFar n m 0 coming old old)
@@ -149,6 +152,42 @@ line_is : (first : ℕ) (part : PartValue) (x : List ℕ) → part.first_chunk �
     → told_line part ≡ line_of first x ++ 10 ∷ []
 line_is first part x begins value = cc (begins, value.len, value.value)
 
+-- a part is that of so many chunks of some bytes
+abbrev pub IsPart : ℕ → ℕ → List ℕ → PartValue → Type 0
+IsPart n i m part = (part.first_chunk ≡ n * i)
+    × IsValueOf hash_parameters part (take (1024 * n) (drop (1024 * (n * i)) m))
+
+module _ (n i : ℕ) (m : List ℕ) (part : PartValue) (some : 1 ≤ n) (within : n * i < 2 ^ 54) (is : IsPart n i m part) where
+  -- how many bytes it has, and that none of them is beyond the longest message
+  pub part_sizes : (part.len ≡ min (1024 * n) (length m - 1024 * (n * i))) × (1024 * (n * i) + part.len ≤ 2 ^ 64 - 1)
+  part_sizes =
+      let size = length-take (1024 * n) (drop (1024 * (n * i)) m) in
+      let rest = length-drop (1024 * (n * i)) m in
+      let len = is.1.len in
+      let limit = part.placed.1 in
+      let begins = is.0 in
+      (omega (arith, size, rest, len), omega (arith, limit, begins))
+
+  pub part_there : i < part_count n m
+  part_there = on i within (part_sizes.0) (λ none. sym is.0 ∙ part.placed.0 none)
+    where
+      on : (j : ℕ) → n * j < 2 ^ 54 → part.len ≡ min (1024 * n) (length m - 1024 * (n * j))
+          → (part.len ≡ 0 → n * j ≡ 0) → j < part_count n m
+      on zero within len begin = omega arith
+      on (suc k) within len begin =
+          let later : 0 < n * suc k = omega (arith, some) in
+          let any : 0 < part.len = above part.len (λ none. let first = begin none in omega (arith, later, first)) in
+          let more = counts_on n (suc k) m some within (omega (arith, any, len)) in
+          omega (arith, more)
+        where
+          above : (k : ℕ) → (k ≡ 0 → ⊥) → 0 < k
+          above zero none = absurd (none refl)
+          above (suc k) none = omega arith
+
+  -- its line is that of its number
+  pub part_line_is : told_line part ≡ each_line n m i
+  part_line_is = line_is (n * i) part _ is.0 is.1
+
 module _ (n : ℕ) (name : Text) (first i : ℕ) (coming now after : Option (List ℕ)) (old mid : Shown) (some : 1 ≤ n)
     (is : first ≡ n * i) (within : first < 2 ^ 54) (so : IfSome coming (λ m. EachSoFar n m i now old mid)) where
   -- what an answer says of the next part
@@ -157,7 +196,7 @@ module _ (n : ℕ) (name : Text) (first i : ℕ) (coming now after : Option (Lis
 
   -- a read failed, or there is too much
   pub each_stopped : (f : Fault) (r : Result ℕ Fault) → IsErrAnd r (λ g. g ≡ f) → Next (Err f)
-      → IfSome coming (λ m. PrintsLines n name m r old mid)
+      → IfSome coming (λ m. PrintsLines all_parts n name m r old mid)
   each_stopped f r stopped next = on coming so
     where
       why : (m : List ℕ) (t : Trouble) → 1024 * (n * i) ≤ length m
@@ -170,7 +209,7 @@ module _ (n : ℕ) (name : Text) (first i : ℕ) (coming now after : Option (Lis
           inr (inr (p.0, omega (arith, size, more, whole, is)))
 
       on : (coming : Option (List ℕ)) → IfSome coming (λ m. EachSoFar n m i now old mid)
-          → IfSome coming (λ m. PrintsLines n name m r old mid)
+          → IfSome coming (λ m. PrintsLines all_parts n name m r old mid)
       on None so = tt
       on (Some m) so =
           let e = err_from_is_err_and r stopped in
@@ -182,11 +221,11 @@ module _ (n : ℕ) (name : Text) (first i : ℕ) (coming now after : Option (Lis
           ))
 
   -- there is no more
-  pub each_ended : Next (Ok None) → IfSome coming (λ m. PrintsLines n name m (Ok 0) old mid)
+  pub each_ended : Next (Ok None) → IfSome coming (λ m. PrintsLines all_parts n name m (Ok 0) old mid)
   each_ended next = on coming so
     where
       on : (coming : Option (List ℕ)) → IfSome coming (λ m. EachSoFar n m i now old mid)
-          → IfSome coming (λ m. let r : Result ℕ Fault = Ok 0 in PrintsLines n name m r old mid)
+          → IfSome coming (λ m. let r : Result ℕ Fault = Ok 0 in PrintsLines all_parts n name m r old mid)
       on None so = tt
       on (Some m) so =
           let end : (0 < first) × (drop (1024 * (n * i)) m ≡ []) = rw so.left at next in
@@ -198,7 +237,7 @@ module _ (n : ℕ) (name : Text) (first i : ℕ) (coming now after : Option (Lis
           let number : 1 ≤ i = one_of i later in (
             refl,
             omega (arith, none, is, within),
-            Writing-end old mid (lines_of n m) (rw (each_none n m i (omega (arith, few, number))) at so.written),
+            Writing-end old mid (lines_of all_parts n m) (rw (each_none n m i (omega (arith, few, number))) at so.written),
           )
         where
           one_of : (i : ℕ) → 0 < n * i → 1 ≤ i
@@ -206,90 +245,60 @@ module _ (n : ℕ) (name : Text) (first i : ℕ) (coming now after : Option (Lis
           one_of (suc k) later = omega arith
 
   module _ (part : PartValue) (next : Next (Ok (Some part))) where
-    -- what a part says of the bytes
-    abbrev Is : List ℕ → Type 0
-    Is m = (part.first_chunk ≡ first) × IsValueOf hash_parameters part (take (1024 * n) (drop (1024 * (n * i)) m))
+    -- it is that of its number, and all behind it is still to come
+    here : (m : List ℕ) → EachSoFar n m i now old mid → IsPart n i m part
         × (after ≡ Some (drop (1024 * n) (drop (1024 * (n * i)) m)))
+    here m so = let it = rw so.left at next in ((it.0 ∙ is, it.1), it.2)
 
-    here : (m : List ℕ) → EachSoFar n m i now old mid → Is m
-    here m so = rw so.left at next
-
-    -- how many bytes it has, and how many are behind it
-    sizes : (m : List ℕ) → EachSoFar n m i now old mid
-        → (part.len ≡ min (1024 * n) (length m - 1024 * (n * i))) × (1024 * first + part.len ≤ 2 ^ 64 - 1)
-        × (part.len ≡ 0 → first ≡ 0)
-    sizes m so =
-        let it = here m so in
-        let size = length-take (1024 * n) (drop (1024 * (n * i)) m) in
-        let rest = length-drop (1024 * (n * i)) m in
-        let len = it.1.len in
-        let limit = part.placed.1 in
-        let begins = it.0 in
-        (omega (arith, size, rest, len), omega (arith, limit, begins), λ none. sym begins ∙ part.placed.0 none)
-
-    is_there : (m : List ℕ) → EachSoFar n m i now old mid → i < part_count n m
-    is_there m so = on i is (sizes m so)
-      where
-        on : (j : ℕ) → first ≡ n * j → (part.len ≡ min (1024 * n) (length m - 1024 * (n * j)))
-            × (1024 * first + part.len ≤ 2 ^ 64 - 1) × (part.len ≡ 0 → first ≡ 0) → j < part_count n m
-        on zero at size = omega arith
-        on (suc k) at size =
-            let later : 0 < first = omega (arith, at, some) in
-            let any : 0 < part.len = above part.len (λ none. let begin = size.2 none in omega (arith, later, begin)) in
-            let len = size.0 in
-            let more = counts_on n (suc k) m some (omega (arith, within, at)) (omega (arith, any, len)) in
-            omega (arith, more)
-          where
-            above : (k : ℕ) → (k ≡ 0 → ⊥) → 0 < k
-            above zero none = absurd (none refl)
-            above (suc k) none = omega arith
+    at_place : n * i < 2 ^ 54
+    at_place = omega (arith, is, within)
 
     -- its line is the next
     next_is : (m : List ℕ) → EachSoFar n m i now old mid
         → each_from n m i ≡ told_line part ++ each_from n m (i + 1)
     next_is m so =
-        let it = here m so in
-        let line : told_line part ≡ each_line n m i = line_is (n * i) part _ (it.0 ∙ is) it.1 in
-        each_next n m i (is_there m so) ∙ ap (λ (l : Text). l ++ each_from n m (i + 1)) (sym line)
+        let it = (here m so).0 in
+        each_next n m i (part_there n i m part some at_place it)
+        ∙ ap (λ (l : Text). l ++ each_from n m (i + 1)) (sym (part_line_is n i m part some at_place it))
 
     pub each_unwritten : (new : Shown) (r : Result ℕ Fault) → IsErrAnd r (λ g. g ≡ CannotWrite)
-        → Failed mid new (told_line part) → IfSome coming (λ m. PrintsLines n name m r old new)
+        → Failed mid new (told_line part) → IfSome coming (λ m. PrintsLines all_parts n name m r old new)
     each_unwritten new r stopped failed = on coming so
       where
         on : (coming : Option (List ℕ)) → IfSome coming (λ m. EachSoFar n m i now old mid)
-            → IfSome coming (λ m. PrintsLines n name m r old new)
+            → IfSome coming (λ m. PrintsLines all_parts n name m r old new)
         on None so = tt
         on (Some m) so =
             let e = err_from_is_err_and r stopped in
             rw e.1 (inl (
               ap trouble_of e.2,
-              Writing-failed old mid new (lines_of n m) (each_from n m i)
+              Writing-failed old mid new (lines_of all_parts n m) (each_from n m i)
                   (told_line part) (each_from n m (i + 1)) (next_is m so) so.written failed,
             ))
 
     written : (new : Shown) (m : List ℕ) → EachSoFar n m i now old mid → Done mid new (told_line part)
-        → Writing old new (lines_of n m) (each_from n m (i + 1))
-    written new m so done = Writing-step old mid new (lines_of n m) (each_from n m i) (told_line part)
+        → Writing old new (lines_of all_parts n m) (each_from n m (i + 1))
+    written new m so done = Writing-step old mid new (lines_of all_parts n m) (each_from n m i) (told_line part)
         (each_from n m (i + 1)) (next_is m so) so.written done
 
     -- it is not full, so it is the last
     pub each_last : (new : Shown) → part.len / 1024 < n → Done mid new (told_line part)
-        → IfSome coming (λ m. let r : Result ℕ Fault = Ok 0 in PrintsLines n name m r old new)
+        → IfSome coming (λ m. let r : Result ℕ Fault = Ok 0 in PrintsLines all_parts n name m r old new)
     each_last new short done = on coming so
       where
         on : (coming : Option (List ℕ)) → IfSome coming (λ m. EachSoFar n m i now old mid)
-            → IfSome coming (λ m. let r : Result ℕ Fault = Ok 0 in PrintsLines n name m r old new)
+            → IfSome coming (λ m. let r : Result ℕ Fault = Ok 0 in PrintsLines all_parts n name m r old new)
         on None so = tt
         on (Some m) so =
-            let size = sizes m so in
+            let size = part_sizes n i m part some at_place (here m so).0 in
             let len = size.0 in
             let limit = size.1 in
             let whole = so.whole in
             let none : length m ≤ 1024 * (n * (i + 1)) = omega (arith, len, short, whole) in
             let few = counts_none n (i + 1) m some none in (
               refl,
-              omega (arith, len, limit, short, whole, is),
-              Writing-end old new (lines_of n m) (rw (each_none n m (i + 1) (omega (arith, few))) at
+              omega (arith, len, limit, short, whole),
+              Writing-end old new (lines_of all_parts n m) (rw (each_none n m (i + 1) (omega (arith, few))) at
                   (written new m so done)),
             )
 
@@ -303,11 +312,11 @@ module _ (n : ℕ) (name : Text) (first i : ℕ) (coming now after : Option (Lis
         on None so = tt
         on (Some m) so =
             let it = here m so in
-            let len = (sizes m so).0 in
+            let len = (part_sizes n i m part some at_place it.0).0 in
             let whole = so.whole in
             let at : 1024 * (n * i) + 1024 * n ≡ 1024 * (n * (i + 1)) = omega arith in
             record {
-              left = it.2 ∙ ap Some (drop-drop (1024 * n) (1024 * (n * i)) m ∙ ap (λ (k : ℕ). drop k m) at);
+              left = it.1 ∙ ap Some (drop-drop (1024 * n) (1024 * (n * i)) m ∙ ap (λ (k : ℕ). drop k m) at);
               whole = omega (arith, len, full, whole);
               written = written new m so done;
             }
@@ -322,25 +331,25 @@ module _ (n : ℕ) (name : Text) (first : Option (List ℕ)) (tree : Option File
   where
     -- what is to be shown of it
     abbrev pub Printed : Type 0
-    Printed = IfSome first (λ input. IfSome tree (λ files. PrintsParts n name (content_of name input files) r old new))
+    Printed = IfSome first (λ input. IfSome tree (λ files. PrintsParts all_parts n name (content_of name input files) r old new))
 
-    pub parts_of_input : is_input name ≡ true → IfSome first (λ m. PrintsLines n name m r old new) → Printed
+    pub parts_of_input : is_input name ≡ true → IfSome first (λ m. PrintsLines all_parts n name m r old new) → Printed
     parts_of_input is printed = on first tree printed
       where
-        on : (first : Option (List ℕ)) (tree : Option Files) → IfSome first (λ m. PrintsLines n name m r old new)
-            → IfSome first (λ input. IfSome tree (λ files. PrintsParts n name (content_of name input files) r old new))
+        on : (first : Option (List ℕ)) (tree : Option Files) → IfSome first (λ m. PrintsLines all_parts n name m r old new)
+            → IfSome first (λ input. IfSome tree (λ files. PrintsParts all_parts n name (content_of name input files) r old new))
         on None tree printed = tt
         on (Some input) None printed = tt
         on (Some input) (Some files) printed = rw is (inl (input, refl, printed))
 
     pub parts_of_file : (coming : Option (List ℕ)) → is_input name ≡ false
         → IfSome tree (λ files. (m : List ℕ) × (files name ≡ Some m) × (coming ≡ Some m))
-        → IfSome coming (λ m. PrintsLines n name m r old new) → Printed
+        → IfSome coming (λ m. PrintsLines all_parts n name m r old new) → Printed
     parts_of_file coming is opened printed = on first tree opened
       where
         on : (first : Option (List ℕ)) (tree : Option Files)
             → IfSome tree (λ files. (m : List ℕ) × (files name ≡ Some m) × (coming ≡ Some m))
-            → IfSome first (λ input. IfSome tree (λ files. PrintsParts n name (content_of name input files) r old new))
+            → IfSome first (λ input. IfSome tree (λ files. PrintsParts all_parts n name (content_of name input files) r old new))
         on None tree opened = tt
         on (Some input) None opened = tt
         on (Some input) (Some files) (m, content, at) = rw is (inl (m, content, rw at at printed))
@@ -360,7 +369,7 @@ module _ (n : ℕ) (name : Text) (first : Option (List ℕ)) (tree : Option File
 
         on : (first : Option (List ℕ)) (tree : Option Files) → IfSome tree (λ files. MatchResult r (λ _. ⊥)
             (λ fault. MayRefuse 0 name (files name) (trouble_of fault) × (trouble_of fault ≡ too_long name → ⊥)))
-            → IfSome first (λ input. IfSome tree (λ files. PrintsParts n name (content_of name input files) r old new))
+            → IfSome first (λ input. IfSome tree (λ files. PrintsParts all_parts n name (content_of name input files) r old new))
         on None tree may = tt
         on (Some input) None may = tt
         on (Some input) (Some files) may = rw is (inr (why r (files name) may, none))
@@ -373,19 +382,19 @@ Does-begun : (front : Text) (failures : List Bool) (f : Fault) (old new : Shown)
     Does (record (stops (shown (trouble_of f))) { text = front; failures = failures }) r old new)
 Does-begun front failures f old new done = record { ending = refl; out = done; cut = λ whole. cc }
 
-each_taken : (n : ℕ) (name : Text) (input : List ℕ) (files : Files) (answer : Result ℕ Fault) (old new : Shown)
-    (i j u v : ℕ) → PrintsParts n name (content_of name input files) answer old new
+each_taken : (s : Share) (n : ℕ) (name : Text) (input : List ℕ) (files : Files) (answer : Result ℕ Fault) (old new : Shown)
+    (i j u v : ℕ) → PrintsParts s n name (content_of name input files) answer old new
     → Counted (failed (is_input name) (content_of name input files) answer) i j u v
-    → Taken (EachRuns n name files input) answer old new i j u v
-each_taken n name input files (Ok s) old new i j u v (inl (m, is, p)) counted =
-    rw p.0 (Taken-printed (EachRuns n name files input) (lines_of n m) 0 old new i j u v
+    → Taken (EachRuns s n name files input) answer old new i j u v
+each_taken s n name input files (Ok k) old new i j u v (inl (m, is, p)) counted =
+    rw p.0 (Taken-printed (EachRuns s n name files input) (lines_of s n m) 0 old new i j u v
     (inr (rw is (inl (p.1, refl)))) p.2 (Counted-quiet (is_input name) i j u v counted))
-each_taken n name input files (Ok s) old new i j u v (inr p) counted = absurd p.0
-each_taken n name input files (Err f) old new i j u v (inl (m, is, inl p)) counted =
-    Taken-unprinted (EachRuns n name files input) (lines_of n m) f old new i j u v
+each_taken s n name input files (Ok k) old new i j u v (inr p) counted = absurd p.0
+each_taken s n name input files (Err f) old new i j u v (inl (m, is, inl p)) counted =
+    Taken-unprinted (EachRuns s n name files input) (lines_of s n m) f old new i j u v
     (inr (rw is (inr (inl refl)))) p.0 p.1 (Counted-told (is_input name) (content_of name input files) (trouble_of f)
     i j u v (λ e. let heavy = ap status_of p.0 in omega (arith, e, heavy)) counted)
-each_taken n name input files (Err f) old new i j u v (inl (m, is, inr (front, begins, done, may))) counted =
+each_taken s n name input files (Err f) old new i j u v (inl (m, is, inr (front, begins, done, may))) counted =
     let stop : Run = refusal (is_input name) (Some m) (trouble_of f) in (
       record stop { text = front },
       inr (rw is (inr (inr (
@@ -400,18 +409,29 @@ each_taken n name input files (Err f) old new i j u v (inl (m, is, inr (front, b
       refl,
       Counted-refusal (is_input name) (Some m) (trouble_of f) i j u v (rw is at counted),
     )
-each_taken n name input files (Err f) old new i j u v (inr p) counted =
-    Taken-refused (EachRuns n name files input) (is_input name) (content_of name input files) f (Err f) old new i j u v
+each_taken s n name input files (Err f) old new i j u v (inr p) counted =
+    Taken-refused (EachRuns s n name files input) (is_input name) (content_of name input files) f (Err f) old new i j u v
     (inl (unread_by (is_input name) name (content_of name input files) (trouble_of f) p.0)) refl p.1 counted
 
-pub each_run : (n : ℕ) (name : Text) (first : Option (List ℕ)) (tree : Option Files) (answer : Result ℕ Fault)
+pub each_run : (s : Share) (n : ℕ) (name : Text) (first : Option (List ℕ)) (tree : Option Files) (answer : Result ℕ Fault)
     (old new : Shown) (i j u v : ℕ)
     → IfSome first (λ input. IfSome tree (λ files.
-    PrintsParts n name (content_of name input files) answer old new))
+    PrintsParts s n name (content_of name input files) answer old new))
     → IfSome first (λ input. IfSome tree (λ files.
     Counted (failed (is_input name) (content_of name input files) answer) i j u v))
-    → IfSome first (λ input. IfSome tree (λ files. Taken (EachRuns n name files input) answer old new i j u v))
-each_run n name None tree answer old new i j u v printed counted = tt
-each_run n name (Some input) None answer old new i j u v printed counted = tt
-each_run n name (Some input) (Some files) answer old new i j u v printed counted =
-    each_taken n name input files answer old new i j u v printed counted
+    → IfSome first (λ input. IfSome tree (λ files. Taken (EachRuns s n name files input) answer old new i j u v))
+each_run s n name None tree answer old new i j u v printed counted = tt
+each_run s n name (Some input) None answer old new i j u v printed counted = tt
+each_run s n name (Some input) (Some files) answer old new i j u v printed counted =
+    each_taken s n name input files answer old new i j u v printed counted
+
+-- the same where all parts were printed, which is that share
+pub each_as : (s : Share) → s ≡ all_parts → (n : ℕ) (name : Text) (first : Option (List ℕ)) (tree : Option Files)
+    (answer : Result ℕ Fault) (old new : Shown) (i j u v : ℕ)
+    → IfSome first (λ input. IfSome tree (λ files.
+    PrintsParts all_parts n name (content_of name input files) answer old new))
+    → IfSome first (λ input. IfSome tree (λ files.
+    Counted (failed (is_input name) (content_of name input files) answer) i j u v))
+    → IfSome first (λ input. IfSome tree (λ files. Taken (EachRuns s n name files input) answer old new i j u v))
+each_as s is n name first tree answer old new i j u v printed counted =
+    rw is (each_run all_parts n name first tree answer old new i j u v printed counted)

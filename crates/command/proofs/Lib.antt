@@ -20,9 +20,12 @@ pub mod TagLines
 pub mod Deriving
 pub mod CutParts
 pub mod Starting
+pub mod Turns
 pub mod EachPart
 pub mod VerifiedParts
 pub mod VerifiedNames
+pub mod OwnParts
+pub mod OwnVerdicts
 pub mod Listing
 pub mod Reporting
 pub mod Names

@@ -4,9 +4,15 @@ use Rattle.std.proofs.Common.{Bool, true, false, Option, None, Some, IfSome, ari
 use Rattle.std.proofs.lemmas.List.Sums.{sum_by-append}
 use Rattle.std.specs.Borrow.{Bor}
 use Rattle.std.specs.List.{sum_by}
+use Rattle.std.specs.Option.{option_map_or}
+use Rattle.std.specs.Prelude.{◌==◌}
+use Rattle.std.proofs.lemmas.Bool.Decides.{nat_tests}
 use Rattle.request.specs.CommandLine.{Text}
+use Rattle.sumlist.specs.Lines.{lines}
 use Rattle.sumlist.specs.Report.{Files}
-use Rattle.command.specs.Lines.{content_of, is_input, opens_of}
+use Rattle.sumlist.specs.Shared.{every}
+use Rattle.sumlist.specs.declared.share.Share.{Share}
+use Rattle.command.specs.Lines.{content_of, is_input, opens_of, part_opens}
 use Rattle.command.specs.inside.Seen.{OpensAtMost, Seen, opens_from}
 use Rattle.command.proofs.Names.{all_names, one_more}
 
@@ -43,6 +49,34 @@ module _ (given : List (Bor Text)) (i : ℕ) (d : Bor Text) (within : i < length
       = sum_by-append opens_of (name ∷ []) rest in
       let one : sum_by opens_of (name ∷ []) ≡ 0 + opens_of name = refl in
       omega (arith, before, here, all, sum, next, one)
+
+-- ---- the parts of a file
+
+pub part_opens-all : {A : Type 0} (s : Share) (name : Text) (xs : List A) → s.others ≡ 0
+    → part_opens s name xs ≡ opens_of name
+part_opens-all s name xs none = rw none refl
+
+pub part_opens-share : {A : Type 0} (s : Share) (name : Text) (xs : List A) → 0 < s.others
+    → part_opens s name xs ≡ length (every s.others s.waiting xs) + 2
+part_opens-share s name xs some =
+    let other : (s.others == 0) ≡ false = grind (arith, nat_tests) in
+    ap (λ (b : Bool). if b then opens_of name else length (every s.others s.waiting xs) + 2) other
+
+-- a file with lines was opened, and then others for their parts
+pub opens_beside : (s : Share) (parts name : Text) (first : Option (List ℕ)) (tree then_tree : Option Files)
+    (list : Option (List ℕ)) (k l h i : ℕ) → then_tree ≡ tree
+    → IfSome tree (λ files. (m : List ℕ) × (files parts ≡ Some m) × (list ≡ Some (drop 0 m))) → l ≤ k + 1
+    → IfSome list (λ text. IfSome then_tree (λ files. h ≤ l + part_opens s name (lines text))) → i ≤ h
+    → IfSome first (λ bytes. IfSome tree (λ files.
+    i ≤ k + (1 + part_opens s name (option_map_or lines (files parts) []))))
+opens_beside s parts name None tree then_tree list k l h i same opened one more last = tt
+opens_beside s parts name (Some bytes) None then_tree list k l h i same opened one more last = tt
+opens_beside s parts name (Some bytes) (Some files) then_tree list k l h i same opened one more last =
+    on opened.0 opened.1 (rw same at (rw opened.2 at more))
+  where
+    on : (m : List ℕ) → files parts ≡ Some m → h ≤ l + part_opens s name (lines m)
+        → i ≤ k + (1 + part_opens s name (option_map_or lines (files parts) []))
+    on m is most = rw is (omega (arith, one, most, last))
 
 -- ---- the names in a list
 

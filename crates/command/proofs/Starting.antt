@@ -37,7 +37,7 @@ near_end : (q n x : ℕ) → q * (1024 * n) ≤ x → x ≤ 2 ^ 64 - 2 → q * n
 near_end q n x below few = omega arith
 
 -- so many bytes have no more parts than there are positions
-no_more : (n x : ℕ) → 1 ≤ n → x ≤ 2 ^ 64 - 2 → x / (1024 * n) ≤ (2 ^ 54 - 1) / n
+pub no_more : (n x : ℕ) → 1 ≤ n → x ≤ 2 ^ 64 - 2 → x / (1024 * n) ≤ (2 ^ 54 - 1) / n
 no_more n x some few =
     let q : ℕ = x / (1024 * n) in
     le-div q (2 ^ 54 - 1) n some (near_end q n x (div-mul-le_self x (1024 * n)) few)
@@ -82,7 +82,7 @@ known_more n least most i has None some within is byte known = absurd byte
 known_more n least most i has (Some m) some within is byte known =
     (counts_on n i m some within (byte.0 is), known.1)
 
-none_there : (has : Bool) (position size : ℕ) → has ≡ false → (IsTrue has ↔ (position < size)) → size ≤ position
+pub none_there : (has : Bool) (position size : ℕ) → has ≡ false → (IsTrue has ↔ (position < size)) → size ≤ position
 none_there true position size is byte = absurd (cc is)
 none_there false position size is byte =
     elim (cases_lt position size) [ inl less ↦ absurd (cc (byte.1 less)) | inr more ↦ more ]

@@ -6,12 +6,14 @@ use Rattle.request.specs.CommandLine.{Text}
 use Rattle.source.specs.Counts.{count_after}
 use Rattle.source.specs.Written.{Shown}
 use Rattle.sumlist.specs.Report.{Files}
+use Rattle.sumlist.specs.declared.share.Share.{Share}
 use Rattle.command.specs.Lines.{content_of, is_input}
 use Rattle.command.specs.Run.{IsUnread, Run}
 use Rattle.command.specs.Verifying.{Compares, VerifyRuns}
+use Rattle.command.specs.inside.Cutting.{all_parts}
 use Rattle.command.specs.inside.Troubles.{Counted, Failures, MayFail, MayRefuse, Trouble, failures_from}
 use Rattle.command.specs.inside.Troubles.{failures_of, plus, refusal, too_long, trouble_of}
-use Rattle.command.specs.inside.Verifying.{ComparesFeeds, ComparesName, DoesBeside}
+use Rattle.command.specs.inside.Verifying.{ComparesFeeds, ComparesFile, ComparesName, DoesBeside}
 use Rattle.command.specs.declared.fault.Fault.{Fault}
 use Rattle.command.specs.declared.fault.Fault.TheVariants.{OutOfMemory}
 use Rattle.command.proofs.Refused.{Does-refused, counts-replicate, pair, unread_by}
@@ -25,26 +27,26 @@ unopened name content t (inr (inl p)) other = inr (inl p)
 unopened name content t (inr (inr p)) other = absurd (other p.0)
 
 -- failures of a file alone
-plus_none : (f : Failures) → f ≡ plus (failures_from false 0) f
+pub plus_none : (f : Failures) → f ≡ plus (failures_from false 0) f
 plus_none f = pair (omega arith) (omega arith)
 
-module _ (parts name : Text) (first : Option (List ℕ)) (tree : Option Files) (list : Option (List ℕ))
+module _ (s : Share) (parts name : Text) (first : Option (List ℕ)) (tree : Option Files) (list : Option (List ℕ))
     (r : Result ℕ Fault) (old new : Shown) (i j : ℕ) where
   -- what is to be shown where the lines are had
   abbrev pub Beside : (u v w x : ℕ) → Type 0
   Beside u v w x = IfSome first (λ bytes. IfSome tree (λ files. IfSome list (λ text.
-      DoesBeside (ComparesName parts name text (content_of name bytes files)) r old new i j
+      DoesBeside (ComparesName s parts name text (content_of name bytes files)) r old new i j
       (λ f. Counted f u v w x))))
 
   pub by_input : (u v w : ℕ) → is_input name ≡ true
-      → IfSome list (λ text. IfSome first (λ m. ComparesFeeds parts name text m r old new i j u v))
+      → IfSome list (λ text. IfSome first (λ m. ComparesFeeds s parts name text m r old new i j u v))
       → Beside u v w w
   by_input u v w is compares = on first tree list compares
     where
       on : (first : Option (List ℕ)) (tree : Option Files) (list : Option (List ℕ))
-          → IfSome list (λ text. IfSome first (λ m. ComparesFeeds parts name text m r old new i j u v))
+          → IfSome list (λ text. IfSome first (λ m. ComparesFeeds s parts name text m r old new i j u v))
           → IfSome first (λ bytes. IfSome tree (λ files. IfSome list (λ text.
-          DoesBeside (ComparesName parts name text (content_of name bytes files)) r old new i j
+          DoesBeside (ComparesName s parts name text (content_of name bytes files)) r old new i j
           (λ f. Counted f u v w w))))
       on None tree list compares = tt
       on (Some m) None list compares = tt
@@ -53,7 +55,7 @@ module _ (parts name : Text) (first : Option (List ℕ)) (tree : Option Files) (
           let content : content_of name m files ≡ Some m = ap (λ (b : Bool). if b then Some m else files name) is in
           let all : f ≡ failures_from true k = one ∙ ap (λ (b : Bool). failures_from b k) is in (
             run,
-            subst (λ (known : Option (List ℕ)). ComparesName parts name text known run) (sym content) (inr whole),
+            subst (λ (known : Option (List ℕ)). ComparesName s parts name text known run) (sym content) (inr whole),
             does,
             quiet,
             n,
@@ -66,16 +68,16 @@ module _ (parts name : Text) (first : Option (List ℕ)) (tree : Option Files) (
   pub by_file : (u v w x y k l : ℕ) (coming : Option (List ℕ)) → is_input name ≡ false
       → IfSome tree (λ files. (m : List ℕ) × (files name ≡ Some m) × (coming ≡ Some (drop 0 m)))
       → IfSome tree (λ files. x ≡ count_after w 0) → k ≡ 0
-      → IfSome list (λ text. IfSome coming (λ m. ComparesFeeds parts name text m r old new i j k l))
+      → IfSome list (λ text. IfSome coming (λ m. ComparesFeeds s parts name text m r old new i j k l))
       → y ≡ count_after x l → v ≡ u → Beside u v w y
   by_file u v w x y k l coming is opened counted fresh compares closed same = on first tree list opened counted compares
     where
       on : (first : Option (List ℕ)) (tree : Option Files) (list : Option (List ℕ))
           → IfSome tree (λ files. (m : List ℕ) × (files name ≡ Some m) × (coming ≡ Some (drop 0 m)))
           → IfSome tree (λ files. x ≡ count_after w 0)
-          → IfSome list (λ text. IfSome coming (λ m. ComparesFeeds parts name text m r old new i j k l))
+          → IfSome list (λ text. IfSome coming (λ m. ComparesFeeds s parts name text m r old new i j k l))
           → IfSome first (λ bytes. IfSome tree (λ files. IfSome list (λ text.
-          DoesBeside (ComparesName parts name text (content_of name bytes files)) r old new i j
+          DoesBeside (ComparesName s parts name text (content_of name bytes files)) r old new i j
           (λ f. Counted f u v w y))))
       on None tree list opened counted compares = tt
       on (Some bytes) None list opened counted compares = tt
@@ -83,15 +85,15 @@ module _ (parts name : Text) (first : Option (List ℕ)) (tree : Option Files) (
       on (Some bytes) (Some files) (Some text) (m, content, at) counted compares =
           of_feed m (rw at at compares) content
         where
-          of_feed : (m : List ℕ) → ComparesFeeds parts name text m r old new i j k l → files name ≡ Some m
-              → DoesBeside (ComparesName parts name text (content_of name bytes files)) r old new i j
+          of_feed : (m : List ℕ) → ComparesFeeds s parts name text m r old new i j k l → files name ≡ Some m
+              → DoesBeside (ComparesName s parts name text (content_of name bytes files)) r old new i j
               (λ f. Counted f u v w y)
           of_feed m (run, whole, does, quiet, n, f, sum, count, (a, one, more)) given =
               let content : content_of name bytes files ≡ Some m
               = ap (λ (b : Bool). if b then Some bytes else files name) is ∙ given in
               let all : f ≡ failures_from false a = one ∙ ap (λ (b : Bool). failures_from b a) is in (
                 run,
-                subst (λ (known : Option (List ℕ)). ComparesName parts name text known run) (sym content) (inr whole),
+                subst (λ (known : Option (List ℕ)). ComparesName s parts name text known run) (sym content) (inr whole),
                 does,
                 quiet,
                 n,
@@ -112,7 +114,7 @@ module _ (parts name : Text) (first : Option (List ℕ)) (tree : Option Files) (
           → IfSome tree (λ files. MayRefuse 0 name (files name) (trouble_of f) × (trouble_of f ≡ too_long name → ⊥))
           → IfSome tree (λ files. x ≡ count_after w (failures_of false (files name) (trouble_of f)).files)
           → IfSome first (λ bytes. IfSome tree (λ files. IfSome list (λ text.
-          DoesBeside (ComparesName parts name text (content_of name bytes files)) r old new i j
+          DoesBeside (ComparesName s parts name text (content_of name bytes files)) r old new i j
           (λ f. Counted f u v w x))))
       on None tree list may counted = tt
       on (Some bytes) None list may counted = tt
@@ -123,9 +125,9 @@ module _ (parts name : Text) (first : Option (List ℕ)) (tree : Option Files) (
           = ap (λ (b : Bool). if b then Some bytes else files name) is in
           let lost = failures_of false (files name) t in (
             refusal false (files name) t,
-            subst (λ (known : Option (List ℕ)). ComparesName parts name text known (refusal false (files name) t))
+            subst (λ (known : Option (List ℕ)). ComparesName s parts name text known (refusal false (files name) t))
                 (sym content) (subst (λ (b : Bool). let run : Run = refusal false (files name) t in
-                IsUnread b name (files name) run ⊎ IsSomeAnd (files name) (λ m. Compares parts name text m run))
+                IsUnread b name (files name) run ⊎ IsSomeAnd (files name) (λ m. Compares s parts name text m run))
                 (sym is) (inl (unread_by false name (files name) t (unopened name (files name) t may.0 may.1)))),
             Does-refused t _ f r old new stopped refl none,
             refl,
@@ -136,13 +138,50 @@ module _ (parts name : Text) (first : Option (List ℕ)) (tree : Option Files) (
             (omega (arith, same), counted),
           )
 
+  -- a share of the parts is compared with a file
+  pub by_share : (u w x : ℕ) → is_input name ≡ false
+      → IfSome list (λ text. IfSome tree (λ files.
+      ComparesFile s parts name text (files name) r old new i j w x)) → Beside u u w x
+  by_share u w x is compares = on first tree list compares
+    where
+      on : (first : Option (List ℕ)) (tree : Option Files) (list : Option (List ℕ))
+          → IfSome list (λ text. IfSome tree (λ files.
+          ComparesFile s parts name text (files name) r old new i j w x))
+          → IfSome first (λ bytes. IfSome tree (λ files. IfSome list (λ text.
+          DoesBeside (ComparesName s parts name text (content_of name bytes files)) r old new i j
+          (λ f. Counted f u u w x))))
+      on None tree list compares = tt
+      on (Some bytes) None list compares = tt
+      on (Some bytes) (Some files) None compares = tt
+      on (Some bytes) (Some files) (Some text) (run, whole, does, quiet, n, f, sum, count, (k, one, more)) =
+          let content : content_of name bytes files ≡ files name
+          = ap (λ (b : Bool). if b then Some bytes else files name) is in
+          let all : f ≡ failures_from false k = one ∙ ap (λ (b : Bool). failures_from b k) is in (
+            run,
+            subst (λ (known : Option (List ℕ)). ComparesName s parts name text known run) (sym content) whole,
+            does,
+            quiet,
+            n,
+            f,
+            sum,
+            count,
+            subst (λ (g : Failures). Counted g u u w x) (sym all) (omega arith, more),
+          )
+
+  -- all parts were, which is that share
+  pub of_all : (file : Option (List ℕ)) (u v : ℕ) → s ≡ all_parts
+      → IfSome list (λ text. IfSome file (λ m. ComparesFeeds all_parts parts name text m r old new i j u v))
+      → IfSome list (λ text. IfSome file (λ m. ComparesFeeds s parts name text m r old new i j u v))
+  of_all file u v is compares = subst (λ (t : Share). IfSome list (λ text. IfSome file (λ m.
+      ComparesFeeds t parts name text m r old new i j u v))) (sym is) compares
+
 -- ---- the file with the lines
 
-module _ (parts name : Text) (first : Option (List ℕ)) (tree : Option Files) (r : Result ℕ Fault) (old new : Shown)
-    (u v w y : ℕ) where
+module _ (s : Share) (parts name : Text) (first : Option (List ℕ)) (tree : Option Files) (r : Result ℕ Fault)
+    (old new : Shown) (u v w y : ℕ) where
   abbrev pub Verified : Type 0
   Verified = IfSome first (λ bytes. IfSome tree (λ files.
-      Taken (VerifyRuns parts name files bytes) r old new u v w y))
+      Taken (VerifyRuns s parts name files bytes) r old new u v w y))
 
   -- the file with the lines is not opened
   pub verified_unopened : (f : Fault)
@@ -155,7 +194,7 @@ module _ (parts name : Text) (first : Option (List ℕ)) (tree : Option Files) (
           → IfSome tree (λ files. MayFail parts (λ _. ⊥) (trouble_of f))
           → IfSome tree (λ files. y ≡ count_after w (failures_of false (files parts) (trouble_of f)).files)
           → IfSome first (λ bytes. IfSome tree (λ files.
-          Taken (VerifyRuns parts name files bytes) r old new u v w y))
+          Taken (VerifyRuns s parts name files bytes) r old new u v w y))
       on None tree may counted = tt
       on (Some bytes) None may counted = tt
       on (Some bytes) (Some files) may counted =
@@ -196,26 +235,26 @@ module _ (parts name : Text) (first : Option (List ℕ)) (tree : Option Files) (
   pub verified_by : (x z i j : ℕ) (list : Option (List ℕ))
       → IfSome tree (λ files. (m : List ℕ) × (files parts ≡ Some m) × (list ≡ Some (drop 0 m)))
       → IfSome tree (λ files. x ≡ count_after w 0) → i ≡ 0
-      → Beside parts name first tree list r old new i j u v x z → y ≡ count_after z j → Verified
+      → Beside s parts name first tree list r old new i j u v x z → y ≡ count_after z j → Verified
   verified_by x z i j list opened counted fresh beside closed = on first tree opened counted beside
     where
       on : (first : Option (List ℕ)) (tree : Option Files)
           → IfSome tree (λ files. (m : List ℕ) × (files parts ≡ Some m) × (list ≡ Some (drop 0 m)))
           → IfSome tree (λ files. x ≡ count_after w 0)
-          → Beside parts name first tree list r old new i j u v x z
+          → Beside s parts name first tree list r old new i j u v x z
           → IfSome first (λ bytes. IfSome tree (λ files.
-          Taken (VerifyRuns parts name files bytes) r old new u v w y))
+          Taken (VerifyRuns s parts name files bytes) r old new u v w y))
       on None tree opened counted beside = tt
       on (Some bytes) None opened counted beside = tt
       on (Some bytes) (Some files) (m, content, at) counted beside = of_list m (rw at at beside) content
         where
-          of_list : (m : List ℕ) → DoesBeside (ComparesName parts name m (content_of name bytes files)) r old new i j
+          of_list : (m : List ℕ) → DoesBeside (ComparesName s parts name m (content_of name bytes files)) r old new i j
               (λ f. Counted f u v x z) → files parts ≡ Some m
-              → Taken (VerifyRuns parts name files bytes) r old new u v w y
+              → Taken (VerifyRuns s parts name files bytes) r old new u v w y
           of_list m (run, whole, does, quiet, n, f, sum, count, (input, file)) given = (
             run,
             inr (subst (λ (known : Option (List ℕ)). IsSomeAnd known (λ text.
-                ComparesName parts name text (content_of name bytes files) run)) (sym given) whole),
+                ComparesName s parts name text (content_of name bytes files) run)) (sym given) whole),
             does,
             quiet,
             subst (λ (g : Failures). Counted g u v w y) (sym sum)

@@ -32,56 +32,72 @@ use Rattle.source.specs.Counts.{count_after}
 use Rattle.source.specs.Written.{Done, Failed, Shown}
 use Rattle.sumlist.specs.Lines.{lines}
 use Rattle.sumlist.specs.Report.{verdict_text}
+use Rattle.sumlist.specs.Shared.{every}
+use Rattle.sumlist.specs.declared.share.Share.{Share}
 use Rattle.sumlist.specs.declared.verdict.Verdict.{Verdict}
 use Rattle.sumlist.specs.declared.verdict.Verdict.TheVariants.{Differs, Matches, Missing}
 use Rattle.command.specs.Joining.{line_complaint}
 use Rattle.command.specs.Lines.{is_input}
 use Rattle.command.specs.Run.{Run, of_name, prints, stops}
+use Rattle.command.specs.Run.{out_of_memory as run_out_of_memory}
 use Rattle.command.specs.Verifying.{Compares, VerifyEnds, status, verdict, verdict_line}
+use Rattle.command.specs.inside.Cutting.{all_parts}
 use Rattle.command.specs.inside.Faults.{of_join}
 use Rattle.command.specs.inside.Seen.{Does}
 use Rattle.command.specs.inside.Troubles.{bad_line, bytes_behind, cannot_read, cannot_write, counts, failures_from}
-use Rattle.command.specs.inside.Troubles.{plus, shown, trouble_of}
+use Rattle.command.specs.inside.Troubles.{out_of_memory, plus, shown, trouble_of}
 use Rattle.command.specs.inside.Reading.{failed}
 use Rattle.command.specs.inside.Verifying.{ComparesFeeds, EndsWith, JudgesNext, is_missing, status_of, verdict_on}
 use Rattle.command.specs.declared.fault.Fault.{Fault}
 use Rattle.command.proofs.Refused.{Does-unprinted, unprinted}
+use Rattle.command.proofs.Turns.{every-more, every-over, waits, waits-all}
 
 -- of what two feeds give, where both are told
 abbrev pub Both : Option (List ℕ) → Option (List ℕ) → (List ℕ → List ℕ → Type 0) → Type 0
 Both list file P = IfSome list (λ text. IfSome file (λ m. P text m))
 
--- what was said of the parts so far, and what is still to come of both
-pub record SoFar (text m : List ℕ) (joiner : Joiner) (front : List ℕ) (list file : Option (List ℕ)) (n : ℕ)
-    (has_ended : Bool) (old new : Shown) : Type 0 where
+-- what was said of a share of these parts, and which lines are still to come
+pub record Said (s : Share) (text m : List ℕ) (joiner : Joiner) (front : List ℕ) (list : Option (List ℕ))
+    (told : List PartValue) (n : ℕ) (old new : Shown) : Type 0 where
   pub before : List (List ℕ)
-  pub told : List PartValue
   pub left : List ℕ
   pub list_is : list ≡ Some left
   pub split : lines text ≡ before ++ lines (front ++ left)
   pub tells : AllTell before told
   pub joined : HasJoined joiner told
+  pub status_is : n ≡ status m (every s.others s.waiting told)
+  pub written : Done old new (flat_map (verdict_line m) (every s.others s.waiting told))
+
+pub said_start : (s : Share) (text m : List ℕ) (joiner : Joiner) (front : List ℕ) (old : Shown) → HasJoined joiner []
+    → front ≡ [] → Said s text m joiner front (Some text) [] 0 old old
+said_start s text m joiner front old joined none = record {
+  before = [];
+  left = text;
+  list_is = refl;
+  split = ap (λ (l : List ℕ). lines (l ++ text)) (sym none);
+  tells = tt;
+  joined = joined;
+  status_is = refl;
+  written = (refl, Appends-nil old.contents);
+}
+
+-- what was said of all parts so far, and what is still to come of the file
+pub record SoFar (text m : List ℕ) (joiner : Joiner) (front : List ℕ) (list file : Option (List ℕ)) (n : ℕ)
+    (has_ended : Bool) (old new : Shown) : Type 0 where
+  pub told : List PartValue
+  pub said : Said all_parts text m joiner front list told n old new
   pub file_is : file ≡ Some (drop (bytes_of told) m)
-  pub status_is : n ≡ status m told
   pub ended : has_ended ≡ nat_lt (length m) (bytes_of told)
-  pub written : Done old new (flat_map (verdict_line m) told)
 
 pub so_start : (list file : Option (List ℕ)) (joiner : Joiner) (front : List ℕ) (old : Shown) → HasJoined joiner []
     → front ≡ [] → Both list file (λ text m. SoFar text m joiner front list file 0 false old old)
 so_start None file joiner front old joined none = tt
 so_start (Some text) None joiner front old joined none = tt
 so_start (Some text) (Some m) joiner front old joined none = record {
-  before = [];
   told = [];
-  left = text;
-  list_is = refl;
-  split = ap (λ (l : List ℕ). lines (l ++ text)) (sym none);
-  tells = tt;
-  joined = joined;
+  said = said_start all_parts text m joiner front old joined none;
   file_is = refl;
-  status_is = refl;
   ended = grind (arith, nat_tests);
-  written = (refl, Appends-nil old.contents);
 }
 
 -- ---- the next part
@@ -136,7 +152,7 @@ mark_by false false = refl
 status_is : (m : List ℕ) (part : PartValue) → (verdict m part).1 ≡ status_of (mark m part)
 status_is m part = status_by (is_short m part) (has_value m part)
 
-verdict_same : (m : List ℕ) (part : PartValue) → 1024 * part.first_chunk ≤ length m
+pub verdict_same : (m : List ℕ) (part : PartValue) → 1024 * part.first_chunk ≤ length m
     → verdict_on (drop (1024 * part.first_chunk) m) part ≡ mark m part
 verdict_same m part within =
     let size = length-drop (1024 * part.first_chunk) m in
@@ -145,7 +161,7 @@ verdict_same m part within =
     ap (λ (b : Bool). if b then Missing else if has_value m part then Matches else Differs) test
     ∙ mark_by (is_short m part) (has_value m part)
 
-verdict_missing : (m : List ℕ) (part : PartValue) → length m < 1024 * part.first_chunk + part.len
+pub verdict_missing : (m : List ℕ) (part : PartValue) → length m < 1024 * part.first_chunk + part.len
     → mark m part ≡ Missing
 verdict_missing m part short =
     let test : nat_lt (length m) (1024 * part.first_chunk + part.len) ≡ true = grind (arith, nat_tests) in
@@ -198,8 +214,9 @@ line_said part v = decimal part.first_chunk ++ 32 ∷ (decimal part.len ++ verdi
 
 -- ---- how a run ends
 
-abbrev pub Compared : Text → Text → (text m : List ℕ) → Result ℕ Fault → (old new : Shown) → (i j u v : ℕ) → Type 0
-Compared parts name text m r old new i j u v = ComparesFeeds parts name text m r old new i j u v
+abbrev pub Compared : Share → Text → Text → (text m : List ℕ) → Result ℕ Fault → (old new : Shown) → (i j u v : ℕ)
+    → Type 0
+Compared s parts name text m r old new i j u v = ComparesFeeds s parts name text m r old new i j u v
 
 quiet_both : (b : Bool) → counts [] ≡ plus (failures_from false 0) (failures_from b 0)
 quiet_both true = refl
@@ -219,30 +236,34 @@ Does-begun : (front : Text) (end : Run) (f : Fault) (old new : Shown) → end.en
 Does-begun front end f old new is whole done =
     record { ending = is; out = rw whole done; cut = λ no. let e = sym whole ∙ no in cc }
 
-module _ (parts name : Text) (text m : List ℕ) (joiner : Joiner) (front : List ℕ) (list file : Option (List ℕ)) (n : ℕ)
-    (has_ended : Bool) (old mid : Shown) (i j u v : ℕ)
-    (so : SoFar text m joiner front list file n has_ended old mid) where
-  abbrev said : Text
-  said = flat_map (verdict_line m) so.told
+module _ (s : Share) (parts name : Text) (text m : List ℕ) (joiner : Joiner) (front : List ℕ)
+    (list : Option (List ℕ)) (told : List PartValue) (n : ℕ) (old mid : Shown) (i j u v : ℕ)
+    (so : Said s text m joiner front list told n old mid) where
+  -- those of the parts that are the share's
+  abbrev own : List PartValue
+  own = every s.others s.waiting told
 
-  row : AreInRow so.told
-  row = row-is joiner.row so.told so.joined.row
+  abbrev said : Text
+  said = flat_map (verdict_line m) own
+
+  row : AreInRow told
+  row = row-is joiner.row told so.joined.row
 
   -- no more is said, by what the run ends with
   ends_by : (after : List (List ℕ)) → lines (front ++ so.left) ≡ after → (end : Run)
-      → VerifyEnds parts name text m so.told after end → Compares parts name text m (record end { text = said })
+      → VerifyEnds parts name text m told own after end → Compares s parts name text m (record end { text = said })
   ends_by after is end ends =
-      (so.before, after, so.told, so.split ∙ ap (λ ls. so.before ++ ls) is, so.tells, row, inr (end, ends, refl))
+      (so.before, after, told, so.split ∙ ap (λ ls. so.before ++ ls) is, so.tells, row, inr (end, ends, refl))
 
   none_after : front ++ so.left ≡ [] → lines (front ++ so.left) ≡ []
   none_after none = ap lines none
 
-  pub ends_ok : front ++ so.left ≡ [] → length m ≤ bytes_of so.told → j ≡ i → v ≡ u
-      → Compared parts name text m (Ok n) old mid i j u v
+  pub ends_ok : front ++ so.left ≡ [] → length m ≤ bytes_of told → j ≡ i → v ≡ u
+      → Compared s parts name text m (Ok n) old mid i j u v
   ends_ok none few p q =
-      let test : nat_lt (bytes_of so.told) (length m) ≡ false = grind (arith, nat_tests) in (
-        prints said (status m so.told),
-        ends_by [] (none_after none) (prints [] (status m so.told)) (inl (refl, rw test refl)),
+      let test : nat_lt (bytes_of told) (length m) ≡ false = grind (arith, nat_tests) in (
+        prints said (status m own),
+        ends_by [] (none_after none) (prints [] (status m own)) (inl (refl, rw test refl)),
         record { ending = ap Ok (sym so.status_is); out = so.written; cut = λ e. cc },
         refl,
         0,
@@ -252,10 +273,10 @@ module _ (parts name : Text) (text m : List ℕ) (joiner : Joiner) (front : List
         (0, refl, omega (arith, q)),
       )
 
-  pub ends_behind : (f : Fault) → trouble_of f ≡ bytes_behind name → front ++ so.left ≡ [] → bytes_of so.told < length m
-      → j ≡ i → v ≡ u → Compared parts name text m (Err f) old mid i j u v
+  pub ends_behind : (f : Fault) → trouble_of f ≡ bytes_behind name → front ++ so.left ≡ [] → bytes_of told < length m
+      → j ≡ i → v ≡ u → Compared s parts name text m (Err f) old mid i j u v
   ends_behind f is none more p q =
-      let test : nat_lt (bytes_of so.told) (length m) ≡ true = grind (arith, nat_tests) in
+      let test : nat_lt (bytes_of told) (length m) ≡ true = grind (arith, nat_tests) in
       let end : Run = stops (of_name name (codes ": bytes behind the last part\n")) in (
         record end { text = said },
         ends_by [] (none_after none) end (inl (refl, rw test refl)),
@@ -270,7 +291,7 @@ module _ (parts name : Text) (text m : List ℕ) (joiner : Joiner) (front : List
 
   -- a read of the file failed
   pub ends_unread : (f : Fault) → trouble_of f ≡ cannot_read name → j ≡ i → v ≡ count_after u 1
-      → Compared parts name text m (Err f) old mid i j u v
+      → Compared s parts name text m (Err f) old mid i j u v
   ends_unread f is p q =
       let end : Run = record (stops (of_name name (codes ": cannot read\n"))) { failures = is_input name ∷ [] } in (
         record end { text = said },
@@ -284,9 +305,25 @@ module _ (parts name : Text) (text m : List ℕ) (joiner : Joiner) (front : List
         (1, refl, q),
       )
 
+  -- memory ran out
+  pub ends_starved : (f : Fault) → trouble_of f ≡ out_of_memory → j ≡ i → v ≡ u
+      → Compared s parts name text m (Err f) old mid i j u v
+  ends_starved f is p q =
+      let end : Run = stops run_out_of_memory in (
+        record end { text = said },
+        ends_by (lines (front ++ so.left)) refl end (inr (inr (inr (inl refl)))),
+        Does-begun said end f old mid (ap (λ t. Err (shown t)) (sym is)) refl so.written,
+        refl,
+        0,
+        failures_from (is_input name) 0,
+        quiet_both (is_input name),
+        omega (arith, p),
+        (0, refl, omega (arith, q)),
+      )
+
   -- a read of the lines failed
   pub ends_unlisted : (f : Fault) → trouble_of f ≡ cannot_read parts → j ≡ count_after i 1 → v ≡ u
-      → Compared parts name text m (Err f) old mid i j u v
+      → Compared s parts name text m (Err f) old mid i j u v
   ends_unlisted f is p q =
       let end : Run = record (stops (of_name parts (codes ": cannot read\n"))) { failures = false ∷ [] } in (
         record end { text = said },
@@ -302,16 +339,16 @@ module _ (parts name : Text) (text m : List ℕ) (joiner : Joiner) (front : List
 
   -- a line tells no part behind those before it
   pub ends_wrong : (f : Fault) (number : ℕ) (fault : PartFault) → trouble_of f ≡ bad_line parts number fault
-      → IsStopped (lines (front ++ so.left)) so.told (Line number fault) → j ≡ i → v ≡ u
-      → Compared parts name text m (Err f) old mid i j u v
+      → IsStopped (lines (front ++ so.left)) told (Line number fault) → j ≡ i → v ≡ u
+      → Compared s parts name text m (Err f) old mid i j u v
   ends_wrong f number fault is (line, rest, cut, place, wrong) p q =
       let end : Run =
-      stops (of_name parts (codes ": line " ++ (decimal (length so.told + 1) ++ line_complaint fault))) in
-      let told : Err (shown (bad_line parts (length so.told + 1) fault)) ≡ Err (shown (trouble_of f))
+      stops (of_name parts (codes ": line " ++ (decimal (length told + 1) ++ line_complaint fault))) in
+      let cause : Err (shown (bad_line parts (length told + 1) fault)) ≡ Err (shown (trouble_of f))
       = ap (λ (k : ℕ). Err (shown (bad_line parts k fault))) (sym place) ∙ ap (λ t. Err (shown t)) (sym is) in (
         record end { text = said },
         ends_by (lines (front ++ so.left)) refl end (inr (inl (line, rest, cut, fault, wrong, refl))),
-        Does-begun said end f old mid told refl so.written,
+        Does-begun said end f old mid cause refl so.written,
         refl,
         0,
         failures_from (is_input name) 0,
@@ -326,89 +363,103 @@ module _ (parts name : Text) (text m : List ℕ) (joiner : Joiner) (front : List
 
     -- what was found behind the parts so far
     found : (r : Result (Option PartValue) JoinFault) → Finds r
-        → (left : List ℕ) × (after ≡ Some left) × JoinsNext (front ++ so.left) so.told next (ahead ++ left) r
-    found r line = let it = rw so.list_is at line in (it.0, it.1, it.2 so.told so.joined)
+        → (left : List ℕ) × (after ≡ Some left) × JoinsNext (front ++ so.left) told next (ahead ++ left) r
+    found r line = let it = rw so.list_is at line in (it.0, it.1, it.2 told so.joined)
 
-    pub ends_at : Finds (Ok None) → (front ++ so.left ≡ []) × HasJoined next so.told
+    pub ends_at : Finds (Ok None) → (front ++ so.left ≡ []) × HasJoined next told
     ends_at line = (found (Ok None) line).2
 
     pub ends_fault : (f : Fault) (fault : JoinFault) (name_of : Bor Text) → name_of.now ≡ parts
         → f ≡ of_join fault name_of → Finds (Err fault)
         → (let r : Result (Option PartValue) JoinFault = Err fault in JoinCounts r i j) → v ≡ u
-        → Compared parts name text m (Err f) old mid i j u v
+        → Compared s parts name text m (Err f) old mid i j u v
     ends_fault f Read name_of same is line p q = ends_unlisted f (ap trouble_of is ∙ ap cannot_read same) p q
     ends_fault f (Line number fault) name_of same is line p q =
         ends_wrong f number fault (ap trouble_of is ∙ ap (λ (l : Text). bad_line l number fault) same)
         (found (Err (Line number fault)) line).2 p q
 
     module _ (part : PartValue) (finds : Finds (Ok (Some part))) where
-      pub next_part : NextPart text next ahead after so.before so.told part
+      pub next_part : NextPart text next ahead after so.before told part
       next_part =
           let it = found (Ok (Some part)) finds in
           let line = it.2.0 in
-          let row = row-is next.row (so.told ++ part ∷ []) it.2.3.row in
-          let at = (place_in_row 0 1024 so.told part [] row).0 in
+          let row = row-is next.row (told ++ part ∷ []) it.2.3.row in
+          let at = (place_in_row 0 1024 told part [] row).0 in
           record {
             line = line;
             left = it.0;
             list_is = it.1;
             split = so.split ∙ ap (λ ls. so.before ++ ls) it.2.1
                 ∙ sym (append_assoc so.before (line ∷ []) (lines (ahead ++ it.0)));
-            tells = AllTell-more so.before so.told line part so.tells it.2.2;
+            tells = AllTell-more so.before told line part so.tells it.2.2;
             joined = it.2.3;
             place = omega (arith, at);
           }
 
-      module _ (w : Verdict) (file' : Option (List ℕ))
-          (judges : IfSome file (λ rest. let r : Result Verdict Fault = Ok w in
-          JudgesNext has_ended part name rest file' r)) where
-        verdict_is : (w ≡ mark m part) × (file' ≡ Some (drop (bytes_of (so.told ++ part ∷ [])) m))
-        verdict_is = judged m so.told part name has_ended file' w next_part.place so.ended (rw so.file_is at judges)
+      -- it is not the share's
+      pub said_over : (waits s.others s.waiting told ≡ 0 → ⊥) → Said s text m next ahead after (told ++ part ∷ []) n old mid
+      said_over other =
+          let np = next_part in
+          let same : every s.others s.waiting (told ++ part ∷ []) ≡ own
+          = every-over s.others s.waiting told part other in
+          record {
+            before = so.before ++ np.line ∷ [];
+            left = np.left;
+            list_is = np.list_is;
+            split = np.split;
+            tells = np.tells;
+            joined = np.joined;
+            status_is = so.status_is ∙ ap (status m) (sym same);
+            written = subst (λ parts. Done old mid (flat_map (verdict_line m) parts)) (sym same) so.written;
+          }
+
+      -- it is, and this is the verdict
+      module _ (own_next : waits s.others s.waiting told ≡ 0) (w : Verdict) (is_mark : w ≡ mark m part) where
+        own_is : every s.others s.waiting (told ++ part ∷ []) ≡ own ++ part ∷ []
+        own_is = every-more s.others s.waiting told part own_next
 
         line_is : line_said part w ≡ verdict_line m part
-        line_is = ap (line_said part) verdict_is.0
+        line_is = ap (line_said part) is_mark
 
-        pub said_more : (new : Shown) (k : ℕ) (ends : Bool) → k ≡ max n (status_of w) → ends ≡ is_missing w
-            → Done mid new (line_said part w) → SoFar text m next ahead after file' k ends old new
-        said_more new k ends is end done =
+        all_said : flat_map (verdict_line m) (every s.others s.waiting (told ++ part ∷ []))
+            ≡ said ++ verdict_line m part
+        all_said = ap (flat_map (verdict_line m)) own_is ∙ lines_said m own part
+
+        pub said_more : (new : Shown) (k : ℕ) → k ≡ max n (status_of w) → Done mid new (line_said part w)
+            → Said s text m next ahead after (told ++ part ∷ []) k old new
+        said_more new k is done =
             let np = next_part in
-            let more = bytes_of-more so.told part in
-            let place = np.place in
             record {
               before = so.before ++ np.line ∷ [];
-              told = so.told ++ part ∷ [];
               left = np.left;
               list_is = np.list_is;
               split = np.split;
               tells = np.tells;
               joined = np.joined;
-              file_is = verdict_is.1;
-              status_is = is ∙ ap (λ (x : Verdict). max n (status_of x)) verdict_is.0
+              status_is = is ∙ ap (λ (x : Verdict). max n (status_of x)) is_mark
                   ∙ ap (λ (x : ℕ). max x (status_of (mark m part))) so.status_is
-                  ∙ sym (status-more m so.told part);
-              ended = end ∙ ap is_missing verdict_is.0 ∙ verdict_ends m part
-                  ∙ ap (nat_lt (length m)) (omega (arith, more, place));
-              written = subst (Done old new) (sym (lines_said m so.told part))
+                  ∙ sym (status-more m own part) ∙ ap (status m) (sym own_is);
+              written = subst (Done old new) (sym all_said)
                   (Done-after old mid new said (verdict_line m part) so.written (rw line_is at done));
             }
 
         -- a write of its line failed
         pub ends_unwritten : (new : Shown) (f : Fault) → trouble_of f ≡ cannot_write → Failed mid new (line_said part w)
-            → j ≡ i → v ≡ u → Compared parts name text m (Err f) old new i j u v
+            → j ≡ i → v ≡ u → Compared s parts name text m (Err f) old new i j u v
         ends_unwritten new f is failed p q =
             let np = next_part in
-            let all : Text = flat_map (verdict_line m) (so.told ++ part ∷ []) in (
+            let all : Text = flat_map (verdict_line m) (every s.others s.waiting (told ++ part ∷ [])) in (
               unprinted all,
               (
                 so.before ++ np.line ∷ [],
                 lines (ahead ++ np.left),
-                so.told ++ part ∷ [],
+                told ++ part ∷ [],
                 np.split,
                 np.tells,
-                row-is next.row (so.told ++ part ∷ []) np.joined.row,
+                row-is next.row (told ++ part ∷ []) np.joined.row,
                 inl refl,
               ),
-              Does-unprinted all [] f old new is (subst (Failed old new) (sym (lines_said m so.told part))
+              Does-unprinted all [] f old new is (subst (Failed old new) (sym all_said)
                   (Failed-after old mid new said (verdict_line m part) so.written (rw line_is at failed))),
               refl,
               0,
@@ -420,7 +471,7 @@ module _ (parts name : Text) (text m : List ℕ) (joiner : Joiner) (front : List
 
 -- ---- the same where both are told
 
-both_then : (list file : Option (List ℕ)) (P Q : List ℕ → List ℕ → Type 0) → Both list file P
+pub both_then : (list file : Option (List ℕ)) (P Q : List ℕ → List ℕ → Type 0) → Both list file P
     → ((text m : List ℕ) → P text m → Q text m) → Both list file Q
 both_then None file P Q p step = tt
 both_then (Some text) None P Q p step = tt
@@ -434,7 +485,7 @@ module _ (parts name : Text) (lines_known file_known : Option (List ℕ)) (joine
 
   -- what is to be shown of an answer
   abbrev pub Says : Result ℕ Fault → (new : Shown) → (i j u v : ℕ) → Type 0
-  Says r new i j u v = Both lines_known file_known (λ text m. ComparesFeeds parts name text m r old new i j u v)
+  Says r new i j u v = Both lines_known file_known (λ text m. ComparesFeeds all_parts parts name text m r old new i j u v)
 
   module _ (next : Joiner) (ahead : List ℕ) (after : Option (List ℕ)) where
     abbrev pub Found : Result (Option PartValue) JoinFault → Type 0
@@ -442,44 +493,44 @@ module _ (parts name : Text) (lines_known file_known : Option (List ℕ)) (joine
 
     pub says_all : has_ended ≡ true → Found (Ok None) → (i j u v : ℕ) → j ≡ i → v ≡ u → Says (Ok n) mid i j u v
     says_all ended finds i j u v p q = both_then lines_known file_known So
-        (λ text m. ComparesFeeds parts name text m (Ok n) old mid i j u v) so (λ text m s.
-        let none = (ends_at parts name text m joiner front list file n has_ended old mid i j u v s
+        (λ text m. ComparesFeeds all_parts parts name text m (Ok n) old mid i j u v) so (λ text m s.
+        let none = (ends_at all_parts parts name text m joiner front list s.told n old mid i j u v s.said
         next ahead after finds).0 in
         let is : nat_lt (length m) (bytes_of s.told) ≡ true = sym s.ended ∙ ended in
         let short : length m < bytes_of s.told = grind (arith, nat_tests) in
-        ends_ok parts name text m joiner front list file n has_ended old mid i j u v s none (omega (arith, short)) p q)
+        ends_ok all_parts parts name text m joiner front list s.told n old mid i j u v s.said none (omega (arith, short)) p q)
 
     pub says_end : (r : Result ℕ Fault) → Found (Ok None) → IfSome file (λ rest. EndsWith n name rest r)
         → (i j u v : ℕ) → j ≡ i → v ≡ count_after u (failed true (Some []) r).input → Says r mid i j u v
     says_end r finds ends i j u v p q = both_then lines_known file_known So
-        (λ text m. ComparesFeeds parts name text m r old mid i j u v) so (λ text m s.
-        on text m s (ends_at parts name text m joiner front list file n has_ended old mid i j u v s
+        (λ text m. ComparesFeeds all_parts parts name text m r old mid i j u v) so (λ text m s.
+        on text m s (ends_at all_parts parts name text m joiner front list s.told n old mid i j u v s.said
         next ahead after finds).0 r (rw s.file_is at ends) q)
       where
-        on : (text m : List ℕ) (s : So text m) → front ++ s.left ≡ [] → (r : Result ℕ Fault)
+        on : (text m : List ℕ) (s : So text m) → front ++ s.said.left ≡ [] → (r : Result ℕ Fault)
             → EndsWith n name (drop (bytes_of s.told) m) r → v ≡ count_after u (failed true (Some []) r).input
-            → ComparesFeeds parts name text m r old mid i j u v
+            → ComparesFeeds all_parts parts name text m r old mid i j u v
         on text m s none (Ok k) e q =
             let size = length-drop (bytes_of s.told) m in
             let zero = ap length e.1 in
-            rw e.0 (ends_ok parts name text m joiner front list file n has_ended old mid i j u v s none
+            rw e.0 (ends_ok all_parts parts name text m joiner front list s.told n old mid i j u v s.said none
             (omega (arith, size, zero)) p (omega (arith, q)))
         on text m s none (Err f) (inl e) q =
             let size = length-drop (bytes_of s.told) m in
             let some = e.1 in
             let same : v ≡ count_after u 0 = rw e.0 at q in
-            ends_behind parts name text m joiner front list file n has_ended old mid i j u v s f e.0 none
+            ends_behind all_parts parts name text m joiner front list s.told n old mid i j u v s.said f e.0 none
             (omega (arith, size, some)) p (omega (arith, same))
         on text m s none (Err f) (inr e) q =
-            ends_unread parts name text m joiner front list file n has_ended old mid i j u v s f e p (rw e at q)
+            ends_unread all_parts parts name text m joiner front list s.told n old mid i j u v s.said f e p (rw e at q)
 
     pub says_fault : (f : Fault) (fault : JoinFault) (list_name : Bor Text) → list_name.now ≡ parts
         → f ≡ of_join fault list_name → Found (Err fault) → (i j u v : ℕ)
         → (let r : Result (Option PartValue) JoinFault = Err fault in JoinCounts r i j) → v ≡ u
         → Says (Err f) mid i j u v
     says_fault f fault list_name same is finds i j u v p q = both_then lines_known file_known So
-        (λ text m. let r : Result ℕ Fault = Err f in ComparesFeeds parts name text m r old mid i j u v) so (λ text m s.
-        ends_fault parts name text m joiner front list file n has_ended old mid i j u v s next ahead after f fault
+        (λ text m. let r : Result ℕ Fault = Err f in ComparesFeeds all_parts parts name text m r old mid i j u v) so (λ text m s.
+        ends_fault all_parts parts name text m joiner front list s.told n old mid i j u v s.said next ahead after f fault
         list_name same is finds p q)
 
     module _ (part : PartValue) (finds : Found (Ok (Some part))) (file' : Option (List ℕ)) where
@@ -492,9 +543,9 @@ module _ (parts name : Text) (lines_known file_known : Option (List ℕ)) (joine
       says_unread f r stopped judges i j u v p q =
           let e = err_from_is_err_and r stopped in
           rw (e.1, e.2) (both_then lines_known file_known So
-          (λ text m. let r : Result ℕ Fault = Err f in ComparesFeeds parts name text m r old mid i j u v) so
+          (λ text m. let r : Result ℕ Fault = Err f in ComparesFeeds all_parts parts name text m r old mid i j u v) so
           (λ text m s. let is = cannot (drop (bytes_of s.told) m) has_ended (rw s.file_is at judges) in
-          ends_unread parts name text m joiner front list file n has_ended old mid i j u v s f is p (rw is at q)))
+          ends_unread all_parts parts name text m joiner front list s.told n old mid i j u v s.said f is p (rw is at q)))
         where
           cannot : (rest : List ℕ) (ended : Bool)
               → (let w : Result Verdict Fault = Err f in JudgesNext ended part name rest file' w)
@@ -503,19 +554,37 @@ module _ (parts name : Text) (lines_known file_known : Option (List ℕ)) (joine
           cannot rest false judges = judges
 
       module _ (w : Verdict) (judges : Judged (Ok w)) (new : Shown) where
+        -- the verdict is that on the part, and what is left is behind it
+        is_judged : (text m : List ℕ) (s : So text m)
+            → (w ≡ mark m part) × (file' ≡ Some (drop (bytes_of (s.told ++ part ∷ [])) m))
+        is_judged text m s =
+            let place = (next_part all_parts parts name text m joiner front list s.told n old mid 0 0 0 0 s.said next
+            ahead after part finds).place in
+            judged m s.told part name has_ended file' w place s.ended (rw s.file_is at judges)
+
         pub says_unwritten : (f : Fault) (r : Result ℕ Fault) → IsErrAnd r (λ g. g ≡ f) → trouble_of f ≡ cannot_write
             → Failed mid new (line_said part w) → (i j u v : ℕ) → j ≡ i → v ≡ u → Says r new i j u v
         says_unwritten f r stopped is failed i j u v p q =
             let e = err_from_is_err_and r stopped in
             rw (e.1, e.2) (both_then lines_known file_known So
-            (λ text m. let r : Result ℕ Fault = Err f in ComparesFeeds parts name text m r old new i j u v) so
-            (λ text m s. ends_unwritten parts name text m joiner front list file n has_ended old mid i j u v s next
-            ahead after part finds w file' judges new f is failed p q))
+            (λ text m. let r : Result ℕ Fault = Err f in ComparesFeeds all_parts parts name text m r old new i j u v) so
+            (λ text m s. ends_unwritten all_parts parts name text m joiner front list s.told n old mid i j u v s.said
+            next ahead after part finds (waits-all s.told) w (is_judged text m s).0 new f is failed p q))
 
         pub so_more : (k : ℕ) (ends : Bool) → k ≡ max n (status_of w) → ends ≡ is_missing w
             → Done mid new (line_said part w)
             → Both lines_known file_known (λ text m. SoFar text m next ahead after file' k ends old new)
         so_more k ends is end done = both_then lines_known file_known So
             (λ text m. SoFar text m next ahead after file' k ends old new) so (λ text m s.
-            said_more parts name text m joiner front list file n has_ended old mid 0 0 0 0 s next ahead after part
-            finds w file' judges new k ends is end done)
+            let it = is_judged text m s in
+            let more = bytes_of-more s.told part in
+            let place = (next_part all_parts parts name text m joiner front list s.told n old mid 0 0 0 0 s.said next
+            ahead after part finds).place in
+            record {
+              told = s.told ++ part ∷ [];
+              said = said_more all_parts parts name text m joiner front list s.told n old mid 0 0 0 0 s.said next ahead
+                  after part finds (waits-all s.told) w it.0 new k is done;
+              file_is = it.1;
+              ended = end ∙ ap is_missing it.0 ∙ verdict_ends m part
+                  ∙ ap (nat_lt (length m)) (omega (arith, more, place));
+            })

@@ -12,6 +12,8 @@ use Rattle.partlist.specs.Joined.{AllTell, AreInRow, IsWrongBehind, bytes_of}
 use Rattle.partlist.specs.declared.fault.PartFault.{PartFault}
 use Rattle.sumlist.specs.Lines.{lines}
 use Rattle.sumlist.specs.Report.{Files, verdict_text}
+use Rattle.sumlist.specs.Shared.{every}
+use Rattle.sumlist.specs.declared.share.Share.{Share}
 use Rattle.sumlist.specs.declared.verdict.Verdict.{Verdict}
 use Rattle.sumlist.specs.declared.verdict.Verdict.TheVariants.{Differs, Matches, Missing}
 use Rattle.command.specs.Joining.{line_complaint}
@@ -32,26 +34,27 @@ verdict_line m part = decimal part.first_chunk ++ 32 ∷ (decimal part.len ++ ve
 abbrev pub status : List ℕ → List PartValue → ℕ
 status m parts = fold (λ s part. max s (verdict m part).1) 0 parts
 
--- how a run ends after the lines of these parts, if others follow: there are none; the next one describes no part that
--- follows them; or a read of either file failed
-abbrev pub VerifyEnds : Text → Text → (text m : List ℕ) → List PartValue → List (List ℕ) → Run → Type 0
-VerifyEnds parts name text m told after run = ((after ≡ []) × (run ≡ (if nat_lt (bytes_of told) (length m)
-    then stops (of_name name (codes ": bytes behind the last part\n")) else prints [] (status m told))))
+-- how a run ends after the lines of these parts, of which some are its own, if others follow: there are none; the next
+-- one describes no part that follows them; or a read of either file failed
+abbrev pub VerifyEnds : Text → Text → (text m : List ℕ) → (told own : List PartValue) → List (List ℕ) → Run → Type 0
+VerifyEnds parts name text m told own after run = ((after ≡ []) × (run ≡ (if nat_lt (bytes_of told) (length m)
+    then stops (of_name name (codes ": bytes behind the last part\n")) else prints [] (status m own))))
     ⊎ ((line : List ℕ) × (rest : List (List ℕ)) × (after ≡ line ∷ rest) × (fault : PartFault)
     × IsWrongBehind told line fault
     × (run ≡ stops (of_name parts (codes ": line " ++ (decimal (length told + 1) ++ line_complaint fault)))))
     ⊎ IsUnread false parts (Some text) run ⊎ IsUnread (is_input name) name (Some m) run
 
--- the lines of the parts so far were printed, and the run ends; or a write of them failed
-abbrev pub Compares : Text → Text → (text m : List ℕ) → Run → Type 0
-Compares parts name text m run = (before : List (List ℕ)) × (after : List (List ℕ)) × (told : List PartValue)
+-- the lines of a share of the parts so far were printed, and the run ends; or a write of them failed
+abbrev pub Compares : Share → Text → Text → (text m : List ℕ) → Run → Type 0
+Compares s parts name text m run = (before : List (List ℕ)) × (after : List (List ℕ)) × (told : List PartValue)
     × (lines text ≡ before ++ after) × AllTell before told × AreInRow told
-    × let said = flat_map (verdict_line m) told in
+    × let own = every s.others s.waiting told in let said = flat_map (verdict_line m) own in
     ((run ≡ record (stops cannot_write) { text = said; is_whole = false })
-    ⊎ ((end : Run) × VerifyEnds parts name text m told after end × (run ≡ record end { text = said })))
+    ⊎ ((end : Run) × VerifyEnds parts name text m told own after end × (run ≡ record end { text = said })))
 
--- the run of `part --verify`, for which `-` is a file of parts; the file to which the parts belong may have any name
-abbrev pub VerifyRuns : Text → Text → Files → List ℕ → Run → Type 0
-VerifyRuns parts name files input run = let content = content_of name input files in
+-- the run of `part --verify` over a share of the parts, for which `-` is a file of parts; the file to which the parts
+-- belong may have any name
+abbrev pub VerifyRuns : Share → Text → Text → Files → List ℕ → Run → Type 0
+VerifyRuns s parts name files input run = let content = content_of name input files in
     IsUnread false parts (files parts) run ⊎ IsSomeAnd (files parts) (λ text.
-    IsUnread (is_input name) name content run ⊎ IsSomeAnd content (λ m. Compares parts name text m run))
+    IsUnread (is_input name) name content run ⊎ IsSomeAnd content (λ m. Compares s parts name text m run))

@@ -54,6 +54,7 @@ mod output;
 mod reports;
 mod rule;
 mod session;
+mod shares;
 mod starts;
 mod tags;
 mod told;

@@ -61,8 +61,12 @@ fn part_count<'n, T: Tree>(chunks: u64, name: &'n str, tree: &mut T) -> Result<u
     Ok(least.max(1))
 }
 
-// Whether the file has a byte at a position.
-fn has_byte<'n, T: Tree>(name: &'n str, position: u64, tree: &mut T) -> Result<bool, Fault<'n>>
+/// Whether the file has a byte at a position.
+pub(crate) fn has_byte<'n, T: Tree>(
+    name: &'n str,
+    position: u64,
+    tree: &mut T,
+) -> Result<bool, Fault<'n>>
     ensures byte { IfSome (T.files tree.old)
         (λ files. TellsByte name.entry.now position (files name.entry.now) result) }
     ensures counted { IfSome (T.files tree.old) (λ files. T.failure_count tree.new

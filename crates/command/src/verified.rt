@@ -3,12 +3,15 @@
 ghost use Rattle.std.specs.Prelude.{◌≡◌, ◌≤◌, ◌+◌, ◌*◌, ◌++◌, ◌∷◌, ℕ, [], true, length, IfOk, IfSome, IsErrOf, Some};
 ghost use Rattle.std.specs.Prelude.{◌⊎◌, if◌then◌else◌, nat_lt};
 ghost use Rattle.std.specs.Fmt.{decimal};
+ghost use Rattle.std.specs.Option.{option_map_or};
 ghost use Rattle.source.specs.Counts.{count_after};
 ghost use Rattle.source.specs.Written.{Writes};
+ghost use Rattle.sumlist.specs.Lines.{lines};
 ghost use Rattle.sumlist.specs.Report.{verdict_text};
 ghost use Rattle.sumlist.specs.declared.verdict.Verdict.TheVariants.{Missing};
-ghost use Rattle.command.specs.Lines.{content_of, is_input, opens_of};
+ghost use Rattle.command.specs.Lines.{content_of, is_input, opens_of, part_opens};
 ghost use Rattle.command.specs.Verifying.{VerifyRuns};
+ghost use Rattle.command.specs.inside.Cutting.{all_parts};
 ghost use Rattle.command.specs.inside.Reading.{failed};
 ghost use Rattle.command.specs.inside.Seen.{DoesRun, IfTold, OpensAtMost};
 ghost use Rattle.command.specs.inside.Streams.{SameStreams};
@@ -20,33 +23,44 @@ use crate::cutting::{RUN, next_part};
 use crate::digests::part_buffer;
 use crate::fault::Fault;
 use crate::session::{Session, Streams, open_file};
+use crate::shares::verify_parts_of;
 use crate::starts::gives_byte;
 use b3::{CHUNK_LEN, PartValue};
 use itoa::Buffer;
 use partlist::{Joiner, PartReader};
 use source::{Feed, Sink, WriteFailed, write_pieces};
 use sumlist::{Tree, Verdict, write_verdict};
+use task::SharedFile;
 
 impl<'i, 't, 'o, L: Feed, T: Tree, W: Sink> Session<'i, 't, 'o, L, T, W> {
     /// Prints, for each part that the lines of the file `parts` describe, one after another from the first
-    /// chunk on, whether it is that of the file `name`. Answers 0 if all are and the file ends with the last
-    /// one, and 1 if one is not. Both are read once and side by side; `-` is a file of parts. The faults are
-    /// `CannotRead` for either, `BadLine` for the first line that describes no part after those before it,
-    /// `BytesBehind` if the file does not end with the last part, `CannotWrite`, and `OutOfMemory`, which
-    /// comes before anything is printed.
-    pub fn print_verified<'n>(&mut self, parts: &'n str, name: &'n str) -> Result<u8, Fault<'n>>
-        ensures run { DoesRun (λ bytes files. VerifyRuns parts.entry.now name.entry.now files bytes)
-            (λ notes. notes ≡ [])
+    /// chunk on, or for a share of them, whether it is that of another file. Answers 0 if all are and the file
+    /// ends with the last one, and 1 if one is not. Both are read once and side by side; where there are other
+    /// shares, the other file is opened at the place of each part, and only that is read. `-` is a file of parts.
+    /// The faults are `CannotRead` for either, `BadLine` for the first line that describes no part after those
+    /// before it, `BytesBehind` if the file does not end with the last part, `CannotWrite`, and `OutOfMemory`,
+    /// which comes before anything is printed, or with an open.
+    pub fn print_verified<'n>(
+        &mut self,
+        parts: &'n str,
+        file: SharedFile<'n>,
+    ) -> Result<u8, Fault<'n>>
+        ensures run { DoesRun (λ bytes files.
+            VerifyRuns file.entry.share parts.entry.now file.entry.name.now files bytes) (λ notes. notes ≡ [])
             result (⟦<Self as Streams>⟧.seen self.old) (⟦<Self as Streams>⟧.seen self.new) }
-        ensures opens { OpensAtMost (1 + opens_of name.entry.now) (⟦<Self as Streams>⟧.seen self.old)
-            (⟦<Self as Streams>⟧.seen self.new) }
+        ensures opens { IfTold (⟦<Self as Streams>⟧.seen self.old) (λ bytes files. OpensAtMost
+            (1 + part_opens file.entry.share file.entry.name.now (option_map_or lines (files parts.entry.now) []))
+            (⟦<Self as Streams>⟧.seen self.old) (⟦<Self as Streams>⟧.seen self.new)) }
+        ensures opens_once { file.entry.share.others ≡ 0 → OpensAtMost (1 + opens_of file.entry.name.now)
+            (⟦<Self as Streams>⟧.seen self.old) (⟦<Self as Streams>⟧.seen self.new) }
         ensures same { SameStreams self.old self.new }
         ensures memory { IsErrOf result Fault.OutOfMemory → (T.wants_memory ≡ true) ⊎ (self.new ≡ self.old) }
-        ensures unwritten { IsErrOf result Fault.OutOfMemory → self.new.out.now ≡ self.old.out.now }
+        ensures unwritten { file.entry.share.others ≡ 0 → IsErrOf result Fault.OutOfMemory
+            → self.new.out.now ≡ self.old.out.now }
     {
         let mut run = part_buffer(self.alloc, RUN)?;
         let mut list = open_file(parts, 0, self.tree)?;
-        let answer = self.verify_by(run.as_mut_slice(), parts, &mut list, name);
+        let answer = self.verify_by(run.as_mut_slice(), parts, &mut list, file);
         self.tree.close(list);
         answer
     }
@@ -57,23 +71,31 @@ impl<'i, 't, 'o, L: Feed, T: Tree, W: Sink> Session<'i, 't, 'o, L, T, W> {
         run: &mut [u8],
         parts: &'n str,
         list: &mut P,
-        name: &'n str,
+        file: SharedFile<'n>,
     ) -> Result<u8, Fault<'n>>
         requires { length run.old ≡ 1024 * RUN }
         ensures run { IfTold (⟦<Self as Streams>⟧.seen self.old) (λ bytes files. IfSome (P.remaining list.old)
-            (λ text. DoesBeside (ComparesName parts.entry.now name.entry.now text
-            (content_of name.entry.now bytes files)) result
+            (λ text. DoesBeside (ComparesName file.entry.share parts.entry.now file.entry.name.now text
+            (content_of file.entry.name.now bytes files)) result
             (⟦<Self as Streams>⟧.seen self.old).out (⟦<Self as Streams>⟧.seen self.new).out
             (P.failure_count list.old) (P.failure_count list.new)
             (λ f. Counted f
             (⟦<Self as Streams>⟧.seen self.old).input_failures (⟦<Self as Streams>⟧.seen self.new).input_failures
             (⟦<Self as Streams>⟧.seen self.old).file_failures (⟦<Self as Streams>⟧.seen self.new).file_failures))) }
-        ensures opens { OpensAtMost (opens_of name.entry.now) (⟦<Self as Streams>⟧.seen self.old)
-            (⟦<Self as Streams>⟧.seen self.new) }
+        ensures opens { IfSome (P.remaining list.old) (λ text. IfSome (⟦<Self as Streams>⟧.seen self.old).files
+            (λ files. OpensAtMost (part_opens file.entry.share file.entry.name.now (lines text))
+            (⟦<Self as Streams>⟧.seen self.old) (⟦<Self as Streams>⟧.seen self.new))) }
+        ensures opens_once { file.entry.share.others ≡ 0 → OpensAtMost (opens_of file.entry.name.now)
+            (⟦<Self as Streams>⟧.seen self.old) (⟦<Self as Streams>⟧.seen self.new) }
         ensures same { SameStreams self.old self.new }
         ensures memory { IsErrOf result Fault.OutOfMemory → T.wants_memory ≡ true }
-        ensures unwritten { IsErrOf result Fault.OutOfMemory → self.new.out.now ≡ self.old.out.now }
+        ensures unwritten { file.entry.share.others ≡ 0 → IsErrOf result Fault.OutOfMemory
+            → self.new.out.now ≡ self.old.out.now }
     {
+        let (name, share) = (file.name, file.share);
+        if share.others > 0 {
+            return verify_parts_of(run, parts, list, share, name, self.tree, self.out);
+        }
         read_named!(self, name, 0, verify_feed(run, parts, list, name, self.out))
     }
 }
@@ -89,7 +111,7 @@ fn verify_feed<'n, P: Feed, F: Feed, W: Sink>(
 ) -> Result<u8, Fault<'n>>
     requires { length run.old ≡ 1024 * RUN }
     ensures compared { IfSome (P.remaining list.old) (λ text. IfSome (F.remaining feed.old) (λ m.
-        ComparesFeeds parts.entry.now name.entry.now text m result (W.shown out.old) (W.shown out.new)
+        ComparesFeeds all_parts parts.entry.now name.entry.now text m result (W.shown out.old) (W.shown out.new)
         (P.failure_count list.old) (P.failure_count list.new)
         (F.failure_count feed.old) (F.failure_count feed.new))) }
     ensures memory { IsErrOf result Fault.OutOfMemory → ⊥ }
@@ -131,8 +153,8 @@ fn next_verdict<'n, F: Feed>(
     read_verdict(told, run, name, feed)
 }
 
-// The verdict on a part, by the next bytes of a feed.
-fn read_verdict<'n, F: Feed>(
+/// The verdict on a part, by the next bytes of a feed.
+pub(crate) fn read_verdict<'n, F: Feed>(
     told: &PartValue,
     run: &mut [u8],
     name: &'n str,
@@ -176,8 +198,8 @@ fn verdict_of(told: &PartValue, found: &PartValue) -> Verdict
     }
 }
 
-// The status of a verdict.
-fn status_of(verdict: Verdict) -> u8
+/// The status of a verdict.
+pub(crate) fn status_of(verdict: Verdict) -> u8
     ensures { result ≡ status_of verdict }
 {
     match verdict {
@@ -207,8 +229,12 @@ fn status_at_end<'n, F: Feed>(status: u8, name: &'n str, feed: &mut F) -> Result
     }
 }
 
-// Writes a verdict after the numbers of its part.
-fn write_told<W: Sink>(told: &PartValue, verdict: Verdict, out: &mut W) -> Result<(), WriteFailed>
+/// Writes a verdict after the numbers of its part.
+pub(crate) fn write_told<W: Sink>(
+    told: &PartValue,
+    verdict: Verdict,
+    out: &mut W,
+) -> Result<(), WriteFailed>
     ensures { Writes result (W.shown out.old) (W.shown out.new)
         (decimal told.now.first_chunk ++ 32 ∷ (decimal told.now.len ++ verdict_text verdict)) }
 {

@@ -119,15 +119,23 @@ told_always first tree task shown answer out_old out_new err_old err_new i j u v
     told_task first tree task shown answer out_old out_new err_old err_new i j u v x y same h
     (opens_always first tree shown x y most)
 
+pub quiet_told : (first : Option (List ℕ)) (tree : Option Files) (task shown : Asked) (answer : Result ℕ Fault)
+    (out_old out_new err : Shown) (i j u v x y : ℕ)
+    → task ≡ shown → Quietly first tree shown answer out_old out_new i j u v → Opens first tree shown x y
+    → Worked first tree task answer out_old out_new err err i j u v x y
+quiet_told None tree task shown answer out_old out_new err i j u v x y same h most = tt
+quiet_told (Some bytes) None task shown answer out_old out_new err i j u v x y same h most = tt
+quiet_told (Some bytes) (Some files) task shown answer out_old out_new err i j u v x y same h most =
+    rw same (h.0, (h.1, most), h.2, rw h.3 refl, h.4)
+
 pub quiet_task : (first : Option (List ℕ)) (tree : Option Files) (task shown : Asked) (answer : Result ℕ Fault)
     (out_old out_new err : Shown) (i j u v x y : ℕ)
     → task ≡ shown → Quietly first tree shown answer out_old out_new i j u v
     → ((bytes : List ℕ) (files : Files) → y ≤ x + most_opens shown files bytes)
     → Worked first tree task answer out_old out_new err err i j u v x y
-quiet_task None tree task shown answer out_old out_new err i j u v x y same h most = tt
-quiet_task (Some bytes) None task shown answer out_old out_new err i j u v x y same h most = tt
-quiet_task (Some bytes) (Some files) task shown answer out_old out_new err i j u v x y same h most =
-    rw same (h.0, (h.1, most bytes files), h.2, rw h.3 refl, h.4)
+quiet_task first tree task shown answer out_old out_new err i j u v x y same h most =
+    quiet_told first tree task shown answer out_old out_new err i j u v x y same h
+    (opens_always first tree shown x y most)
 
 -- lists are checked as what their entries are asks for
 pub told_check : (first : Option (List ℕ)) (tree : Option Files) (entries : Entries) (reporting : Reporting)

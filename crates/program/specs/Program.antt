@@ -12,11 +12,11 @@ use Rattle.task.specs.Tasks.{Asked, Source, asked, checks, checks_tags, derives,
 use Rattle.task.specs.Tasks.{prints_lines, prints_part, prints_parts, prints_starts, tags, these, verifies}
 use Rattle.command.specs.Checking.{ListsRun}
 use Rattle.command.specs.Run.{Counted, Prints, Run, Runs, out_of_memory, prints, stops}
-use Rattle.command.specs.Cutting.{EachRuns, PartRuns, StartsRuns}
+use Rattle.command.specs.Cutting.{EachRuns, PartRuns, StartsRuns, numbers_of}
 use Rattle.command.specs.Hashing.{LinesGiven, LinesListed}
 use Rattle.command.specs.Joining.{JoinRuns}
 use Rattle.command.specs.Keying.{KdfRuns, LineRuns, SumRuns}
-use Rattle.command.specs.Lines.{content_of, key_opens, opens_of}
+use Rattle.command.specs.Lines.{content_of, key_opens, opens_of, part_opens}
 use Rattle.command.specs.Verifying.{VerifyRuns}
 
 -- the run of a task
@@ -32,8 +32,8 @@ TaskRuns (checks_tags mac n key reporting by lists) files input =
     SumRuns (tags mac false key) files (λ l. ListsRun (keyed n l.limit l.bytes) reporting by files lists input)
 TaskRuns (prints_part first chunks name) files input = PartRuns first chunks name files input
 TaskRuns (prints_starts chunks name) files input = StartsRuns chunks name files
-TaskRuns (prints_parts chunks name) files input = EachRuns chunks name files input
-TaskRuns (verifies parts name) files input = VerifyRuns parts name files input
+TaskRuns (prints_parts chunks name s) files input = EachRuns s chunks name files input
+TaskRuns (verifies parts name s) files input = VerifyRuns s parts name files input
 TaskRuns (joins stretch bytes wanted name lists) files input = JoinRuns stretch bytes wanted name lists files input
 
 -- how many files are opened for lists at most: each of them, and one for each of its lines, or their report
@@ -55,8 +55,9 @@ most_opens (checks_tags mac n key reporting by lists) files input =
     key_opens (tags mac false key) + list_opens by lists files input
 most_opens (prints_part first chunks name) files input = opens_of name
 most_opens (prints_starts chunks name) files input = 55
-most_opens (prints_parts chunks name) files input = opens_of name
-most_opens (verifies parts name) files input = 1 + opens_of name
+most_opens (prints_parts chunks name s) files input =
+    part_opens s name (option_map_or (numbers_of chunks) (content_of name input files) [])
+most_opens (verifies parts name s) files input = 1 + part_opens s name (option_map_or lines (files parts) [])
 most_opens (joins stretch count wanted name lists) files input = sum_by opens_of lists
 
 -- the run of a request, and how many files it opens at most: its task's, or the first fault of its settings, or want of

@@ -73,7 +73,7 @@ commands names macs both = command (codes "hash") (required (algorithm names) �
     ∷ option (codes "told") ∷ files ∷ [])
     ∷ command (codes "part") (required (algorithm names) ∷ number (option (codes "first"))
     ∷ number (option (codes "chunks")) ∷ flag (codes "list") ∷ number (option (codes "each"))
-    ∷ option (codes "verify") ∷ flag (codes "progress") ∷ file ∷ [])
+    ∷ option (codes "verify") ∷ flag (codes "progress") ∷ option (codes "share") ∷ file ∷ [])
     ∷ command (codes "join") (required (algorithm names) ∷ option (codes "name") ∷ number (option (codes "bytes"))
     ∷ number (letter (codes "l")) ∷ number (option (codes "seek")) ∷ option (codes "verify") ∷ flag (codes "progress")
     ∷ files ∷ []) ∷ []

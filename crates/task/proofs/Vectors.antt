@@ -7,7 +7,7 @@ use Rattle.request.specs.CommandLine.{NameList, Text, sums_app}
 use Rattle.sumlist.specs.declared.kind.Kind.TheVariants as kind
 use Rattle.sumlist.specs.declared.share.Share.{Share}
 use Rattle.task.specs.Tasks.{Asked, asked, checks, checks_tags, digests, in_file, joins, least_power, prints_line}
-use Rattle.task.specs.Tasks.{prints_lines, tags, these, verifies}
+use Rattle.task.specs.Tasks.{prints_lines, prints_parts, tags, these, verifies}
 use Rattle.task.specs.declared.hashing.Form.TheVariants.{Plain}
 use Rattle.task.specs.declared.hashing.Hash.TheVariants.{Whole}
 use Rattle.task.specs.declared.tagging.Mac.TheVariants.{Blake2b, Blake2s}
@@ -166,7 +166,7 @@ unfolding clap_on_literals sums_app
 join_digest names macs both = refl
 
 part_verify : Asks (codes "part" ∷ codes "-ablake3" ∷ codes "--verify=p" ∷ codes "f" ∷ [])
-    (Ok (verifies (codes "p") (codes "f")))
+    (Ok (verifies (codes "p") (codes "f") whole))
 unfolding clap_on_literals sums_app
 part_verify names macs both = refl
 
@@ -174,6 +174,31 @@ part_verify_each : Asks (codes "part" ∷ codes "-ablake3" ∷ codes "--each=3" 
     (Err (codes "--each: not with --verify\n"))
 unfolding clap_on_literals sums_app
 part_verify_each names macs both = refl
+
+part_verify_share : Asks (codes "part" ∷ codes "-ablake3" ∷ codes "--share=1/4" ∷ codes "--verify=p" ∷ codes "f" ∷ [])
+    (Ok (verifies (codes "p") (codes "f") (record { others = 3; waiting = 1 })))
+unfolding clap_on_literals sums_app
+part_verify_share names macs both = refl
+
+part_each_share : Asks (codes "part" ∷ codes "-ablake3" ∷ codes "--each=2" ∷ codes "--share=2/3" ∷ codes "f" ∷ [])
+    (Ok (prints_parts 2 (codes "f") (record { others = 2; waiting = 2 })))
+unfolding clap_on_literals sums_app ones
+part_each_share names macs both = refl
+
+part_each_share_input : Asks (codes "part" ∷ codes "-ablake3" ∷ codes "--each=2" ∷ codes "--share=3/3" ∷ [])
+    (Err (codes "--share: not of standard input\n"))
+unfolding clap_on_literals sums_app ones
+part_each_share_input names macs both = refl
+
+part_share : Asks (codes "part" ∷ codes "-ablake3" ∷ codes "--first=2" ∷ codes "--share=0/2" ∷ codes "f" ∷ [])
+    (Err (codes "--share: not of one part\n"))
+unfolding clap_on_literals sums_app
+part_share names macs both = refl
+
+part_list_share : Asks (codes "part" ∷ codes "-ablake3" ∷ codes "--list" ∷ codes "--chunks=2" ∷ codes "--share=0/2"
+    ∷ codes "f" ∷ []) (Err (codes "--share: not with --list\n"))
+unfolding clap_on_literals sums_app ones
+part_list_share names macs both = refl
 
 hash_share : Asks (codes "hash" ∷ codes "-asha256" ∷ codes "--share=2/3" ∷ codes "f" ∷ [])
     (Ok (prints_lines (digests (record {

@@ -51,8 +51,8 @@ pub data Asked : Type 0 where
   checks_tags : Mac → ℕ → Source (List ℕ) → Reporting → Source Share → List Text → Asked
   prints_part : ℕ → Option ℕ → Text → Asked
   prints_starts : ℕ → Text → Asked
-  prints_parts : ℕ → Text → Asked
-  verifies : Text → Text → Asked
+  prints_parts : ℕ → Text → Share → Asked
+  verifies : Text → Text → Share → Asked
   joins : Stretch → Option ℕ → Option (List ℕ) → Text → List Text → Asked
 
 -- the share that is asked for, or all, where other settings do not forbid one: of as many as the number behind a slash,
@@ -187,25 +187,31 @@ least_power n = 2 ^ (64 - leading_zeros w64 (n - 1))
 abbrev pub starts : Given → Result Asked Text
 starts g = do
   n ← needed (power_in (2 ^ 54)) (codes "chunks") g
-  absent (codes ": not with --list\n") (codes "first" ∷ codes "each" ∷ codes "verify" ∷ []) g
+  absent (codes ": not with --list\n") (codes "first" ∷ codes "each" ∷ codes "verify" ∷ codes "share" ∷ []) g
   unless (bytes_eq (file_or_input g) (codes "-")) (codes "--list: not of standard input\n")
   Ok (prints_starts n (file_or_input g))
+
+-- the share of the parts of a file, which is not standard input: the other shares would not have that
+abbrev pub share_of_parts : Given → Result Share Text
+share_of_parts g = share_of (unless (bytes_eq (file_or_input g) (codes "-")) (codes "--share: not of standard input\n")) g
 
 -- whether a file has the parts that the lines of another one tell
 abbrev pub verify : Text → Given → Result Asked Text
 verify parts g = absent (codes ": not with --verify\n") (codes "first" ∷ codes "chunks" ∷ codes "each" ∷ []) g
-    >> Ok (verifies parts (file_or_input g))
+    >> (share_of_parts g >>= (λ share. Ok (verifies parts (file_or_input g) share)))
 
 -- all parts of so many chunks, a power of two, one behind the other
 abbrev pub each : Given → Result Asked Text
 each g = do
   n ← needed (power_in (2 ^ 54)) (codes "each") g
   absent (codes ": not with --each\n") (codes "first" ∷ codes "chunks" ∷ []) g
-  Ok (prints_parts n (file_or_input g))
+  share ← share_of_parts g
+  Ok (prints_parts n (file_or_input g) share)
 
 -- the first chunk of a part, and how many chunks it has at most: where that is given, such a power divides the first
 abbrev pub one_part : Given → Result Asked Text
 one_part g = do
+  absent (codes ": not of one part\n") (codes "share" ∷ []) g
   first ← number 0 0 (2 ^ 54 - 1) (codes "first") g
   chunks ← given (number_in 1 (2 ^ 54)) (codes "chunks") g
   unless (option_map_or (λ n. nat_lt 0 (first % least_power n)) chunks false) (out_of_range (codes "first"))

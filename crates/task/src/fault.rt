@@ -91,6 +91,8 @@ pub enum UsageFault {
     OneSource,
     /// There is no command of this name.
     NoCommand,
+    /// It says nothing of one part alone.
+    NotOfOnePart(Setting),
 }
 
 /// Why a request makes no task.
@@ -204,6 +206,7 @@ impl UsageFault {
             UsageFault::OneKey => ("", "give one of --key and --key-file\n"),
             UsageFault::OneSource => ("", "give only one of FILE and --files0-from\n"),
             UsageFault::NoCommand => ("", "COMMAND: out of range\n"),
+            UsageFault::NotOfOnePart(setting) => (setting.text(), ": not of one part\n"),
         }
     }
 }

@@ -6,6 +6,7 @@ pub use fault::{Setting, TaskFault, UsageFault};
 pub use hashing::{Form, Hash, Hashing, Requested, Stretch};
 pub use parameters::HmacHash;
 pub use parting::{Joining, PartLength, Place};
+pub use sharing::SharedFile;
 pub use tagging::{Key, Mac, ShortMac, Tagging};
 pub use tasks::{Entries, Names, Reporting, Sum, Task, Verdicts};
 

@@ -67,6 +67,13 @@ pub(crate) fn file_count(request: &Request<'_>) -> usize
     }
 }
 
+/// The one file that was named, or standard input.
+pub(crate) fn file_or_input<'a>(request: &Request<'a>) -> &'a str
+    ensures { result.now ≡ spec.file_or_input (given_of request.now) }
+{
+    request.text("file").unwrap_or("-")
+}
+
 /// The hash that a request names.
 pub(crate) fn needed_kind(request: &Request<'_>) -> Result<Kind, UsageFault>
     ensures { judged result ≡ needed (named kinds) (codes "a") (given_of request.now) }

@@ -1,18 +1,45 @@
 // Which share of a run is asked for.
 
-ghost use Rattle.std.specs.Prelude.{◌≡◌, Ok, codes};
+ghost use Rattle.std.specs.Prelude.{◌≡◌, ◌≤◌, ◌&&◌, IfOk, Ok, codes, false, nat_lt};
 ghost use Rattle.std.specs.List.{list_any};
 ghost use Rattle.std.specs.Str.{bytes_eq};
 ghost use Rattle.request.specs.CommandLine.{given_of, text_of};
 ghost use Rattle.task.specs.Settings as spec;
 ghost use Rattle.task.specs.Tasks as tasks;
-ghost use Rattle.task.specs.inside.Seen.{judged};
+ghost use Rattle.task.specs.inside.Seen.{judged, seen};
 ghost use Rattle.task.specs.inside.Steps as steps;
 
 use crate::fault::{Setting, UsageFault};
-use crate::parameters::{number_in, text_of, unless};
+use crate::parameters::{file_or_input, number_in, text_of, unless};
 use request::Request;
 use sumlist::Share;
+
+/// A file, and which share of its parts is meant. Where there are other shares, it is not standard input, which
+/// they would not have.
+#[derive(Clone, Copy, Debug)]
+pub struct SharedFile<'a> {
+    pub name: &'a str,
+    pub share: Share,
+    ghost within: { share.waiting ≤ share.others },
+    ghost named: { (nat_lt 0 share.others && bytes_eq name.now (codes "-")) ≡ false },
+}
+
+impl<'a> SharedFile<'a> {
+    /// The file of a request, and the share of its parts, or all of them.
+    pub(crate) fn of(request: &Request<'a>) -> Result<SharedFile<'a>, UsageFault>
+        ensures share { seen (λ f. f.share) result ≡ tasks.share_of_parts (given_of request.now) }
+        ensures name { IfOk result (λ f. f.name.now ≡ spec.file_or_input (given_of request.now)) }
+    {
+        let name = file_or_input(request);
+        let Some(text) = text_of(request, Setting::Share) else {
+            let share = Share::whole();
+            return Ok(SharedFile { name, share });
+        };
+        unless(name == "-", UsageFault::FileOnly(Setting::Share))?;
+        let share = share_in(text)?;
+        Ok(SharedFile { name, share })
+    }
+}
 
 /// The share of the files of which a sum is printed, or all of them.
 pub(crate) fn share_of_files(request: &Request<'_>, is_compared: bool) -> Result<Share, UsageFault>
@@ -40,7 +67,8 @@ pub(crate) fn share_of_entries(request: &Request<'_>) -> Result<Share, UsageFaul
 
 // The share that a text tells: a number, a slash, and of how many it is one.
 fn share_in(text: &str) -> Result<Share, UsageFault>
-    ensures { judged result ≡ steps.share_in text.now }
+    ensures share { judged result ≡ steps.share_in text.now }
+    ensures within { IfOk result (λ s. s.waiting ≤ s.others) }
 {
     let Some((number, count)) = text.split_once('/') else {
         return Err(UsageFault::OutOfRange(Setting::Share));

@@ -21,10 +21,10 @@ use crate::derivation::Derivation;
 use crate::fault::{Setting, TaskFault, UsageFault};
 use crate::hashing::{Form, Hashing, given_digest, names_several, stretch_of, wanted};
 use crate::parameters::{
-    absent, file_count, first_given, given_number, needed, number, power_in, unless,
+    absent, file_count, file_or_input, first_given, given_number, needed, number, power_in, unless,
 };
 use crate::parting::{Joining, PartLength, Place, names_blake3};
-use crate::sharing::{share_of_entries, share_of_files};
+use crate::sharing::{SharedFile, share_of_entries, share_of_files};
 use crate::tagging::{Key, Mac, ShortMac, Tagging};
 use b3::MOST_CHUNKS;
 use request::Request;
@@ -111,16 +111,16 @@ pub enum Task<'a> {
         parts: PartLength,
         file: &'a str,
     },
-    /// Print all parts of a file, where each but the last has so many chunks.
+    /// Print the parts of a file, where each but the last has so many chunks.
     Parts {
         parts: PartLength,
-        file: &'a str,
+        file: SharedFile<'a>,
     },
-    /// Print of each part that the lines in a file tell whether it is that of another file. Of the two only
-    /// the second may be standard input.
+    /// Print of the parts that the lines in a file tell whether they are those of another file. Of the two
+    /// only the second may be standard input.
     Verify {
         parts: &'a str,
-        file: &'a str,
+        file: SharedFile<'a>,
     },
     /// Print these bytes of the output of the parts in the lists, one at least, which have so many
     /// bytes in all where that is asked for, or whether they are the ones that are wanted, of as many;
@@ -168,7 +168,7 @@ impl<'a> Task<'a> {
                 Names::From(list) => *list == "-",
             },
             Task::Line { sum, file, .. } => sum.has_key_file() && *file == "-",
-            Task::Verify { file, .. } => *file == "-",
+            Task::Verify { file, .. } => file.name == "-",
             Task::Check { lists, .. } => have_input(lists.as_slice()),
             _ => false,
         }
@@ -181,6 +181,13 @@ impl<'a> Task<'a> {
         match self {
             Task::Part { place, .. } => place.chunks?.checked_mul(1024),
             Task::Starts { parts, .. } => parts.chunks.checked_mul(1024),
+            Task::Parts { parts, file } => {
+                if file.share.others > 0 {
+                    parts.chunks.checked_mul(1024)
+                } else {
+                    None
+                }
+            }
             _ => None,
         }
     }
@@ -195,6 +202,7 @@ impl<'a> Task<'a> {
                 Verdicts::Files(share) => share.others > 0,
                 Verdicts::Report(_) => false,
             },
+            Task::Parts { file, .. } | Task::Verify { file, .. } => file.share.others > 0,
             _ => false,
         }
     }
@@ -415,7 +423,12 @@ fn starts<'a>(request: &Request<'a>) -> Result<Task<'a>, UsageFault>
         MOST_CHUNKS,
         needed(request, Setting::Chunks)?,
     )?;
-    let others = [Setting::First, Setting::Each, Setting::Verify];
+    let others = [
+        Setting::First,
+        Setting::Each,
+        Setting::Verify,
+        Setting::Share,
+    ];
     if let Some(setting) = first_given(request, &others) {
         return Err(UsageFault::NotWithList(setting));
     }
@@ -432,7 +445,7 @@ fn verify<'a>(request: &Request<'a>, parts: &'a str) -> Result<Task<'a>, UsageFa
     if let Some(setting) = first_given(request, &others) {
         return Err(UsageFault::NotWithVerify(setting));
     }
-    let file = file_or_input(request);
+    let file = SharedFile::of(request)?;
     Ok(Task::Verify { parts, file })
 }
 
@@ -444,13 +457,16 @@ fn each<'a>(request: &Request<'a>) -> Result<Task<'a>, UsageFault>
         return Err(UsageFault::NotWithEach(setting));
     }
     let parts = PartLength { chunks };
-    let file = file_or_input(request);
+    let file = SharedFile::of(request)?;
     Ok(Task::Parts { parts, file })
 }
 
 fn one_part<'a>(request: &Request<'a>) -> Result<Task<'a>, UsageFault>
     ensures { seen task_shown result ≡ spec.one_part (given_of request.now) }
 {
+    if let Some(setting) = first_given(request, &[Setting::Share]) {
+        return Err(UsageFault::NotOfOnePart(setting));
+    }
     let first = number(request, Setting::First, 0, 0, MOST_CHUNKS - 1)?;
     let chunks = given_number(request, Setting::Chunks, 1, MOST_CHUNKS)?;
     let place = Place::of(first, chunks)?;
@@ -473,11 +489,4 @@ fn join<'a>(alloc: Global, request: &Request<'a>) -> Result<Task<'a>, TaskFault>
         name,
         lists,
     })
-}
-
-// The one file that was named, or standard input.
-fn file_or_input<'a>(request: &Request<'a>) -> &'a str
-    ensures { result.now ≡ settings.file_or_input (given_of request.now) }
-{
-    request.text("file").unwrap_or("-")
 }

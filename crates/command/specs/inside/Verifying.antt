@@ -1,6 +1,6 @@
 -- What the parts of a run that verifies parts answer.
 use Rattle.std.specs.Prelude.{◌⊎◌, ◌≡◌, ℕ, ◌*◌, ◌%◌, ◌^◌, ◌<◌, ◌≤◌, [], Bool, List, IsSomeAnd, MatchBool, MatchResult}
-use Rattle.std.specs.Prelude.{Ok, Option, Result, Some}
+use Rattle.std.specs.Prelude.{None, Ok, Option, Result, Some}
 use Rattle.std.specs.Prelude.{drop, false, true, if◌then◌else◌, length, nat_lt, take}
 use Rattle.std.specs.Str.{bytes_eq}
 use Rattle.b3.specs.Modes.{hash_parameters, tree_of}
@@ -9,13 +9,15 @@ use Rattle.b3.specs.declared.row.PartValue.{PartValue}
 use Rattle.request.specs.CommandLine.{Text}
 use Rattle.source.specs.Counts.{count_after}
 use Rattle.source.specs.Written.{Shown}
+use Rattle.sumlist.specs.Report.{Files}
+use Rattle.sumlist.specs.declared.share.Share.{Share}
 use Rattle.sumlist.specs.declared.verdict.Verdict.{Verdict}
 use Rattle.sumlist.specs.declared.verdict.Verdict.TheVariants.{Differs, Matches, Missing}
 use Rattle.command.specs.Lines.{is_input}
 use Rattle.command.specs.Run.{IsUnread, Run}
-use Rattle.command.specs.Verifying.{Compares}
+use Rattle.command.specs.Verifying.{Compares, verdict}
 use Rattle.command.specs.inside.Seen.{Does}
-use Rattle.command.specs.inside.Troubles.{Failures, bytes_behind, cannot_read, counts, failures_from, plus}
+use Rattle.command.specs.inside.Troubles.{Failures, MayFail, bytes_behind, cannot_read, counts, failures_from, plus}
 use Rattle.command.specs.inside.Troubles.{trouble_of}
 use Rattle.command.specs.declared.fault.Fault.{Fault}
 
@@ -67,13 +69,33 @@ DoesBeside is r old new i j others = (run : Run) × is run × Does run r old new
     × (n : ℕ) × (f : Failures) × (counts run.failures ≡ plus (failures_from false n) f)
     × (j ≡ count_after i n) × others f
 
--- parts were compared with what two feeds gave, and each counted its failures
-abbrev pub ComparesFeeds : Text → Text → (text m : List ℕ) → Result ℕ Fault → (old new : Shown) → (i j u v : ℕ)
-    → Type 0
-ComparesFeeds parts name text m r old new i j u v = DoesBeside (Compares parts name text m) r old new i j
+-- a share of the parts was compared with what two feeds gave, or a feed and a file, and each counted its failures
+abbrev pub ComparesFeeds : Share → Text → Text → (text m : List ℕ) → Result ℕ Fault → (old new : Shown)
+    → (i j u v : ℕ) → Type 0
+ComparesFeeds s parts name text m r old new i j u v = DoesBeside (Compares s parts name text m) r old new i j
     (λ f. (k : ℕ) × (f ≡ failures_from (is_input name) k) × (v ≡ count_after u k))
 
 -- the same of what a name gives, where that is had
-abbrev pub ComparesName : Text → Text → List ℕ → Option (List ℕ) → Run → Type 0
-ComparesName parts name text content run = IsUnread (is_input name) name content run
-    ⊎ IsSomeAnd content (λ m. Compares parts name text m run)
+abbrev pub ComparesName : Share → Text → Text → List ℕ → Option (List ℕ) → Run → Type 0
+ComparesName s parts name text content run = IsUnread (is_input name) name content run
+    ⊎ IsSomeAnd content (λ m. Compares s parts name text m run)
+
+abbrev pub ComparesFile : Share → Text → Text → List ℕ → Option (List ℕ) → Result ℕ Fault → (old new : Shown)
+    → (i j u v : ℕ) → Type 0
+ComparesFile s parts name text content r old new i j u v = DoesBeside (ComparesName s parts name text content) r old new
+    i j (λ f. (k : ℕ) × (f ≡ failures_from (is_input name) k) × (v ≡ count_after u k))
+
+-- the content of a file, where it is told and there is one
+abbrev pub told_content : Option Files → Text → Option (List ℕ)
+told_content None name = None
+told_content (Some files) name = files name
+
+-- a part was judged by the bytes at its place in these, or they were not had
+abbrev pub JudgesAt : PartValue → Text → List ℕ → Result Verdict Fault → Type 0
+JudgesAt part name m r =
+    MatchResult r (λ v. v ≡ (verdict m part).0) (λ fault. MayFail name (λ _. ⊥) (trouble_of fault))
+
+-- the status of a run at the end of the lines, whose parts end at this position, or a fault tells why there is none
+abbrev pub EndsAt : ℕ → ℕ → Text → List ℕ → Result ℕ Fault → Type 0
+EndsAt status position name m r = MatchResult r (λ s. (s ≡ status) × (length m ≤ position))
+    (λ fault. MayFail name (λ t. (t ≡ bytes_behind name) × (position < length m)) (trouble_of fault))

@@ -6,7 +6,7 @@ use Rattle.std.specs.Option.{option_and_then}
 use Rattle.std.specs.Str.{bytes_eq}
 use Rattle.request.specs.CommandLine.{Text}
 use Rattle.task.specs.Tasks.{Asked, Sum, checks, checks_tags, in_file, prints_line, prints_lines, prints_part}
-use Rattle.task.specs.Tasks.{prints_starts, tags, these, verifies}
+use Rattle.task.specs.Tasks.{prints_parts, prints_starts, tags, these, verifies}
 
 -- the key is that of a file
 abbrev pub has_key_file : Sum → Bool
@@ -23,7 +23,7 @@ abbrev pub keeps_input : Asked → Bool
 keeps_input (prints_lines sum (in_file list) share) = bytes_eq list (codes "-")
 keeps_input (prints_lines sum (these names) share) = has_key_file sum && have_input names
 keeps_input (prints_line sum wanted name file) = has_key_file sum && bytes_eq file (codes "-")
-keeps_input (verifies parts file) = bytes_eq file (codes "-")
+keeps_input (verifies parts file share) = bytes_eq file (codes "-")
 keeps_input (checks kind reporting by lists) = have_input lists
 keeps_input (checks_tags mac n key reporting by lists) = have_input lists
 keeps_input task = false
@@ -36,6 +36,7 @@ bytes_of chunks = if nat_lt (chunks * 1024) (2 ^ 64) then Some (chunks * 1024) e
 abbrev pub most_read : Asked → Option ℕ
 most_read (prints_part first chunks name) = option_and_then bytes_of chunks
 most_read (prints_starts chunks name) = bytes_of chunks
+most_read (prints_parts chunks name share) = if nat_lt 0 share.others then bytes_of chunks else None
 most_read task = None
 
 -- other runs do the other shares, and read the same files
@@ -43,4 +44,6 @@ abbrev pub is_shared : Asked → Bool
 is_shared (prints_lines sum names share) = nat_lt 0 share.others
 is_shared (checks kind reporting (these share) lists) = nat_lt 0 share.others
 is_shared (checks_tags mac n key reporting (these share) lists) = nat_lt 0 share.others
+is_shared (prints_parts chunks name share) = nat_lt 0 share.others
+is_shared (verifies parts file share) = nat_lt 0 share.others
 is_shared task = false

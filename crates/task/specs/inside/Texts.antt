@@ -7,7 +7,8 @@ use Rattle.task.specs.declared.fault.Setting.TheVariants as setting
 use Rattle.task.specs.declared.fault.UsageFault.{UsageFault}
 use Rattle.task.specs.declared.fault.UsageFault.TheVariants.{InputOnly, Needed, NotForAlgorithm, NotForCommand}
 use Rattle.task.specs.declared.fault.UsageFault.TheVariants.{NotHexadecimal, NotWithRaw, NotWithTag, OneFile, OneKey}
-use Rattle.task.specs.declared.fault.UsageFault.TheVariants.{FileOnly, NoCommand, NotWithEach, NotWithList}
+use Rattle.task.specs.declared.fault.UsageFault.TheVariants.{FileOnly, NoCommand, NotOfOnePart, NotWithEach}
+use Rattle.task.specs.declared.fault.UsageFault.TheVariants.{NotWithList}
 use Rattle.task.specs.declared.fault.UsageFault.TheVariants.{NotWithTold, NotWithVerify, OneSource}
 use Rattle.task.specs.declared.fault.UsageFault.TheVariants.{OutOfRange, WrongLength}
 
@@ -54,6 +55,7 @@ usage_texts (WrongLength s) = (word (setting_name s), codes ": wrong length\n")
 usage_texts OneKey = ([], codes "give one of --key and --key-file\n")
 usage_texts OneSource = ([], codes "give only one of FILE and --files0-from\n")
 usage_texts NoCommand = ([], codes "COMMAND: out of range\n")
+usage_texts (NotOfOnePart s) = (word (setting_name s), codes ": not of one part\n")
 
 -- the whole text
 abbrev pub fault_text : UsageFault → Text

@@ -62,8 +62,8 @@ task_shown (code.Line sum wanted name content) =
     prints_line (sum_shown sum) (option_map (λ v. v.items) wanted) name.now content.now
 task_shown (code.Part place name) = prints_part place.first place.chunks name.now
 task_shown (code.Starts parts name) = prints_starts parts.chunks name.now
-task_shown (code.Parts parts name) = prints_parts parts.chunks name.now
-task_shown (code.Verify parts name) = verifies parts.now name.now
+task_shown (code.Parts parts file) = prints_parts parts.chunks file.name.now file.share
+task_shown (code.Verify parts file) = verifies parts.now file.name.now file.share
 task_shown (code.Join joining wanted name lists) =
     joins joining.stretch joining.bytes (option_map (λ v. v.items) wanted) name.now (texts_of lists)
 task_shown (code.Kdf derivation is_raw material) = derives (derivation_shown derivation) is_raw material.now
