@@ -26,6 +26,7 @@ pub mod VerifiedParts
 pub mod VerifiedNames
 pub mod OwnParts
 pub mod OwnVerdicts
+pub mod SharedParts
 pub mod Listing
 pub mod Reporting
 pub mod Names

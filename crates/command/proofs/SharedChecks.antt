@@ -46,7 +46,7 @@ ends_quiet r none = on r.ending refl none
     on (Ok s) is none = (s, is)
     on (Err t) is none = cc
 
-quiet_ends : (r : Run) → Quiet r → Ends r
+pub quiet_ends : (r : Run) → Quiet r → Ends r
 quiet_ends r quiet = ends_quiet r (nil_both r.notes (end_of r.ending).1 quiet).1
 
 quiet_rest : (first rest : Run) → Quiet (followed first rest) → Ends first × Quiet rest
@@ -61,7 +61,7 @@ quiet_rest first rest quiet =
     last (Ok s) none = refl
     last (Err t) none = cc
 
-stopped : (r : Run) (t : ℕ × Text) → r.ending ≡ Err t → Ends r → ⊥
+pub stopped : (r : Run) (t : ℕ × Text) → r.ending ≡ Err t → Ends r → ⊥
 stopped r t is (s, ends) = cc
 
 followed_status : (first rest : Run) → Ends rest → status (followed first rest) ≡ max (status first) (status rest)

@@ -81,7 +81,7 @@ lined_highest [] = refl
 lined_highest (r ∷ runs) = ap₂ max (lined_status r) (lined_highest runs)
 
 -- that of a share is no greater
-below : (n k : ℕ) (runs : List Run) → highest (every n k runs) ≤ highest runs
+pub below : (n k : ℕ) (runs : List Run) → highest (every n k runs) ≤ highest runs
 below n k [] = omega arith
 below n zero (r ∷ runs) = let less = below n n runs in omega (arith, less)
 below n (suc k) (r ∷ runs) = let less = below n k runs in omega (arith, less)
@@ -123,7 +123,7 @@ reached_more n r runs rest = on (nat_lt (status r) (highest runs)) refl
               same = omega (arith, same, less);
             }
 
-reached : (n : ℕ) (runs : List Run) → Reached n runs
+pub reached : (n : ℕ) (runs : List Run) → Reached n runs
 reached n [] = record { k = 0; within = omega arith; same = refl }
 reached n (r ∷ runs) = reached_more n r runs (reached n runs)
 

@@ -2,7 +2,9 @@
 #![tactic(auto)]
 
 pub use fault::{Fault, tell};
-pub use laws::{check_share_laws, join_laws, keyed_laws, share_laws, visible_laws};
+pub use laws::{
+    check_share_laws, join_laws, keyed_laws, part_share_laws, share_laws, visible_laws,
+};
 pub use session::{Session, Streams, session_laws};
 pub use visible::write_visible;
 

@@ -198,7 +198,7 @@ low_first-bytes x (suc (suc zero)) = omega arith
 low_first-bytes x (suc (suc (suc zero))) = omega arith
 low_first-bytes x (suc (suc (suc (suc i)))) = omega arith
 
-word_bytes-bytes : (xs : List ℕ) → IsBytes (word_bytes 4 xs)
+pub word_bytes-bytes : (xs : List ℕ) → IsBytes (word_bytes 4 xs)
 unfolding word_bytes
 word_bytes-bytes [] = λ i. omega arith
 word_bytes-bytes (x ∷ xs) =

@@ -20,14 +20,14 @@ use Rattle.sumlist.proofs.InTurn.{before, is_skipped, other_before, put, seen, s
 
 -- ---- texts without LF
 
-literal : (t : List ℕ) → list_all (λ c. not (c == 10)) t ≡ true → HasNo 10 t
+pub literal : (t : List ℕ) → list_all (λ c. not (c == 10)) t ≡ true → HasNo 10 t
 literal t h = All-weaker (λ c. not (c == 10) ≡ true) (λ c. (c == 10) ≡ false) (λ c p. grind (arith, nat_tests)) t
     (AllPass-from_list_all _ t h)
 
 free_cons : (c : ℕ) (t : List ℕ) → (c == 10) ≡ false → HasNo 10 t → HasNo 10 (c ∷ t)
 free_cons c t other free = All-cons (λ x. (x == 10) ≡ false) c t other free
 
-free_append : (s t : List ℕ) → HasNo 10 s → HasNo 10 t → HasNo 10 (s ++ t)
+pub free_append : (s t : List ℕ) → HasNo 10 s → HasNo 10 t → HasNo 10 (s ++ t)
 free_append s t one other = All-append (λ x. (x == 10) ≡ false) s t one other
 
 free_nil : HasNo 10 []
@@ -64,7 +64,7 @@ digits_free (suc k) n after free =
     on true s t one other = one
     on false s t one other = other
 
-decimal_free : (n : ℕ) → HasNo 10 (decimal n)
+pub decimal_free : (n : ℕ) → HasNo 10 (decimal n)
 unfolding digits
 decimal_free n = digits_free 64 n [] free_nil
 
@@ -75,10 +75,10 @@ pub record Line (t : List ℕ) : Type 0 where
   pub is : t ≡ line ++ 10 ∷ []
   pub free : HasNo 10 line
 
-line_end : (t : List ℕ) → list_all (λ c. not (c == 10)) t ≡ true → Line (t ++ 10 ∷ [])
+pub line_end : (t : List ℕ) → list_all (λ c. not (c == 10)) t ≡ true → Line (t ++ 10 ∷ [])
 line_end t h = record { line = t; is = refl; free = literal t h }
 
-line_after : (front t : List ℕ) → HasNo 10 front → Line t → Line (front ++ t)
+pub line_after : (front t : List ℕ) → HasNo 10 front → Line t → Line (front ++ t)
 line_after front t free l = record {
   line = front ++ l.line;
   is = ap (λ s. front ++ s) l.is ∙ sym (append_assoc front l.line (10 ∷ []));
