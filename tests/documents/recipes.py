@@ -386,7 +386,9 @@ def check_page(bench):
         bench.judge(f"{page} faults, two", lambda: same(
             (bench.run(faults, folder, shell)[0], sorted(bench.run(faults, folder, shell)[1].splitlines())),
             (1, [b"a\\nb.iso: FAILED", b"two.iso: FAILED"]), "status and report"))
-        bench.judge(f"{page} some, wrong", lambda: ends(bench.run(some, folder), 1, b"two.iso: FAILED\n"))
+        bench.judge(f"{page} some, wrong", lambda: ends(
+            bench.run(some, folder), 1, b"two.iso: FAILED\n",
+            b"sums: LIST: all FAILED, untagged lines may need another -a\n"))
     write(folder, "SHA256SUMS", "")
     bench.judge(f"{page} some, none", lambda: ends(bench.run(some, folder), 1, b""))
 
