@@ -1,13 +1,12 @@
 -- What a share takes of things that come one after another.
 use Rattle.std.proofs.Common.{◌≡◌, ◌∙◌, ℕ, ◌+◌, ◌-◌, ◌≤◌, zero, suc, List, [], ◌∷◌, ◌++◌, length, ap, ap₂, refl, arith}
-use Rattle.std.proofs.Common.{◌<◌, codes, false, true}
+use Rattle.std.proofs.Common.{◌<◌, false, true}
 use Rattle.std.proofs.lemmas.Bool.Decides.{nat_tests}
 use Rattle.std.specs.List.{range_with_len}
-use Rattle.std.specs.Prelude.{◌&&◌, nat_lt}
-use Rattle.std.specs.Str.{bytes_eq}
-use Rattle.request.specs.CommandLine.{Text}
+use Rattle.std.specs.Prelude.{nat_lt}
 use Rattle.sumlist.specs.Shared.{every}
 use Rattle.sumlist.specs.declared.share.Share.{Share}
+use Rattle.task.specs.declared.sharing.SharedFile.{SharedFile}
 use Rattle.command.specs.Lines.{is_input}
 use Rattle.command.specs.inside.Cutting.{all_parts}
 
@@ -22,9 +21,10 @@ is_all s none within = ap₂ (λ i j. let t : Share = record { others = i; waiti
     (omega (arith, none, within))
 
 -- a file of which there are other shares is not standard input
-pub not_input : (s : Share) (name : Text) → 0 < s.others
-    → (nat_lt 0 s.others && bytes_eq name (codes "-")) ≡ false → is_input name ≡ false
-not_input s name some named = let other : nat_lt 0 s.others ≡ true = grind (arith, nat_tests) in rw other at named
+pub not_input : (file : SharedFile) → 0 < file.share.others → is_input file.name.now ≡ false
+not_input file some =
+    let other : nat_lt 0 file.share.others ≡ true = grind (arith, nat_tests) in
+    let named = file.named in rw other at named
 
 -- how many a share passes over behind these before its next
 abbrev pub waits : {A : Type 0} → ℕ → ℕ → List A → ℕ

@@ -48,7 +48,7 @@ impl<'i, 't, 'o, L: Feed, T: Tree, W: Sink> Session<'i, 't, 'o, L, T, W> {
         if file.share.others == 0 {
             return self.print_all_parts(parts.chunks, file.name);
         }
-        self.print_parts_of(parts.chunks, file.share, file.name)
+        self.print_parts_of(parts.chunks, file)
     }
 
     // Prints them from the content of the name.

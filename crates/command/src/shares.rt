@@ -23,32 +23,33 @@ use crate::verified::{read_verdict, status_of, write_told};
 use b3::{CHUNK_LEN, MOST_CHUNKS, PartValue};
 use partlist::{Joiner, PartReader, write_part};
 use source::{Feed, Sink};
-use sumlist::{Share, Tree, Verdict};
+use sumlist::{Tree, Verdict};
+use task::SharedFile;
 
 impl<'i, 't, 'o, L: Feed, T: Tree, W: Sink> Session<'i, 't, 'o, L, T, W> {
     /// Prints the lines of the parts of a file that a share takes, as `print_parts` does for such a share.
     pub(crate) fn print_parts_of<'n>(
         &mut self,
         chunks: u64,
-        share: Share,
-        name: &'n str,
+        file: SharedFile<'n>,
     ) -> Result<u8, Fault<'n>>
         requires chunks { IsPartLength chunks }
-        requires file { is_input name.now ≡ false }
-        ensures printed { IfContent name.entry.now (⟦<Self as Streams>⟧.seen self.old) (λ content. PrintsParts share
-            chunks name.entry.now content result (W.shown self.old.out.now) (W.shown self.new.out.now)) }
-        ensures counted { IfContent name.entry.now (⟦<Self as Streams>⟧.seen self.old) (λ content.
-            Counted (failed (is_input name.entry.now) content result)
+        requires others { 0 < file.share.others }
+        ensures printed { IfContent file.entry.name.now (⟦<Self as Streams>⟧.seen self.old) (λ content.
+            PrintsParts file.entry.share chunks file.entry.name.now content result
+            (W.shown self.old.out.now) (W.shown self.new.out.now)) }
+        ensures counted { IfContent file.entry.name.now (⟦<Self as Streams>⟧.seen self.old) (λ content.
+            Counted (failed (is_input file.entry.name.now) content result)
             (⟦<Self as Streams>⟧.seen self.old).input_failures (⟦<Self as Streams>⟧.seen self.new).input_failures
             (⟦<Self as Streams>⟧.seen self.old).file_failures (⟦<Self as Streams>⟧.seen self.new).file_failures) }
-        ensures opens { IfContent name.entry.now (⟦<Self as Streams>⟧.seen self.old) (λ content.
-            OpensAtMost (length (every share.others share.waiting (part_numbers chunks content)) + 2)
+        ensures opens { IfContent file.entry.name.now (⟦<Self as Streams>⟧.seen self.old) (λ content. OpensAtMost
+            (length (every file.entry.share.others file.entry.share.waiting (part_numbers chunks content)) + 2)
             (⟦<Self as Streams>⟧.seen self.old) (⟦<Self as Streams>⟧.seen self.new)) }
         ensures same { SameStreams self.old self.new }
         ensures memory { IsErrOf result Fault.OutOfMemory → (T.wants_memory ≡ true) ⊎ (self.new ≡ self.old) }
     {
         let mut run = room_for_run(self.alloc, chunks)?;
-        write_parts_of(chunks, share, run.as_mut_slice(), name, self.tree, self.out)
+        write_parts_of(chunks, run.as_mut_slice(), file, self.tree, self.out)
     }
 }
 
@@ -56,27 +57,26 @@ impl<'i, 't, 'o, L: Feed, T: Tree, W: Sink> Session<'i, 't, 'o, L, T, W> {
 // full, or before a part.
 fn write_parts_of<'n, T: Tree, W: Sink>(
     chunks: u64,
-    share: Share,
     run: &mut [u8],
-    name: &'n str,
+    file: SharedFile<'n>,
     tree: &mut T,
     out: &mut W,
 ) -> Result<u8, Fault<'n>>
     requires chunks { IsPartLength chunks }
     requires run { (e : ℕ) × (length run.old ≡ 1024 * 2 ^ e) }
     requires within { length run.old ≤ 1024 * chunks }
-    ensures printed { IfSome (T.files tree.old) (λ files. PrintsParts share chunks name.entry.now
-        (files name.entry.now) result (W.shown out.old) (W.shown out.new)) }
+    ensures printed { IfSome (T.files tree.old) (λ files. PrintsParts file.entry.share chunks file.entry.name.now
+        (files file.entry.name.now) result (W.shown out.old) (W.shown out.new)) }
     ensures counted { IfSome (T.files tree.old) (λ files. T.failure_count tree.new
-        ≡ count_after (T.failure_count tree.old) (failed false (files name.entry.now) result).files) }
-    ensures opens { IfSome (T.files tree.old) (λ files. T.opens tree.new ≤ T.opens tree.old
-        + (length (every share.others share.waiting (part_numbers chunks (files name.entry.now))) + 2)) }
+        ≡ count_after (T.failure_count tree.old) (failed false (files file.entry.name.now) result).files) }
+    ensures opens { IfSome (T.files tree.old) (λ files. T.opens tree.new ≤ T.opens tree.old + (length (every
+        file.entry.share.others file.entry.share.waiting (part_numbers chunks (files file.entry.name.now))) + 2)) }
     ensures memory { IsErrOf result Fault.OutOfMemory → T.wants_memory ≡ true }
 {
     let count = (MOST_CHUNKS - 1) / chunks + 1;
-    let mut number = share.waiting;
+    let mut number = file.share.waiting;
     'parts: while number < count {
-        let Some(part) = part_from(chunks * number, chunks, run, name, tree)? else {
+        let Some(part) = part_from(chunks * number, chunks, run, file.name, tree)? else {
             return Ok(0);
         };
         write_part(&part, out)?;
@@ -84,9 +84,9 @@ fn write_parts_of<'n, T: Tree, W: Sink>(
         if whole < chunks {
             return Ok(0);
         }
-        number = number.saturating_add(share.others).saturating_add(1);
+        number = number.saturating_add(file.share.others).saturating_add(1);
     }
-    end_within(name, tree)
+    end_within(file.name, tree)
 }
 
 // The part of a file from a chunk on, of this many chunks, or of fewer if the file ends.
@@ -139,24 +139,23 @@ pub(crate) fn verify_parts_of<'n, P: Feed, T: Tree, W: Sink>(
     run: &mut [u8],
     parts: &'n str,
     list: &mut P,
-    share: Share,
-    name: &'n str,
+    file: SharedFile<'n>,
     tree: &mut T,
     out: &mut W,
 ) -> Result<u8, Fault<'n>>
     requires run { length run.old ≡ 1024 * RUN }
-    requires file { is_input name.now ≡ false }
+    requires others { 0 < file.share.others }
     ensures compared { IfSome (P.remaining list.old) (λ text. IfSome (T.files tree.old) (λ files.
-        ComparesFile share parts.entry.now name.entry.now text (files name.entry.now) result
+        ComparesFile file.entry.share parts.entry.now file.entry.name.now text (files file.entry.name.now) result
         (W.shown out.old) (W.shown out.new) (P.failure_count list.old) (P.failure_count list.new)
         (T.failure_count tree.old) (T.failure_count tree.new))) }
-    ensures opens { IfSome (P.remaining list.old) (λ text. IfSome (T.files tree.old) (λ files.
-        T.opens tree.new ≤ T.opens tree.old + (length (every share.others share.waiting (lines text)) + 2))) }
+    ensures opens { IfSome (P.remaining list.old) (λ text. IfSome (T.files tree.old) (λ files. T.opens tree.new
+        ≤ T.opens tree.old + (length (every file.entry.share.others file.entry.share.waiting (lines text)) + 2))) }
     ensures memory { IsErrOf result Fault.OutOfMemory → T.wants_memory ≡ true }
 {
-    let file = open_file(name, 0, tree)?;
-    tree.close(file);
-    compare_parts_of(run, parts, list, share, name, tree, out)
+    let feed = open_file(file.name, 0, tree)?;
+    tree.close(feed);
+    compare_parts_of(run, parts, list, file, tree, out)
 }
 
 // Writes them where the file is there.
@@ -164,32 +163,32 @@ fn compare_parts_of<'n, P: Feed, T: Tree, W: Sink>(
     run: &mut [u8],
     parts: &'n str,
     list: &mut P,
-    share: Share,
-    name: &'n str,
+    file: SharedFile<'n>,
     tree: &mut T,
     out: &mut W,
 ) -> Result<u8, Fault<'n>>
     requires run { length run.old ≡ 1024 * RUN }
-    requires file { is_input name.now ≡ false }
-    ensures compared { IfSome (P.remaining list.old) (λ text. IfSome (told_content (T.files tree.old) name.entry.now)
-        (λ m. ComparesFeeds share parts.entry.now name.entry.now text m result
+    requires others { 0 < file.share.others }
+    ensures compared { IfSome (P.remaining list.old) (λ text.
+        IfSome (told_content (T.files tree.old) file.entry.name.now)
+        (λ m. ComparesFeeds file.entry.share parts.entry.now file.entry.name.now text m result
         (W.shown out.old) (W.shown out.new) (P.failure_count list.old) (P.failure_count list.new)
         (T.failure_count tree.old) (T.failure_count tree.new))) }
-    ensures opens { IfSome (P.remaining list.old) (λ text. IfSome (told_content (T.files tree.old) name.entry.now)
-        (λ m. T.opens tree.new ≤ T.opens tree.old
-        + (length (every share.others share.waiting (lines text)) + 1))) }
+    ensures opens { IfSome (P.remaining list.old) (λ text.
+        IfSome (told_content (T.files tree.old) file.entry.name.now) (λ m. T.opens tree.new
+        ≤ T.opens tree.old + (length (every file.entry.share.others file.entry.share.waiting (lines text)) + 1))) }
     ensures memory { IsErrOf result Fault.OutOfMemory → T.wants_memory ≡ true }
 {
     let (mut joiner, mut reader) = (Joiner::new(), PartReader::new());
-    let (mut left, mut status) = (share, 0);
+    let (mut left, mut status) = (file.share, 0);
     'parts: loop {
         let told = match joiner.add_next(&mut reader, list) {
             Ok(Some(told)) => told,
-            Ok(None) => return end_of_parts(status, joiner.count(), name, tree),
+            Ok(None) => return end_of_parts(status, joiner.count(), file.name, tree),
             Err(fault) => return Err(Fault::of_join(fault, parts)),
         };
         if left.takes_next() {
-            let verdict = verdict_at(&told, run, name, tree)?;
+            let verdict = verdict_at(&told, run, file.name, tree)?;
             write_told(&told, verdict, out)?;
             status = status.max(status_of(verdict));
         }

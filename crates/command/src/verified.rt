@@ -92,10 +92,10 @@ impl<'i, 't, 'o, L: Feed, T: Tree, W: Sink> Session<'i, 't, 'o, L, T, W> {
         ensures unwritten { file.entry.share.others ≡ 0 → IsErrOf result Fault.OutOfMemory
             → self.new.out.now ≡ self.old.out.now }
     {
-        let (name, share) = (file.name, file.share);
-        if share.others > 0 {
-            return verify_parts_of(run, parts, list, share, name, self.tree, self.out);
+        if file.share.others > 0 {
+            return verify_parts_of(run, parts, list, file, self.tree, self.out);
         }
+        let name = file.name;
         read_named!(self, name, 0, verify_feed(run, parts, list, name, self.out))
     }
 }

@@ -8,8 +8,8 @@ use Rattle.command.proofs.shares.compare_parts_of.Given as goal
 
 abbrev pub invariant-parts : goal.invariant-parts
 invariant-parts g l = record {
-  progress : Both (g.P.Feed.remaining l.initial.list) (told_content (g.T.Tree.files l.initial.tree) l.name)
-      (λ text m. OwnSoFar l.fn.share text m l.joiner (ahead l.reader) (g.P.Feed.remaining l.list) l.left l.status
+  progress : Both (g.P.Feed.remaining l.initial.list) (told_content (g.T.Tree.files l.initial.tree) l.fn.file.name.now)
+      (λ text m. OwnSoFar l.fn.file.share text m l.joiner (ahead l.reader) (g.P.Feed.remaining l.list) l.left l.status
       (g.W.Sink.shown l.initial.out) (g.W.Sink.shown l.out) (g.T.Tree.opens l.initial.tree) (g.T.Tree.opens l.tree)
       (g.T.Tree.failure_count l.initial.tree) (g.T.Tree.failure_count l.tree));
   list : g.P.Feed.failure_count l.list ≡ g.P.Feed.failure_count l.initial.list;

@@ -5,7 +5,7 @@ use Rattle.command.specs.inside.Streams.{seen_of}
 use Rattle.command.proofs.EachPart.{each_as, each_run}
 use Rattle.command.proofs.Opening.{part_opens-all, part_opens-share}
 use Rattle.command.proofs.Reading.{told_always, told_then}
-use Rattle.command.proofs.Turns.{is_all, not_input}
+use Rattle.command.proofs.Turns.{is_all}
 use Rattle.command.proofs.session.Session.print_parts.Goals as goal
 
 pub returns-then-file-eq0-clause-run : goal.returns-then-file-eq0-clause-run
@@ -17,7 +17,7 @@ returns-then-file-eq0-clause-run g c =
 pub print_parts_of-requires : goal.print_parts_of-requires
 print_parts_of-requires g c = record {
   chunks = (c.args.parts.some, c.args.parts.most, c.args.parts.power);
-  file = not_input c.args.file.share c.args.file.name.now (omega arith) c.args.file.named;
+  others = omega arith;
 }
 
 pub returns-clause-run : goal.returns-clause-run

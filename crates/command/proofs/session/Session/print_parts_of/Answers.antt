@@ -1,6 +1,7 @@
 use Rattle.std.proofs.Common.{arith}
 use Rattle.b3.proofs.Powers.{pow_from_ones}
 use Rattle.command.proofs.OwnParts.{counted_file, of_file, opened_file}
+use Rattle.command.proofs.Turns.{not_input}
 use Rattle.command.proofs.session.Session.print_parts_of.Goals as goal
 
 pub room_for_run-requires : goal.room_for_run-requires
@@ -10,15 +11,15 @@ room_for_run-requires g c =
 
 pub returns-clause-printed : goal.returns-clause-printed
 returns-clause-printed g c =
-    of_file c.args.share c.args.chunks c.args.name.now (g.L.Feed.remaining c.args.self.now.input.now)
-    (g.T.Tree.files c.args.self.now.tree.now) c.requires.file _ _ _ c.write_parts_of.ensures.printed
+    of_file c.args.file.share c.args.chunks c.args.file.name.now (g.L.Feed.remaining c.args.self.now.input.now)
+    (g.T.Tree.files c.args.self.now.tree.now) (not_input c.args.file c.requires.others) _ _ _ c.write_parts_of.ensures.printed
 
 pub returns-clause-counted : goal.returns-clause-counted
 returns-clause-counted g c =
-    counted_file c.args.share c.args.chunks c.args.name.now (g.L.Feed.remaining c.args.self.now.input.now)
-    (g.T.Tree.files c.args.self.now.tree.now) c.requires.file _ _ _ _ c.write_parts_of.ensures.counted
+    counted_file c.args.file.share c.args.chunks c.args.file.name.now (g.L.Feed.remaining c.args.self.now.input.now)
+    (g.T.Tree.files c.args.self.now.tree.now) (not_input c.args.file c.requires.others) _ _ _ _ c.write_parts_of.ensures.counted
 
 pub returns-clause-opens : goal.returns-clause-opens
 returns-clause-opens g c =
-    opened_file c.args.share c.args.chunks c.args.name.now (g.L.Feed.remaining c.args.self.now.input.now)
-    (g.T.Tree.files c.args.self.now.tree.now) c.requires.file _ _ c.write_parts_of.ensures.opens
+    opened_file c.args.file.share c.args.chunks c.args.file.name.now (g.L.Feed.remaining c.args.self.now.input.now)
+    (g.T.Tree.files c.args.self.now.tree.now) (not_input c.args.file c.requires.others) _ _ c.write_parts_of.ensures.opens

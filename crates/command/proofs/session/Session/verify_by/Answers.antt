@@ -28,25 +28,21 @@ returns-clause-run g c =
     (is_all c.args.file.share (omega arith) c.args.file.within) c.verify_feed-answer.ensures.compared)
     c.close.ensures.counted refl
 
-pub returns-then-share-gt0-clause-run : goal.returns-then-share-gt0-clause-run
-returns-then-share-gt0-clause-run g c =
+pub returns-then-file-gt0-clause-run : goal.returns-then-file-gt0-clause-run
+returns-then-file-gt0-clause-run g c =
     by_share c.args.file.share c.args.parts.now c.args.file.name.now (g.L.Feed.remaining c.args.self.now.input.now)
     (g.T.Tree.files c.args.self.now.tree.now) (g.P.Feed.remaining c.args.list.now) c.verify_parts_of.result
     (g.W.Sink.shown c.args.self.now.out.now) (g.W.Sink.shown c.verify_parts_of.new.out) _ _ _ _ _
-    (not_input c.args.file.share c.args.file.name.now (omega arith) c.args.file.named) c.verify_parts_of.ensures.compared
+    (not_input c.args.file (omega arith)) c.verify_parts_of.ensures.compared
 
-pub returns-then-share-gt0-clause-opens : goal.returns-then-share-gt0-clause-opens
-returns-then-share-gt0-clause-opens g c =
+pub returns-then-file-gt0-clause-opens : goal.returns-then-file-gt0-clause-opens
+returns-then-file-gt0-clause-opens g c =
     let file = c.args.file in
     both_told (g.P.Feed.remaining c.args.list.now) (always (g.P.Feed.remaining c.args.list.now) (λ text.
     part_opens-share file.share file.name.now (lines text) (omega arith))) c.verify_parts_of.ensures.opens
     (λ text own most. both_told (g.T.Tree.files c.args.self.now.tree.now)
     (always (g.T.Tree.files c.args.self.now.tree.now) (λ files. own)) most
     (λ files own most. omega (arith, own, most)))
-
-pub verify_parts_of-requires-clause-file : goal.verify_parts_of-requires-clause-file
-verify_parts_of-requires-clause-file g c =
-    not_input c.args.file.share c.args.file.name.now (omega arith) c.args.file.named
 
 pub returns-then-eq-clause-run : goal.returns-then-eq-clause-run
 returns-then-eq-clause-run g c =
