@@ -114,7 +114,7 @@ module _ (s : Share) (parts name : Text) (away : is_input name ≡ false) (lines
     own_end r position finds count i j w p ends =
         both_with lines_known file_known So (λ text m. ComparesFeeds s parts name text m r old mid i j u w)
         (λ m. EndsAt n position name m r × (w ≡ count_after v (failed false (Some m) r).files)) so ends
-        (λ text m o q. let at = ends_at s parts name text m joiner front list o.told n old mid i j u w o.said next ahead
+        (λ text m o q. let at = ends_at o.said next ahead
         after finds in on text m o at.0 (count o.told at.1) r q.0 q.1)
       where
         on : (text m : List ℕ) (o : So text m) → front ++ o.said.left ≡ [] → position ≡ bytes_of o.told
@@ -123,22 +123,22 @@ module _ (s : Share) (parts name : Text) (away : is_input name ≡ false) (lines
         on text m o none at (Ok status) e q =
             let few = e.1 in
             let quiet = o.quiet in
-            rw e.0 (ends_ok s parts name text m joiner front list o.told n old mid i j u w o.said none
+            rw e.0 (ends_ok o.said parts name i j u w none
             (omega (arith, few, at)) p (omega (arith, q, quiet)))
         on text m o none at (Err f) (inl e) q =
             let same : w ≡ count_after v 0 = rw e at q in
             let quiet = o.quiet in
-            ends_starved s parts name text m joiner front list o.told n old mid i j u w o.said f e p
+            ends_starved o.said parts name i j u w f e p
             (omega (arith, same, quiet))
         on text m o none at (Err f) (inr (inl e)) q =
             let same : w ≡ count_after v 1 = rw e at q in
-            ends_unread s parts name text m joiner front list o.told n old mid i j u w o.said f e p
+            ends_unread o.said parts name i j u w f e p
             (rw o.quiet at same)
         on text m o none at (Err f) (inr (inr e)) q =
             let more = e.1 in
             let same : w ≡ count_after v 0 = rw e.0 at q in
             let quiet = o.quiet in
-            ends_behind s parts name text m joiner front list o.told n old mid i j u w o.said f e.0 none
+            ends_behind o.said parts name i j u w f e.0 none
             (omega (arith, more, at)) p (omega (arith, same, quiet))
 
     -- a line is wrong, or was not read
@@ -147,7 +147,7 @@ module _ (s : Share) (parts name : Text) (away : is_input name ≡ false) (lines
         → (let r : Result (Option PartValue) JoinFault = Err fault in JoinCounts r i j) → Says (Err f) mid i j v
     own_fault f fault list_name same is finds i j p = both_then lines_known file_known So
         (λ text m. let r : Result ℕ Fault = Err f in ComparesFeeds s parts name text m r old mid i j u v) so
-        (λ text m o. ends_fault s parts name text m joiner front list o.told n old mid i j u v o.said next ahead after f
+        (λ text m o. ends_fault o.said next ahead after parts name i j u v f
         fault list_name same is finds p o.quiet)
 
     module _ (part : PartValue) (finds : Found (Ok (Some part))) (later : Share) (others : later.others ≡ left.others)
@@ -159,7 +159,7 @@ module _ (s : Share) (parts name : Text) (away : is_input name ≡ false) (lines
             (λ text m. OwnSoFar s text m next ahead after later n old mid k l u v) so (λ text m o.
             let over : waits s.others s.waiting o.told ≡ 0 → ⊥ = λ none. other (o.waiting ∙ none) in record {
               told = o.told ++ part ∷ [];
-              said = said_over s parts name text m joiner front list o.told n old mid 0 0 0 0 o.said next ahead after part
+              said = said_over o.said next ahead after part
                   finds over;
               others = others ∙ o.others;
               waiting = less ∙ ap (λ (k : ℕ). k - 1) o.waiting ∙ sym (waits-over s.others s.waiting o.told part over);
@@ -187,11 +187,11 @@ module _ (s : Share) (parts name : Text) (away : is_input name ≡ false) (lines
               on text m o (inl e) q =
                   let same : w ≡ count_after v 0 = rw e at q in
                   let quiet = o.quiet in
-                  ends_starved s parts name text m joiner front list o.told n old mid i j u w o.said f e p
+                  ends_starved o.said parts name i j u w f e p
                   (omega (arith, same, quiet))
               on text m o (inr (inl e)) q =
                   let same : w ≡ count_after v 1 = rw e at q in
-                  ends_unread s parts name text m joiner front list o.told n old mid i j u w o.said f e p
+                  ends_unread o.said parts name i j u w f e p
                   (rw o.quiet at same)
               on text m o (inr (inr e)) q = absurd e
 
@@ -206,8 +206,8 @@ module _ (s : Share) (parts name : Text) (away : is_input name ≡ false) (lines
                 (Judged (Ok verdict)) so judges (λ text m o it.
                 let same = it.1 in
                 let quiet = o.quiet in
-                ends_unwritten s parts name text m joiner front list o.told n old mid i j u w o.said next ahead after part
-                finds (sym o.waiting ∙ own_next) verdict it.0 new f is failed p (omega (arith, same, quiet))))
+                ends_unwritten o.said next ahead after part finds (sym o.waiting ∙ own_next) verdict it.0
+                parts name i j u w new f is failed p (omega (arith, same, quiet))))
 
             pub own_more : (code h : ℕ) → code ≡ max n (status_of verdict) → later.waiting ≡ left.others → h ≤ l + 1
                 → Done mid new (line_said part verdict)
@@ -226,7 +226,7 @@ module _ (s : Share) (parts name : Text) (away : is_input name ≡ false) (lines
                 let quiet = o.quiet in
                 record {
                   told = o.told ++ part ∷ [];
-                  said = said_more s parts name text m joiner front list o.told n old mid 0 0 0 0 o.said next ahead after
+                  said = said_more o.said next ahead after
                       part finds now verdict it.0 new code is done;
                   others = others ∙ o.others;
                   waiting = full ∙ o.others ∙ sym (waits-more s.others s.waiting o.told part now);

@@ -236,9 +236,8 @@ Does-begun : (front : Text) (end : Run) (f : Fault) (old new : Shown) → end.en
 Does-begun front end f old new is whole done =
     record { ending = is; out = rw whole done; cut = λ no. let e = sym whole ∙ no in cc }
 
-module _ (s : Share) (parts name : Text) (text m : List ℕ) (joiner : Joiner) (front : List ℕ)
-    (list : Option (List ℕ)) (told : List PartValue) (n : ℕ) (old mid : Shown) (i j u v : ℕ)
-    (so : Said s text m joiner front list told n old mid) where
+module _ {s : Share} {text m : List ℕ} {joiner : Joiner} {front : List ℕ} {list : Option (List ℕ)}
+    {told : List PartValue} {n : ℕ} {old mid : Shown} (so : Said s text m joiner front list told n old mid) where
   -- those of the parts that are the share's
   abbrev own : List PartValue
   own = every s.others s.waiting told
@@ -249,113 +248,114 @@ module _ (s : Share) (parts name : Text) (text m : List ℕ) (joiner : Joiner) (
   row : AreInRow told
   row = row-is joiner.row told so.joined.row
 
-  -- no more is said, by what the run ends with
-  ends_by : (after : List (List ℕ)) → lines (front ++ so.left) ≡ after → (end : Run)
-      → VerifyEnds parts name text m told own after end → Compares s parts name text m (record end { text = said })
-  ends_by after is end ends =
-      (so.before, after, told, so.split ∙ ap (λ ls. so.before ++ ls) is, so.tells, row, inr (end, ends, refl))
-
   none_after : front ++ so.left ≡ [] → lines (front ++ so.left) ≡ []
   none_after none = ap lines none
 
-  pub ends_ok : front ++ so.left ≡ [] → length m ≤ bytes_of told → j ≡ i → v ≡ u
-      → Compared s parts name text m (Ok n) old mid i j u v
-  ends_ok none few p q =
-      let test : nat_lt (bytes_of told) (length m) ≡ false = grind (arith, nat_tests) in (
-        prints said (status m own),
-        ends_by [] (none_after none) (prints [] (status m own)) (inl (refl, rw test refl)),
-        record { ending = ap Ok (sym so.status_is); out = so.written; cut = λ e. cc },
-        refl,
-        0,
-        failures_from (is_input name) 0,
-        quiet_both (is_input name),
-        omega (arith, p),
-        (0, refl, omega (arith, q)),
-      )
+  module _ (parts name : Text) (i j u v : ℕ) where
+    -- no more is said, by what the run ends with
+    ends_by : (after : List (List ℕ)) → lines (front ++ so.left) ≡ after → (end : Run)
+        → VerifyEnds parts name text m told own after end → Compares s parts name text m (record end { text = said })
+    ends_by after is end ends =
+        (so.before, after, told, so.split ∙ ap (λ ls. so.before ++ ls) is, so.tells, row, inr (end, ends, refl))
 
-  pub ends_behind : (f : Fault) → trouble_of f ≡ bytes_behind name → front ++ so.left ≡ [] → bytes_of told < length m
-      → j ≡ i → v ≡ u → Compared s parts name text m (Err f) old mid i j u v
-  ends_behind f is none more p q =
-      let test : nat_lt (bytes_of told) (length m) ≡ true = grind (arith, nat_tests) in
-      let end : Run = stops (of_name name (codes ": bytes behind the last part\n")) in (
-        record end { text = said },
-        ends_by [] (none_after none) end (inl (refl, rw test refl)),
-        Does-begun said end f old mid (ap (λ t. Err (shown t)) (sym is)) refl so.written,
-        refl,
-        0,
-        failures_from (is_input name) 0,
-        quiet_both (is_input name),
-        omega (arith, p),
-        (0, refl, omega (arith, q)),
-      )
+    pub ends_ok : front ++ so.left ≡ [] → length m ≤ bytes_of told → j ≡ i → v ≡ u
+        → Compared s parts name text m (Ok n) old mid i j u v
+    ends_ok none few p q =
+        let test : nat_lt (bytes_of told) (length m) ≡ false = grind (arith, nat_tests) in (
+          prints said (status m own),
+          ends_by [] (none_after none) (prints [] (status m own)) (inl (refl, rw test refl)),
+          record { ending = ap Ok (sym so.status_is); out = so.written; cut = λ e. cc },
+          refl,
+          0,
+          failures_from (is_input name) 0,
+          quiet_both (is_input name),
+          omega (arith, p),
+          (0, refl, omega (arith, q)),
+        )
 
-  -- a read of the file failed
-  pub ends_unread : (f : Fault) → trouble_of f ≡ cannot_read name → j ≡ i → v ≡ count_after u 1
-      → Compared s parts name text m (Err f) old mid i j u v
-  ends_unread f is p q =
-      let end : Run = record (stops (of_name name (codes ": cannot read\n"))) { failures = is_input name ∷ [] } in (
-        record end { text = said },
-        ends_by (lines (front ++ so.left)) refl end (inr (inr (inr (inr refl)))),
-        Does-begun said end f old mid (ap (λ t. Err (shown t)) (sym is)) refl so.written,
-        refl,
-        0,
-        failures_from (is_input name) 1,
-        file_failed (is_input name),
-        omega (arith, p),
-        (1, refl, q),
-      )
+    pub ends_behind : (f : Fault) → trouble_of f ≡ bytes_behind name → front ++ so.left ≡ [] → bytes_of told < length m
+        → j ≡ i → v ≡ u → Compared s parts name text m (Err f) old mid i j u v
+    ends_behind f is none more p q =
+        let test : nat_lt (bytes_of told) (length m) ≡ true = grind (arith, nat_tests) in
+        let end : Run = stops (of_name name (codes ": bytes behind the last part\n")) in (
+          record end { text = said },
+          ends_by [] (none_after none) end (inl (refl, rw test refl)),
+          Does-begun said end f old mid (ap (λ t. Err (shown t)) (sym is)) refl so.written,
+          refl,
+          0,
+          failures_from (is_input name) 0,
+          quiet_both (is_input name),
+          omega (arith, p),
+          (0, refl, omega (arith, q)),
+        )
 
-  -- memory ran out
-  pub ends_starved : (f : Fault) → trouble_of f ≡ out_of_memory → j ≡ i → v ≡ u
-      → Compared s parts name text m (Err f) old mid i j u v
-  ends_starved f is p q =
-      let end : Run = stops run_out_of_memory in (
-        record end { text = said },
-        ends_by (lines (front ++ so.left)) refl end (inr (inr (inr (inl refl)))),
-        Does-begun said end f old mid (ap (λ t. Err (shown t)) (sym is)) refl so.written,
-        refl,
-        0,
-        failures_from (is_input name) 0,
-        quiet_both (is_input name),
-        omega (arith, p),
-        (0, refl, omega (arith, q)),
-      )
+    -- a read of the file failed
+    pub ends_unread : (f : Fault) → trouble_of f ≡ cannot_read name → j ≡ i → v ≡ count_after u 1
+        → Compared s parts name text m (Err f) old mid i j u v
+    ends_unread f is p q =
+        let end : Run = record (stops (of_name name (codes ": cannot read\n"))) { failures = is_input name ∷ [] } in (
+          record end { text = said },
+          ends_by (lines (front ++ so.left)) refl end (inr (inr (inr (inr refl)))),
+          Does-begun said end f old mid (ap (λ t. Err (shown t)) (sym is)) refl so.written,
+          refl,
+          0,
+          failures_from (is_input name) 1,
+          file_failed (is_input name),
+          omega (arith, p),
+          (1, refl, q),
+        )
 
-  -- a read of the lines failed
-  pub ends_unlisted : (f : Fault) → trouble_of f ≡ cannot_read parts → j ≡ count_after i 1 → v ≡ u
-      → Compared s parts name text m (Err f) old mid i j u v
-  ends_unlisted f is p q =
-      let end : Run = record (stops (of_name parts (codes ": cannot read\n"))) { failures = false ∷ [] } in (
-        record end { text = said },
-        ends_by (lines (front ++ so.left)) refl end (inr (inr (inl (inr refl)))),
-        Does-begun said end f old mid (ap (λ t. Err (shown t)) (sym is)) refl so.written,
-        refl,
-        1,
-        failures_from (is_input name) 0,
-        list_failed (is_input name),
-        p,
-        (0, refl, omega (arith, q)),
-      )
+    -- memory ran out
+    pub ends_starved : (f : Fault) → trouble_of f ≡ out_of_memory → j ≡ i → v ≡ u
+        → Compared s parts name text m (Err f) old mid i j u v
+    ends_starved f is p q =
+        let end : Run = stops run_out_of_memory in (
+          record end { text = said },
+          ends_by (lines (front ++ so.left)) refl end (inr (inr (inr (inl refl)))),
+          Does-begun said end f old mid (ap (λ t. Err (shown t)) (sym is)) refl so.written,
+          refl,
+          0,
+          failures_from (is_input name) 0,
+          quiet_both (is_input name),
+          omega (arith, p),
+          (0, refl, omega (arith, q)),
+        )
 
-  -- a line tells no part behind those before it
-  pub ends_wrong : (f : Fault) (number : ℕ) (fault : PartFault) → trouble_of f ≡ bad_line parts number fault
-      → IsStopped (lines (front ++ so.left)) told (Line number fault) → j ≡ i → v ≡ u
-      → Compared s parts name text m (Err f) old mid i j u v
-  ends_wrong f number fault is (line, rest, cut, place, wrong) p q =
-      let end : Run =
-      stops (of_name parts (codes ": line " ++ (decimal (length told + 1) ++ line_complaint fault))) in
-      let cause : Err (shown (bad_line parts (length told + 1) fault)) ≡ Err (shown (trouble_of f))
-      = ap (λ (k : ℕ). Err (shown (bad_line parts k fault))) (sym place) ∙ ap (λ t. Err (shown t)) (sym is) in (
-        record end { text = said },
-        ends_by (lines (front ++ so.left)) refl end (inr (inl (line, rest, cut, fault, wrong, refl))),
-        Does-begun said end f old mid cause refl so.written,
-        refl,
-        0,
-        failures_from (is_input name) 0,
-        quiet_both (is_input name),
-        omega (arith, p),
-        (0, refl, omega (arith, q)),
-      )
+    -- a read of the lines failed
+    pub ends_unlisted : (f : Fault) → trouble_of f ≡ cannot_read parts → j ≡ count_after i 1 → v ≡ u
+        → Compared s parts name text m (Err f) old mid i j u v
+    ends_unlisted f is p q =
+        let end : Run = record (stops (of_name parts (codes ": cannot read\n"))) { failures = false ∷ [] } in (
+          record end { text = said },
+          ends_by (lines (front ++ so.left)) refl end (inr (inr (inl (inr refl)))),
+          Does-begun said end f old mid (ap (λ t. Err (shown t)) (sym is)) refl so.written,
+          refl,
+          1,
+          failures_from (is_input name) 0,
+          list_failed (is_input name),
+          p,
+          (0, refl, omega (arith, q)),
+        )
+
+    -- a line tells no part behind those before it
+    pub ends_wrong : (f : Fault) (number : ℕ) (fault : PartFault) → trouble_of f ≡ bad_line parts number fault
+        → IsStopped (lines (front ++ so.left)) told (Line number fault) → j ≡ i → v ≡ u
+        → Compared s parts name text m (Err f) old mid i j u v
+    ends_wrong f number fault is (line, rest, cut, place, wrong) p q =
+        let end : Run =
+        stops (of_name parts (codes ": line " ++ (decimal (length told + 1) ++ line_complaint fault))) in
+        let cause : Err (shown (bad_line parts (length told + 1) fault)) ≡ Err (shown (trouble_of f))
+        = ap (λ (k : ℕ). Err (shown (bad_line parts k fault))) (sym place) ∙ ap (λ t. Err (shown t)) (sym is) in (
+          record end { text = said },
+          ends_by (lines (front ++ so.left)) refl end (inr (inl (line, rest, cut, fault, wrong, refl))),
+          Does-begun said end f old mid cause refl so.written,
+          refl,
+          0,
+          failures_from (is_input name) 0,
+          quiet_both (is_input name),
+          omega (arith, p),
+          (0, refl, omega (arith, q)),
+        )
 
   module _ (next : Joiner) (ahead : List ℕ) (after : Option (List ℕ)) where
     abbrev pub Finds : Result (Option PartValue) JoinFault → Type 0
@@ -369,13 +369,14 @@ module _ (s : Share) (parts name : Text) (text m : List ℕ) (joiner : Joiner) (
     pub ends_at : Finds (Ok None) → (front ++ so.left ≡ []) × HasJoined next told
     ends_at line = (found (Ok None) line).2
 
-    pub ends_fault : (f : Fault) (fault : JoinFault) (name_of : Bor Text) → name_of.now ≡ parts
+    pub ends_fault : (parts name : Text) (i j u v : ℕ) (f : Fault) (fault : JoinFault) (name_of : Bor Text) → name_of.now ≡ parts
         → f ≡ of_join fault name_of → Finds (Err fault)
         → (let r : Result (Option PartValue) JoinFault = Err fault in JoinCounts r i j) → v ≡ u
         → Compared s parts name text m (Err f) old mid i j u v
-    ends_fault f Read name_of same is line p q = ends_unlisted f (ap trouble_of is ∙ ap cannot_read same) p q
-    ends_fault f (Line number fault) name_of same is line p q =
-        ends_wrong f number fault (ap trouble_of is ∙ ap (λ (l : Text). bad_line l number fault) same)
+    ends_fault parts name i j u v f Read name_of same is line p q =
+        ends_unlisted parts name i j u v f (ap trouble_of is ∙ ap cannot_read same) p q
+    ends_fault parts name i j u v f (Line number fault) name_of same is line p q =
+        ends_wrong parts name i j u v f number fault (ap trouble_of is ∙ ap (λ (l : Text). bad_line l number fault) same)
         (found (Err (Line number fault)) line).2 p q
 
     module _ (part : PartValue) (finds : Finds (Ok (Some part))) where
@@ -444,9 +445,9 @@ module _ (s : Share) (parts name : Text) (text m : List ℕ) (joiner : Joiner) (
             }
 
         -- a write of its line failed
-        pub ends_unwritten : (new : Shown) (f : Fault) → trouble_of f ≡ cannot_write → Failed mid new (line_said part w)
+        pub ends_unwritten : (parts name : Text) (i j u v : ℕ) (new : Shown) (f : Fault) → trouble_of f ≡ cannot_write → Failed mid new (line_said part w)
             → j ≡ i → v ≡ u → Compared s parts name text m (Err f) old new i j u v
-        ends_unwritten new f is failed p q =
+        ends_unwritten parts name i j u v new f is failed p q =
             let np = next_part in
             let all : Text = flat_map (verdict_line m) (every s.others s.waiting (told ++ part ∷ [])) in (
               unprinted all,
@@ -494,17 +495,17 @@ module _ (parts name : Text) (lines_known file_known : Option (List ℕ)) (joine
     pub says_all : has_ended ≡ true → Found (Ok None) → (i j u v : ℕ) → j ≡ i → v ≡ u → Says (Ok n) mid i j u v
     says_all ended finds i j u v p q = both_then lines_known file_known So
         (λ text m. ComparesFeeds all_parts parts name text m (Ok n) old mid i j u v) so (λ text m s.
-        let none = (ends_at all_parts parts name text m joiner front list s.told n old mid i j u v s.said
+        let none = (ends_at s.said
         next ahead after finds).0 in
         let is : nat_lt (length m) (bytes_of s.told) ≡ true = sym s.ended ∙ ended in
         let short : length m < bytes_of s.told = grind (arith, nat_tests) in
-        ends_ok all_parts parts name text m joiner front list s.told n old mid i j u v s.said none (omega (arith, short)) p q)
+        ends_ok s.said parts name i j u v none (omega (arith, short)) p q)
 
     pub says_end : (r : Result ℕ Fault) → Found (Ok None) → IfSome file (λ rest. EndsWith n name rest r)
         → (i j u v : ℕ) → j ≡ i → v ≡ count_after u (failed true (Some []) r).input → Says r mid i j u v
     says_end r finds ends i j u v p q = both_then lines_known file_known So
         (λ text m. ComparesFeeds all_parts parts name text m r old mid i j u v) so (λ text m s.
-        on text m s (ends_at all_parts parts name text m joiner front list s.told n old mid i j u v s.said
+        on text m s (ends_at s.said
         next ahead after finds).0 r (rw s.file_is at ends) q)
       where
         on : (text m : List ℕ) (s : So text m) → front ++ s.said.left ≡ [] → (r : Result ℕ Fault)
@@ -513,16 +514,16 @@ module _ (parts name : Text) (lines_known file_known : Option (List ℕ)) (joine
         on text m s none (Ok k) e q =
             let size = length-drop (bytes_of s.told) m in
             let zero = ap length e.1 in
-            rw e.0 (ends_ok all_parts parts name text m joiner front list s.told n old mid i j u v s.said none
+            rw e.0 (ends_ok s.said parts name i j u v none
             (omega (arith, size, zero)) p (omega (arith, q)))
         on text m s none (Err f) (inl e) q =
             let size = length-drop (bytes_of s.told) m in
             let some = e.1 in
             let same : v ≡ count_after u 0 = rw e.0 at q in
-            ends_behind all_parts parts name text m joiner front list s.told n old mid i j u v s.said f e.0 none
+            ends_behind s.said parts name i j u v f e.0 none
             (omega (arith, size, some)) p (omega (arith, same))
         on text m s none (Err f) (inr e) q =
-            ends_unread all_parts parts name text m joiner front list s.told n old mid i j u v s.said f e p (rw e at q)
+            ends_unread s.said parts name i j u v f e p (rw e at q)
 
     pub says_fault : (f : Fault) (fault : JoinFault) (list_name : Bor Text) → list_name.now ≡ parts
         → f ≡ of_join fault list_name → Found (Err fault) → (i j u v : ℕ)
@@ -530,7 +531,7 @@ module _ (parts name : Text) (lines_known file_known : Option (List ℕ)) (joine
         → Says (Err f) mid i j u v
     says_fault f fault list_name same is finds i j u v p q = both_then lines_known file_known So
         (λ text m. let r : Result ℕ Fault = Err f in ComparesFeeds all_parts parts name text m r old mid i j u v) so (λ text m s.
-        ends_fault all_parts parts name text m joiner front list s.told n old mid i j u v s.said next ahead after f fault
+        ends_fault s.said next ahead after parts name i j u v f fault
         list_name same is finds p q)
 
     module _ (part : PartValue) (finds : Found (Ok (Some part))) (file' : Option (List ℕ)) where
@@ -545,7 +546,7 @@ module _ (parts name : Text) (lines_known file_known : Option (List ℕ)) (joine
           rw (e.1, e.2) (both_then lines_known file_known So
           (λ text m. let r : Result ℕ Fault = Err f in ComparesFeeds all_parts parts name text m r old mid i j u v) so
           (λ text m s. let is = cannot (drop (bytes_of s.told) m) has_ended (rw s.file_is at judges) in
-          ends_unread all_parts parts name text m joiner front list s.told n old mid i j u v s.said f is p (rw is at q)))
+          ends_unread s.said parts name i j u v f is p (rw is at q)))
         where
           cannot : (rest : List ℕ) (ended : Bool)
               → (let w : Result Verdict Fault = Err f in JudgesNext ended part name rest file' w)
@@ -558,7 +559,7 @@ module _ (parts name : Text) (lines_known file_known : Option (List ℕ)) (joine
         is_judged : (text m : List ℕ) (s : So text m)
             → (w ≡ mark m part) × (file' ≡ Some (drop (bytes_of (s.told ++ part ∷ [])) m))
         is_judged text m s =
-            let place = (next_part all_parts parts name text m joiner front list s.told n old mid 0 0 0 0 s.said next
+            let place = (next_part s.said next
             ahead after part finds).place in
             judged m s.told part name has_ended file' w place s.ended (rw s.file_is at judges)
 
@@ -568,8 +569,8 @@ module _ (parts name : Text) (lines_known file_known : Option (List ℕ)) (joine
             let e = err_from_is_err_and r stopped in
             rw (e.1, e.2) (both_then lines_known file_known So
             (λ text m. let r : Result ℕ Fault = Err f in ComparesFeeds all_parts parts name text m r old new i j u v) so
-            (λ text m s. ends_unwritten all_parts parts name text m joiner front list s.told n old mid i j u v s.said
-            next ahead after part finds (waits-all s.told) w (is_judged text m s).0 new f is failed p q))
+            (λ text m s. ends_unwritten s.said next ahead after part finds (waits-all s.told) w (is_judged text m s).0
+            parts name i j u v new f is failed p q))
 
         pub so_more : (k : ℕ) (ends : Bool) → k ≡ max n (status_of w) → ends ≡ is_missing w
             → Done mid new (line_said part w)
@@ -578,11 +579,11 @@ module _ (parts name : Text) (lines_known file_known : Option (List ℕ)) (joine
             (λ text m. SoFar text m next ahead after file' k ends old new) so (λ text m s.
             let it = is_judged text m s in
             let more = bytes_of-more s.told part in
-            let place = (next_part all_parts parts name text m joiner front list s.told n old mid 0 0 0 0 s.said next
+            let place = (next_part s.said next
             ahead after part finds).place in
             record {
               told = s.told ++ part ∷ [];
-              said = said_more all_parts parts name text m joiner front list s.told n old mid 0 0 0 0 s.said next ahead
+              said = said_more s.said next ahead
                   after part finds (waits-all s.told) w it.0 new k is done;
               file_is = it.1;
               ended = end ∙ ap is_missing it.0 ∙ verdict_ends m part
