@@ -10,6 +10,7 @@ import contextlib
 import functools
 import hashlib
 import hmac
+import itertools
 import os
 import pty
 import resource
@@ -113,6 +114,8 @@ LONG = b"x" * 300_000
 # How many seconds a run has whose files are pipes, and the number of the user that has no files.
 PATIENCE = 60
 NOBODY = 65534
+# The numbers of the pipes.
+PIPES = itertools.count()
 # How many files are made at most for one with a given number.
 MOST_FILES = 1_000_000
 CANNOT_READ = b"sums: this: cannot read\n"
@@ -222,19 +225,23 @@ def pipes_of_shares():
 
 
 def of_pipe(content, words, given=b""):
-    """A run over a pipe of this content."""
-    os.mkfifo("this")
-    threading.Thread(target=fill, args=(os.path.abspath("this"), content), daemon=True).start()
+    """A run over a pipe of this content. It is filled by a name of its own, so that who comes late, to a run that has
+    not opened it, does not fill the next pipe."""
+    own = os.path.abspath(f"pipe {next(PIPES)}")
+    os.mkfifo(own)
+    os.link(own, "this")
+    threading.Thread(target=fill, args=(own, content), daemon=True).start()
     try:
         return harness.run(program, words, given, timeout=PATIENCE)
     except subprocess.TimeoutExpired:
         return f"no end after {PATIENCE} seconds"
     finally:
         os.remove("this")
+        os.remove(own)
 
 
 def fill(pipe, content):
-    with contextlib.suppress(BrokenPipeError), open(pipe, "wb") as file:
+    with contextlib.suppress(BrokenPipeError, FileNotFoundError), open(os.open(pipe, os.O_WRONLY), "wb") as file:
         file.write(content)
 
 
