@@ -8,7 +8,7 @@ use words::level;
 
 // Ch, with one operation fewer.
 #[inline(always)]
-fn choice(x: u64, y: u64, z: u64) -> u64
+pub(crate) fn choice(x: u64, y: u64, z: u64) -> u64
     ensures { result ≡ Sha512.ch x y z }
 {
     z ^ (x & (y ^ z))
@@ -16,7 +16,7 @@ fn choice(x: u64, y: u64, z: u64) -> u64
 
 // Maj: the `x ^ y` of a round is the `y ^ z` of the next, so it is computed once.
 #[inline(always)]
-fn majority(x: u64, y: u64, z: u64) -> u64
+pub(crate) fn majority(x: u64, y: u64, z: u64) -> u64
     ensures { result ≡ Sha512.maj x y z }
 {
     y ^ ((x ^ y) & (y ^ z))
@@ -25,7 +25,7 @@ fn majority(x: u64, y: u64, z: u64) -> u64
 // The two functions below nest their rotations below x86-64-v3, where a rotation overwrites what it rotates: that takes
 // fewer copies of `x`.
 #[inline(always)]
-fn big_sigma0(x: u64) -> u64
+pub(crate) fn big_sigma0(x: u64) -> u64
     ensures { result ≡ Sha512.big_sigma0 x }
 {
     if level() < 3 {
@@ -35,7 +35,7 @@ fn big_sigma0(x: u64) -> u64
 }
 
 #[inline(always)]
-fn big_sigma1(x: u64) -> u64
+pub(crate) fn big_sigma1(x: u64) -> u64
     ensures { result ≡ Sha512.big_sigma1 x }
 {
     if level() < 3 {
