@@ -145,7 +145,8 @@ pub(crate) fn tree_over(parameters: &Parameters, first: u64, bytes: &[u8]) -> No
     if let Some(level) = level_of(bytes.len()) {
         return run_over(parameters, first, level, bytes);
     }
-    if bytes.len() <= GROUP_LEN {
+    // A chunk and the beginning of another need no lanes.
+    if 2 * CHUNK_LEN <= bytes.len() && bytes.len() <= GROUP_LEN {
         return group_over(parameters, first, bytes);
     }
     let chunks = greatest_power_below((bytes.len() - 1) / CHUNK_LEN + 1);
