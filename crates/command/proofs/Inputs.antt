@@ -1,14 +1,15 @@
--- What was counted where standard input was read.
-use Rattle.std.proofs.Common.{◌≡◌, ◌∙◌, ℕ, Bool, true, List, [], Option, Some, None, IfSome, Result, Ok, Err, sym, ap}
+-- What was made and counted where standard input or a file was read.
+use Rattle.std.proofs.Common.{◌≡◌, ◌∙◌, ℕ, Bool, true, false, List, [], Option, Some, None, IfSome, Result, Ok, Err, sym, ap}
 use Rattle.std.proofs.Common.{subst}
 use Rattle.std.proofs.Common.{arith, if◌then◌else◌}
 use Rattle.request.specs.CommandLine.{Text}
 use Rattle.source.specs.Counts.{count_after}
 use Rattle.sumlist.specs.Report.{Files}
 use Rattle.command.specs.Lines.{content_of, is_input}
-use Rattle.command.specs.inside.Reading.{failed}
+use Rattle.command.specs.inside.Reading.{Reads, failed}
 use Rattle.command.specs.inside.Troubles.{Counted, trouble_of}
 use Rattle.command.specs.declared.fault.Fault.{Fault}
+use Rattle.command.specs.declared.making.Made.{Made}
 use Rattle.command.proofs.Refused.{same_reads}
 
 of_bytes : (T : Type 0) (m : List ℕ) (r : Result T Fault) (i j u : ℕ)
@@ -27,3 +28,52 @@ Counted-input T name (Some m) (Some files) r i j u is counted =
     subst (λ (b : Bool). Counted (failed b (content_of name m files) r) i j u u) (sym is)
     (subst (λ (known : Option (List ℕ)). Counted (failed true known r) i j u u) (sym content)
     (of_bytes T m r i j u counted))
+
+-- what was made of standard input was made of the name's content
+pub Reads-input : (name : Text) (first : Option (List ℕ)) (tree : Option Files) (limit : ℕ)
+    (is : List ℕ → Made → Type 0) (r : Result Made Fault) → is_input name ≡ true
+    → IfSome first (λ bytes. Reads limit is name (Some bytes) r)
+    → IfSome first (λ bytes. IfSome tree (λ files. Reads limit is name (content_of name bytes files) r))
+Reads-input name None tree limit is r input made = tt
+Reads-input name (Some m) None limit is r input made = tt
+Reads-input name (Some m) (Some files) limit is r input made =
+    let content : content_of name m files ≡ Some m = ap (λ (b : Bool). if b then Some m else files name) input in
+    subst (λ (known : Option (List ℕ)). Reads limit is name known r) (sym content) made
+
+-- and so was what was made of a file that was opened
+pub Reads-file : {F : Type 0} (name : Text) (remaining : F → Option (List ℕ)) (feed : F) (first : Option (List ℕ))
+    (tree : Option Files) (limit : ℕ) (is : List ℕ → Made → Type 0) (r : Result Made Fault) → is_input name ≡ false
+    → IfSome tree (λ files. (m : List ℕ) × (files name ≡ Some m) × (remaining feed ≡ Some m))
+    → IfSome (remaining feed) (λ bytes. Reads limit is name (Some bytes) r)
+    → IfSome first (λ bytes. IfSome tree (λ files. Reads limit is name (content_of name bytes files) r))
+Reads-file name remaining feed None tree limit is r away opened made = tt
+Reads-file name remaining feed (Some input) None limit is r away opened made = tt
+Reads-file name remaining feed (Some input) (Some files) limit is r away opened made =
+    let content : content_of name input files ≡ Some opened.0 =
+    ap (λ (b : Bool). if b then Some input else files name) away ∙ opened.1 in
+    let read : Reads limit is name (Some opened.0) r = rw opened.2 at made in
+    subst (λ (known : Option (List ℕ)). Reads limit is name known r) (sym content) read
+
+of_file : (T : Type 0) (m : List ℕ) (r : Result T Fault) (i u v w x y : ℕ) → v ≡ count_after u 0 → w ≡ 0
+    → x ≡ count_after w (failed true (Some []) r).input → y ≡ count_after v x → Counted (failed false (Some m) r) i i u y
+of_file T m (Ok value) i u v w x y opened fresh read closed =
+    (omega arith, omega (arith, opened, fresh, read, closed))
+of_file T m (Err f) i u v w x y opened fresh read closed =
+    let same = same_reads m (trouble_of f) in
+    (omega arith, omega (arith, opened, fresh, read, closed, same))
+
+-- its failures were counted when it was closed
+pub Counted-file : {F : Type 0} (T : Type 0) (name : Text) (remaining : F → Option (List ℕ)) (feed : F)
+    (first : Option (List ℕ)) (tree : Option Files) (r : Result T Fault) (i u v w x y : ℕ) → is_input name ≡ false
+    → IfSome tree (λ files. (m : List ℕ) × (files name ≡ Some m) × (remaining feed ≡ Some m))
+    → IfSome tree (λ files. v ≡ count_after u 0) → w ≡ 0 → x ≡ count_after w (failed true (Some []) r).input
+    → y ≡ count_after v x → IfSome first (λ bytes. IfSome tree (λ files.
+    Counted (failed (is_input name) (content_of name bytes files) r) i i u y))
+Counted-file T name remaining feed None tree r i u v w x y away opened counted fresh read closed = tt
+Counted-file T name remaining feed (Some input) None r i u v w x y away opened counted fresh read closed = tt
+Counted-file T name remaining feed (Some input) (Some files) r i u v w x y away opened counted fresh read closed =
+    let content : content_of name input files ≡ Some opened.0 =
+    ap (λ (b : Bool). if b then Some input else files name) away ∙ opened.1 in
+    subst (λ (b : Bool). Counted (failed b (content_of name input files) r) i i u y) (sym away)
+    (subst (λ (known : Option (List ℕ)). Counted (failed false known r) i i u y) (sym content)
+    (of_file T opened.0 r i u v w x y counted fresh read closed))

@@ -1,12 +1,11 @@
 // The digest of a file, for a line of a list.
 
-ghost use Rattle.std.specs.Prelude.{◌≡◌, ◌≢◌, ◌-◌, ◌*◌, ◌^◌, ℕ, [], length, vec_len, Some, true, IfOk, IfSome};
+ghost use Rattle.std.specs.Prelude.{◌≡◌, ◌≤◌, ◌+◌, ◌-◌, ◌*◌, ◌^◌, ℕ, [], length, vec_len, Some, true, IfOk, IfSome};
 ghost use Rattle.std.specs.Prelude.{IsErrOf, MatchResult};
-ghost use Rattle.b3.specs.Modes.{hash_root};
+ghost use Rattle.b3.specs.Bytes.{slice};
 ghost use Rattle.b3.specs.inside.Output.{output_root};
 ghost use Rattle.source.specs.Counts.{count_after};
 ghost use Rattle.source.specs.Digest.{IsInRange, digest, input_limit, digest_len};
-ghost use Rattle.source.specs.Written.{Writes};
 ghost use Rattle.task.specs.inside.Possible.{HasDigest, IsPartSize};
 ghost use Rattle.command.specs.Lines.{FitsPlace, digest_line};
 ghost use Rattle.command.specs.inside.Keys.{HasBytes, made_bytes};
@@ -22,7 +21,7 @@ use blake2::{Blake2b, Blake2s};
 use source::{Alg, AnyHash, Feed, digest_of, output_in_parts};
 use std::alloc::{AllocError, Global};
 use sumlist::{fits, tagged_fits};
-use task::{Form, Hash, Requested};
+use task::{Form, Hash, Requested, Stretch};
 
 /// Room for a part of this many chunks.
 pub(crate) fn part_buffer(alloc: Global, chunks: u64) -> Result<Vec<u8>, AllocError>
@@ -48,16 +47,13 @@ pub(crate) fn listable<'n>(requested: Requested, name: &'n str) -> Result<(), Fa
     Ok(())
 }
 
-/// The digest of all that a feed gives. BLAKE3 takes it in parts as long as the buffer, if the buffer is not
-/// empty.
+/// The digest of all that a feed gives.
 pub(crate) fn digest_of_feed<'n, F: Feed>(
     requested: Requested,
-    buffer: &mut [u8],
     name: &'n str,
     feed: &mut F,
 ) -> Result<Made, Fault<'n>>
-    requires digest { HasDigest requested }
-    requires buffer { length buffer.old ≢ 0 → (e : ℕ) × (length buffer.old ≡ 1024 * 2 ^ e) }
+    requires { HasDigest requested }
     ensures made { IfSome (F.remaining feed.old) (λ bytes.
         Reads (digest_line requested).limit (λ m made. made_bytes made ≡ (digest_line requested).bytes m)
         name.entry.now (Some bytes) result) }
@@ -86,9 +82,9 @@ pub(crate) fn digest_of_feed<'n, F: Feed>(
             Ok(Made::Tag(hasher.finish()))
         }
         Hash::Blake3 => {
-            let mut output = output_of_feed(buffer, name, feed)?;
-            output.seek(requested.stretch.position);
-            Ok(Made::Output(output, requested.stretch.length))
+            let mut hasher = Blake3::new();
+            absorb_feed(&mut hasher, name, feed)?;
+            Ok(stretch_of(hasher.output(), requested.stretch))
         }
     }
 }
@@ -113,27 +109,39 @@ fn plain_digest<'n, F: Feed>(alg: Alg, name: &'n str, feed: &mut F) -> Result<Ma
     }
 }
 
-// BLAKE3's output of all that a feed gives, in parts as long as the buffer, if the buffer is not empty.
-fn output_of_feed<'n, F: Feed>(
+/// The digest by BLAKE3 of all that a feed gives, in parts as long as the buffer.
+pub(crate) fn digest_in_parts<'n, F: Feed>(
+    requested: Requested,
     buffer: &mut [u8],
     name: &'n str,
     feed: &mut F,
-) -> Result<Output, Fault<'n>>
-    requires { length buffer.old ≢ 0 → (e : ℕ) × (length buffer.old ≡ 1024 * 2 ^ e) }
-    ensures output { IfSome (F.remaining feed.old) (λ bytes. Reads (2 ^ 64 - 1)
-        (λ m output. output_root output ≡ hash_root m) name.entry.now (Some bytes) result) }
+) -> Result<Made, Fault<'n>>
+    requires digest { HasDigest requested }
+    requires hash { requested.hash ≡ Hash.Blake3 }
+    requires buffer { (e : ℕ) × (length buffer.old ≡ 1024 * 2 ^ e) }
+    ensures made { IfSome (F.remaining feed.old) (λ bytes.
+        Reads (digest_line requested).limit (λ m made. made_bytes made ≡ (digest_line requested).bytes m)
+        name.entry.now (Some bytes) result) }
+    ensures has { IfOk result HasBytes }
+    ensures sized { IfOk result (λ made. made_len made ≡ requested.stretch.length) }
     ensures counted { F.failure_count feed.new
         ≡ count_after (F.failure_count feed.old) (failed true (Some []) result).input }
     ensures gave { Leaves true result (F.remaining feed.old) (F.remaining feed.new) }
     ensures memory { IsErrOf result Fault.OutOfMemory → ⊥ }
 {
-    if buffer.is_empty() {
-        let mut hasher = Blake3::new();
-        absorb_feed(&mut hasher, name, feed)?;
-        return Ok(hasher.output());
-    }
     match output_in_parts(Mode::Hash, feed, buffer) {
-        Ok(output) => Ok(output),
+        Ok(output) => Ok(stretch_of(output, requested.stretch)),
         Err(fault) => Err(Fault::of_source(fault, name)),
     }
+}
+
+// A stretch of an output.
+fn stretch_of(mut output: Output, stretch: Stretch) -> Made
+    requires { stretch.position + stretch.length ≤ 2 ^ 64 - 1 }
+    ensures bytes { made_bytes result ≡ slice (output_root output) stretch.position stretch.length }
+    ensures has { HasBytes result }
+    ensures length { made_len result ≡ stretch.length }
+{
+    output.seek(stretch.position);
+    Made::Output(output, stretch.length)
 }

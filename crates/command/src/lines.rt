@@ -1,13 +1,11 @@
 // The commands `hash` and `mac`: the digest of each file, or its tag under a key, as a line of a list, or
 // whether that of one is the one that is wanted.
 
-ghost use Rattle.std.specs.Prelude.{◌≡◌, ◌≢◌, ◌≤◌, ◌+◌, ◌*◌, ◌^◌, ◌⊎◌, ℕ, [], false, length, vec_len, map, true};
-ghost use Rattle.std.specs.Prelude.{IfOk, IfSome, IsErr, IsErrOf, MatchResult, None, Some, option_map};
+ghost use Rattle.std.specs.Prelude.{◌≡◌, ◌+◌, ◌⊎◌, [], false, map, true};
+ghost use Rattle.std.specs.Prelude.{IfOk, IsErrOf, MatchResult, None, Some, option_map};
 ghost use Rattle.std.specs.List.{sum_by};
-ghost use Rattle.source.specs.Counts.{count_after};
 ghost use Rattle.source.specs.Written.{Writes};
 ghost use Rattle.sumlist.specs.Shared.{every};
-ghost use Rattle.task.specs.inside.Possible.{IsPartSize};
 ghost use Rattle.task.specs.inside.Views.{sum_shown};
 ghost use Rattle.command.specs.Hashing.{LinesGiven};
 ghost use Rattle.command.specs.Keying.{LineRuns, SumRuns};
@@ -15,13 +13,13 @@ ghost use Rattle.command.specs.Lines.{FitsPlace, key_opens, opens_of};
 ghost use Rattle.command.specs.Run.{TellsAll};
 ghost use Rattle.command.specs.inside.Hashed.{PassesOver, PrintsName, Settles};
 ghost use Rattle.command.specs.inside.Keys.{HasBytes, PrintsAnswer, made_bytes};
-ghost use Rattle.command.specs.inside.Reading.{Leaves, Reads, failed};
+ghost use Rattle.command.specs.inside.Reading.{Reads};
 ghost use Rattle.command.specs.inside.Rules.{IsSized, TakesRoom, WantsRoom, line_by};
 ghost use Rattle.command.specs.inside.Seen.{DoesRun, OpensAtMost};
 ghost use Rattle.command.specs.inside.Streams.{AfterReading, IfContent, SameStreams};
 ghost use Rattle.command.specs.declared.fault.Fault.TheVariants.{BadName};
 
-use crate::digests::{digest_of_feed, listable, part_buffer};
+use crate::digests::{digest_in_parts, digest_of_feed, listable, part_buffer};
 use crate::fault::{Fault, tell};
 use crate::keying::rule_of;
 use crate::making::{Made, is_made, write_beside};
@@ -31,9 +29,8 @@ use crate::session::{Session, Streams, open_file};
 use crate::tags::{tag_digits, tag_of_feed};
 use crate::verifying::{print_verdict, slice_of};
 use source::{Feed, Sink, WriteFailed, write_all};
-use std::alloc::{AllocError, Global};
 use sumlist::{Share, Tree, write_tagged_line};
-use task::{Form, Sum};
+use task::{Form, Hash, Sum};
 
 impl<'i, 't, 'o, L: Feed, T: Tree, W: Sink> Session<'i, 't, 'o, L, T, W> {
     /// Prints the line of each file in a share of them, and goes on with the next after a file that can't be
@@ -183,11 +180,24 @@ impl<'i, 't, 'o, L: Feed, T: Tree, W: Sink> Session<'i, 't, 'o, L, T, W> {
         ensures memory { IsErrOf result Fault.OutOfMemory
             → TakesRoom rule.now ⊎ (T.wants_memory ≡ true) }
     {
-        let mut buffer = buffer_by(self.alloc, rule)?;
-        if name == "-" {
-            return made_of_feed(rule, buffer.as_mut_slice(), name, self.input);
+        match rule {
+            Rule::Digest(hashing) => {
+                let requested = hashing.requested;
+                match (requested.hash, hashing.parts) {
+                    (Hash::Blake3, Some(chunks)) => {
+                        let mut buffer = part_buffer(self.alloc, chunks)?;
+                        read_named!(
+                            self,
+                            name,
+                            0,
+                            digest_in_parts(requested, buffer.as_mut_slice(), name)
+                        )
+                    }
+                    _ => read_named!(self, name, 0, digest_of_feed(requested, name)),
+                }
+            }
+            Rule::Tag(keyed) => read_named!(self, name, 0, tag_of_feed(keyed, name)),
         }
-        made_of_named(rule, buffer.as_mut_slice(), name, self.tree)
     }
 }
 
@@ -226,69 +236,6 @@ fn named_by<'n>(rule: &Rule, name: &'n str) -> Result<(), Fault<'n>>
     match rule {
         Rule::Digest(hashing) => listable(hashing.requested, name),
         Rule::Tag(keyed) => named(tag_digits(keyed.tagging), name),
-    }
-}
-
-// The buffer of the parts that a file is hashed in, an empty one where it is hashed whole.
-fn buffer_by(alloc: Global, rule: &Rule) -> Result<Vec<u8>, AllocError>
-    ensures power { IfOk result (λ buffer. vec_len buffer ≢ 0 → (e : ℕ) × (vec_len buffer ≡ 1024 * 2 ^ e)) }
-    ensures memory { IsErr result → TakesRoom rule.now }
-{
-    match rule {
-        Rule::Digest(hashing) => match hashing.parts {
-            Some(chunks) => part_buffer(alloc, chunks),
-            None => Ok(Vec::new(alloc)),
-        },
-        Rule::Tag(_) => Ok(Vec::new(alloc)),
-    }
-}
-
-// The digest or tag of the file of this name, by way of this buffer, if that is not empty.
-fn made_of_named<'n, T: Tree>(
-    rule: &Rule,
-    buffer: &mut [u8],
-    name: &'n str,
-    tree: &mut T,
-) -> Result<Made, Fault<'n>>
-    requires { length buffer.old ≢ 0 → (e : ℕ) × (length buffer.old ≡ 1024 * 2 ^ e) }
-    ensures made { IfSome (T.files tree.old) (λ files.
-        Reads (line_by rule.now).limit (λ m made. made_bytes made ≡ (line_by rule.now).bytes m)
-        name.entry.now (files name.entry.now) result) }
-    ensures has { IfOk result HasBytes }
-    ensures sized { IfOk result (IsSized rule.now) }
-    ensures counted { IfSome (T.files tree.old) (λ files. T.failure_count tree.new
-        ≡ count_after (T.failure_count tree.old) (failed false (files name.entry.now) result).files) }
-    ensures files { T.files tree.new ≡ T.files tree.old }
-    ensures opens { T.opens tree.new ≤ T.opens tree.old + 1 }
-    ensures memory { IsErrOf result Fault.OutOfMemory → T.wants_memory ≡ true }
-{
-    let mut feed = open_file(name, 0, tree)?;
-    let answer = made_of_feed(rule, buffer, name, &mut feed);
-    tree.close(feed);
-    answer
-}
-
-// The digest or tag of all that a feed gives, by way of this buffer, if that is not empty.
-fn made_of_feed<'n, F: Feed>(
-    rule: &Rule,
-    buffer: &mut [u8],
-    name: &'n str,
-    feed: &mut F,
-) -> Result<Made, Fault<'n>>
-    requires { length buffer.old ≢ 0 → (e : ℕ) × (length buffer.old ≡ 1024 * 2 ^ e) }
-    ensures made { IfSome (F.remaining feed.old) (λ bytes.
-        Reads (line_by rule.now).limit (λ m made. made_bytes made ≡ (line_by rule.now).bytes m)
-        name.entry.now (Some bytes) result) }
-    ensures has { IfOk result HasBytes }
-    ensures sized { IfOk result (IsSized rule.now) }
-    ensures counted { F.failure_count feed.new
-        ≡ count_after (F.failure_count feed.old) (failed true (Some []) result).input }
-    ensures gave { Leaves true result (F.remaining feed.old) (F.remaining feed.new) }
-    ensures memory { IsErrOf result Fault.OutOfMemory → ⊥ }
-{
-    match rule {
-        Rule::Digest(hashing) => digest_of_feed(hashing.requested, buffer, name, feed),
-        Rule::Tag(keyed) => tag_of_feed(keyed, name, feed),
     }
 }
 

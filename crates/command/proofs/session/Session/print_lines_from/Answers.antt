@@ -1,4 +1,4 @@
-use Rattle.std.proofs.Common.{◌+◌, refl}
+use Rattle.std.proofs.Common.{◌+◌, List, refl, sym, ◌∙◌, ℕ}
 use Rattle.sumlist.specs.Naming.{names}
 use Rattle.sumlist.specs.Shared.{every}
 use Rattle.command.specs.Hashing.{LinesListed}
@@ -6,7 +6,9 @@ use Rattle.command.specs.Lines.{content_of, opens_of}
 use Rattle.command.specs.Run.{TellsAll}
 use Rattle.command.specs.inside.Rules.{line_by}
 use Rattle.command.specs.inside.Seen.{opens_from}
-use Rattle.command.proofs.Opening.{opens_behind, opens_key}
+use Rattle.command.proofs.Listing.{report_refused}
+use Rattle.command.proofs.Naming.{IsRun, names_of_file, names_of_input, refused_names}
+use Rattle.command.proofs.Opening.{opens_behind, opens_key, opens_of_file, opens_of_input, opens_of_none}
 use Rattle.command.proofs.Tagging.{sum_had, sum_refused}
 use Rattle.command.proofs.session.Session.print_lines_from.Goals as goal
 use Rattle.task.specs.inside.Views.{sum_shown}
@@ -18,14 +20,42 @@ returns-in_err-rule-clause-run g c =
     (TellsAll (g.E.Sink.shown c.args.err.now) (g.E.Sink.shown c.args.err.now)) _ _ c.in_err-rule.field-0.0 _ _ _ _ _ _ _
     c.from_residual.ensures.1 refl refl refl c.in_err-rule.ensures.rule c.in_err-rule.ensures.counted
 
+pub returns-then-eq-clause-run : goal.returns-then-eq-clause-run
+returns-then-eq-clause-run g c =
+    sum_had (sum_shown c.args.sum)
+    (λ l bytes files. LinesListed c.args.share l files c.args.list.now (content_of c.args.list.now bytes files))
+    (TellsAll (g.E.Sink.shown c.args.err.now) (g.E.Sink.shown c.print_names.new.err)) _ _ _ _
+    (line_by c.in_ok-rule.rule) _ _ _ _ _ _ _ _ _ _
+    refl c.rule_of.ensures.files refl refl c.in_ok-rule.ensures.rule c.in_ok-rule.ensures.counted
+    (names_of_input c.args.share (line_by c.in_ok-rule.rule) c.args.list.now _ _ _ _ _ _ _ _ _ _ _
+    (sym c.eq.ensures ∙ c.if-eq.true) c.print_names.ensures.run)
+
+pub returns-in_err-feed-clause-run : goal.returns-in_err-feed-clause-run
+returns-in_err-feed-clause-run g c =
+    let l = line_by c.in_ok-rule.rule in
+    let list = c.args.list.now in
+    let err = g.E.Sink.shown c.args.err.now in
+    let is = sym c.eq.ensures ∙ c.if-eq.false in
+    sum_had (sum_shown c.args.sum)
+    (λ l bytes files. LinesListed c.args.share l files list (content_of list bytes files))
+    (TellsAll err err) _ _ _ _ l _ _ _ _ _ _ _ _ _ _
+    refl c.rule_of.ensures.files refl refl c.in_ok-rule.ensures.rule c.in_ok-rule.ensures.counted
+    (report_refused list (IsRun c.args.share l list) err err g.T.F.Feed.remaining _ _ _ _ _ _ _ _ is
+    (λ files content t may other. refused_names c.args.share l files list content t may other is)
+    c.from_residual-in_err-feed.ensures.1 c.in_err-feed.ensures.opened c.in_err-feed.ensures.counted refl)
+
 pub returns-clause-run : goal.returns-clause-run
 returns-clause-run g c =
     sum_had (sum_shown c.args.sum)
     (λ l bytes files. LinesListed c.args.share l files c.args.list.now (content_of c.args.list.now bytes files))
-    (TellsAll (g.E.Sink.shown c.args.err.now) (g.E.Sink.shown c.print_listed.new.err)) _ _ _ _
+    (TellsAll (g.E.Sink.shown c.args.err.now) (g.E.Sink.shown c.print_names-answer.new.err)) _ _ _ _
     (line_by c.in_ok-rule.rule) _ _ _ _ _ _ _ _ _ _
     refl c.rule_of.ensures.files refl refl c.in_ok-rule.ensures.rule c.in_ok-rule.ensures.counted
-    c.print_listed.ensures.run
+    (names_of_file c.args.share (line_by c.in_ok-rule.rule) c.args.list.now _ _ g.T.F.Feed.remaining c.in_ok-feed.feed
+    _ _ _ _ _ _ _ _ _ _ _ _ _ (sym c.eq.ensures ∙ c.if-eq.false) c.in_ok-feed.ensures.opened
+    c.open_file.ensures.kept c.in_ok-feed.ensures.counted c.print_names-answer.ensures.run
+    c.in_ok-feed.ensures.fresh
+    (rw (c.feed-3-1.given.1 (sym c.print_names-answer.ensures.same.input)) at c.close.ensures.counted))
 
 pub returns-in_err-rule-clause-opens : goal.returns-in_err-rule-clause-opens
 returns-in_err-rule-clause-opens g c =
@@ -34,9 +64,25 @@ returns-in_err-rule-clause-opens g c =
     (content_of c.args.list.now bytes files))
     _ _ _ _ _ c.rule_of.ensures.opens
 
+pub returns-then-eq-clause-opens : goal.returns-then-eq-clause-opens
+returns-then-eq-clause-opens g c =
+    let own : List ℕ → List (List ℕ) = λ m. every c.args.share.others c.args.share.waiting (names m) in
+    opens_behind (λ bytes files. opens_of c.args.list.now + opens_from own (content_of c.args.list.now bytes files))
+    _ _ _ _ _ _ _ _ refl c.rule_of.ensures.files c.rule_of.ensures.opens
+    (opens_of_input own c.args.list.now _ _ _ _ (sym c.eq.ensures ∙ c.if-eq.true) c.print_names.ensures.opens)
+
+pub returns-in_err-feed-clause-opens : goal.returns-in_err-feed-clause-opens
+returns-in_err-feed-clause-opens g c =
+    let own : List ℕ → List (List ℕ) = λ m. every c.args.share.others c.args.share.waiting (names m) in
+    opens_behind (λ bytes files. opens_of c.args.list.now + opens_from own (content_of c.args.list.now bytes files))
+    _ _ _ _ _ _ _ _ refl c.rule_of.ensures.files c.rule_of.ensures.opens
+    (opens_of_none own c.args.list.now _ _ _ _ (sym c.eq.ensures ∙ c.if-eq.false) c.open_file.ensures.opens)
+
 pub returns-clause-opens : goal.returns-clause-opens
 returns-clause-opens g c =
-    opens_behind (λ bytes files. opens_of c.args.list.now
-    + opens_from (λ m. every c.args.share.others c.args.share.waiting (names m))
-    (content_of c.args.list.now bytes files))
-    _ _ _ _ _ _ _ _ refl c.rule_of.ensures.files c.rule_of.ensures.opens c.print_listed.ensures.opens
+    let own : List ℕ → List (List ℕ) = λ m. every c.args.share.others c.args.share.waiting (names m) in
+    opens_behind (λ bytes files. opens_of c.args.list.now + opens_from own (content_of c.args.list.now bytes files))
+    _ _ _ _ _ _ _ _ refl c.rule_of.ensures.files c.rule_of.ensures.opens
+    (opens_of_file own c.args.list.now g.T.F.Feed.remaining c.in_ok-feed.feed _ _ _ _ _ _ _
+    (sym c.eq.ensures ∙ c.if-eq.false) c.in_ok-feed.ensures.opened c.open_file.ensures.kept c.open_file.ensures.opens
+    c.print_names-answer.ensures.opens c.close.ensures.opened)
