@@ -157,36 +157,37 @@ abbrev pub IsPart : ℕ → ℕ → List ℕ → PartValue → Type 0
 IsPart n i m part = (part.first_chunk ≡ n * i)
     × IsValueOf hash_parameters part (take (1024 * n) (drop (1024 * (n * i)) m))
 
-module _ (n i : ℕ) (m : List ℕ) (part : PartValue) (some : 1 ≤ n) (within : n * i < 2 ^ 54) (is : IsPart n i m part) where
-  -- how many bytes it has, and that none of them is beyond the longest message
-  pub part_sizes : (part.len ≡ min (1024 * n) (length m - 1024 * (n * i))) × (1024 * (n * i) + part.len ≤ 2 ^ 64 - 1)
-  part_sizes =
-      let size = length-take (1024 * n) (drop (1024 * (n * i)) m) in
-      let rest = length-drop (1024 * (n * i)) m in
-      let len = is.1.len in
-      let limit = part.placed.1 in
-      let begins = is.0 in
-      (omega (arith, size, rest, len), omega (arith, limit, begins))
+module _ (n i : ℕ) (m : List ℕ) (part : PartValue) (some : 1 ≤ n) (within : n * i < 2 ^ 54) (is : IsPart n i m part)
+  where
+    -- how many bytes it has, and that none of them is beyond the longest message
+    pub part_sizes : (part.len ≡ min (1024 * n) (length m - 1024 * (n * i))) × (1024 * (n * i) + part.len ≤ 2 ^ 64 - 1)
+    part_sizes =
+        let size = length-take (1024 * n) (drop (1024 * (n * i)) m) in
+        let rest = length-drop (1024 * (n * i)) m in
+        let len = is.1.len in
+        let limit = part.placed.1 in
+        let begins = is.0 in
+        (omega (arith, size, rest, len), omega (arith, limit, begins))
 
-  pub part_there : i < part_count n m
-  part_there = on i within (part_sizes.0) (λ none. sym is.0 ∙ part.placed.0 none)
-    where
-      on : (j : ℕ) → n * j < 2 ^ 54 → part.len ≡ min (1024 * n) (length m - 1024 * (n * j))
-          → (part.len ≡ 0 → n * j ≡ 0) → j < part_count n m
-      on zero within len begin = omega arith
-      on (suc k) within len begin =
-          let later : 0 < n * suc k = omega (arith, some) in
-          let any : 0 < part.len = above part.len (λ none. let first = begin none in omega (arith, later, first)) in
-          let more = counts_on n (suc k) m some within (omega (arith, any, len)) in
-          omega (arith, more)
-        where
-          above : (k : ℕ) → (k ≡ 0 → ⊥) → 0 < k
-          above zero none = absurd (none refl)
-          above (suc k) none = omega arith
+    pub part_there : i < part_count n m
+    part_there = on i within (part_sizes.0) (λ none. sym is.0 ∙ part.placed.0 none)
+      where
+        on : (j : ℕ) → n * j < 2 ^ 54 → part.len ≡ min (1024 * n) (length m - 1024 * (n * j))
+            → (part.len ≡ 0 → n * j ≡ 0) → j < part_count n m
+        on zero within len begin = omega arith
+        on (suc k) within len begin =
+            let later : 0 < n * suc k = omega (arith, some) in
+            let any : 0 < part.len = above part.len (λ none. let first = begin none in omega (arith, later, first)) in
+            let more = counts_on n (suc k) m some within (omega (arith, any, len)) in
+            omega (arith, more)
+          where
+            above : (k : ℕ) → (k ≡ 0 → ⊥) → 0 < k
+            above zero none = absurd (none refl)
+            above (suc k) none = omega arith
 
-  -- its line is that of its number
-  pub part_line_is : told_line part ≡ each_line n m i
-  part_line_is = line_is (n * i) part _ is.0 is.1
+    -- its line is that of its number
+    pub part_line_is : told_line part ≡ each_line n m i
+    part_line_is = line_is (n * i) part _ is.0 is.1
 
 module _ (n : ℕ) (name : Text) (first i : ℕ) (coming now after : Option (List ℕ)) (old mid : Shown) (some : 1 ≤ n)
     (is : first ≡ n * i) (within : first < 2 ^ 54) (so : IfSome coming (λ m. EachSoFar n m i now old mid)) where
@@ -237,7 +238,8 @@ module _ (n : ℕ) (name : Text) (first i : ℕ) (coming now after : Option (Lis
           let number : 1 ≤ i = one_of i later in (
             refl,
             omega (arith, none, is, within),
-            Writing-end old mid (lines_of all_parts n m) (rw (each_none n m i (omega (arith, few, number))) at so.written),
+            Writing-end old mid (lines_of all_parts n m) (rw (each_none n m i (omega (arith, few, number))) at
+                so.written),
           )
         where
           one_of : (i : ℕ) → 0 < n * i → 1 ≤ i
@@ -331,13 +333,16 @@ module _ (n : ℕ) (name : Text) (first : Option (List ℕ)) (tree : Option File
   where
     -- what is to be shown of it
     abbrev pub Printed : Type 0
-    Printed = IfSome first (λ input. IfSome tree (λ files. PrintsParts all_parts n name (content_of name input files) r old new))
+    Printed = IfSome first (λ input. IfSome tree (λ files. PrintsParts all_parts n name (content_of name input files) r
+        old new))
 
     pub parts_of_input : is_input name ≡ true → IfSome first (λ m. PrintsLines all_parts n name m r old new) → Printed
     parts_of_input is printed = on first tree printed
       where
-        on : (first : Option (List ℕ)) (tree : Option Files) → IfSome first (λ m. PrintsLines all_parts n name m r old new)
-            → IfSome first (λ input. IfSome tree (λ files. PrintsParts all_parts n name (content_of name input files) r old new))
+        on : (first : Option (List ℕ)) (tree : Option Files) → IfSome first
+            (λ m. PrintsLines all_parts n name m r old new)
+            → IfSome first (λ input. IfSome tree (λ files. PrintsParts all_parts n name (content_of name input files) r
+            old new))
         on None tree printed = tt
         on (Some input) None printed = tt
         on (Some input) (Some files) printed = rw is (inl (input, refl, printed))
@@ -349,7 +354,8 @@ module _ (n : ℕ) (name : Text) (first : Option (List ℕ)) (tree : Option File
       where
         on : (first : Option (List ℕ)) (tree : Option Files)
             → IfSome tree (λ files. (m : List ℕ) × (files name ≡ Some m) × (coming ≡ Some m))
-            → IfSome first (λ input. IfSome tree (λ files. PrintsParts all_parts n name (content_of name input files) r old new))
+            → IfSome first (λ input. IfSome tree (λ files. PrintsParts all_parts n name (content_of name input files) r
+            old new))
         on None tree opened = tt
         on (Some input) None opened = tt
         on (Some input) (Some files) (m, content, at) = rw is (inl (m, content, rw at at printed))
@@ -369,7 +375,8 @@ module _ (n : ℕ) (name : Text) (first : Option (List ℕ)) (tree : Option File
 
         on : (first : Option (List ℕ)) (tree : Option Files) → IfSome tree (λ files. MatchResult r (λ _. ⊥)
             (λ fault. MayRefuse 0 name (files name) (trouble_of fault) × (trouble_of fault ≡ too_long name → ⊥)))
-            → IfSome first (λ input. IfSome tree (λ files. PrintsParts all_parts n name (content_of name input files) r old new))
+            → IfSome first (λ input. IfSome tree (λ files. PrintsParts all_parts n name (content_of name input files) r
+            old new))
         on None tree may = tt
         on (Some input) None may = tt
         on (Some input) (Some files) may = rw is (inr (why r (files name) may, none))
@@ -382,7 +389,8 @@ Does-begun : (front : Text) (failures : List Bool) (f : Fault) (old new : Shown)
     Does (record (stops (shown (trouble_of f))) { text = front; failures = failures }) r old new)
 Does-begun front failures f old new done = record { ending = refl; out = done; cut = λ whole. cc }
 
-each_taken : (s : Share) (n : ℕ) (name : Text) (input : List ℕ) (files : Files) (answer : Result ℕ Fault) (old new : Shown)
+each_taken : (s : Share) (n : ℕ) (name : Text) (input : List ℕ) (files : Files) (answer : Result ℕ Fault)
+    (old new : Shown)
     (i j u v : ℕ) → PrintsParts s n name (content_of name input files) answer old new
     → Counted (failed (is_input name) (content_of name input files) answer) i j u v
     → Taken (EachRuns s n name files input) answer old new i j u v
@@ -410,10 +418,12 @@ each_taken s n name input files (Err f) old new i j u v (inl (m, is, inr (front,
       Counted-refusal (is_input name) (Some m) (trouble_of f) i j u v (rw is at counted),
     )
 each_taken s n name input files (Err f) old new i j u v (inr p) counted =
-    Taken-refused (EachRuns s n name files input) (is_input name) (content_of name input files) f (Err f) old new i j u v
+    Taken-refused (EachRuns s n name files input) (is_input name) (content_of name input files) f (Err f) old new i j u
+    v
     (inl (unread_by (is_input name) name (content_of name input files) (trouble_of f) p.0)) refl p.1 counted
 
-pub each_run : (s : Share) (n : ℕ) (name : Text) (first : Option (List ℕ)) (tree : Option Files) (answer : Result ℕ Fault)
+pub each_run : (s : Share) (n : ℕ) (name : Text) (first : Option (List ℕ)) (tree : Option Files)
+    (answer : Result ℕ Fault)
     (old new : Shown) (i j u v : ℕ)
     → IfSome first (λ input. IfSome tree (λ files.
     PrintsParts s n name (content_of name input files) answer old new))

@@ -271,7 +271,8 @@ from_place first n name content coming after r within (m, is, at) takes = rw is 
 
 -- ---- what a name gives
 
-module _ (s : Share) (n : ℕ) (name : Text) (first : Option (List ℕ)) (tree : Option Files) (away : is_input name ≡ false)
+module _ (s : Share) (n : ℕ) (name : Text) (first : Option (List ℕ)) (tree : Option Files)
+    (away : is_input name ≡ false)
   where
     -- the same of a file and of a name
     pub of_file : (r : Result ℕ Fault) (old new : Shown)

@@ -40,8 +40,8 @@ use Rattle.command.proofs.VerifiedParts.{ends_starved, ends_unread, ends_unwritt
 use Rattle.command.proofs.VerifiedParts.{said_more, said_over, said_start, verdict_missing, verdict_same}
 use Rattle.command.proofs.VerifiedNames.{plus_none, unopened}
 
--- what was said of a share of the parts so far, how many are passed over before its next, how many files were opened, and
--- that none failed
+-- what was said of a share of the parts so far, how many are passed over before its next, how many files were opened,
+-- and that none failed
 pub record OwnSoFar (s : Share) (text m : List ℕ) (joiner : Joiner) (front : List ℕ) (list : Option (List ℕ))
     (left : Share) (n : ℕ) (old new : Shown) (k l u v : ℕ) : Type 0 where
   pub told : List PartValue
@@ -78,7 +78,7 @@ as_many [] (part ∷ parts) tells = absurd tells
 as_many (l ∷ ls) [] tells = absurd tells
 as_many (l ∷ ls) (part ∷ parts) tells = ap suc (as_many ls parts tells.1)
 
-module _ (s : Share) (parts name : Text) (away : is_input name ≡ false) (lines_known file_known : Option (List ℕ))
+module _ (s : Share) (parts name : Text) (lines_known file_known : Option (List ℕ))
     (joiner : Joiner) (front : List ℕ) (list : Option (List ℕ)) (left : Share) (n : ℕ) (old mid : Shown)
     (k l u v : ℕ) (so : Both lines_known file_known (λ text m.
     OwnSoFar s text m joiner front list left n old mid k l u v)) where
@@ -214,7 +214,8 @@ module _ (s : Share) (parts name : Text) (away : is_input name ≡ false) (lines
                 → Both lines_known file_known (λ text m.
                 OwnSoFar s text m next ahead after later code old new k h u w)
             own_more code h is full one done = both_with lines_known file_known So
-                (λ text m. OwnSoFar s text m next ahead after later code old new k h u w) (Judged (Ok verdict)) so judges
+                (λ text m. OwnSoFar s text m next ahead after later code old new k h u w) (Judged (Ok verdict)) so
+                judges
                 (λ text m o it.
                 let now : waits s.others s.waiting o.told ≡ 0 = sym o.waiting ∙ own_next in
                 let count : length (every s.others s.waiting (o.told ++ part ∷ []))
@@ -258,7 +259,8 @@ pub counted_err : {T : Type 0} (tree : Option Files) (name : Text) (u v : ℕ) (
     → IfSome (told_content tree name) (λ m. v ≡ count_after u (failed false (Some m) answer).files)
 counted_err tree name u v f answer stopped counted =
     let e = err_from_is_err_and answer stopped in
-    rw (e.1, e.2) (content_then (λ content. v ≡ count_after u (failures_of false content (trouble_of f)).files) tree name
+    rw (e.1, e.2) (content_then (λ content. v ≡ count_after u (failures_of false content (trouble_of f)).files) tree
+    name
     counted)
 
 behind_same : {T : Type 0} (m : List ℕ) (r : Result T Fault) → behind_answer (Some m) r ≡ behind_answer (Some []) r
@@ -414,15 +416,21 @@ module _ (s : Share) (parts name : Text) (list : Option (List ℕ)) (tree : Opti
             lost,
             counts-replicate _ false ∙ plus_none lost,
             omega (arith, quiet),
-            (failed_reads (files name) t, ap (λ (b : Bool). failures_from b (failed_reads (files name) t)) (sym away), counted),
+            (
+              failed_reads (files name) t,
+              ap (λ (b : Bool). failures_from b (failed_reads (files name) t)) (sym away),
+              counted,
+            ),
           )
 
   pub share_opened : (then_tree : Option Files) (coming : Option (List ℕ)) (w x k : ℕ) → then_tree ≡ tree
-      → IfSome tree (λ files. (m : List ℕ) × (files name ≡ Some m) × (coming ≡ Some (drop 0 m))) → IfSome tree (λ files. w ≡ count_after u 0)
+      → IfSome tree (λ files. (m : List ℕ) × (files name ≡ Some m) × (coming ≡ Some (drop 0 m)))
+      → IfSome tree (λ files. w ≡ count_after u 0)
       → k ≡ 0 → x ≡ count_after w k
       → IfSome list (λ text. IfSome (told_content then_tree name) (λ m.
       ComparesFeeds s parts name text m r old new i j x v)) → Compared
-  share_opened then_tree coming w x k same opened counted fresh closed compares = on list tree opened counted (rw same at compares)
+  share_opened then_tree coming w x k same opened counted fresh closed compares = on list tree opened counted
+      (rw same at compares)
     where
       on : (list : Option (List ℕ)) (tree : Option Files)
           → IfSome tree (λ files. (m : List ℕ) × (files name ≡ Some m) × (coming ≡ Some (drop 0 m)))
@@ -452,7 +460,8 @@ module _ (s : Share) (parts name : Text) (list : Option (List ℕ)) (tree : Opti
 -- so many files are opened where all of it is told
 pub opened_then : (s : Share) (name : Text) (list : Option (List ℕ)) (tree then_tree : Option Files)
     (coming : Option (List ℕ)) (k l h : ℕ)
-    → then_tree ≡ tree → IfSome tree (λ files. (m : List ℕ) × (files name ≡ Some m) × (coming ≡ Some (drop 0 m))) → l ≤ k + 1
+    → then_tree ≡ tree → IfSome tree (λ files. (m : List ℕ) × (files name ≡ Some m) × (coming ≡ Some (drop 0 m)))
+    → l ≤ k + 1
     → IfSome list (λ text. IfSome (told_content then_tree name) (λ m.
     h ≤ l + (length (every s.others s.waiting (lines text)) + 1)))
     → IfSome list (λ text. IfSome tree (λ files. h ≤ k + (length (every s.others s.waiting (lines text)) + 2)))

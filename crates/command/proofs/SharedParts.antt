@@ -1,5 +1,6 @@
 -- The runs of all shares of the parts of a file are one run.
-use Rattle.std.proofs.Common.{◌≡◌, ◌∙◌, ◌++◌, ◌-◌, ◌*◌, ◌^◌, ◌≤◌, ℕ, zero, suc, max, List, [], ◌∷◌, length, map, ap, ap₂, sym}
+use Rattle.std.proofs.Common.{◌≡◌, ◌∙◌, ◌++◌, ◌-◌, ◌*◌, ◌^◌, ◌≤◌, ℕ, zero, suc, max, List, [], ◌∷◌, length, map, ap}
+use Rattle.std.proofs.Common.{ap₂, sym}
 use Rattle.std.proofs.Common.{refl, subst, arith, inl, inr, append-nil}
 use Rattle.std.proofs.Common.{Bool, true, false, if◌then◌else◌, Option, Some, None, Err, codes, decimal, drop, nat_lt}
 use Rattle.std.proofs.Common.{take}
@@ -241,7 +242,8 @@ module _ (m : List ℕ) where
   same_code : (p q : PartValue) → Same p q → (verdict m p).1 ≡ (verdict m q).1
   same_code p q (first, len, value) = rw (first, len, value) refl
 
-  same_texts : (ps qs : List PartValue) → AllZip Same ps qs → flat_map (verdict_line m) ps ≡ flat_map (verdict_line m) qs
+  same_texts : (ps qs : List PartValue) → AllZip Same ps qs → flat_map (verdict_line m) ps ≡ flat_map (verdict_line m)
+      qs
   same_texts [] [] same = refl
   same_texts [] (q ∷ qs) same = absurd same
   same_texts (p ∷ ps) [] same = absurd same
@@ -304,14 +306,16 @@ module _ (parts name : Text) (files : Files) (input : List ℕ) where
             listed = listed;
             is = is;
             told = told;
-            tells = subst (λ ls. AllTell ls told) (sym (split ∙ ap (λ ls. before ++ ls) none ∙ append-nil before)) tells;
+            tells = subst (λ ls. AllTell ls told) (sym (split ∙ ap (λ ls. before ++ ls) none ∙ append-nil before))
+                tells;
             row = row;
             few = few;
             same = same ∙ ap (λ (x : Run). let r : Run = record x {
               text = flat_map (verdict_line m) (every s.others s.waiting told);
             } in r) at;
           }
-      ended list m listed is before after told split tells row end (inr (inl (line, rest, more, fault, wrong, how))) same =
+      ended list m listed is before after told split tells row end (inr (inl (line, rest, more, fault, wrong, how)))
+          same =
           absurd (not_so _ (ap (λ (x : Run). x.ending) same ∙ ap (λ (x : Run). x.ending) how))
       ended list m listed is before after told split tells row end (inr (inr (inl none))) same =
           absurd (unread false parts (Some list) end _ none same)

@@ -72,7 +72,8 @@ starts_of_all = refl
 -- a list that is not there, and behind it one with an untagged line, of which the numbers are told
 followed_example : (let numbers : Summary = record no_lines { malformed = 1; foreign = 1; look = Some (Digest 64) } in
     let list : Run = record (prints (report_from (Some (codes "l")) 1 (foreign (Digest 64) ∷ [])) 1) {
-      notes = noted (record { is_summed = true }) (Some (codes "l")) numbers ++ hinted (codes "l") (unkeyed None) numbers;
+      notes = noted (record { is_summed = true }) (Some (codes "l")) numbers ++ hinted (codes "l") (unkeyed None)
+          numbers;
     } in followed (stops (of_name (codes "none") (codes ": cannot read\n"))) (followed list (prints [] 0)))
     ≡ record (prints (codes "l: line 1: MALFORMED\n") 1) {
       notes = codes "sums: none: cannot read\n"

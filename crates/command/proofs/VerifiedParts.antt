@@ -2,7 +2,7 @@
 use Rattle.std.proofs.Common.{◌≡◌, ◌∙◌, ℕ, ◌+◌, ◌*◌, ◌<◌, ◌≤◌, Bool, true, false, List, [], ◌∷◌, ◌++◌, length, max}
 use Rattle.std.proofs.Common.{take, drop, Option, Some, None, IfSome, Result, Ok, Err, refl, sym, ap, subst, arith}
 use Rattle.std.proofs.Common.{fold}
-use Rattle.std.proofs.Common.{inl, inr, append_assoc, append-nil, length-drop, codes, nat_lt, if◌then◌else◌}
+use Rattle.std.proofs.Common.{inl, inr, append_assoc, append-nil, length-drop, nat_lt, if◌then◌else◌}
 use Rattle.std.proofs.KnownBytes.{Appends-nil}
 use Rattle.std.proofs.lemmas.Bool.Decides.{nat_tests}
 use Rattle.std.proofs.lemmas.Grind.{flat_map-append}
@@ -36,16 +36,14 @@ use Rattle.sumlist.specs.Shared.{every}
 use Rattle.sumlist.specs.declared.share.Share.{Share}
 use Rattle.sumlist.specs.declared.verdict.Verdict.{Verdict}
 use Rattle.sumlist.specs.declared.verdict.Verdict.TheVariants.{Differs, Matches, Missing}
-use Rattle.command.specs.Joining.{line_complaint}
 use Rattle.command.specs.Lines.{is_input}
-use Rattle.command.specs.Run.{Run, of_name, prints, stops}
-use Rattle.command.specs.Run.{out_of_memory as run_out_of_memory}
+use Rattle.command.specs.Run.{Run, prints, stops}
 use Rattle.command.specs.Verifying.{Compares, VerifyEnds, status, verdict, verdict_line}
 use Rattle.command.specs.inside.Cutting.{all_parts}
 use Rattle.command.specs.inside.Faults.{of_join}
 use Rattle.command.specs.inside.Seen.{Does}
 use Rattle.command.specs.inside.Troubles.{bad_line, bytes_behind, cannot_read, cannot_write, counts, failures_from}
-use Rattle.command.specs.inside.Troubles.{out_of_memory, plus, shown, trouble_of}
+use Rattle.command.specs.inside.Troubles.{Trouble, out_of_memory, plus, shown, trouble_of}
 use Rattle.command.specs.inside.Reading.{failed}
 use Rattle.command.specs.inside.Verifying.{ComparesFeeds, EndsWith, JudgesNext, is_missing, status_of, verdict_on}
 use Rattle.command.specs.declared.fault.Fault.{Fault}
@@ -248,22 +246,18 @@ module _ {s : Share} {text m : List ℕ} {joiner : Joiner} {front : List ℕ} {l
   row : AreInRow told
   row = row-is joiner.row told so.joined.row
 
-  none_after : front ++ so.left ≡ [] → lines (front ++ so.left) ≡ []
-  none_after none = ap lines none
-
   module _ (parts name : Text) (i j u v : ℕ) where
     -- no more is said, by what the run ends with
-    ends_by : (after : List (List ℕ)) → lines (front ++ so.left) ≡ after → (end : Run)
-        → VerifyEnds parts name text m told own after end → Compares s parts name text m (record end { text = said })
-    ends_by after is end ends =
-        (so.before, after, told, so.split ∙ ap (λ ls. so.before ++ ls) is, so.tells, row, inr (end, ends, refl))
+    ends_by : (end : Run) → VerifyEnds parts name text m told own (lines (front ++ so.left)) end
+        → Compares s parts name text m (record end { text = said })
+    ends_by end ends = (so.before, lines (front ++ so.left), told, so.split, so.tells, row, inr (end, ends, refl))
 
     pub ends_ok : front ++ so.left ≡ [] → length m ≤ bytes_of told → j ≡ i → v ≡ u
         → Compared s parts name text m (Ok n) old mid i j u v
     ends_ok none few p q =
         let test : nat_lt (bytes_of told) (length m) ≡ false = grind (arith, nat_tests) in (
           prints said (status m own),
-          ends_by [] (none_after none) (prints [] (status m own)) (inl (refl, rw test refl)),
+          ends_by (prints [] (status m own)) (inl (ap lines none, rw test refl)),
           record { ending = ap Ok (sym so.status_is); out = so.written; cut = λ e. cc },
           refl,
           0,
@@ -273,89 +267,62 @@ module _ {s : Share} {text m : List ℕ} {joiner : Joiner} {front : List ℕ} {l
           (0, refl, omega (arith, q)),
         )
 
+    -- the run ends with a trouble, behind so many reads of the lines and of the file that failed
+    ends_with : (f : Fault) (t : Trouble) (failures : List Bool) (k l : ℕ) → trouble_of f ≡ t
+        → VerifyEnds parts name text m told own (lines (front ++ so.left))
+        (record (stops (shown t)) { failures = failures })
+        → counts failures ≡ plus (failures_from false k) (failures_from (is_input name) l) → j ≡ count_after i k
+        → v ≡ count_after u l → Compared s parts name text m (Err f) old mid i j u v
+    ends_with f t failures k l is ends counted p q =
+        let end : Run = record (stops (shown t)) { failures = failures } in (
+          record end { text = said },
+          ends_by end ends,
+          Does-begun said end f old mid (ap (λ t. Err (shown t)) (sym is)) refl so.written,
+          refl,
+          k,
+          failures_from (is_input name) l,
+          counted,
+          p,
+          (l, refl, q),
+        )
+
     pub ends_behind : (f : Fault) → trouble_of f ≡ bytes_behind name → front ++ so.left ≡ [] → bytes_of told < length m
         → j ≡ i → v ≡ u → Compared s parts name text m (Err f) old mid i j u v
     ends_behind f is none more p q =
         let test : nat_lt (bytes_of told) (length m) ≡ true = grind (arith, nat_tests) in
-        let end : Run = stops (of_name name (codes ": bytes behind the last part\n")) in (
-          record end { text = said },
-          ends_by [] (none_after none) end (inl (refl, rw test refl)),
-          Does-begun said end f old mid (ap (λ t. Err (shown t)) (sym is)) refl so.written,
-          refl,
-          0,
-          failures_from (is_input name) 0,
-          quiet_both (is_input name),
-          omega (arith, p),
-          (0, refl, omega (arith, q)),
-        )
+        ends_with f (bytes_behind name) [] 0 0 is (inl (ap lines none, rw test refl)) (quiet_both (is_input name))
+        (omega (arith, p)) (omega (arith, q))
 
     -- a read of the file failed
     pub ends_unread : (f : Fault) → trouble_of f ≡ cannot_read name → j ≡ i → v ≡ count_after u 1
         → Compared s parts name text m (Err f) old mid i j u v
     ends_unread f is p q =
-        let end : Run = record (stops (of_name name (codes ": cannot read\n"))) { failures = is_input name ∷ [] } in (
-          record end { text = said },
-          ends_by (lines (front ++ so.left)) refl end (inr (inr (inr (inr refl)))),
-          Does-begun said end f old mid (ap (λ t. Err (shown t)) (sym is)) refl so.written,
-          refl,
-          0,
-          failures_from (is_input name) 1,
-          file_failed (is_input name),
-          omega (arith, p),
-          (1, refl, q),
-        )
+        ends_with f (cannot_read name) (is_input name ∷ []) 0 1 is (inr (inr (inr (inr refl))))
+        (file_failed (is_input name)) (omega (arith, p)) q
 
     -- memory ran out
     pub ends_starved : (f : Fault) → trouble_of f ≡ out_of_memory → j ≡ i → v ≡ u
         → Compared s parts name text m (Err f) old mid i j u v
     ends_starved f is p q =
-        let end : Run = stops run_out_of_memory in (
-          record end { text = said },
-          ends_by (lines (front ++ so.left)) refl end (inr (inr (inr (inl refl)))),
-          Does-begun said end f old mid (ap (λ t. Err (shown t)) (sym is)) refl so.written,
-          refl,
-          0,
-          failures_from (is_input name) 0,
-          quiet_both (is_input name),
-          omega (arith, p),
-          (0, refl, omega (arith, q)),
-        )
+        ends_with f out_of_memory [] 0 0 is (inr (inr (inr (inl refl)))) (quiet_both (is_input name))
+        (omega (arith, p)) (omega (arith, q))
 
     -- a read of the lines failed
     pub ends_unlisted : (f : Fault) → trouble_of f ≡ cannot_read parts → j ≡ count_after i 1 → v ≡ u
         → Compared s parts name text m (Err f) old mid i j u v
     ends_unlisted f is p q =
-        let end : Run = record (stops (of_name parts (codes ": cannot read\n"))) { failures = false ∷ [] } in (
-          record end { text = said },
-          ends_by (lines (front ++ so.left)) refl end (inr (inr (inl (inr refl)))),
-          Does-begun said end f old mid (ap (λ t. Err (shown t)) (sym is)) refl so.written,
-          refl,
-          1,
-          failures_from (is_input name) 0,
-          list_failed (is_input name),
-          p,
-          (0, refl, omega (arith, q)),
-        )
+        ends_with f (cannot_read parts) (false ∷ []) 1 0 is (inr (inr (inl (inr refl))))
+        (list_failed (is_input name)) p (omega (arith, q))
 
     -- a line tells no part behind those before it
     pub ends_wrong : (f : Fault) (number : ℕ) (fault : PartFault) → trouble_of f ≡ bad_line parts number fault
         → IsStopped (lines (front ++ so.left)) told (Line number fault) → j ≡ i → v ≡ u
         → Compared s parts name text m (Err f) old mid i j u v
     ends_wrong f number fault is (line, rest, cut, place, wrong) p q =
-        let end : Run =
-        stops (of_name parts (codes ": line " ++ (decimal (length told + 1) ++ line_complaint fault))) in
-        let cause : Err (shown (bad_line parts (length told + 1) fault)) ≡ Err (shown (trouble_of f))
-        = ap (λ (k : ℕ). Err (shown (bad_line parts k fault))) (sym place) ∙ ap (λ t. Err (shown t)) (sym is) in (
-          record end { text = said },
-          ends_by (lines (front ++ so.left)) refl end (inr (inl (line, rest, cut, fault, wrong, refl))),
-          Does-begun said end f old mid cause refl so.written,
-          refl,
-          0,
-          failures_from (is_input name) 0,
-          quiet_both (is_input name),
-          omega (arith, p),
-          (0, refl, omega (arith, q)),
-        )
+        ends_with f (bad_line parts (length told + 1) fault) [] 0 0
+        (is ∙ ap (λ (k : ℕ). bad_line parts k fault) place)
+        (inr (inl (line, rest, cut, fault, wrong, refl))) (quiet_both (is_input name))
+        (omega (arith, p)) (omega (arith, q))
 
   module _ (next : Joiner) (ahead : List ℕ) (after : Option (List ℕ)) where
     abbrev pub Finds : Result (Option PartValue) JoinFault → Type 0
@@ -369,14 +336,16 @@ module _ {s : Share} {text m : List ℕ} {joiner : Joiner} {front : List ℕ} {l
     pub ends_at : Finds (Ok None) → (front ++ so.left ≡ []) × HasJoined next told
     ends_at line = (found (Ok None) line).2
 
-    pub ends_fault : (parts name : Text) (i j u v : ℕ) (f : Fault) (fault : JoinFault) (name_of : Bor Text) → name_of.now ≡ parts
+    pub ends_fault : (parts name : Text) (i j u v : ℕ) (f : Fault) (fault : JoinFault) (name_of : Bor Text)
+        → name_of.now ≡ parts
         → f ≡ of_join fault name_of → Finds (Err fault)
         → (let r : Result (Option PartValue) JoinFault = Err fault in JoinCounts r i j) → v ≡ u
         → Compared s parts name text m (Err f) old mid i j u v
     ends_fault parts name i j u v f Read name_of same is line p q =
         ends_unlisted parts name i j u v f (ap trouble_of is ∙ ap cannot_read same) p q
     ends_fault parts name i j u v f (Line number fault) name_of same is line p q =
-        ends_wrong parts name i j u v f number fault (ap trouble_of is ∙ ap (λ (l : Text). bad_line l number fault) same)
+        ends_wrong parts name i j u v f number fault (ap trouble_of is ∙ ap (λ (l : Text). bad_line l number fault)
+        same)
         (found (Err (Line number fault)) line).2 p q
 
     module _ (part : PartValue) (finds : Finds (Ok (Some part))) where
@@ -398,7 +367,8 @@ module _ {s : Share} {text m : List ℕ} {joiner : Joiner} {front : List ℕ} {l
           }
 
       -- it is not the share's
-      pub said_over : (waits s.others s.waiting told ≡ 0 → ⊥) → Said s text m next ahead after (told ++ part ∷ []) n old mid
+      pub said_over : (waits s.others s.waiting told ≡ 0 → ⊥) → Said s text m next ahead after (told ++ part ∷ []) n old
+          mid
       said_over other =
           let np = next_part in
           let same : every s.others s.waiting (told ++ part ∷ []) ≡ own
@@ -445,7 +415,8 @@ module _ {s : Share} {text m : List ℕ} {joiner : Joiner} {front : List ℕ} {l
             }
 
         -- a write of its line failed
-        pub ends_unwritten : (parts name : Text) (i j u v : ℕ) (new : Shown) (f : Fault) → trouble_of f ≡ cannot_write → Failed mid new (line_said part w)
+        pub ends_unwritten : (parts name : Text) (i j u v : ℕ) (new : Shown) (f : Fault) → trouble_of f ≡ cannot_write
+            → Failed mid new (line_said part w)
             → j ≡ i → v ≡ u → Compared s parts name text m (Err f) old new i j u v
         ends_unwritten parts name i j u v new f is failed p q =
             let np = next_part in
@@ -486,7 +457,8 @@ module _ (parts name : Text) (lines_known file_known : Option (List ℕ)) (joine
 
   -- what is to be shown of an answer
   abbrev pub Says : Result ℕ Fault → (new : Shown) → (i j u v : ℕ) → Type 0
-  Says r new i j u v = Both lines_known file_known (λ text m. ComparesFeeds all_parts parts name text m r old new i j u v)
+  Says r new i j u v = Both lines_known file_known (λ text m. ComparesFeeds all_parts parts name text m r old new i j u
+      v)
 
   module _ (next : Joiner) (ahead : List ℕ) (after : Option (List ℕ)) where
     abbrev pub Found : Result (Option PartValue) JoinFault → Type 0
@@ -530,7 +502,8 @@ module _ (parts name : Text) (lines_known file_known : Option (List ℕ)) (joine
         → (let r : Result (Option PartValue) JoinFault = Err fault in JoinCounts r i j) → v ≡ u
         → Says (Err f) mid i j u v
     says_fault f fault list_name same is finds i j u v p q = both_then lines_known file_known So
-        (λ text m. let r : Result ℕ Fault = Err f in ComparesFeeds all_parts parts name text m r old mid i j u v) so (λ text m s.
+        (λ text m. let r : Result ℕ Fault = Err f in ComparesFeeds all_parts parts name text m r old mid i j u v) so
+        (λ text m s.
         ends_fault s.said next ahead after parts name i j u v f fault
         list_name same is finds p q)
 

@@ -55,7 +55,8 @@ impl<'i, 't, 'o, L: Feed, T: Tree, W: Sink> Session<'i, 't, 'o, L, T, W> {
     fn print_all_parts<'n>(&mut self, chunks: u64, name: &'n str) -> Result<u8, Fault<'n>>
         requires { IsPartLength chunks }
         ensures printed { IfContent name.entry.now (⟦<Self as Streams>⟧.seen self.old) (λ content.
-            PrintsParts all_parts chunks name.entry.now content result (W.shown self.old.out.now) (W.shown self.new.out.now)) }
+            PrintsParts all_parts chunks name.entry.now content result (W.shown self.old.out.now)
+            (W.shown self.new.out.now)) }
         ensures counted { IfContent name.entry.now (⟦<Self as Streams>⟧.seen self.old) (λ content.
             Counted (failed (is_input name.entry.now) content result)
             (⟦<Self as Streams>⟧.seen self.old).input_failures (⟦<Self as Streams>⟧.seen self.new).input_failures

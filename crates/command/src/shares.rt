@@ -168,7 +168,6 @@ fn compare_parts_of<'n, P: Feed, T: Tree, W: Sink>(
     out: &mut W,
 ) -> Result<u8, Fault<'n>>
     requires run { length run.old ≡ 1024 * RUN }
-    requires others { 0 < file.share.others }
     ensures compared { IfSome (P.remaining list.old) (λ text.
         IfSome (told_content (T.files tree.old) file.entry.name.now)
         (λ m. ComparesFeeds file.entry.share parts.entry.now file.entry.name.now text m result

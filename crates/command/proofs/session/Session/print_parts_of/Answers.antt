@@ -11,15 +11,19 @@ room_for_run-requires g c =
 
 pub returns-clause-printed : goal.returns-clause-printed
 returns-clause-printed g c =
-    of_file c.args.file.share c.args.chunks c.args.file.name.now (g.L.Feed.remaining c.args.self.now.input.now)
-    (g.T.Tree.files c.args.self.now.tree.now) (not_input c.args.file c.requires.others) _ _ _ c.write_parts_of.ensures.printed
+    let file = c.args.file in
+    of_file file.share c.args.chunks file.name.now (g.L.Feed.remaining c.args.self.now.input.now)
+    (g.T.Tree.files c.args.self.now.tree.now) (not_input file c.requires.others) _ _ _ c.write_parts_of.ensures.printed
 
 pub returns-clause-counted : goal.returns-clause-counted
 returns-clause-counted g c =
-    counted_file c.args.file.share c.args.chunks c.args.file.name.now (g.L.Feed.remaining c.args.self.now.input.now)
-    (g.T.Tree.files c.args.self.now.tree.now) (not_input c.args.file c.requires.others) _ _ _ _ c.write_parts_of.ensures.counted
+    let file = c.args.file in
+    counted_file file.share c.args.chunks file.name.now (g.L.Feed.remaining c.args.self.now.input.now)
+    (g.T.Tree.files c.args.self.now.tree.now) (not_input file c.requires.others) _ _ _ _
+    c.write_parts_of.ensures.counted
 
 pub returns-clause-opens : goal.returns-clause-opens
 returns-clause-opens g c =
-    opened_file c.args.file.share c.args.chunks c.args.file.name.now (g.L.Feed.remaining c.args.self.now.input.now)
-    (g.T.Tree.files c.args.self.now.tree.now) (not_input c.args.file c.requires.others) _ _ c.write_parts_of.ensures.opens
+    let file = c.args.file in
+    opened_file file.share c.args.chunks file.name.now (g.L.Feed.remaining c.args.self.now.input.now)
+    (g.T.Tree.files c.args.self.now.tree.now) (not_input file c.requires.others) _ _ c.write_parts_of.ensures.opens

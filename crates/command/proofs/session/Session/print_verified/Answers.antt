@@ -11,16 +11,19 @@ part_buffer-requires g c = (ones_pow 10, omega arith)
 
 pub returns-in_err-run-clause-run : goal.returns-in_err-run-clause-run
 returns-in_err-run-clause-run g c =
-    verified_unbuffered c.args.file.share c.args.parts.now c.args.file.name.now (g.L.Feed.remaining c.args.self.now.input.now)
+    verified_unbuffered c.args.file.share c.args.parts.now c.args.file.name.now
+    (g.L.Feed.remaining c.args.self.now.input.now)
     (g.T.Tree.files c.args.self.now.tree.now) c.from_residual.result (g.W.Sink.shown c.args.self.now.out.now)
     (g.W.Sink.shown c.args.self.now.out.now) _ _ _ _ c.from_residual.ensures.1 refl refl refl
 
 pub returns-in_err-list-clause-run : goal.returns-in_err-list-clause-run
 returns-in_err-list-clause-run g c =
-    verified_unopened c.args.file.share c.args.parts.now c.args.file.name.now (g.L.Feed.remaining c.args.self.now.input.now)
+    verified_unopened c.args.file.share c.args.parts.now c.args.file.name.now
+    (g.L.Feed.remaining c.args.self.now.input.now)
     (g.T.Tree.files c.args.self.now.tree.now) c.from_residual-in_err-list.result
     (g.W.Sink.shown c.args.self.now.out.now) (g.W.Sink.shown c.args.self.now.out.now) _ _ _ _
-    c.in_err-list.field-0.0 (may_open c.args.file.share c.args.parts.now c.args.file.name.now (g.L.Feed.remaining c.args.self.now.input.now)
+    c.in_err-list.field-0.0 (may_open c.args.file.share c.args.parts.now c.args.file.name.now
+    (g.L.Feed.remaining c.args.self.now.input.now)
     (g.T.Tree.files c.args.self.now.tree.now) c.from_residual-in_err-list.result
     (g.W.Sink.shown c.args.self.now.out.now) (g.W.Sink.shown c.args.self.now.out.now) 0 0 0 0
     c.in_err-list.field-0.0 c.in_err-list.ensures.opened) c.in_err-list.ensures.counted
