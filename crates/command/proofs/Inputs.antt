@@ -12,23 +12,6 @@ use Rattle.command.specs.declared.fault.Fault.{Fault}
 use Rattle.command.specs.declared.making.Made.{Made}
 use Rattle.command.proofs.Refused.{same_reads}
 
-of_bytes : (T : Type 0) (m : List ℕ) (r : Result T Fault) (i j u : ℕ)
-    → j ≡ count_after i (failed true (Some []) r).input → Counted (failed true (Some m) r) i j u u
-of_bytes T m (Ok value) i j u counted = (counted, omega arith)
-of_bytes T m (Err f) i j u counted = (counted ∙ ap (count_after i) (sym (same_reads m (trouble_of f))), omega arith)
-
-pub Counted-input : (T : Type 0) (name : Text) (first : Option (List ℕ)) (tree : Option Files) (r : Result T Fault)
-    (i j u : ℕ) → is_input name ≡ true → j ≡ count_after i (failed true (Some []) r).input
-    → IfSome first (λ bytes. IfSome tree (λ files.
-    Counted (failed (is_input name) (content_of name bytes files) r) i j u u))
-Counted-input T name None tree r i j u is counted = tt
-Counted-input T name (Some m) None r i j u is counted = tt
-Counted-input T name (Some m) (Some files) r i j u is counted =
-    let content : content_of name m files ≡ Some m = ap (λ (b : Bool). if b then Some m else files name) is in
-    subst (λ (b : Bool). Counted (failed b (content_of name m files) r) i j u u) (sym is)
-    (subst (λ (known : Option (List ℕ)). Counted (failed true known r) i j u u) (sym content)
-    (of_bytes T m r i j u counted))
-
 -- what was made of standard input was made of the name's content
 pub Reads-input : (name : Text) (first : Option (List ℕ)) (tree : Option Files) (limit : ℕ)
     (is : List ℕ → Made → Type 0) (r : Result Made Fault) → is_input name ≡ true
@@ -40,6 +23,10 @@ Reads-input name (Some m) (Some files) limit is r input made =
     let content : content_of name m files ≡ Some m = ap (λ (b : Bool). if b then Some m else files name) input in
     subst (λ (known : Option (List ℕ)). Reads limit is name known r) (sym content) made
 
+content_of_file : (name : Text) (input m : List ℕ) (files : Files) → is_input name ≡ false → files name ≡ Some m
+    → content_of name input files ≡ Some m
+content_of_file name input m files away is = ap (λ (b : Bool). if b then Some input else files name) away ∙ is
+
 -- and so was what was made of a file that was opened
 pub Reads-file : {F : Type 0} (name : Text) (remaining : F → Option (List ℕ)) (feed : F) (first : Option (List ℕ))
     (tree : Option Files) (limit : ℕ) (is : List ℕ → Made → Type 0) (r : Result Made Fault) → is_input name ≡ false
@@ -49,8 +36,7 @@ pub Reads-file : {F : Type 0} (name : Text) (remaining : F → Option (List ℕ)
 Reads-file name remaining feed None tree limit is r away opened made = tt
 Reads-file name remaining feed (Some input) None limit is r away opened made = tt
 Reads-file name remaining feed (Some input) (Some files) limit is r away opened made =
-    let content : content_of name input files ≡ Some opened.0 =
-    ap (λ (b : Bool). if b then Some input else files name) away ∙ opened.1 in
+    let content = content_of_file name input opened.0 files away opened.1 in
     let read : Reads limit is name (Some opened.0) r = rw opened.2 at made in
     subst (λ (known : Option (List ℕ)). Reads limit is name known r) (sym content) read
 
@@ -72,8 +58,7 @@ pub Counted-file : {F : Type 0} (T : Type 0) (name : Text) (remaining : F → Op
 Counted-file T name remaining feed None tree r i u v w x y away opened counted fresh read closed = tt
 Counted-file T name remaining feed (Some input) None r i u v w x y away opened counted fresh read closed = tt
 Counted-file T name remaining feed (Some input) (Some files) r i u v w x y away opened counted fresh read closed =
-    let content : content_of name input files ≡ Some opened.0 =
-    ap (λ (b : Bool). if b then Some input else files name) away ∙ opened.1 in
+    let content = content_of_file name input opened.0 files away opened.1 in
     subst (λ (b : Bool). Counted (failed b (content_of name input files) r) i i u y) (sym away)
     (subst (λ (known : Option (List ℕ)). Counted (failed false known r) i i u y) (sym content)
     (of_file T opened.0 r i u v w x y counted fresh read closed))
