@@ -61,33 +61,18 @@ fn joined_value(parameters: &Parameters, values: &[[u32; 8]]) -> [u32; 8]
     Node::parent(parameters, &left, &right).chaining_value()
 }
 
-// Writes the chaining values of one to eight whole chunks into the first rows: one alone is not worth a vector.
-fn whole_values(parameters: &Parameters, first: u64, bytes: &[u8], values: &mut [[u32; 8]; 8])
-    requires some { 1024 ≤ length bytes.now }
-    requires whole { length bytes.now % 1024 ≡ 0 }
-    requires bound { length bytes.now ≤ 8192 }
-    requires numbers { 1024 * first + length bytes.now ≤ 2 ^ 64 - 1 }
-    ensures { (i : ℕ) → i < length bytes.now / 1024
-        → slice_index_or values.new i [] ≡ run_cv parameters.now.key parameters.now.flags first bytes.now 0 i }
-{
-    if bytes.len() == CHUNK_LEN {
-        values[0] = chunk_over(parameters, first, bytes).chaining_value();
-    } else {
-        chunk_values(parameters, first, bytes, values, &mut [[0; 8]; 8]);
-    }
-}
-
-// The chaining values of two to eight chunks, the first of which has the number `first`.
+// The chaining values of two to eight chunks, of which at least two are whole. The first has the number `first`.
 fn group_values(parameters: &Parameters, first: u64, bytes: &[u8]) -> [[u32; 8]; 8]
-    requires some { 1024 < length bytes.now }
+    requires some { 2048 ≤ length bytes.now }
     requires bound { length bytes.now ≤ 8192 }
     requires numbers { 1024 * first + length bytes.now ≤ 2 ^ 64 - 1 }
     ensures { (i : ℕ) → i < chunk_count bytes.now
         → slice_index_or result i [] ≡ run_cv parameters.now.key parameters.now.flags first bytes.now 0 i }
 {
     let last = bytes.len() / CHUNK_LEN;
+    let whole = &bytes[..CHUNK_LEN * last];
     let mut values = [[0; 8]; 8];
-    whole_values(parameters, first, &bytes[..CHUNK_LEN * last], &mut values);
+    chunk_values(parameters, first, whole, &mut values, &mut [[0; 8]; 8]);
     if bytes.len() % CHUNK_LEN == 0 {
         return values;
     }
@@ -96,9 +81,9 @@ fn group_values(parameters: &Parameters, first: u64, bytes: &[u8]) -> [[u32; 8];
     values
 }
 
-// The tree over two to eight chunks, the first of which has the number `first`.
+// The tree over two to eight chunks, of which at least two are whole. The first has the number `first`.
 fn group_over(parameters: &Parameters, first: u64, bytes: &[u8]) -> Node
-    requires some { 1024 < length bytes.now }
+    requires some { 2048 ≤ length bytes.now }
     requires bound { length bytes.now ≤ 8192 }
     requires numbers { 1024 * first + length bytes.now ≤ 2 ^ 64 - 1 }
     ensures { result ≡ tree parameters.now.key parameters.now.flags first bytes.now }
@@ -118,6 +103,19 @@ fn run_over(parameters: &Parameters, first: u64, level: u32, bytes: &[u8]) -> No
     ensures { result ≡ tree parameters.now.key parameters.now.flags first bytes.now }
 {
     let [left, right] = subtree_halves(parameters, first, level, bytes);
+    Node::parent(parameters, &left, &right)
+}
+
+// The tree over a whole chunk and the beginning of another, which need no lanes.
+fn two_over(parameters: &Parameters, first: u64, bytes: &[u8]) -> Node
+    requires some { 1024 < length bytes.now }
+    requires bound { length bytes.now < 2048 }
+    requires numbers { 1024 * first + length bytes.now ≤ 2 ^ 64 - 1 }
+    ensures { result ≡ tree parameters.now.key parameters.now.flags first bytes.now }
+{
+    let (whole, rest) = bytes.split_at(CHUNK_LEN);
+    let left = chunk_over(parameters, first, whole).chaining_value();
+    let right = chunk_over(parameters, first + 1, rest).chaining_value();
     Node::parent(parameters, &left, &right)
 }
 
@@ -142,12 +140,14 @@ pub(crate) fn tree_over(parameters: &Parameters, first: u64, bytes: &[u8]) -> No
     if bytes.len() <= CHUNK_LEN {
         return chunk_over(parameters, first, bytes);
     }
+    if bytes.len() < 2 * CHUNK_LEN {
+        return two_over(parameters, first, bytes);
+    }
+    if bytes.len() < GROUP_LEN {
+        return group_over(parameters, first, bytes);
+    }
     if let Some(level) = level_of(bytes.len()) {
         return run_over(parameters, first, level, bytes);
-    }
-    // A chunk and the beginning of another need no lanes.
-    if 2 * CHUNK_LEN <= bytes.len() && bytes.len() <= GROUP_LEN {
-        return group_over(parameters, first, bytes);
     }
     let chunks = greatest_power_below((bytes.len() - 1) / CHUNK_LEN + 1);
     let middle = CHUNK_LEN * chunks;

@@ -13,7 +13,7 @@ returns-then-bytes-eq0 c = λ i h.
     let bytes : List ℕ = c.args.bytes.now in
     let last : ℕ = length bytes / 1024 in
     let size : length (take (1024 * last) bytes) ≡ 1024 * last = length-take-le (1024 * last) bytes (omega arith) in
-    c.whole_values.ensures i (omega (arith, size, h))
+    c.chunk_values.ensures.values i (omega (arith, size, h)) (omega (arith, size, h))
     ∙ run_part c.args.parameters.now.key c.args.parameters.now.flags c.args.first last bytes 0 i (omega arith)
     (omega (arith, h))
 
@@ -29,12 +29,12 @@ returns c = λ i h.
     let size : length left ≡ length bytes - 1024 * last = length-drop (1024 * last) bytes in
     elim (cases_lt i last) [
       | inl below ↦
-          get_or-set_other c.whole_values.new.values last i c.chaining_value.result [] (λ e. absurd (omega (arith, e)))
-          ∙ c.whole_values.ensures i (omega (arith, whole, below))
+          get_or-set_other c.chunk_values.new.values last i c.chaining_value.result [] (λ e. absurd (omega (arith, e)))
+          ∙ c.chunk_values.ensures.values i (omega (arith, whole, below)) (omega (arith, whole, below))
           ∙ run_part key flags c.args.first last bytes 0 i (omega arith) (omega (arith, below))
       | inr above ↦
           let here : i ≡ last = omega (arith, above, h) in
-          rw here (get_or-set_same c.whole_values.new.values last c.chaining_value.result [] (omega arith)
+          rw here (get_or-set_same c.chunk_values.new.values last c.chaining_value.result [] (omega arith)
           ∙ c.chaining_value.ensures ∙ ap cv c.chunk_over-rest.ensures
           ∙ ap (λ (x : List ℕ). cv (tree key flags (c.args.first + last) x))
           (take_all (length bytes - 1024 * last) left (omega (arith, size))
