@@ -11,7 +11,8 @@ ghost use Rattle.task.specs.Tasks.{by_blake3};
 ghost use Rattle.task.specs.inside.Views.{derivation_shown};
 
 use crate::fault::Fault;
-use crate::output::{write_bytes, write_output};
+use crate::making::{Made, write_made};
+use crate::output::write_bytes;
 use crate::session::{Session, Streams, absorb_named};
 use crate::verifying::slice_of;
 use b3::Blake3;
@@ -141,7 +142,8 @@ impl<'i, 't, 'o, L: Feed, T: Tree, W: Sink> Session<'i, 't, 'o, L, T, W> {
     {
         let mut hasher = Blake3::derive(context.as_bytes());
         absorb_named(&mut hasher, material, self.tree)?;
-        Ok(write_output(hasher.output(), length, is_raw, self.out)?)
+        let made = Made::Output(hasher.output(), length);
+        Ok(write_made(made, is_raw, self.out)?)
     }
 }
 

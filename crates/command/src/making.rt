@@ -8,11 +8,14 @@ ghost use Rattle.command.specs.inside.Keys.{HasBytes, IsWanted, made_bytes};
 ghost use Rattle.command.specs.inside.Making.{made_len};
 ghost use Rattle.command.specs.inside.Printing.{printed, printed_beside};
 
-use crate::output::{PIECE, write_bytes, write_output};
+use crate::output::write_bytes;
 use b3::Output;
 use source::{Sink, WriteFailed};
 use sumlist::{write_end, write_lead};
 use words::Tag;
+
+// This many bytes of an output are written, or compared, at a time.
+const PIECE: usize = 4096;
 
 /// Bytes of a digest or tag.
 #[derive(Drop)]
@@ -61,15 +64,25 @@ pub(crate) fn write_beside<W: Sink>(
     write_end(name, out)
 }
 
-// Writes the bytes themselves, or their digits.
-fn write_made<W: Sink>(made: Made, is_raw: bool, out: &mut W) -> Result<(), WriteFailed>
+/// Writes the bytes themselves, or their digits, those of an output piece by piece.
+#[inline(never)] // its buffer is on the stack only while it is used
+pub(crate) fn write_made<W: Sink>(made: Made, is_raw: bool, out: &mut W) -> Result<(), WriteFailed>
     requires { HasBytes made }
     ensures { Writes result (W.shown out.old) (W.shown out.new) (printed is_raw (made_bytes made)) }
 {
-    match made {
-        Made::Tag(tag) => write_bytes(tag.bytes(), is_raw, out),
-        Made::Output(output, length) => write_output(output, length, is_raw, out),
+    let (mut output, mut left) = match made {
+        Made::Tag(tag) => return write_bytes(tag.bytes(), is_raw, out),
+        Made::Output(output, length) => (output, length),
+    };
+    let mut buffer = [0; PIECE];
+    while left > 0 {
+        let count = left.min(PIECE as u64);
+        let (piece, _) = buffer.split_at_mut(count as usize);
+        output.fill(piece).unwrap();
+        write_bytes(piece, is_raw, out)?;
+        left -= count;
     }
+    Ok(())
 }
 
 /// Whether the bytes are those that are wanted.
