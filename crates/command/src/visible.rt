@@ -6,7 +6,6 @@ ghost use Rattle.source.specs.Written.{Writes};
 ghost use Rattle.command.specs.Visible as spec;
 ghost use Rattle.command.specs.Visible.{visible, visible_char};
 
-use crate::output::write_bytes;
 use source::{Sink, WriteFailed, write_all};
 
 /// Writes any name as a text of one line without a command to a terminal: in the escaped form of lists, with
@@ -28,9 +27,18 @@ fn write_char<W: Sink>(character: char, out: &mut W) -> Result<(), WriteFailed>
         '\\' => write_all(out, b"\\\\"),
         '\n' => write_all(out, b"\\n"),
         '\r' => write_all(out, b"\\r"),
-        _ if character.is_control() => write_code("\\x", &[character as u8], "", out),
+        _ if character.is_control() => {
+            let mut digits = [0; 2];
+            hex::encode_to_slice(&[character as u8], &mut digits).unwrap();
+            write_all(out, b"\\x")?;
+            write_all(out, &digits)
+        }
         _ if is_layout(character) => {
-            write_code("\\u{", &(character as u16).to_be_bytes(), "}", out)
+            let mut digits = [0; 4];
+            hex::encode_to_slice(&(character as u16).to_be_bytes(), &mut digits).unwrap();
+            write_all(out, b"\\u{")?;
+            write_all(out, &digits)?;
+            write_all(out, b"}")
         }
         _ => write_all(out, character.encode_utf8(&mut [0; 4]).as_bytes()),
     }
@@ -45,19 +53,4 @@ fn is_layout(character: char) -> bool
         character,
         '\u{061c}' | '\u{200e}'..='\u{200f}' | '\u{2028}'..='\u{202e}' | '\u{2066}'..='\u{2069}'
     )
-}
-
-// Writes the digits of a number, given by its bytes, between two texts.
-fn write_code<W: Sink>(
-    before: &str,
-    number: &[u8],
-    after: &str,
-    out: &mut W,
-) -> Result<(), WriteFailed>
-    ensures { Writes result (W.shown out.old) (W.shown out.new)
-        (before.now ++ (encode_lower number.now ++ after.now)) }
-{
-    write_all(out, before.as_bytes())?;
-    write_bytes(number, false, out)?;
-    write_all(out, after.as_bytes())
 }
