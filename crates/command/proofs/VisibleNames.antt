@@ -151,3 +151,9 @@ plain_chars (c ∷ cs) e =
 pub visible-plain : (name : List ℕ) → IsUtf8 name → list_all is_plain (chars name) ≡ true → visible name ≡ name
 unfolding visible
 visible-plain name utf8 e = plain_chars (chars name) e ∙ encodes-chars name utf8
+
+-- ---- no name
+
+pub visible-none : (text : List ℕ) → visible [] ++ text ≡ text
+unfolding visible
+visible-none text = ap (λ (cs : List ℕ). flat_map visible_char cs ++ text) chars-nil

@@ -1,4 +1,5 @@
 -- What the clauses of private functions say, and how private types are seen: of use inside alone.
+pub mod Messages
 pub mod Troubles
 pub mod Faults
 pub mod Reading

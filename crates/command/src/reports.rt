@@ -8,25 +8,25 @@ ghost use Rattle.source.specs.Written.{Writes};
 ghost use Rattle.sumlist.specs.Lines.{lines};
 ghost use Rattle.sumlist.specs.Report.{unkeyed};
 ghost use Rattle.sumlist.specs.Tally.{summary_text};
-ghost use Rattle.std.specs.Fmt.{decimal};
 ghost use Rattle.task.specs.Tasks.{tags, these};
 ghost use Rattle.task.specs.inside.Views.{key_shown};
 ghost use Rattle.command.specs.Checking as spec;
-ghost use Rattle.command.specs.Checking.{ListRuns, ListsRun, foreign_hint, hints};
+ghost use Rattle.command.specs.Checking.{ListRuns, ListsRun};
 ghost use Rattle.command.specs.Visible.{visible};
 ghost use Rattle.command.specs.Lines.{content_of, is_input, opens_of};
 ghost use Rattle.command.specs.Run.{TellsAll};
-ghost use Rattle.command.specs.inside.Faults.{heading, hinted_of, noted_of, of_check, remarks};
+ghost use Rattle.command.specs.inside.Faults.{heading, hinted, of_check, remarks};
+ghost use Rattle.command.specs.inside.Messages.{message_text};
 ghost use Rattle.command.specs.inside.Listing.{ListTaken};
 ghost use Rattle.command.specs.inside.Reading.{Leaves, failed};
-ghost use Rattle.command.specs.inside.Reported.{PrintsReport};
 ghost use Rattle.command.specs.inside.Keys.{key_content};
+ghost use Rattle.command.specs.inside.Reported.{PrintsReport};
 ghost use Rattle.command.specs.inside.Rules.{EntriesRun, HasRule, MayRefuseSum, entries_opens, keyed_line, meaning};
 ghost use Rattle.command.specs.inside.Seen.{IfTold, OpensAtMost, DoesRun, opens_from, source_opens};
 ghost use Rattle.command.specs.inside.Troubles.{trouble_of};
 ghost use Rattle.command.specs.inside.Streams.{SameStreams};
 
-use crate::fault::{Fault, write_number, write_of};
+use crate::fault::{Fault, Message, write_message};
 use crate::keying::keyed_of;
 use crate::lines::settle;
 use crate::rule::ShortKeyed;
@@ -240,7 +240,8 @@ pub(crate) fn title_of(are_named: bool, name: &str) -> Option<&str>
     if are_named { Some(name) } else { None }
 }
 
-// Reports on standard error what there is to say of a list, unless there are other shares of it.
+// Reports on standard error what there is to say of a list, unless there are other shares of it: its numbers, and what
+// its report does not say, each in one text of which what is not taken is dropped.
 pub(crate) fn remark<E: Sink>(
     is_alone: bool,
     list: Option<&str>,
@@ -253,31 +254,21 @@ pub(crate) fn remark<E: Sink>(
     ensures { TellsAll (E.shown err.old) (E.shown err.new) (remarks is_alone reporting
         (option_map (λ n. n.now) list.entry) name.now (meaning entries.now) answer.now) }
 {
+    let Ok(summary) = answer else {
+        return;
+    };
     if !is_alone {
         return;
     }
-    note(list, reporting, answer, err);
-    hint(name, entries, answer, err);
-}
-
-// Tells the numbers of a list on standard error, in one text: what is not taken of it is dropped.
-fn note<E: Sink>(
-    list: Option<&str>,
-    reporting: Reporting,
-    answer: &Result<Summary, CheckFault>,
-    err: &mut E,
-)
-    ensures { TellsAll (E.shown err.old) (E.shown err.new)
-        (noted_of reporting (option_map (λ n. n.now) list.entry) answer.now) }
-{
-    match answer {
-        Ok(summary) if reporting.is_summed => {
-            let _ = write_note(list, summary, err);
-        }
-        _ => {}
+    if reporting.is_summed {
+        let _ = write_note(list, summary, err);
+    }
+    if let Some(hint) = hint_of(name, entries, summary) {
+        let _ = write_message(err, hint);
     }
 }
 
+// Writes the numbers of a list behind the name that it has in its report.
 fn write_note<E: Sink>(
     list: Option<&str>,
     summary: &Summary,
@@ -287,41 +278,32 @@ fn write_note<E: Sink>(
         (codes "sums: " ++ (heading (option_map (λ n. n.now) list.entry) ++ summary_text summary.now)) }
 {
     write_all(err, b"sums: ")?;
-    write_heading(list, err)?;
+    let Some(name) = list else {
+        return write_summary(summary, err);
+    };
+    write_visible(name, err)?;
+    write_all(err, b": ")?;
     write_summary(summary, err)
 }
 
-// Tells what the report of a list does not say, in one text: what is not taken of it is dropped.
-fn hint<E: Sink>(
-    name: &str,
+// What the report of a list does not say.
+fn hint_of<'n>(
+    name: &'n str,
     entries: &sumlist::Entries<'_, ShortKeyed>,
-    answer: &Result<Summary, CheckFault>,
-    err: &mut E,
-)
-    ensures { TellsAll (E.shown err.old) (E.shown err.new) (hinted_of name.now (meaning entries.now) answer.now) }
+    summary: &Summary,
+) -> Option<Message<'n>>
+    ensures { MatchOption result (hinted name.entry.now (meaning entries.now) summary.now ≡ [])
+        (λ hint. hinted name.entry.now (meaning entries.now) summary.now ≡ (codes "sums: " ++ message_text hint) ∷ []) }
 {
-    let Ok(summary) = answer else {
-        return;
-    };
     if let Some(look) = summary.look {
-        let _ = write_foreign(name, entries, look, summary.foreign, err);
-    } else if let Some(hint) = hint_of(entries, summary) {
-        let _ = write_hint(name, hint, err);
+        return Some(foreign_hint(name, entries, look, summary.foreign));
     }
-}
-
-// What there is to tell of a list of whose malformed lines nothing can be told.
-fn hint_of(entries: &sumlist::Entries<'_, ShortKeyed>, summary: &Summary) -> Option<&'static str>
-    requires { summary.now.look ≡ None }
-    ensures { MatchOption result (hints (meaning entries.now) summary.now ≡ [])
-        (λ hint. hints (meaning entries.now) summary.now ≡ hint.now ∷ []) }
-{
     if summary.is_empty() {
-        Some(": no entries\n")
+        Some(Message::of(name, ": no entries\n"))
     } else if summary.is_all_failed() {
-        failed_hint(entries)
+        Some(Message::of(name, failed_hint(entries)?))
     } else if summary.is_all_missing() {
-        Some(": all MISSING, names count from the current folder\n")
+        Some(Message::of(name, ": all MISSING, names count from the current folder\n"))
     } else {
         None
     }
@@ -340,54 +322,42 @@ fn failed_hint(entries: &sumlist::Entries<'_, ShortKeyed>) -> Option<&'static st
     }
 }
 
-// Tells what malformed lines look like, of which there are so many.
-fn write_foreign<E: Sink>(
-    name: &str,
+// What malformed lines look like, of which there are so many.
+fn foreign_hint<'n>(
+    name: &'n str,
     entries: &sumlist::Entries<'_, ShortKeyed>,
     look: Look,
     count: u64,
-    err: &mut E,
-) -> Result<(), WriteFailed>
-    ensures { Writes result (E.shown err.old) (E.shown err.new)
-        (codes "sums: " ++ (visible name.now ++ foreign_hint (meaning entries.now) look count)) }
+) -> Message<'n>
+    ensures { message_text result ≡ visible name.entry.now ++ spec.foreign_hint (meaning entries.now) look count }
 {
     match entries {
-        sumlist::Entries::Digests(kind) => write_look(name, *kind, look, err),
+        sumlist::Entries::Digests(kind) => untagged_hint(name, *kind, look),
         sumlist::Entries::Tags(_, _) => {
-            write_count(
-                name,
-                ": tagged lines, which anyone can make: ",
-                count,
-                "\n",
-                err,
-            )
+            Message::of_number(name, ": tagged lines, which anyone can make: ", count, "\n")
         }
     }
 }
 
-fn write_look<E: Sink>(
-    name: &str,
-    kind: Option<Kind>,
-    look: Look,
-    err: &mut E,
-) -> Result<(), WriteFailed>
-    ensures { (count : ℕ) → Writes result (E.shown err.old) (E.shown err.new)
-        (codes "sums: " ++ (visible name.now ++ foreign_hint (unkeyed kind) look count)) }
+// What malformed lines look like in a list of digests.
+fn untagged_hint<'n>(name: &'n str, kind: Option<Kind>, look: Look) -> Message<'n>
+    ensures { (count : ℕ) → message_text result
+        ≡ visible name.entry.now ++ spec.foreign_hint (unkeyed kind) look count }
 {
     match look {
-        Look::Marked => write_hint(name, ": a line begins with a byte order mark\n", err),
-        Look::Nameless => write_hint(name, ": a line has digits and no name\n", err),
-        Look::Digest(16) => write_hint(name, ": looks like MD5, which sums does not have\n", err),
-        Look::Digest(20) => {
-            write_hint(name, ": looks like SHA-1, which sums does not have\n", err)
-        }
+        Look::Marked => Message::of(name, ": a line begins with a byte order mark\n"),
+        Look::Nameless => Message::of(name, ": a line has digits and no name\n"),
+        Look::Digest(16) => Message::of(name, ": looks like MD5, which sums does not have\n"),
+        Look::Digest(20) => Message::of(name, ": looks like SHA-1, which sums does not have\n"),
         Look::Digest(_) if kind.is_some() => {
-            write_hint(name, ": digests of another length than those of -a\n", err)
+            Message::of(name, ": digests of another length than those of -a\n")
         }
-        Look::Digest(len) => {
-            let count = 2 * u64::from(len);
-            write_count(name, ": untagged lines need -a; ", count, fitting(len), err)
-        }
+        Look::Digest(len) => Message::of_number(
+            name,
+            ": untagged lines need -a; ",
+            2 * u64::from(len),
+            fitting(len),
+        ),
     }
 }
 
@@ -401,40 +371,6 @@ fn fitting(len: u8) -> &'static str
         0..=31 => " digits fit blake2b or blake2s\n",
         _ => " digits fit blake2b\n",
     }
-}
-
-// Tells a hint with a number in it.
-fn write_count<E: Sink>(
-    name: &str,
-    front: &str,
-    count: u64,
-    rest: &str,
-    err: &mut E,
-) -> Result<(), WriteFailed>
-    ensures { Writes result (E.shown err.old) (E.shown err.new)
-        (codes "sums: " ++ (visible name.now ++ (front.now ++ (decimal count ++ rest.now)))) }
-{
-    write_all(err, b"sums: ")?;
-    write_visible(name, err)?;
-    write_number(err, front, count, rest)
-}
-
-fn write_hint<E: Sink>(name: &str, hint: &str, err: &mut E) -> Result<(), WriteFailed>
-    ensures { Writes result (E.shown err.old) (E.shown err.new) (codes "sums: " ++ (visible name.now ++ hint.now)) }
-{
-    write_all(err, b"sums: ")?;
-    write_of(err, name, hint)
-}
-
-// Writes the name that a list has in its report, where it has one.
-fn write_heading<E: Sink>(list: Option<&str>, err: &mut E) -> Result<(), WriteFailed>
-    ensures { Writes result (E.shown err.old) (E.shown err.new) (heading (option_map (λ n. n.now) list.entry)) }
-{
-    let Some(name) = list else {
-        return Ok(());
-    };
-    write_visible(name, err)?;
-    write_all(err, b": ")
 }
 
 fn status_of(answer: Result<Summary, CheckFault>, name: &str) -> Result<u8, Fault<'_>>
