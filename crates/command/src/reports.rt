@@ -1,21 +1,21 @@
 // The command `check`: the reports on lists.
 
-ghost use Rattle.std.specs.Prelude.{◌≡◌, ◌≤◌, ◌+◌, ◌++◌, ◌∷◌, [], map, IfSome, MatchOption, Some, codes, true};
+ghost use Rattle.std.specs.Prelude.{◌≡◌, ◌==◌, ◌≤◌, ◌+◌, ◌++◌, ◌∷◌, [], map, IfSome, MatchOption, Some, codes, true};
 ghost use Rattle.std.specs.Prelude.{MatchResult, None, false, ℕ, if◌then◌else◌, option_map};
 ghost use Rattle.std.specs.List.{sum_by};
 ghost use Rattle.source.specs.Counts.{count_after};
-ghost use Rattle.source.specs.Written.{Writes};
+ghost use Rattle.source.specs.Written.{Shown, Writes};
 ghost use Rattle.sumlist.specs.Lines.{lines};
 ghost use Rattle.sumlist.specs.Report.{unkeyed};
-ghost use Rattle.sumlist.specs.Tally.{summary_text};
+ghost use Rattle.sumlist.specs.Tally.{is_clean, summary_text};
 ghost use Rattle.task.specs.Tasks.{tags, these};
 ghost use Rattle.task.specs.inside.Views.{key_shown};
 ghost use Rattle.command.specs.Checking as spec;
-ghost use Rattle.command.specs.Checking.{ListRuns, ListsRun};
+ghost use Rattle.command.specs.Checking.{ListRuns, ListsRun, notes_of};
 ghost use Rattle.command.specs.Visible.{visible};
 ghost use Rattle.command.specs.Lines.{content_of, is_input, opens_of};
 ghost use Rattle.command.specs.Run.{TellsAll};
-ghost use Rattle.command.specs.inside.Faults.{heading, hinted, of_check, remarks};
+ghost use Rattle.command.specs.inside.Faults.{graded, heading, hinted, of_check, remarks};
 ghost use Rattle.command.specs.inside.Messages.{message_text};
 ghost use Rattle.command.specs.inside.Listing.{ListTaken};
 ghost use Rattle.command.specs.inside.Reading.{Leaves, failed};
@@ -140,27 +140,33 @@ impl<'i, 't, 'o, L: Feed, T: Tree, W: Sink> Session<'i, 't, 'o, L, T, W> {
             (⟦<Self as Streams>⟧.seen self.old) (⟦<Self as Streams>⟧.seen self.new)) }
         ensures same { SameStreams self.old self.new }
     {
-        match self.check_named(entries, title, reporting, name, share, err) {
-            Ok(status) => Ok(status),
+        let is_alone = share.others == 0;
+        match self.check_named(entries, title, name, share) {
+            Ok(summary) => {
+                if is_alone {
+                    remark(title, reporting, name, entries, &summary, err);
+                }
+                Ok(status_of(&summary))
+            }
             Err(fault) => settle(err, fault),
         }
     }
 
-    // Checks the list of this name.
-    fn check_named<'n, E: Sink>(
+    // Checks the list of this name, and answers its numbers.
+    fn check_named<'n>(
         &mut self,
         entries: &sumlist::Entries<'_, ShortKeyed>,
         title: Option<&str>,
-        reporting: Reporting,
         name: &'n str,
         share: &mut Share,
-        err: &mut E,
-    ) -> Result<u8, Fault<'n>>
-        ensures run { DoesRun (λ bytes files run. ListRuns reporting files (meaning entries.now)
+    ) -> Result<Summary, Fault<'n>>
+        ensures run { (reporting : Reporting) (before after : Shown) → TellsAll before after
+            (remarks (share.old.others == 0) reporting (option_map (λ n. n.now) title.entry) name.entry.now
+            (meaning entries.now) result)
+            → DoesRun (λ bytes files run. ListRuns reporting files (meaning entries.now)
             (option_map (λ n. n.now) title.entry) name.entry.now share.old (content_of name.entry.now bytes files) run
-            share.new)
-            (λ notes. TellsAll (E.shown err.old) (E.shown err.new) notes)
-            result (⟦<Self as Streams>⟧.seen self.old) (⟦<Self as Streams>⟧.seen self.new) }
+            share.new) (λ notes. TellsAll before after notes)
+            (graded result) (⟦<Self as Streams>⟧.seen self.old) (⟦<Self as Streams>⟧.seen self.new) }
         ensures gave { Leaves (is_input name.entry.now) result
             (⟦<Self as Streams>⟧.seen self.old).bytes (⟦<Self as Streams>⟧.seen self.new).bytes }
         ensures files { (⟦<Self as Streams>⟧.seen self.new).files ≡ (⟦<Self as Streams>⟧.seen self.old).files }
@@ -169,28 +175,25 @@ impl<'i, 't, 'o, L: Feed, T: Tree, W: Sink> Session<'i, 't, 'o, L, T, W> {
             (⟦<Self as Streams>⟧.seen self.old) (⟦<Self as Streams>⟧.seen self.new)) }
         ensures same { SameStreams self.old self.new }
     {
-        read_as_input!(
-            self,
-            name,
-            check_input(entries, title, reporting, name, share, err)
-        )
+        read_as_input!(self, name, check_input(entries, title, name, share))
     }
 
     // Checks the list of this name, which is the session's input.
-    fn check_input<'n, E: Sink>(
+    fn check_input<'n>(
         &mut self,
         entries: &sumlist::Entries<'_, ShortKeyed>,
         title: Option<&str>,
-        reporting: Reporting,
         name: &'n str,
         share: &mut Share,
-        err: &mut E,
-    ) -> Result<u8, Fault<'n>>
-        ensures list { IfTold (⟦<Self as Streams>⟧.seen self.old) (λ bytes files. ListTaken
+    ) -> Result<Summary, Fault<'n>>
+        ensures list { (reporting : Reporting) (before after : Shown) → TellsAll before after
+            (remarks (share.old.others == 0) reporting (option_map (λ n. n.now) title.entry) name.entry.now
+            (meaning entries.now) result)
+            → IfTold (⟦<Self as Streams>⟧.seen self.old) (λ bytes files. ListTaken
             (λ run. ListRuns reporting files (meaning entries.now) (option_map (λ n. n.now) title.entry)
             name.entry.now share.old (Some bytes) run share.new)
-            name.entry.now bytes result
-            (W.shown self.old.out.now) (W.shown self.new.out.now) (E.shown err.old) (E.shown err.new)
+            name.entry.now bytes (graded result)
+            (W.shown self.old.out.now) (W.shown self.new.out.now) before after
             (T.failure_count self.old.tree.now) (T.failure_count self.new.tree.now)) }
         ensures counted { IfSome (L.remaining self.old.input.now) (λ bytes. L.failure_count self.new.input.now
             ≡ count_after (L.failure_count self.old.input.now) (failed true (Some bytes) result).input) }
@@ -200,12 +203,10 @@ impl<'i, 't, 'o, L: Feed, T: Tree, W: Sink> Session<'i, 't, 'o, L, T, W> {
             (opens_from lines (Some bytes)) (⟦<Self as Streams>⟧.seen self.old) (⟦<Self as Streams>⟧.seen self.new)) }
         ensures same { SameStreams self.old self.new }
     {
-        let is_alone = share.others == 0;
         let answer = check_list(
             self.alloc, self.input, entries, title, share, self.tree, self.out,
         );
-        remark(is_alone, title, reporting, name, entries, &answer, err);
-        status_of(answer, name)
+        settled(answer, name)
     }
 }
 
@@ -240,26 +241,19 @@ pub(crate) fn title_of(are_named: bool, name: &str) -> Option<&str>
     if are_named { Some(name) } else { None }
 }
 
-// Reports on standard error what there is to say of a list, unless there are other shares of it: its numbers, and what
-// its report does not say, each in one text of which what is not taken is dropped.
+// Reports on standard error what there is to say of a list: its numbers, and what its report does not say, each in one
+// text of which what is not taken is dropped.
 pub(crate) fn remark<E: Sink>(
-    is_alone: bool,
     list: Option<&str>,
     reporting: Reporting,
     name: &str,
     entries: &sumlist::Entries<'_, ShortKeyed>,
-    answer: &Result<Summary, CheckFault>,
+    summary: &Summary,
     err: &mut E,
 )
-    ensures { TellsAll (E.shown err.old) (E.shown err.new) (remarks is_alone reporting
-        (option_map (λ n. n.now) list.entry) name.now (meaning entries.now) answer.now) }
+    ensures { TellsAll (E.shown err.old) (E.shown err.new) (notes_of reporting (meaning entries.now)
+        (option_map (λ n. n.now) list.entry) name.now summary.now) }
 {
-    let Ok(summary) = answer else {
-        return;
-    };
-    if !is_alone {
-        return;
-    }
     if reporting.is_summed {
         let _ = write_note(list, summary, err);
     }
@@ -373,12 +367,19 @@ fn fitting(len: u8) -> &'static str
     }
 }
 
-fn status_of(answer: Result<Summary, CheckFault>, name: &str) -> Result<u8, Fault<'_>>
+// The status of a list with these numbers.
+pub(crate) fn status_of(summary: &Summary) -> u8
+    ensures { result ≡ (if is_clean summary.now then 0 else 1) }
+{
+    if summary.is_clean() { 0 } else { 1 }
+}
+
+// What the list of this name came to.
+fn settled(answer: Result<Summary, CheckFault>, name: &str) -> Result<Summary, Fault<'_>>
     ensures { result ≡ of_check answer name.entry }
 {
     match answer {
-        Ok(summary) if summary.is_clean() => Ok(0),
-        Ok(_) => Ok(1),
+        Ok(summary) => Ok(summary),
         Err(CheckFault::ListRead) => Err(Fault::CannotRead(name)),
         Err(CheckFault::ListTooLong) => Err(Fault::TooLong(name)),
         Err(CheckFault::Write) => Err(Fault::CannotWrite),

@@ -1,10 +1,9 @@
 // The command `check` with `--told`: what a report on lists does not say.
 
-ghost use Rattle.std.specs.Prelude.{◌≡◌, ◌≤◌, ◌<◌, ◌+◌, ◌⊎◌, [], IfSome, MatchResult, Ok, Some, if◌then◌else◌};
+ghost use Rattle.std.specs.Prelude.{◌≡◌, ◌≤◌, ◌<◌, ◌+◌, ◌⊎◌, [], IfSome, MatchResult, Ok, Some};
 ghost use Rattle.std.specs.Prelude.{length, map, nat_lt, option_map, true};
 ghost use Rattle.std.specs.List.{sum_by};
 ghost use Rattle.source.specs.Counts.{count_after};
-ghost use Rattle.sumlist.specs.Tally.{is_clean};
 ghost use Rattle.sumlist.specs.inside.Telling.{left};
 ghost use Rattle.task.specs.Tasks.{in_file};
 ghost use Rattle.command.specs.Checking.{ListsRun};
@@ -19,7 +18,7 @@ ghost use Rattle.command.specs.inside.Told.{CountsList, KeepsReport, SumsUp, Tel
 ghost use Rattle.command.specs.inside.Troubles.{cannot_read, other_line, trouble_of};
 
 use crate::fault::Fault;
-use crate::reports::{remark, short_keyed, title_of};
+use crate::reports::{remark, short_keyed, status_of, title_of};
 use crate::rule::ShortKeyed;
 use crate::session::{Session, Streams, open_file};
 use source::{Feed, Sink};
@@ -157,8 +156,7 @@ impl<'i, 't, 'o, L: Feed, T: Tree, W: Sink> Session<'i, 't, 'o, L, T, W> {
         ensures same { SameStreams self.old self.new }
     {
         let summary = self.tell_named(told, title, name)?;
-        let answer = Ok(summary);
-        remark(true, title, reporting, name, told.entries, &answer, err);
+        remark(title, reporting, name, told.entries, &summary, err);
         Ok(status_of(&summary))
     }
 
@@ -234,13 +232,6 @@ impl<'e, 'k, 'f, 'n, F: Feed> Telling<'e, 'k, 'f, 'n, F> {
             Err(TellFault::OutOfMemory) => Err(Fault::OutOfMemory),
         }
     }
-}
-
-// The status of a list with these numbers.
-fn status_of(summary: &Summary) -> u8
-    ensures { result ≡ (if is_clean summary.now then 0 else 1) }
-{
-    if summary.is_clean() { 0 } else { 1 }
 }
 
 // What a list that a feed gives came to.

@@ -8,10 +8,10 @@ use Rattle.command.proofs.reports.remark.Goals.{else-reporting, then-reporting}
 pub returns-in-Some : goal.returns-in-Some
 returns-in-Some g c =
     let told : TellsAll (g.E.Sink.shown c.args.err.now) (g.E.Sink.shown c.if-reporting.err)
-    (noted c.args.reporting (option_map (λ n. n.now) c.args.list) c.in-Ok.summary) = elim c.if-reporting.branch [
+    (noted c.args.reporting (option_map (λ n. n.now) c.args.list) c.args.summary.now) = elim c.if-reporting.branch [
       | then-reporting w ↦
           rw (w.if-reporting.true, w.err-is) (TellsAll-one _ _ _ (Writes-tells _ _ _ _ w.write_note.ensures))
       | else-reporting w ↦ rw (w.if-reporting.false, w.err-is) refl
     ] in
-    rw (c.in-Ok.is, c.if-not-is_alone.false, c.in-Some.ensures) (TellsAll-append _ _ _ _ _ told
+    rw c.in-Some.ensures (TellsAll-append _ _ _ _ _ told
     (TellsAll-one _ _ _ (Writes-tells _ _ _ _ c.write_message.ensures)))

@@ -1,43 +1,47 @@
 use Rattle.std.proofs.Common.{refl, sym, ◌∙◌}
 use Rattle.sumlist.specs.Lines.{lines}
-use Rattle.std.specs.Prelude.{option_map}
+use Rattle.std.specs.Prelude.{◌==◌, option_map}
 use Rattle.command.specs.Checking.{ListRuns}
 use Rattle.command.specs.inside.Rules.{meaning}
-use Rattle.command.proofs.Listing.{refused_list, report_file, report_input, report_refused}
+use Rattle.command.proofs.Listing.{graded-counted, graded-stops, refused_list, report_file, report_input}
+use Rattle.command.proofs.Listing.{report_refused, stops-quiet}
 use Rattle.command.proofs.Opening.{opens_of_file, opens_of_input, opens_of_none}
 use Rattle.command.proofs.session.Session.check_named.Goals as goal
 
 pub returns-then-eq-clause-run : goal.returns-then-eq-clause-run
-returns-then-eq-clause-run g c =
+returns-then-eq-clause-run g c reporting before after told =
     let name = c.args.name.now in
     report_input name (λ files content run.
-    ListRuns c.args.reporting files (meaning c.args.entries.now)
+    ListRuns reporting files (meaning c.args.entries.now)
     (option_map (λ n. n.now) c.args.title) name c.args.share.now content run c.check_input.new.share)
-    _ _ _ _ _ _ _ _ _ _ _ (sym c.eq.ensures ∙ c.if-eq.true) c.check_input.ensures.list c.check_input.ensures.counted
+    _ _ _ _ _ _ _ _ _ _ _ (sym c.eq.ensures ∙ c.if-eq.true)
+    (c.check_input.ensures.list reporting before after told) (graded-counted _ _ _ _ c.check_input.ensures.counted)
 
 pub returns-in_err-feed-clause-run : goal.returns-in_err-feed-clause-run
-returns-in_err-feed-clause-run g c =
+returns-in_err-feed-clause-run g c reporting before after told =
     let name = c.args.name.now in
     let is = sym c.eq.ensures ∙ c.if-eq.false in
     report_refused name (λ files content run.
-    ListRuns c.args.reporting files (meaning c.args.entries.now)
+    ListRuns reporting files (meaning c.args.entries.now)
     (option_map (λ n. n.now) c.args.title) name c.args.share.now content run c.args.share.now)
-    (g.E.Sink.shown c.args.err.now) (g.E.Sink.shown c.args.err.now) g.T.F.Feed.remaining _ _ _ _ _ _ _ _ is
+    before after g.T.F.Feed.remaining _ _ _ _ _ _ _ _ is
     (λ files content t may other.
-    refused_list c.args.reporting files (meaning c.args.entries.now)
+    refused_list reporting files (meaning c.args.entries.now)
     (option_map (λ n. n.now) c.args.title) name c.args.share.now content t may other is)
-    c.from_residual.ensures.1 c.in_err-feed.ensures.opened c.in_err-feed.ensures.counted refl
+    (graded-stops _ _ c.from_residual.ensures.1) c.in_err-feed.ensures.opened c.in_err-feed.ensures.counted
+    (stops-quiet (c.args.share.now.others == 0) reporting (option_map (λ n. n.now) c.args.title) name
+    (meaning c.args.entries.now) _ _ before after c.from_residual.ensures.1 told)
 
 pub returns-clause-run : goal.returns-clause-run
-returns-clause-run g c =
+returns-clause-run g c reporting before after told =
     let name = c.args.name.now in
     report_file name (λ files content run.
-    ListRuns c.args.reporting files (meaning c.args.entries.now)
+    ListRuns reporting files (meaning c.args.entries.now)
     (option_map (λ n. n.now) c.args.title) name c.args.share.now content run c.check_input-answer.new.share)
     _ _ g.T.F.Feed.remaining c.in_ok-feed.feed _ _ _ _ _ _ _ _ _ _ _ _ _
     (sym c.eq.ensures ∙ c.if-eq.false) c.in_ok-feed.ensures.opened c.open_file.ensures.kept
-    c.in_ok-feed.ensures.counted c.check_input-answer.ensures.list c.in_ok-feed.ensures.fresh
-    c.check_input-answer.ensures.counted (rw (c.feed-3-1.given.1 (sym c.check_input-answer.ensures.same.input)) at
+    c.in_ok-feed.ensures.counted (c.check_input-answer.ensures.list reporting before after told)
+    c.in_ok-feed.ensures.fresh (graded-counted _ _ _ _ c.check_input-answer.ensures.counted) (rw (c.feed-3-1.given.1 (sym c.check_input-answer.ensures.same.input)) at
     c.close.ensures.counted)
 
 pub returns-then-eq-clause-opens : goal.returns-then-eq-clause-opens

@@ -1,22 +1,43 @@
-use Rattle.std.proofs.Common.{Err, Ok, refl}
+use Rattle.std.proofs.Common.{◌≡◌, Err, Ok, Result, arith, false, if◌then◌else◌, refl}
+use Rattle.std.proofs.lemmas.Bool.Decides.{nat_tests}
+use Rattle.std.specs.Prelude.{[], ◌==◌, option_map}
+use Rattle.sumlist.specs.Tally.{is_clean}
+use Rattle.sumlist.specs.declared.summary.Summary.{Summary}
+use Rattle.command.specs.Checking.{notes_of}
+use Rattle.command.specs.Run.{TellsAll}
+use Rattle.command.specs.inside.Rules.{meaning}
+use Rattle.command.specs.declared.fault.Fault.{Fault}
+use Rattle.command.proofs.Listing.{graded-leaves}
 use Rattle.command.proofs.session.Session.print_report.Goals as goal
+use Rattle.command.proofs.session.Session.print_report.Goals.{else-is_alone, then-is_alone}
 
-pub returns-in-Ok-clause-report : goal.returns-in-Ok-clause-report
-returns-in-Ok-clause-report g c = record {
-  answer = Ok c.in-Ok.status;
-  err_mid = _;
-  run = c.in-Ok.ensures.run;
-  gave = c.in-Ok.ensures.gave;
-  files = c.in-Ok.ensures.files;
-  answers = (refl, refl);
-}
+pub returns-after-is_alone-clause-report : goal.returns-after-is_alone-clause-report
+returns-after-is_alone-clause-report g c =
+    let r : Result Summary Fault = Ok c.in-Ok.summary in
+    let told : TellsAll (g.E.Sink.shown c.args.err.now) (g.E.Sink.shown c.if-is_alone.err)
+    (if c.args.share.now.others == 0 then notes_of c.args.reporting (meaning c.args.entries.now)
+    (option_map (λ n. n.now) c.args.title) c.args.name.now c.in-Ok.summary else []) = elim c.if-is_alone.branch [
+      | then-is_alone w ↦ rw (w.if-is_alone.true, w.err-is) w.remark.ensures
+      | else-is_alone w ↦
+          let other = w.if-is_alone.false in
+          let shared : (c.args.share.now.others == 0) ≡ false = grind (arith, nat_tests, other) in
+          rw (shared, w.err-is) refl
+    ] in
+    record {
+      answer = Ok (if is_clean c.in-Ok.summary then 0 else 1);
+      err_mid = g.E.Sink.shown c.if-is_alone.err;
+      run = c.in-Ok.ensures.run c.args.reporting (g.E.Sink.shown c.args.err.now) _ told;
+      gave = graded-leaves _ r _ _ c.in-Ok.ensures.gave;
+      files = c.in-Ok.ensures.files;
+      answers = (c.status_of.ensures, refl);
+    }
 
 pub returns-in-Err-clause-report : goal.returns-in-Err-clause-report
 returns-in-Err-clause-report g c = record {
   answer = Err c.in-Err.fault;
   err_mid = _;
-  run = c.in-Err.ensures.run;
-  gave = c.in-Err.ensures.gave;
+  run = c.in-Err.ensures.run c.args.reporting (g.E.Sink.shown c.args.err.now) _ refl;
+  gave = let r : Result Summary Fault = Err c.in-Err.fault in graded-leaves _ r _ _ c.in-Err.ensures.gave;
   files = c.in-Err.ensures.files;
   answers = c.settle.ensures.settles;
 }
