@@ -183,7 +183,7 @@ impl<'i, 't, 'o, L: Feed, T: Tree, W: Sink> Session<'i, 't, 'o, L, T, W> {
         match rule {
             Rule::Digest(hashing) => {
                 let requested = hashing.requested;
-                match (requested.hash, hashing.parts) {
+                match (requested.hash, hashing.chunks) {
                     (Hash::Blake3, Some(chunks)) => {
                         let mut buffer = part_buffer(self.alloc, chunks)?;
                         read_named!(

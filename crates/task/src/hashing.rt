@@ -62,9 +62,9 @@ pub enum Form {
 #[derive(Clone, Copy, Debug)]
 pub struct Hashing {
     pub requested: Requested,
-    pub parts: Option<u64>,
+    pub chunks: Option<u64>,
     ghost digest: { HasDigest requested },
-    ghost size: { IfSome parts IsPartSize } by { Prim.hlevel props },
+    ghost size: { IfSome chunks IsPartSize } by { Prim.hlevel props },
 }
 
 impl Requested {
@@ -94,13 +94,13 @@ impl Hashing {
         let default = default_len(request, kind, least, most);
         let stretch = stretch_of(request, default, least, most)?;
         let hash = Hash::of(alloc, request, kind)?;
-        let parts = parts_of(request)?;
+        let chunks = chunks_of(request)?;
         let requested = Requested {
             hash,
             stretch,
             form,
         };
-        Ok(Hashing { requested, parts })
+        Ok(Hashing { requested, chunks })
     }
 }
 
@@ -312,7 +312,7 @@ pub(crate) fn stretch_of(
 }
 
 // The number of chunks in the parts in which files are hashed, if given.
-fn parts_of(request: &Request<'_>) -> Result<Option<u64>, UsageFault>
+fn chunks_of(request: &Request<'_>) -> Result<Option<u64>, UsageFault>
     ensures value { judged result ≡ given (power_in 1024) (codes "parts") (given_of request.now) }
     ensures size { IfOk result (λ m. IfSome m IsPartSize) }
 {

@@ -75,10 +75,10 @@ sum_content files (tags mac is_raw source) = key_content files source
 
 -- memory is taken for what is printed of each file: for the parts that it is hashed in
 abbrev pub TakesRoom : Rule → Type 0
-TakesRoom (Digest hashing) = IsSome hashing.parts
+TakesRoom (Digest hashing) = IsSome hashing.chunks
 TakesRoom (Tag keyed) = ⊥
 
 -- for what is printed of all of them: that, or the key in a file
 abbrev pub WantsRoom : CodeSum → Type 0
-WantsRoom (code.Digest hashing) = IsSome hashing.parts
+WantsRoom (code.Digest hashing) = IsSome hashing.chunks
 WantsRoom (code.Tag tagging key) = source_opens (key_shown key) ≡ 1
