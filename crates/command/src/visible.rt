@@ -1,12 +1,16 @@
 // Names as they appear in messages on standard error.
 
-ghost use Rattle.std.specs.Prelude.{◌≡◌, ◌++◌};
-ghost use Rattle.hex.specs.Hex.{encode_lower};
 ghost use Rattle.source.specs.Written.{Writes};
-ghost use Rattle.command.specs.Visible as spec;
 ghost use Rattle.command.specs.Visible.{visible, visible_char};
 
 use source::{Sink, WriteFailed, write_all};
+
+// The characters that separate lines, or mark, embed, override or isolate the direction of a text, or end such a
+// direction.
+const LAYOUT: [char; 14] = [
+    '\u{061c}', '\u{200e}', '\u{200f}', '\u{2028}', '\u{2029}', '\u{202a}', '\u{202b}', '\u{202c}',
+    '\u{202d}', '\u{202e}', '\u{2066}', '\u{2067}', '\u{2068}', '\u{2069}',
+];
 
 /// Writes any name as a text of one line without a command to a terminal: in the escaped form of lists, with
 /// each other control character as `\xHH`, and each character that separates lines or sets the direction of a
@@ -33,7 +37,7 @@ fn write_char<W: Sink>(character: char, out: &mut W) -> Result<(), WriteFailed>
             write_all(out, b"\\x")?;
             write_all(out, &digits)
         }
-        _ if is_layout(character) => {
+        _ if LAYOUT.contains(&character) => {
             let mut digits = [0; 4];
             hex::encode_to_slice(&(character as u16).to_be_bytes(), &mut digits).unwrap();
             write_all(out, b"\\u{")?;
@@ -42,15 +46,4 @@ fn write_char<W: Sink>(character: char, out: &mut W) -> Result<(), WriteFailed>
         }
         _ => write_all(out, character.encode_utf8(&mut [0; 4]).as_bytes()),
     }
-}
-
-// Whether a character separates lines, or marks, embeds, overrides or isolates the direction of a text, or
-// ends such a direction.
-fn is_layout(character: char) -> bool
-    ensures { result ≡ spec.is_layout character }
-{
-    matches!(
-        character,
-        '\u{061c}' | '\u{200e}'..='\u{200f}' | '\u{2028}'..='\u{202e}' | '\u{2066}'..='\u{2069}'
-    )
 }
