@@ -290,7 +290,13 @@ fn hint_of<'n>(
         (λ hint. hinted name.entry.now (meaning entries.now) summary.now ≡ (codes "sums: " ++ message_text hint) ∷ []) }
 {
     if let Some(look) = summary.look {
-        return Some(foreign_hint(name, entries, look, summary.foreign));
+        return Some(match entries {
+            sumlist::Entries::Digests(kind) => untagged_hint(name, *kind, look),
+            sumlist::Entries::Tags(_, _) => {
+                let text = ": tagged lines, which anyone can make: ";
+                Message::of_number(name, text, summary.foreign, "\n")
+            }
+        });
     }
     if summary.is_empty() {
         Some(Message::of(name, ": no entries\n"))
@@ -313,23 +319,6 @@ fn failed_hint(entries: &sumlist::Entries<'_, ShortKeyed>) -> Option<&'static st
             Some(": all FAILED, untagged lines may need another -a\n")
         }
         sumlist::Entries::Tags(_, _) => Some(": all FAILED, -a or the key may be another\n"),
-    }
-}
-
-// What malformed lines look like, of which there are so many.
-fn foreign_hint<'n>(
-    name: &'n str,
-    entries: &sumlist::Entries<'_, ShortKeyed>,
-    look: Look,
-    count: u64,
-) -> Message<'n>
-    ensures { message_text result ≡ visible name.entry.now ++ spec.foreign_hint (meaning entries.now) look count }
-{
-    match entries {
-        sumlist::Entries::Digests(kind) => untagged_hint(name, *kind, look),
-        sumlist::Entries::Tags(_, _) => {
-            Message::of_number(name, ": tagged lines, which anyone can make: ", count, "\n")
-        }
     }
 }
 
