@@ -1,7 +1,5 @@
-use Rattle.std.proofs.Common.{◌∙◌, ◌++◌, ap, codes}
-use Rattle.command.specs.Visible.{visible}
+use Rattle.std.proofs.Common.{◌∙◌}
 use Rattle.command.proofs.VisibleNames.{visible-none}
-use Rattle.task.specs.inside.Texts.{usage_texts}
 use Rattle.command.proofs.fault.Fault.message.Goals as goal
 
 pub returns-in-Usage : goal.returns-in-Usage

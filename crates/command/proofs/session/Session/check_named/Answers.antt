@@ -41,8 +41,8 @@ returns-clause-run g c reporting before after told =
     _ _ g.T.F.Feed.remaining c.in_ok-feed.feed _ _ _ _ _ _ _ _ _ _ _ _ _
     (sym c.eq.ensures ∙ c.if-eq.false) c.in_ok-feed.ensures.opened c.open_file.ensures.kept
     c.in_ok-feed.ensures.counted (c.check_input-answer.ensures.list reporting before after told)
-    c.in_ok-feed.ensures.fresh (graded-counted _ _ _ _ c.check_input-answer.ensures.counted) (rw (c.feed-3-1.given.1 (sym c.check_input-answer.ensures.same.input)) at
-    c.close.ensures.counted)
+    c.in_ok-feed.ensures.fresh (graded-counted _ _ _ _ c.check_input-answer.ensures.counted)
+    (rw (c.feed-3-1.given.1 (sym c.check_input-answer.ensures.same.input)) at c.close.ensures.counted)
 
 pub returns-then-eq-clause-opens : goal.returns-then-eq-clause-opens
 returns-then-eq-clause-opens g c =
