@@ -12,6 +12,9 @@ use Rattle.command.specs.declared.fault.Fault.{Fault}
 use Rattle.command.specs.declared.making.Made.{Made}
 use Rattle.command.proofs.Refused.{same_reads}
 
+content_of_input : (name : Text) (m : List ℕ) (files : Files) → is_input name ≡ true → content_of name m files ≡ Some m
+content_of_input name m files input = ap (λ (b : Bool). if b then Some m else files name) input
+
 -- what was made of standard input was made of the name's content
 pub Reads-input : (name : Text) (first : Option (List ℕ)) (tree : Option Files) (limit : ℕ)
     (is : List ℕ → Made → Type 0) (r : Result Made Fault) → is_input name ≡ true
@@ -20,7 +23,7 @@ pub Reads-input : (name : Text) (first : Option (List ℕ)) (tree : Option Files
 Reads-input name None tree limit is r input made = tt
 Reads-input name (Some m) None limit is r input made = tt
 Reads-input name (Some m) (Some files) limit is r input made =
-    let content : content_of name m files ≡ Some m = ap (λ (b : Bool). if b then Some m else files name) input in
+    let content = content_of_input name m files input in
     subst (λ (known : Option (List ℕ)). Reads limit is name known r) (sym content) made
 
 content_of_file : (name : Text) (input m : List ℕ) (files : Files) → is_input name ≡ false → files name ≡ Some m
@@ -40,6 +43,26 @@ Reads-file name remaining feed (Some input) (Some files) limit is r away opened 
     let read : Reads limit is name (Some opened.0) r = rw opened.2 at made in
     subst (λ (known : Option (List ℕ)). Reads limit is name known r) (sym content) read
 
+of_input : (T : Type 0) (m : List ℕ) (r : Result T Fault) (i j u v : ℕ)
+    → j ≡ count_after i (failed true (Some []) r).input → v ≡ u → Counted (failed true (Some m) r) i j u v
+of_input T m (Ok value) i j u v read same = (omega (arith, read), omega (arith, same))
+of_input T m (Err f) i j u v read same =
+    let reads = same_reads m (trouble_of f) in
+    (omega (arith, read, reads), omega (arith, same))
+
+-- the failures of standard input were counted as it was read
+pub Counted-input : (T : Type 0) (name : Text) (first : Option (List ℕ)) (tree : Option Files) (r : Result T Fault)
+    (i j u v : ℕ) → is_input name ≡ true → j ≡ count_after i (failed true (Some []) r).input → v ≡ u
+    → IfSome first (λ bytes. IfSome tree (λ files.
+    Counted (failed (is_input name) (content_of name bytes files) r) i j u v))
+Counted-input T name None tree r i j u v input read same = tt
+Counted-input T name (Some m) None r i j u v input read same = tt
+Counted-input T name (Some m) (Some files) r i j u v input read same =
+    let content = content_of_input name m files input in
+    subst (λ (b : Bool). Counted (failed b (content_of name m files) r) i j u v) (sym input)
+    (subst (λ (known : Option (List ℕ)). Counted (failed true known r) i j u v) (sym content)
+    (of_input T m r i j u v read same))
+
 of_file : (T : Type 0) (m : List ℕ) (r : Result T Fault) (i u v w x y : ℕ) → v ≡ count_after u 0 → w ≡ 0
     → x ≡ count_after w (failed true (Some []) r).input → y ≡ count_after v x → Counted (failed false (Some m) r) i i u y
 of_file T m (Ok value) i u v w x y opened fresh read closed =
@@ -48,7 +71,7 @@ of_file T m (Err f) i u v w x y opened fresh read closed =
     let same = same_reads m (trouble_of f) in
     (omega arith, omega (arith, opened, fresh, read, closed, same))
 
--- its failures were counted when it was closed
+-- the failures of a file were counted when it was closed
 pub Counted-file : {F : Type 0} (T : Type 0) (name : Text) (remaining : F → Option (List ℕ)) (feed : F)
     (first : Option (List ℕ)) (tree : Option Files) (r : Result T Fault) (i u v w x y : ℕ) → is_input name ≡ false
     → IfSome tree (λ files. (m : List ℕ) × (files name ≡ Some m) × (remaining feed ≡ Some m))

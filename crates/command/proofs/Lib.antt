@@ -13,6 +13,7 @@ pub mod Sharing
 pub mod SharedChecks
 pub mod SharedNames
 pub mod Outputs
+pub mod Taken
 pub mod Comparing
 pub mod Tagging
 pub mod MacLines

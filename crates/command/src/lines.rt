@@ -2,8 +2,9 @@
 // whether that of one is the one that is wanted.
 
 ghost use Rattle.std.specs.Prelude.{◌≡◌, ◌+◌, ◌⊎◌, [], false, map, true};
-ghost use Rattle.std.specs.Prelude.{IfOk, IsErrOf, MatchResult, None, Some, option_map};
+ghost use Rattle.std.specs.Prelude.{IfOk, IfSome, IsErr, IsErrOf, MatchResult, None, Some, length, option_map, vec_len};
 ghost use Rattle.std.specs.List.{sum_by};
+ghost use Rattle.source.specs.Counts.{count_after};
 ghost use Rattle.source.specs.Written.{Writes};
 ghost use Rattle.sumlist.specs.Shared.{every};
 ghost use Rattle.task.specs.inside.Views.{sum_shown};
@@ -13,13 +14,13 @@ ghost use Rattle.command.specs.Lines.{FitsPlace, key_opens, opens_of};
 ghost use Rattle.command.specs.Run.{TellsAll};
 ghost use Rattle.command.specs.inside.Hashed.{PassesOver, PrintsName, Settles};
 ghost use Rattle.command.specs.inside.Keys.{HasBytes, PrintsAnswer, made_bytes};
-ghost use Rattle.command.specs.inside.Reading.{Reads};
-ghost use Rattle.command.specs.inside.Rules.{IsSized, TakesRoom, WantsRoom, line_by};
+ghost use Rattle.command.specs.inside.Reading.{Leaves, Reads, failed};
+ghost use Rattle.command.specs.inside.Rules.{IsRoomFor, IsSized, TakesRoom, WantsRoom, line_by};
 ghost use Rattle.command.specs.inside.Seen.{DoesRun, OpensAtMost};
 ghost use Rattle.command.specs.inside.Streams.{AfterReading, IfContent, SameStreams};
 ghost use Rattle.command.specs.declared.fault.Fault.TheVariants.{BadName};
 
-use crate::digests::{digest_in_parts, digest_of_feed, listable, part_buffer};
+use crate::digests::{digest_of_feed, listable, part_buffer};
 use crate::fault::{Fault, tell};
 use crate::keying::rule_of;
 use crate::making::{Made, is_made, write_beside};
@@ -29,8 +30,9 @@ use crate::session::{Session, Streams, open_file};
 use crate::tags::{tag_digits, tag_of_feed};
 use crate::verifying::{print_verdict, slice_of};
 use source::{Feed, Sink, WriteFailed, write_all};
+use std::alloc::{AllocError, Global};
 use sumlist::{Share, Tree, write_tagged_line};
-use task::{Form, Hash, Sum};
+use task::{Form, Sum};
 
 impl<'i, 't, 'o, L: Feed, T: Tree, W: Sink> Session<'i, 't, 'o, L, T, W> {
     /// Prints the line of each file in a share of them, and goes on with the next after a file that can't be
@@ -180,24 +182,55 @@ impl<'i, 't, 'o, L: Feed, T: Tree, W: Sink> Session<'i, 't, 'o, L, T, W> {
         ensures memory { IsErrOf result Fault.OutOfMemory
             → TakesRoom rule.now ⊎ (T.wants_memory ≡ true) }
     {
-        match rule {
-            Rule::Digest(hashing) => {
-                let requested = hashing.requested;
-                match (requested.hash, hashing.chunks) {
-                    (Hash::Blake3, Some(chunks)) => {
-                        let mut buffer = part_buffer(self.alloc, chunks)?;
-                        read_named!(
-                            self,
-                            name,
-                            0,
-                            digest_in_parts(requested, buffer.as_mut_slice(), name)
-                        )
-                    }
-                    _ => read_named!(self, name, 0, digest_of_feed(requested, name)),
-                }
-            }
-            Rule::Tag(keyed) => read_named!(self, name, 0, tag_of_feed(keyed, name)),
-        }
+        let mut buffer = buffer_of(self.alloc, rule)?;
+        read_named!(
+            self,
+            name,
+            0,
+            made_of_feed(rule, buffer.as_mut_slice(), name)
+        )
+    }
+}
+
+// Room for a part of a file, where files are hashed in parts.
+fn buffer_of(alloc: Global, rule: &Rule) -> Result<Vec<u8>, AllocError>
+    ensures room { IfOk result (λ buffer. IsRoomFor rule.now (vec_len buffer)) }
+    ensures memory { IsErr result → TakesRoom rule.now }
+{
+    match rule {
+        Rule::Digest(hashing) => match hashing.chunks {
+            Some(chunks) => part_buffer(alloc, chunks),
+            None => Ok(Vec::new(alloc)),
+        },
+        Rule::Tag(_) => Ok(Vec::new(alloc)),
+    }
+}
+
+// The digest or tag of all that the feed with this name gives.
+fn made_of_feed<'n, F: Feed>(
+    rule: &Rule,
+    buffer: &mut [u8],
+    name: &'n str,
+    feed: &mut F,
+) -> Result<Made, Fault<'n>>
+    requires { IsRoomFor rule.now (length buffer.old) }
+    ensures made { IfSome (F.remaining feed.old) (λ bytes.
+        Reads (line_by rule.now).limit (λ m made. made_bytes made ≡ (line_by rule.now).bytes m)
+        name.entry.now (Some bytes) result) }
+    ensures has { IfOk result HasBytes }
+    ensures sized { IfOk result (IsSized rule.now) }
+    ensures counted { F.failure_count feed.new
+        ≡ count_after (F.failure_count feed.old) (failed true (Some []) result).input }
+    ensures gave { Leaves true result (F.remaining feed.old) (F.remaining feed.new) }
+    ensures memory { IsErrOf result Fault.OutOfMemory → ⊥ }
+{
+    let made = match rule {
+        Rule::Digest(hashing) => digest_of_feed(hashing.requested, buffer, feed),
+        Rule::Tag(keyed) => tag_of_feed(keyed, feed),
+    };
+    match made {
+        Ok(made) => Ok(made),
+        Err(fault) => Err(Fault::of_source(fault, name)),
     }
 }
 

@@ -1,5 +1,5 @@
 -- The rule of the lines that a command prints, as the code holds it, and how it is had.
-use Rattle.std.specs.Prelude.{◌⊎◌, ◌≡◌, ⊤, true, false, List, Option, None, ℕ, IsSome}
+use Rattle.std.specs.Prelude.{◌⊎◌, ◌≡◌, ◌*◌, ◌^◌, ⊤, true, false, List, Option, None, ℕ, IsSome, MatchOption}
 use Rattle.request.specs.CommandLine.{Text}
 use Rattle.sumlist.specs.Report.{Files, Meaning, keyed as under_key, unkeyed}
 use Rattle.sumlist.specs.declared.entries.Entries.{Entries}
@@ -77,6 +77,11 @@ sum_content files (tags mac is_raw source) = key_content files source
 abbrev pub TakesRoom : Rule → Type 0
 TakesRoom (Digest hashing) = IsSome hashing.chunks
 TakesRoom (Tag keyed) = ⊥
+
+-- so many bytes are those of a part of a file, where files are hashed in parts
+abbrev pub IsRoomFor : Rule → ℕ → Type 0
+IsRoomFor (Digest hashing) n = MatchOption hashing.chunks (n ≡ 0) (λ _. (e : ℕ) × (n ≡ 1024 * 2 ^ e))
+IsRoomFor (Tag keyed) n = ⊤
 
 -- for what is printed of all of them: that, or the key in a file
 abbrev pub WantsRoom : CodeSum → Type 0
