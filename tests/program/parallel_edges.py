@@ -7,6 +7,7 @@ usage: tests/program/parallel_edges.py PROGRAM
 
 import os
 import select
+import signal
 import subprocess
 import sys
 import time
@@ -14,7 +15,7 @@ import time
 sys.path.append(os.path.join(os.path.dirname(os.path.realpath(__file__)), ".."))
 
 import harness
-from fronts import FRONT, MIB, begun_by, by_shell, compare, content, faulty, front, runs_of, wait_for
+from fronts import FRONT, MIB, begun_by, by_shell, compare, content, faulty, front, none_left, runs_of, wait_for
 from harness import judge, same
 
 FEW = [f"f{number}" for number in range(20)]
@@ -189,6 +190,37 @@ def ended(program):
     judge("a signal while a run is waited for", time.monotonic() - start < 8, time.monotonic() - start)
 
 
+def unseen(program):
+    """A signal that comes just before a wait, and so does not end it, is obeyed soon."""
+    begun = os.path.abspath("begun")
+    with open(begun, "wb"):
+        path = faulty(program, f'case "$*" in *"--share 1/2"*) sleep 60 & echo $$ $! > "{begun}"; wait ;; esac')
+    # a second thread takes the signal, so that it ends no wait of the first
+    script = ("import runpy, signal, sys, threading, time\n"
+              "threading.Thread(target=time.sleep, args=(60,), daemon=True).start()\n"
+              "signal.pthread_sigmask(signal.SIG_BLOCK, [signal.SIGINT])\n"
+              "sys.argv[:] = sys.argv[1:]\nrunpy.run_path(sys.argv[0], run_name='__main__')")
+    run = subprocess.Popen([sys.executable, "-c", script, FRONT, "-j2", "--block=1", "hash", "-a", "sha256", "f1",
+                            "f2"], stdout=subprocess.DEVNULL, env={**os.environ, "SUMS": path})
+    wait_for(lambda: content(begun))
+    time.sleep(0.5)
+    run.send_signal(signal.SIGINT)
+    same("a signal just before a wait", run.wait(timeout=30), -signal.SIGINT)
+    none_left("a signal just before a wait", begun)
+
+
+def alarms(program):
+    """No alarm of its own ends the one run that takes its place, and one that was set for it does."""
+    path = faulty(program, 'case "$*" in *--share*) exit 2 ;; esac; sleep 2.5')
+    words = ["-j2", "--block=1", "hash", "-a", "sha256", "f1", "f2"]
+    same("one run that takes longer than a second", front(path, words), harness.run(program, words[2:]))
+    script = "import os, signal, sys; signal.alarm(1); os.execv(sys.argv[1], sys.argv[1:])"
+    for path in (path, faulty(program, 'case "$*" in *"--share "[01]/2*) sleep 2.5 ;; esac')):
+        run = harness.run(sys.executable, ["-c", script, sys.executable, "-ISXutf8", FRONT, *words],
+                          env={**os.environ, "SUMS": path})
+        same("an alarm that was set before", (run.status, run.out), (-signal.SIGALRM, b""))
+
+
 def told_ends(program):
     """Lines are shown whatever becomes of the run that compares them, and one that begins late reads them all."""
     words = ["check", "-a", "sha256", "--summary", "long"]
@@ -208,7 +240,7 @@ def main():
     with harness.folder():
         files(program)
         for tried in (wrong_parts, changed, labelled, asked, sizes, without_lines, late, overtaken, ahead, ended,
-                      told_ends):
+                      unseen, alarms, told_ends):
             tried(program)
     harness.finish()
 
