@@ -195,9 +195,10 @@ def unseen(program):
     begun = os.path.abspath("begun")
     with open(begun, "wb"):
         path = faulty(program, f'case "$*" in *"--share 1/2"*) sleep 60 & echo $$ $! > "{begun}"; wait ;; esac')
-    # a second thread takes the signal, so that it ends no wait of the first
+    # a second thread takes the signal, so that it ends no wait of the first; what began the tests may ignore it
     script = ("import runpy, signal, sys, threading, time\n"
               "threading.Thread(target=time.sleep, args=(60,), daemon=True).start()\n"
+              "signal.signal(signal.SIGINT, signal.SIG_DFL)\n"
               "signal.pthread_sigmask(signal.SIG_BLOCK, [signal.SIGINT])\n"
               "sys.argv[:] = sys.argv[1:]\nrunpy.run_path(sys.argv[0], run_name='__main__')")
     run = subprocess.Popen([sys.executable, "-c", script, FRONT, "-j2", "--block=1", "hash", "-a", "sha256", "f1",
@@ -214,7 +215,8 @@ def alarms(program):
     path = faulty(program, 'case "$*" in *--share*) exit 2 ;; esac; sleep 2.5')
     words = ["-j2", "--block=1", "hash", "-a", "sha256", "f1", "f2"]
     same("one run that takes longer than a second", front(path, words), harness.run(program, words[2:]))
-    script = "import os, signal, sys; signal.alarm(1); os.execv(sys.argv[1], sys.argv[1:])"
+    script = ("import os, signal, sys; signal.signal(signal.SIGALRM, signal.SIG_DFL); signal.alarm(1); "
+              "os.execv(sys.argv[1], sys.argv[1:])")
     for path in (path, faulty(program, 'case "$*" in *"--share "[01]/2*) sleep 2.5 ;; esac')):
         run = harness.run(sys.executable, ["-c", script, sys.executable, "-ISXutf8", FRONT, *words],
                           env={**os.environ, "SUMS": path})
