@@ -36,7 +36,7 @@ KINDS = {
 ROWS = {
     "hashes": (("words", "blake2", "b3", "pieces"), "RFC 7693, BLAKE2 paper, BLAKE3 paper"),
     "tags and keys": (("mac", "kdf", "states"), "RFC 2104, RFC 5869"),
-    "reading, lists and parts": (("source", "sumlist", "listing", "partlist"), "[FORMAT](FORMAT.md), BLAKE3 paper"),
+    "reading, lists and parts": (("hashes", "source", "sumlist", "listing", "partlist"), "[FORMAT](FORMAT.md), BLAKE3 paper"),
     "the command line": (("request", "task"), ""),
     "commands and runs": (("command", "program"), "RFC 2104, 5869 and 7693, BLAKE3 paper, UAX #9 and #14"),
     "calls of C": (("hash_c",), "RFC 7693"),

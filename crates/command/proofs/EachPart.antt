@@ -14,6 +14,7 @@ use Rattle.std.specs.Prelude.{◌⊎◌, IsErrAnd, MatchOption, MatchResult, OnO
 use Rattle.b3.specs.Modes.{hash_parameters}
 use Rattle.b3.specs.declared.row.PartValue.{PartValue}
 use Rattle.b3.specs.Values.{IsValueOf}
+use Rattle.hashes.specs.declared.share.Share.{Share}
 use Rattle.request.specs.CommandLine.{Text}
 use Rattle.partlist.specs.PartLine.{line_of}
 use Rattle.source.proofs.Writing.{Writing, Writing-end, Writing-failed, Writing-step}
@@ -23,7 +24,6 @@ use Rattle.source.specs.declared.pumping.SourceFault.TheVariants as source
 use Rattle.source.specs.Written.{Done, Failed, Shown}
 use Rattle.sumlist.specs.Report.{Files}
 use Rattle.command.specs.Run.{Run, stops}
-use Rattle.sumlist.specs.declared.share.Share.{Share}
 use Rattle.command.specs.Cutting.{EachRuns, lines_of, numbers_of}
 use Rattle.command.specs.Lines.{content_of, is_input}
 use Rattle.command.specs.inside.Seen.{Does}

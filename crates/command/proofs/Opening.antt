@@ -7,11 +7,11 @@ use Rattle.std.specs.List.{sum_by}
 use Rattle.std.specs.Option.{option_map_or}
 use Rattle.std.specs.Prelude.{◌==◌}
 use Rattle.std.proofs.lemmas.Bool.Decides.{nat_tests}
+use Rattle.hashes.specs.declared.share.Share.{Share}
 use Rattle.request.specs.CommandLine.{Text}
 use Rattle.sumlist.specs.Lines.{lines}
 use Rattle.sumlist.specs.Report.{Files}
 use Rattle.sumlist.specs.Shared.{every}
-use Rattle.sumlist.specs.declared.share.Share.{Share}
 use Rattle.command.specs.Lines.{content_of, is_input, opens_of, part_opens}
 use Rattle.command.specs.inside.Seen.{OpensAtMost, Seen, opens_from}
 use Rattle.command.proofs.Names.{all_names, one_more}

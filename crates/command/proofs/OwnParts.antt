@@ -9,13 +9,13 @@ use Rattle.std.proofs.lemmas.Result.{err_from_is_err_and}
 use Rattle.std.specs.List.{flat_map, range_with_len}
 use Rattle.std.specs.Prelude.{IsErrAnd}
 use Rattle.b3.specs.declared.row.PartValue.{PartValue}
+use Rattle.hashes.specs.declared.share.Share.{Share}
 use Rattle.request.specs.CommandLine.{Text}
 use Rattle.source.proofs.Writing.{Writing, Writing-end, Writing-failed, Writing-step}
 use Rattle.source.specs.Counts.{count_after}
 use Rattle.source.specs.Written.{Done, Failed, Shown}
 use Rattle.sumlist.specs.Report.{Files}
 use Rattle.sumlist.specs.Shared.{every}
-use Rattle.sumlist.specs.declared.share.Share.{Share}
 use Rattle.command.specs.Cutting.{lines_of, numbers_of}
 use Rattle.command.specs.Lines.{content_of, is_input}
 use Rattle.command.specs.inside.Cutting.{EndsWithin, PrintsParts, TakesChunks, TakesFrom, part_count}

@@ -10,6 +10,7 @@ use Rattle.std.specs.Prelude.{◌↔◌, IsErrAnd, IsSomeAnd, IsTrue}
 use Rattle.b3.specs.Modes.{hash_parameters, tree_of}
 use Rattle.b3.specs.Node.{cv}
 use Rattle.b3.specs.declared.row.PartValue.{PartValue}
+use Rattle.hashes.specs.declared.share.Share.{Share}
 use Rattle.request.specs.CommandLine.{Text}
 use Rattle.partlist.specs.Joined.{AllTell, bytes_of}
 use Rattle.partlist.specs.declared.fault.JoinFault.{JoinFault}
@@ -20,7 +21,6 @@ use Rattle.source.specs.Written.{Done, Failed, Shown}
 use Rattle.sumlist.specs.Lines.{lines}
 use Rattle.sumlist.specs.Report.{Files}
 use Rattle.sumlist.specs.Shared.{every}
-use Rattle.sumlist.specs.declared.share.Share.{Share}
 use Rattle.sumlist.specs.declared.verdict.Verdict.{Verdict}
 use Rattle.sumlist.specs.declared.verdict.Verdict.TheVariants.{Missing}
 use Rattle.command.specs.Lines.{is_input}

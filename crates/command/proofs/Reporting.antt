@@ -3,12 +3,12 @@ use Rattle.std.proofs.Common.{◌≡◌, ◌≢◌, ◌≤◌, ◌+◌, ◌-◌,
 use Rattle.std.proofs.Common.{false, Result, Ok, sym, ap, subst, arith, inl, inr, length, refl, if◌then◌else◌, ◌==◌}
 use Rattle.std.specs.List.{slice_split, onto_first, sum_by}
 use Rattle.std.proofs.lemmas.List.Sums.{sum_by-cons}
+use Rattle.hashes.specs.declared.share.Share.{Share}
 use Rattle.request.specs.CommandLine.{Text}
 use Rattle.sumlist.specs.Lines.{lines, without_empty_last}
 use Rattle.sumlist.specs.Report.{Files, Meaning, summary_of}
 use Rattle.sumlist.specs.Shared.{shared}
 use Rattle.sumlist.specs.Tally.{is_clean}
-use Rattle.sumlist.specs.declared.share.Share.{Share}
 use Rattle.task.specs.declared.tasks.Reporting.{Reporting}
 use Rattle.command.specs.Checking.{ListRuns}
 use Rattle.command.specs.Lines.{content_of, is_input, opens_of}

@@ -7,12 +7,12 @@ use Rattle.std.proofs.lemmas.Bool.Decides.{nat_tests}
 use Rattle.std.specs.List.{AllByRecursion}
 use Rattle.std.specs.Prelude.{MatchBool, replicate}
 use Rattle.std.specs.Result.{result_map_both}
+use Rattle.hashes.specs.declared.share.Share.{Share}
 use Rattle.request.specs.CommandLine.{Text}
 use Rattle.sumlist.specs.Lines.{lines}
 use Rattle.sumlist.specs.Report.{AllAllowed, Files, Meaning, Outcome, report_from, summary_of}
 use Rattle.sumlist.specs.Shared.{every, shared}
 use Rattle.sumlist.specs.Tally.{is_clean}
-use Rattle.sumlist.specs.declared.share.Share.{Share}
 use Rattle.sumlist.specs.inside.Cut.{HasNo}
 use Rattle.sumlist.proofs.InTurn.{Merged, Moves, all_own, merged, moves}
 use Rattle.sumlist.proofs.SharedTally.{bad, bad_below, bad_most, bad_own, worst}

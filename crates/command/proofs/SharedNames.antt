@@ -4,10 +4,10 @@ use Rattle.std.proofs.Common.{false, Some, Result, Ok, Err, ap, sym, subst, refl
 use Rattle.std.proofs.lemmas.List.FromFn.{length-enumerate_from}
 use Rattle.std.specs.Prelude.{MatchResult}
 use Rattle.std.specs.List.{enumerate_from, list_any}
+use Rattle.hashes.specs.declared.share.Share.{Share}
 use Rattle.request.specs.CommandLine.{Text}
 use Rattle.sumlist.specs.Naming.{names}
 use Rattle.sumlist.specs.Report.{Files}
-use Rattle.sumlist.specs.declared.share.Share.{Share}
 use Rattle.command.specs.Hashing.{LinesListed, NameRuns}
 use Rattle.command.specs.Laws.{AreShares, ListedSharesAreRun}
 use Rattle.command.specs.Lines.{LineRule, is_input}

@@ -14,6 +14,7 @@ use Rattle.hex.specs.Hex.{IsBytes, encode_lower}
 use Rattle.b3.specs.Modes.{hash_parameters, tree_of}
 use Rattle.b3.specs.Node.{cv}
 use Rattle.b3.specs.declared.row.PartValue.{PartValue}
+use Rattle.hashes.specs.declared.share.Share.{Share}
 use Rattle.request.specs.CommandLine.{Text}
 use Rattle.partlist.proofs.Parsing.{one_meaning}
 use Rattle.partlist.proofs.Pieces.{word_bytes-bytes}
@@ -27,7 +28,6 @@ use Rattle.sumlist.proofs.Words.{InWord, digits_word}
 use Rattle.sumlist.specs.Lines.{lines}
 use Rattle.sumlist.specs.Report.{Files, verdict_text}
 use Rattle.sumlist.specs.Shared.{every}
-use Rattle.sumlist.specs.declared.share.Share.{Share}
 use Rattle.sumlist.specs.declared.verdict.Verdict.{Verdict}
 use Rattle.sumlist.specs.declared.verdict.Verdict.TheVariants.{Differs, Matches, Missing, TooLong, Unreadable}
 use Rattle.sumlist.specs.inside.Cut.{HasNo}

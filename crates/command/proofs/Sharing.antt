@@ -6,10 +6,10 @@ use Rattle.std.proofs.lemmas.Bool.Decides.{nat_tests}
 use Rattle.std.specs.List.{flat_map, list_any}
 use Rattle.std.specs.Prelude.{◌&&◌, ◌||◌, IsSomeAnd, MatchBool, codes, if◌then◌else◌, unwrap_or}
 use Rattle.std.specs.Result.{result_map_both}
+use Rattle.hashes.specs.declared.share.Share.{Share}
 use Rattle.request.specs.CommandLine.{Text}
 use Rattle.sumlist.specs.Report.{Files}
 use Rattle.sumlist.specs.Shared.{every}
-use Rattle.sumlist.specs.declared.share.Share.{Share}
 use Rattle.sumlist.proofs.Shares.{every-map}
 use Rattle.command.specs.Hashing.{InShare}
 use Rattle.command.specs.Keying.{LineRuns, answer}

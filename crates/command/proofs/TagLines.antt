@@ -4,8 +4,8 @@ use Rattle.std.proofs.Common.{refl}
 use Rattle.std.specs.Prelude.{All, IsSomeAnd, flat_map, map}
 use Rattle.std.proofs.Common.{append_assoc}
 use Rattle.std.proofs.lemmas.List.Elements.{All-head, All-tail}
+use Rattle.hashes.specs.declared.alg.Alg.TheVariants.{Blake2b}
 use Rattle.request.specs.CommandLine.{Text}
-use Rattle.source.specs.declared.alg.Alg.TheVariants.{Blake2b}
 use Rattle.sumlist.specs.Entry.{IsEntry, Listing, written_line}
 use Rattle.sumlist.specs.Lines.{lines}
 use Rattle.sumlist.specs.Report.{AllAllowed, Allowed, Files, keyed, told}

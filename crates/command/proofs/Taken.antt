@@ -1,8 +1,8 @@
 -- A digest or tag is made of all that a feed gives, or a fault says why not.
 use Rattle.std.proofs.Common.{◌≡◌, ℕ, ◌+◌, ◌≤◌, List, [], ◌++◌, length, Option, None, Some, Result, Ok, IfSome, arith}
-use Rattle.source.specs.Digest.{digest}
+use Rattle.hashes.specs.Digest.{digest}
+use Rattle.hashes.specs.declared.alg.Alg.{Alg}
 use Rattle.source.specs.Pumped.{Appended}
-use Rattle.source.specs.declared.alg.Alg.{Alg}
 use Rattle.source.specs.declared.pumping.SourceFault.{SourceFault}
 use Rattle.command.specs.inside.Making.{Makes}
 use Rattle.command.specs.declared.making.Made.{Made}

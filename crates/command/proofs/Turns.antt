@@ -4,8 +4,8 @@ use Rattle.std.proofs.Common.{◌<◌, false, true}
 use Rattle.std.proofs.lemmas.Bool.Decides.{nat_tests}
 use Rattle.std.specs.List.{range_with_len}
 use Rattle.std.specs.Prelude.{nat_lt}
+use Rattle.hashes.specs.declared.share.Share.{Share}
 use Rattle.sumlist.specs.Shared.{every}
-use Rattle.sumlist.specs.declared.share.Share.{Share}
 use Rattle.task.specs.declared.sharing.SharedFile.{SharedFile}
 use Rattle.command.specs.Lines.{is_input}
 use Rattle.command.specs.inside.Cutting.{all_parts}

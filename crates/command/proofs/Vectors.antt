@@ -5,10 +5,10 @@ use Rattle.std.specs.Char.{encode_utf8}
 use Rattle.std.specs.Fmt.{digits}
 use Rattle.std.specs.Str.{chars}
 use Rattle.hex.specs.Hex.{encode_with}
+use Rattle.hashes.specs.declared.kind.Kind.TheVariants.{Blake2b, Blake2s, Blake3, Sha256}
 use Rattle.command.specs.inside.Cutting.{part_count, start_lines}
 use Rattle.sumlist.specs.Report.{Meaning, foreign, keyed, malformed, no_lines, report_from, skipped, summary_of, told}
 use Rattle.sumlist.specs.Report.{unkeyed}
-use Rattle.sumlist.specs.declared.kind.Kind.TheVariants.{Blake2b, Blake2s, Blake3, Sha256}
 use Rattle.sumlist.specs.declared.look.Look.TheVariants.{Digest, Marked, Nameless}
 use Rattle.sumlist.specs.declared.summary.Summary.{Summary}
 use Rattle.sumlist.specs.declared.verdict.Verdict.TheVariants.{Differs, Missing}

@@ -2,11 +2,11 @@
 use Rattle.std.proofs.Common.{◌≡◌, ℕ, Bool, true, false, List, drop, Option, Some, None, IfSome, Result}
 use Rattle.std.proofs.Common.{refl, sym, ap, subst, arith, inl, inr, ◌∙◌, if◌then◌else◌}
 use Rattle.std.specs.Prelude.{◌⊎◌, IsErrAnd, IsSomeAnd}
+use Rattle.hashes.specs.declared.share.Share.{Share}
 use Rattle.request.specs.CommandLine.{Text}
 use Rattle.source.specs.Counts.{count_after}
 use Rattle.source.specs.Written.{Shown}
 use Rattle.sumlist.specs.Report.{Files}
-use Rattle.sumlist.specs.declared.share.Share.{Share}
 use Rattle.command.specs.Lines.{content_of, is_input}
 use Rattle.command.specs.Run.{IsUnread, Run}
 use Rattle.command.specs.Verifying.{Compares, VerifyRuns}

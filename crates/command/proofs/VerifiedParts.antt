@@ -16,6 +16,7 @@ use Rattle.std.specs.Str.{bytes_eq}
 use Rattle.b3.specs.Modes.{hash_parameters, tree_of}
 use Rattle.b3.specs.Node.{cv}
 use Rattle.b3.specs.declared.row.PartValue.{PartValue}
+use Rattle.hashes.specs.declared.share.Share.{Share}
 use Rattle.request.specs.CommandLine.{Text}
 use Rattle.partlist.proofs.Behind.{bytes_of-more}
 use Rattle.partlist.proofs.Outcomes.{place_in_row}
@@ -33,7 +34,6 @@ use Rattle.source.specs.Written.{Done, Failed, Shown}
 use Rattle.sumlist.specs.Lines.{lines}
 use Rattle.sumlist.specs.Report.{verdict_text}
 use Rattle.sumlist.specs.Shared.{every}
-use Rattle.sumlist.specs.declared.share.Share.{Share}
 use Rattle.sumlist.specs.declared.verdict.Verdict.{Verdict}
 use Rattle.sumlist.specs.declared.verdict.Verdict.TheVariants.{Differs, Matches, Missing}
 use Rattle.command.specs.Lines.{is_input}

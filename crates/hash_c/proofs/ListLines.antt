@@ -1,9 +1,9 @@
 -- How long the lines of lists are, and which algorithm a number and a length name.
+use Rattle.hashes.specs.declared.alg.Alg.{Alg}
+use Rattle.hashes.specs.declared.alg.Alg.TheVariants.{Blake2b, Blake2s, Blake3, Sha256, Sha512}
 use Rattle.sumlist.proofs.Common.{◌≡◌, ◌∙◌, Bool, ap, arith, digest_len, false, length}
 use Rattle.sumlist.proofs.Common.{length-append, length-encode_with, lower_digits, refl, sym, true, ℕ}
 use Rattle.std.specs.Prelude.{◌==◌, if◌then◌else◌}
-use Rattle.source.specs.declared.alg.Alg.{Alg}
-use Rattle.source.specs.declared.alg.Alg.TheVariants.{Sha256, Sha512, Blake2b, Blake2s, Blake3}
 use Rattle.sumlist.specs.Entry.{Listing}
 use Rattle.sumlist.specs.Filled.{line_text}
 use Rattle.sumlist.specs.inside.Filling.{line_len}

@@ -1,6 +1,6 @@
 -- Lines of lists and of reports as they are written for a caller in C (docs/FORMAT.md, What is written).
 use Rattle.std.specs.Prelude.{◌≡◌, ◌≢◌, ◌<◌, ◌≤◌, ◌⊎◌, ◌++◌, ℕ, List, Bool, IsUtf8, length}
-use Rattle.source.specs.declared.alg.Alg.{Alg}
+use Rattle.hashes.specs.declared.alg.Alg.{Alg}
 use Rattle.sumlist.specs.Escape.{escaped}
 use Rattle.sumlist.specs.Filled.{HasLine, line_text}
 use Rattle.sumlist.specs.Lines.{line_limit}

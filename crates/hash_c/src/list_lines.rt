@@ -1,7 +1,7 @@
 // Lines of lists and of reports as they are written.
 
 ghost use Rattle.std.specs.Prelude.{◌≡◌, ◌≢◌, ◌+◌, ◌++◌, ◌⊎◌, ℕ, List, length, not, nat_eq, MatchResult};
-ghost use Rattle.source.specs.declared.alg.Alg.{Alg};
+ghost use Rattle.hashes.specs.declared.alg.Alg.{Alg};
 ghost use Rattle.sumlist.specs.Escape.{escaped};
 ghost use Rattle.sumlist.specs.Filled.{HasLine, line_text};
 ghost use Rattle.sumlist.specs.Report.{verdict_text};

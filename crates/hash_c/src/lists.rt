@@ -1,7 +1,7 @@
 // Lists of digests as they are read, in pieces of any size. The state lies in the caller's memory.
 
 ghost use Rattle.std.specs.Prelude.{◌≡◌, ◌≢◌, ◌+◌, ◌-◌, ◌<◌, ◌^◌, ◌↔◌, [], ℕ, List, Option};
-ghost use Rattle.sumlist.specs.declared.kind.Kind.{Kind};
+ghost use Rattle.hashes.specs.declared.kind.Kind.{Kind};
 ghost use Rattle.listing.specs.Numbers.{number_of};
 ghost use Rattle.listing.specs.Read.{EndsLine, IsBegun, ReadsPiece};
 ghost use Rattle.listing.specs.inside.State.{HoldsAfter, ListHolds};

@@ -5,11 +5,11 @@ use Rattle.std.specs.Prelude.{if◌then◌else◌, ◌==◌, Contains}
 use Rattle.std.proofs.lemmas.Bool.{eqb-false}
 use Rattle.std.proofs.lemmas.List.Elements.{All-contains}
 use Rattle.std.proofs.lemmas.Bool.Decides.{nat_tests}
+use Rattle.hashes.specs.declared.kind.Kind.{Kind}
+use Rattle.hashes.specs.declared.kind.Kind.TheVariants.{Blake2b, Blake2s, Blake3, Sha256, Sha512}
 use Rattle.sumlist.specs.Line.{IsMalformed, IsUntagged}
 use Rattle.sumlist.specs.Lines.{IsKept}
 use Rattle.sumlist.specs.inside.Cut.{HasNo}
-use Rattle.sumlist.specs.declared.kind.Kind.{Kind}
-use Rattle.sumlist.specs.declared.kind.Kind.TheVariants.{Sha256, Sha512, Blake2b, Blake2s, Blake3}
 use Rattle.listing.specs.Numbers.{number_of}
 use Rattle.listing.specs.declared.state.ListState.{ListState}
 use Rattle.listing.specs.inside.State.{held}

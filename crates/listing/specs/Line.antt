@@ -1,9 +1,9 @@
 -- A line of a list as plain numbers (docs/FORMAT.md, Grammar).
 use Rattle.std.specs.Prelude.{◌≡◌, ◌≤◌, ℕ, List, Option, Some, take, length}
+use Rattle.hashes.specs.Kinds.{alg_kind}
+use Rattle.hashes.specs.declared.kind.Kind.{Kind}
 use Rattle.sumlist.specs.Entry.{Listing}
-use Rattle.sumlist.specs.Kinds.{alg_kind}
 use Rattle.sumlist.specs.Line.{IsMalformed, IsSkipped, IsUntagged, Spells}
-use Rattle.sumlist.specs.declared.kind.Kind.{Kind}
 use Rattle.listing.specs.Numbers.{number_of}
 use Rattle.listing.specs.declared.line.ListLine.{ListLine}
 use Rattle.listing.specs.declared.line.TheConstants.{LINE_ENTRY, LINE_MALFORMED, LINE_SKIPPED, LINE_UNTAGGED}

@@ -1,10 +1,10 @@
 -- The numbers by which a caller in C names hashes and verdicts (docs/FORMAT.md, Grammar).
 use Rattle.std.specs.Prelude.{◌≡◌, ℕ, Option, Some, None}
-use Rattle.source.specs.declared.alg.Alg.{Alg}
-use Rattle.source.specs.Digest.{IsInRange, digest_len}
-use Rattle.sumlist.specs.Kinds.{alg_kind}
-use Rattle.sumlist.specs.declared.kind.Kind.{Kind}
-use Rattle.sumlist.specs.declared.kind.Kind.TheVariants.{Sha256, Sha512, Blake2b, Blake2s, Blake3}
+use Rattle.hashes.specs.declared.alg.Alg.{Alg}
+use Rattle.hashes.specs.Digest.{IsInRange, digest_len}
+use Rattle.hashes.specs.Kinds.{alg_kind}
+use Rattle.hashes.specs.declared.kind.Kind.{Kind}
+use Rattle.hashes.specs.declared.kind.Kind.TheVariants.{Blake2b, Blake2s, Blake3, Sha256, Sha512}
 use Rattle.sumlist.specs.declared.verdict.Verdict.{Verdict}
 use Rattle.sumlist.specs.declared.verdict.Verdict.TheVariants.{Matches, Differs, Missing, Unreadable, TooLong}
 

@@ -1,6 +1,6 @@
 -- What a call that reads a piece of a list, or ends it, makes of what was read before (docs/FORMAT.md, Grammar).
 use Rattle.std.specs.Prelude.{◌≡◌, ◌≢◌, ◌≤◌, ◌+◌, ◌++◌, ◌∷◌, ℕ, List, Option, Contains, length}
-use Rattle.sumlist.specs.declared.kind.Kind.{Kind}
+use Rattle.hashes.specs.declared.kind.Kind.{Kind}
 use Rattle.listing.specs.Line.{Means}
 use Rattle.listing.specs.declared.line.ListLine.{ListLine}
 use Rattle.listing.specs.declared.line.TheConstants.{LINE_NONE}

@@ -1,9 +1,9 @@
 // Hashes and verdicts by their numbers.
 
 ghost use Rattle.std.specs.Prelude.{◌≡◌, ◌≤◌, ◌<◌, Some, MatchOption};
+ghost use Rattle.hashes.specs.declared.alg.Alg.{Alg};
 ghost use Rattle.listing.specs.Numbers.{IsAlg, number_of, verdict_number};
 ghost use Rattle.sumlist.specs.declared.verdict.Verdict.{Verdict};
-ghost use Rattle.source.specs.declared.alg.Alg.{Alg};
 
 use source::Alg;
 use sumlist::{Kind, Verdict};

@@ -2,13 +2,13 @@
 
 ghost use Rattle.std.specs.Prelude.{◌≡◌, ◌≢◌, ◌<◌, ◌≤◌, ◌+◌, ◌-◌, ◌^◌, ◌++◌, ◌↔◌, [], ℕ, List, Option, length};
 ghost use Rattle.std.specs.Prelude.{IsTrue, IsErrOf, OnOk, OnErr, MatchResult};
+ghost use Rattle.hashes.specs.declared.kind.Kind.{Kind};
 ghost use Rattle.sumlist.specs.Lines.{IsKept};
 ghost use Rattle.sumlist.specs.inside.Held.{held_after};
 ghost use Rattle.listing.specs.Numbers.{number_of};
 ghost use Rattle.listing.specs.Line.{Means};
 ghost use Rattle.listing.specs.Read.{EndsLine, IsBegun, ReadsPiece};
 ghost use Rattle.listing.specs.inside.State.{HoldsAfter, ListHolds, held};
-ghost use Rattle.sumlist.specs.declared.kind.Kind.{Kind};
 
 use crate::line::{LINE_MALFORMED, LINE_NONE, ListLine, read_line};
 use crate::numbers::{kind_number, kind_numbered};

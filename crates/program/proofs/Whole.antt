@@ -4,6 +4,7 @@ use Rattle.std.proofs.Common.{sym, ap, ◌∙◌, ◌⊎◌, ◌+◌, ◌≤◌,
 use Rattle.std.specs.Prelude.{length, sum_by}
 use Rattle.std.specs.Option.{option_map_or}
 use Rattle.std.proofs.KnownBytes.{Appends-nil}
+use Rattle.hashes.specs.declared.share.Share.{Share}
 use Rattle.source.specs.Written.{Done, Failed, Shown}
 use Rattle.sumlist.specs.Lines.{lines}
 use Rattle.sumlist.specs.Report.{Files}
@@ -12,7 +13,6 @@ use Rattle.request.specs.inside.Reading.{IsRead}
 use Rattle.request.specs.declared.request.Request.{Request}
 use Rattle.request.specs.declared.request.WordsFault.{WordsFault}
 use Rattle.request.specs.declared.request.WordsFault.TheVariants as words_fault
-use Rattle.sumlist.specs.declared.share.Share.{Share}
 use Rattle.task.specs.Tasks.{Asked, Source, asked, in_file, these}
 use Rattle.task.specs.declared.fault.UsageFault.{UsageFault}
 use Rattle.task.specs.declared.tasks.Entries.{Entries}

@@ -1,12 +1,12 @@
 -- What a run of the program prints, tells and answers, by its words, standard input and files.
 use Rattle.std.specs.Prelude.{◌⊎◌, ◌≡◌, ◌≤◌, ◌+◌, ℕ, false, List, [], ◌∷◌, Ok, Err, MatchResult, length, sum_by}
 use Rattle.std.specs.Option.{option_map_or}
+use Rattle.hashes.specs.declared.share.Share.{Share}
 use Rattle.source.specs.Written.{Shown}
 use Rattle.sumlist.specs.Lines.{lines}
 use Rattle.sumlist.specs.Naming.{names}
 use Rattle.sumlist.specs.Report.{Files, keyed, unkeyed}
 use Rattle.sumlist.specs.Shared.{every}
-use Rattle.sumlist.specs.declared.share.Share.{Share}
 use Rattle.request.specs.CommandLine.{AreRead, ErrorKind, Given, IsWrong, Text}
 use Rattle.task.specs.Tasks.{Asked, Source, asked, checks, checks_tags, derives, in_file, joins, prints_line}
 use Rattle.task.specs.Tasks.{prints_lines, prints_part, prints_parts, prints_starts, tags, these, verifies}

@@ -9,7 +9,7 @@ pub use Rattle.clap.specs.Words.{IsAmong, Text, all_of, fault_of, kind_of}
 pub use Rattle.clap.specs.declared.error.ErrorKind.{ErrorKind}
 use Rattle.clap.specs.Words.{App, Row, Rule, first_of, found_of, new_app, new_rule, rows_of, subcommand_of}
 use Rattle.clap.specs.Words.{with_rule, with_subcommand}
-use Rattle.sumlist.specs.Kinds.{kinds}
+use Rattle.hashes.specs.Kinds.{kinds}
 use Rattle.request.specs.declared.request.Request.{Request}
 use Rattle.clap.specs.declared.builder.value_parser.ValueParser.TheVariants as vp
 use Rattle.clap.specs.declared.error.ErrorKind.TheVariants as clap

@@ -9,8 +9,8 @@ ghost use Rattle.request.specs.declared.request.WordsFault.TheVariants.{OutOfMem
 use crate::commands::sums_command;
 use clap::error::ErrorKind;
 use clap::{ArgMatches, Error};
+use hashes::Kind;
 use std::alloc::{AllocError, Global};
-use sumlist::Kind;
 
 /// Why the words make no request.
 #[derive(Debug, Drop)]

@@ -3,5 +3,4 @@ pub mod Read
 pub mod Written
 pub mod Pumped
 pub mod Faults
-pub mod Digest
 pub mod inside

@@ -3,7 +3,7 @@
 ghost use Rattle.std.specs.Prelude.{◌≡◌, ◌+◌, ℕ, List, [], length, MatchResult, IfOk};
 ghost use Rattle.b3.specs.Bytes.{slice};
 ghost use Rattle.b3.specs.Modes.{root_of};
-ghost use Rattle.source.specs.Digest.{IsInRange, digest, input_limit, digest_len};
+ghost use Rattle.hashes.specs.Digest.{IsInRange, digest, digest_len, input_limit};
 ghost use Rattle.source.specs.inside.AnyHash.{parameters_of};
 
 use crate::{Alg, BLAKE3_LEN};

@@ -3,7 +3,7 @@
 ghost use Rattle.std.specs.Prelude.{◌≡◌, ◌<◌, ◌≤◌, ◌++◌, ◌↔◌, ℕ, List, length, IfOk, IfSome, IsErr, IsErrOf, IsOk};
 ghost use Rattle.std.specs.Prelude.{IsOkUnless, OnOk};
 ghost use Rattle.std.specs.Io.KnownBytes.{IsAtEnd};
-ghost use Rattle.source.specs.Digest.{digest, digest_len};
+ghost use Rattle.hashes.specs.Digest.{digest, digest_len};
 ghost use Rattle.source.specs.Faults.{PumpCounts};
 ghost use Rattle.source.specs.Pumped.{Appended, Gives, IsLongerThan, joined};
 ghost use Rattle.source.specs.inside.AnyHash.{parameters_of};

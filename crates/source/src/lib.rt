@@ -11,20 +11,19 @@
 //! ```
 #![tactic(auto)]
 
-pub use alg::{Alg, BLAKE2B_LEN, BLAKE2S_LEN, BLAKE3_LEN};
 pub use any_hash::AnyHash;
 pub use bytes::Bytes;
 pub use device::{Device, device_feed_laws, device_sink_laws};
 pub use digests::{digest_of, pieces};
 pub use feed::{Feed, ReadFailed};
 pub use fixed_sink::FixedSink;
+pub use hashes::{Alg, BLAKE2B_LEN, BLAKE2S_LEN, BLAKE3_LEN};
 pub use parts::{output_in_parts, part_of};
 pub use pumping::{SourceFault, pump};
 pub use sink::{Sink, WriteFailed, write_all, write_pieces};
 pub use slice::slice_laws;
 pub use vec_sink::VecSink;
 
-mod alg;
 mod any_hash;
 mod bytes;
 mod device;

@@ -1,11 +1,13 @@
 -- The words that the lemmas of this crate have in common, under one name.
 pub use Rattle.hex.proofs.HexLemmas.{decode_of-encode_lower, decode_of-ok, length-encode_with}
 pub use Rattle.hex.specs.Hex.{IsBytes, decode_of, encode_lower, lower_digits}
+pub use Rattle.hashes.specs.Digest.{IsInRange, digest, digest_len, input_limit}
+pub use Rattle.hashes.specs.declared.alg.Alg.{Alg}
+pub use Rattle.hashes.specs.Kinds.{label_of}
+pub use Rattle.hashes.specs.declared.kind.Kind.{Kind}
 pub use Rattle.source.proofs.Writing.{Writing}
 pub use Rattle.source.specs.Counts.{count_after}
-pub use Rattle.source.specs.Digest.{IsInRange, digest, input_limit, digest_len}
 pub use Rattle.source.specs.Written.{AppendsPrefix}
-pub use Rattle.source.specs.declared.alg.Alg.{Alg}
 pub use Rattle.std.proofs.Common.{Bool, Contains, Decides, Err, IfSome, IsErr, IsUtf8, List, None, Ok}
 pub use Rattle.std.proofs.Common.{Option, Result, Some, [], ap, append-nil, append_assoc, arith, codes, cond, decimal}
 pub use Rattle.std.proofs.Common.{drop, eqb, false, if◌then◌else◌, inl, inr, leb, length, length-append}
@@ -31,10 +33,8 @@ pub use Rattle.sumlist.specs.Lines.{lines}
 pub use Rattle.sumlist.specs.Report.{AllAllowed, Allowed, Files, IsEntryIn, IsForeign, Meaning, Outcome, foreign, keyed}
 pub use Rattle.sumlist.specs.Report.{maker_of, malformed, no_lines, skipped, text, told, unkeyed}
 pub use Rattle.sumlist.specs.Report.{verdict_of, with_line}
-pub use Rattle.sumlist.specs.Kinds.{label_of}
 pub use Rattle.sumlist.specs.Tagged.{IsLabel, tagged, tagged_len}
 pub use Rattle.sumlist.specs.declared.checking.CheckFault.{CheckFault}
-pub use Rattle.sumlist.specs.declared.kind.Kind.{Kind}
 pub use Rattle.sumlist.specs.declared.summary.Mark.{Mark}
 pub use Rattle.sumlist.specs.declared.summary.Summary.{Summary}
 pub use Rattle.sumlist.specs.declared.verdict.Verdict.{Verdict}

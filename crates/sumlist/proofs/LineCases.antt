@@ -1,4 +1,6 @@
 -- Each line is skipped, spells one entry, or is malformed: every part of the meaning of a line can be decided.
+use Rattle.hashes.specs.declared.alg.Alg.TheVariants.{Blake2b as blake2b}
+use Rattle.hashes.specs.declared.kind.Kind.TheVariants.{Blake2b}
 use Rattle.sumlist.proofs.Common.{◌*◌, ◌+◌, ◌∙◌, ◌≡◌, ◌⊎◌, Alg, Fits, HasForm, IsBlank, IsEntry, IsInRange, IsLine}
 use Rattle.sumlist.proofs.Common.{IsMalformed, IsUntagged, IsUtf8, Kind, Says, digest_len}
 use Rattle.sumlist.proofs.Common.{List, Listing, escaped}
@@ -9,10 +11,8 @@ use Rattle.std.proofs.lemmas.Bool.Decides.{Decides-and, Decides-eqb, Decides-lik
 use Rattle.std.proofs.lemmas.Map.Made.{is_member-Decides}
 use Rattle.std.proofs.lemmas.Option.{none-some, same_Some}
 use Rattle.std.proofs.lemmas.Str.{IsUtf8-from_is_utf8, is_utf8-from_IsUtf8}
-use Rattle.source.specs.declared.alg.Alg.TheVariants.{Blake2b as blake2b}
 use Rattle.sumlist.specs.Entry.{IsSized}
 use Rattle.sumlist.specs.Line.{IsSkipped}
-use Rattle.sumlist.specs.declared.kind.Kind.TheVariants.{Blake2b}
 use Rattle.sumlist.specs.inside.Reading.{IsStated, stated}
 use Rattle.sumlist.proofs.Either.{Either, either_by}
 use Rattle.sumlist.proofs.Stating.{stated-is, stated-some, stated_fit}

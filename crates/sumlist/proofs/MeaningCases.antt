@@ -1,4 +1,5 @@
 -- Each line of a list is skipped, one entry, malformed with a look, or malformed, whatever its entries are.
+use Rattle.hashes.specs.declared.kind.Kind.TheVariants.{Blake2b}
 use Rattle.sumlist.proofs.Common.{◌≡◌, ◌∙◌, ◌⊎◌, IsEntryIn, IsForeign, IsMalformed, IsUntagged, Kind, List, Listing}
 use Rattle.sumlist.proofs.Common.{Meaning, None, Option, Some, Spells, ap, inl, inr, keyed, length, refl, sym, unkeyed}
 use Rattle.sumlist.proofs.Common.{ℕ}
@@ -6,7 +7,6 @@ use Rattle.std.specs.Prelude.{MatchOption}
 use Rattle.std.proofs.lemmas.Bool.Decides.{Decides-eqb}
 use Rattle.sumlist.specs.Line.{IsSkipped}
 use Rattle.sumlist.specs.Report.{look_of}
-use Rattle.sumlist.specs.declared.kind.Kind.TheVariants.{Blake2b}
 use Rattle.sumlist.specs.declared.look.Look.{Look}
 use Rattle.sumlist.specs.declared.look.Look.TheVariants.{Digest}
 use Rattle.sumlist.proofs.Either.{either_by}

@@ -1,4 +1,5 @@
 -- What a share makes of the lines of a list, one by one.
+use Rattle.hashes.specs.declared.share.Share.{Share}
 use Rattle.sumlist.proofs.Common.{◌≡◌, ℕ, List, [], ◌∷◌, Files, Meaning, Outcome, Allowed, Mark, Option}
 use Rattle.sumlist.proofs.Common.{LineChecked, Result, Ok, Appends-nil, arith, false, foreign, inl, inr}
 use Rattle.sumlist.proofs.Common.{malformed, refl, skipped, told, true, unreadable_count}
@@ -8,7 +9,6 @@ use Rattle.sumlist.proofs.MeaningCases.{foreign_unskipped, not_skipped}
 use Rattle.sumlist.specs.Line.{IsSkipped}
 use Rattle.sumlist.specs.Shared.{shared}
 use Rattle.sumlist.specs.declared.checking.CheckFault.{CheckFault}
-use Rattle.sumlist.specs.declared.share.Share.{Share}
 use Rattle.sumlist.specs.declared.summary.Mark.TheVariants.{Skipped}
 use Rattle.sumlist.specs.inside.Stepped.{LineShared, Passes, Shares}
 

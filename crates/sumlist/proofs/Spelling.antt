@@ -1,4 +1,5 @@
 -- A line that is written of an entry spells it: its core is the whole line, since no CR and no LF is in it.
+use Rattle.hashes.specs.Kinds.{alg_kind}
 use Rattle.sumlist.proofs.Common.{◌≡◌, inl, inr, ◌*◌, ◌≤◌, Bool, true, false, ◌||◌, List, [], ◌∷◌, ◌++◌, length, refl}
 use Rattle.sumlist.proofs.Common.{ap, length-append, if◌then◌else◌, ◌∙◌, eqb, arith, All-weaker, false≢true}
 use Rattle.sumlist.proofs.Common.{nat_tests, decode_of-encode_lower, length-encode_with, encode_lower, lower_digits}
@@ -11,7 +12,6 @@ use Rattle.std.proofs.lemmas.List.Elements.{All-contains, All-head}
 use Rattle.std.proofs.lemmas.List.Folds.{list_all-append}
 use Rattle.std.proofs.lemmas.List.Sums.{AllPass-from_list_all, list_all-from_AllPass}
 use Rattle.sumlist.specs.Entry.{written_line}
-use Rattle.sumlist.specs.Kinds.{alg_kind}
 use Rattle.sumlist.specs.Tagged.{tagged_line}
 use Rattle.sumlist.proofs.EscapedNames.{escaped-plain}
 use Rattle.sumlist.specs.inside.Reading.{stated}

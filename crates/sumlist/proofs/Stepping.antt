@@ -1,4 +1,5 @@
 -- A list that is checked line by line: a line's outcome comes before those of the lines that are left.
+use Rattle.hashes.specs.declared.share.Share.{Share}
 use Rattle.sumlist.proofs.Common.{◌≡◌, ◌≤◌, ◌+◌, ◌++◌, List, [], ◌∷◌, length, lines, subst, sym, Option, None, Some}
 use Rattle.sumlist.proofs.Common.{◌∙◌, IfSome, ap, refl, IfSome_then, IsErr, Result, Err, Ok, arith, Appends-nil}
 use Rattle.sumlist.proofs.Common.{Appends-trans, AppendsPrefix, Mark, Meaning, Summary, CheckFault, Files}
@@ -14,7 +15,6 @@ use Rattle.sumlist.specs.Report.{report_from, summary_of}
 use Rattle.sumlist.specs.inside.Ahead.{Checks, OpensEach, RestChecked}
 use Rattle.sumlist.specs.inside.Marks.{mark_of, outcome_of}
 use Rattle.sumlist.specs.Shared.{shared}
-use Rattle.sumlist.specs.declared.share.Share.{Share}
 use Rattle.sumlist.specs.inside.Stepped.{LineShared}
 use Rattle.sumlist.specs.inside.Taking.{IsNextPiece}
 use Rattle.sumlist.proofs.Deciding.{all_settled, unreadable-cons}

@@ -1,9 +1,9 @@
 -- Worked values of the definitions of lists, computed: a wrong escape, label, cut or number does not check.
+use Rattle.hashes.specs.declared.alg.Alg.TheVariants.{Blake2b, Blake2s}
 use Rattle.sumlist.proofs.Common.{◌≡◌, inr, [], ◌∷◌, ◌++◌, refl, arith, Missing, Listing, written, lines, skipped}
 use Rattle.sumlist.proofs.Common.{malformed, told, foreign, HasForm, label_of, tagged, codes, None, Some}
 use Rattle.std.specs.Fmt.{digits}
 use Rattle.hex.specs.Hex.{encode_with, decode_pairs}
-use Rattle.source.specs.declared.alg.Alg.TheVariants.{Blake2b, Blake2s}
 use Rattle.sumlist.specs.Report.{look_of, report_from}
 use Rattle.sumlist.specs.declared.look.Look.TheVariants.{Digest, Marked, Nameless}
 use Rattle.sumlist.proofs.Reading.{labelled_form}

@@ -1,5 +1,7 @@
 -- What stands before the first space of a core is a word, digits or a label: a word has no byte that a line
 -- treats otherwise.
+use Rattle.hashes.specs.declared.alg.Alg.TheVariants.{Blake2b, Blake2s}
+use Rattle.hashes.specs.Kinds.{alg_kind, longest}
 use Rattle.sumlist.proofs.Common.{◌%◌, ◌&&◌, ◌*◌, ◌++◌, ◌+◌, ◌<◌, ◌^◌, ◌∷◌, ◌≡◌, ◌≢◌, ◌≤◌, Alg, All, All-append}
 use Rattle.sumlist.proofs.Common.{All-cons, All-nil, All-weaker, IsInRange, IsLabel, Kind, List, Ok, [], arith}
 use Rattle.sumlist.proofs.Common.{codes, decimal, decode_of, decode_of-ok, eqb, false, label_of, leb, nat_tests}
@@ -9,8 +11,6 @@ use Rattle.std.proofs.lemmas.List.Sums.{AllPass-from_list_all}
 use Rattle.std.specs.List.{list_all}
 use Rattle.std.specs.Prelude.{not}
 use Rattle.hex.specs.Hex.{is_hex_digit}
-use Rattle.source.specs.declared.alg.Alg.TheVariants.{Blake2b, Blake2s}
-use Rattle.sumlist.specs.Kinds.{alg_kind, longest}
 use Rattle.sumlist.specs.inside.Cut.{HasNo}
 
 -- above a space, `#` and `*`, and no backslash

@@ -1,7 +1,7 @@
 -- The line of an entry, untagged or tagged (docs/FORMAT.md, What is written).
 use Rattle.std.specs.Prelude.{ℕ, ◌*◌, ◌≤◌, List, Bool, true, false, IsUtf8}
-use Rattle.source.specs.declared.alg.Alg.{Alg}
-use Rattle.source.specs.Digest.{digest_len}
+use Rattle.hashes.specs.declared.alg.Alg.{Alg}
+use Rattle.hashes.specs.Digest.{digest_len}
 use Rattle.sumlist.specs.Entry.{Listing, Fits, written}
 use Rattle.sumlist.specs.Lines.{line_limit}
 use Rattle.sumlist.specs.Tagged.{tagged, tagged_len}

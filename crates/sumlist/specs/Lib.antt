@@ -1,6 +1,5 @@
 pub mod Escape
 pub mod Entry
-pub mod Kinds
 pub mod Tagged
 pub mod TaggedFaults
 pub mod Line

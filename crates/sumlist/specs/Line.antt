@@ -2,12 +2,12 @@
 use Rattle.std.specs.Prelude.{◌⊎◌, ◌≡◌, ℕ, ◌*◌, ◌-◌, ◌≤◌, List, [], ◌∷◌, ◌++◌, length, take, slice_index}
 use Rattle.std.specs.Prelude.{if◌then◌else◌, ◌==◌, Ok, Contains, Option, Some, codes}
 use Rattle.hex.specs.Hex.{decode_of}
-use Rattle.source.specs.declared.alg.Alg.{Alg}
-use Rattle.source.specs.Digest.{digest_len, IsInRange}
-use Rattle.sumlist.specs.declared.kind.Kind.{Kind}
+use Rattle.hashes.specs.declared.alg.Alg.{Alg}
+use Rattle.hashes.specs.Digest.{IsInRange, digest_len}
+use Rattle.hashes.specs.declared.kind.Kind.{Kind}
+use Rattle.hashes.specs.Kinds.{alg_kind}
 use Rattle.sumlist.specs.Entry.{Listing, IsEntry}
 use Rattle.sumlist.specs.Escape.{SpellsName}
-use Rattle.sumlist.specs.Kinds.{alg_kind}
 use Rattle.sumlist.specs.Lines.{line_limit}
 use Rattle.sumlist.specs.Tagged.{IsLabel}
 

@@ -1,8 +1,8 @@
 -- Each line has one meaning (docs/FORMAT.md, Grammar).
 use Rattle.std.specs.Prelude.{◌⊎◌, ◌≡◌, ℕ, List, Option}
+use Rattle.hashes.specs.declared.kind.Kind.{Kind}
 use Rattle.sumlist.specs.Entry.{Listing}
 use Rattle.sumlist.specs.Line.{IsMalformed, IsSkipped, Spells}
-use Rattle.sumlist.specs.declared.kind.Kind.{Kind}
 
 -- a line is skipped, spells one entry and no other, or is malformed
 abbrev pub OneMeaning : Type 0

@@ -2,12 +2,12 @@
 use Rattle.std.specs.Prelude.{◌⊎◌, ◌≡◌, ℕ, ◌+◌, ◌*◌, List, [], ◌∷◌, ◌++◌, length, codes}
 use Rattle.std.specs.Fmt.{decimal}
 use Rattle.hex.specs.Hex.{encode_lower}
-use Rattle.source.specs.declared.alg.Alg.{Alg}
-use Rattle.source.specs.declared.alg.Alg.TheVariants.{Blake2b, Blake2s}
-use Rattle.source.specs.Digest.{digest_len}
+use Rattle.hashes.specs.declared.alg.Alg.{Alg}
+use Rattle.hashes.specs.declared.alg.Alg.TheVariants.{Blake2b, Blake2s}
+use Rattle.hashes.specs.Digest.{digest_len}
+use Rattle.hashes.specs.Kinds.{label_of}
 use Rattle.sumlist.specs.Escape.{escaped, lead}
 use Rattle.sumlist.specs.Entry.{Listing}
-use Rattle.sumlist.specs.Kinds.{label_of}
 
 -- a label that names an algorithm: the written one, or for a whole tag of BLAKE2 also the one with the number of its
 -- bits

@@ -1,7 +1,7 @@
 // What the entries of a list are, and how its lines are read.
 
 ghost use Rattle.std.specs.Prelude.{◌≡◌, ℕ, List, Err, MatchOption, None, IfSome, length};
-ghost use Rattle.source.specs.Digest.{digest, input_limit};
+ghost use Rattle.hashes.specs.Digest.{digest, input_limit};
 ghost use Rattle.source.specs.Faults.{PumpCounts};
 ghost use Rattle.sumlist.specs.Entry.{Listing};
 ghost use Rattle.sumlist.specs.Line.{Spells};

@@ -1,7 +1,7 @@
 // Lines that are written into the caller's memory.
 
 ghost use Rattle.std.specs.Prelude.{◌≡◌, ◌≤◌, ◌+◌, ◌*◌, ◌++◌, length, take, IsTrue, MatchOption, IsUtf8};
-ghost use Rattle.source.specs.Digest.{IsInRange};
+ghost use Rattle.hashes.specs.Digest.{IsInRange};
 ghost use Rattle.source.specs.Pumped.{joined};
 ghost use Rattle.sumlist.specs.Entry.{IsSized};
 ghost use Rattle.sumlist.specs.Escape.{escaped};

@@ -1,12 +1,12 @@
 // Tagged lines as they are written.
 
 ghost use Rattle.std.specs.Prelude.{OnOk, Option};
-ghost use Rattle.source.specs.Digest.{IsInRange};
+ghost use Rattle.hashes.specs.Digest.{IsInRange};
+ghost use Rattle.hashes.specs.declared.kind.Kind.{Kind};
 ghost use Rattle.source.specs.Written.{Writes};
 ghost use Rattle.sumlist.specs.Line.{Spells};
 ghost use Rattle.sumlist.specs.Tagged.{tagged, tagged_line};
 ghost use Rattle.sumlist.specs.TaggedFaults.{WritesTagged};
-ghost use Rattle.sumlist.specs.declared.kind.Kind.{Kind};
 
 use crate::Entry;
 use crate::escaping::{lead, write_name};

@@ -2,8 +2,8 @@
 
 ghost use Rattle.std.specs.Prelude.{◌≡◌, ℕ, ◌*◌, ◌+◌, ◌<◌, ◌≤◌, ◌↔◌, ◌++◌, IsTrue, MatchOption, length};
 ghost use Rattle.std.specs.Fmt.{decimal};
-ghost use Rattle.source.specs.Digest.{IsInRange};
-ghost use Rattle.sumlist.specs.Kinds.{label_of};
+ghost use Rattle.hashes.specs.Digest.{IsInRange};
+ghost use Rattle.hashes.specs.Kinds.{label_of};
 ghost use Rattle.sumlist.specs.Tagged.{IsLabel};
 ghost use Rattle.sumlist.specs.inside.Labels.{Ended, IsNumbered, NotEnded, NotNamed, NotNumbered};
 

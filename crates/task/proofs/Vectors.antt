@@ -2,10 +2,10 @@
 use Rattle.std.proofs.Common.{◌≡◌, List, [], ◌∷◌, Some, None, Result, Ok, Err, codes, false, option_map, refl, true}
 use Rattle.std.specs.Int.Count.{count_leading_zeros, ones}
 use Rattle.hex.specs.Hex.{decode_pairs}
+use Rattle.hashes.specs.declared.kind.Kind.TheVariants as kind
+use Rattle.hashes.specs.declared.share.Share.{Share}
 use Rattle.request.proofs.ExampleWords.{clap_on_literals, subcommand_of}
 use Rattle.request.specs.CommandLine.{NameList, Text, sums_app}
-use Rattle.sumlist.specs.declared.kind.Kind.TheVariants as kind
-use Rattle.sumlist.specs.declared.share.Share.{Share}
 use Rattle.task.specs.Tasks.{Asked, asked, checks, checks_tags, digests, in_file, joins, least_power, prints_line}
 use Rattle.task.specs.Tasks.{prints_lines, prints_parts, tags, these, verifies}
 use Rattle.task.specs.declared.hashing.Form.TheVariants.{Plain}

@@ -3,12 +3,12 @@ use Rattle.std.specs.Prelude.{ℕ, ◌-◌, ◌/◌, ◌^◌, ◌++◌, ◌&&◌
 use Rattle.std.specs.Prelude.{Result, Ok, codes, drop, is_some, max, min, nat_lt, unwrap_or, if◌then◌else◌}
 use Rattle.std.specs.List.{starts_with}
 use Rattle.std.specs.Option.{option_map_or}
-use Rattle.source.specs.Digest.{digest_len}
-use Rattle.source.specs.declared.alg.Alg.{Alg}
-use Rattle.source.specs.declared.alg.Alg.TheVariants as alg
-use Rattle.sumlist.specs.Kinds.{kinds, longest}
-use Rattle.sumlist.specs.declared.kind.Kind.{Kind}
-use Rattle.sumlist.specs.declared.kind.Kind.TheVariants as kind
+use Rattle.hashes.specs.Digest.{digest_len}
+use Rattle.hashes.specs.declared.alg.Alg.{Alg}
+use Rattle.hashes.specs.declared.alg.Alg.TheVariants as alg
+use Rattle.hashes.specs.Kinds.{kinds, longest}
+use Rattle.hashes.specs.declared.kind.Kind.{Kind}
+use Rattle.hashes.specs.declared.kind.Kind.TheVariants as kind
 use Rattle.request.specs.CommandLine.{Given, Text, has_flag, text_of}
 use Rattle.task.specs.Settings.{◌>>=◌, ◌>>◌, absent, files, given, hexadecimal, named, needed, not_for, number}
 use Rattle.task.specs.Settings.{power_in, sized, unless}

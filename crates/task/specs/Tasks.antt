@@ -8,14 +8,14 @@ use Rattle.std.specs.Int.{leading_zeros, w64}
 use Rattle.std.specs.List.{after_first, before_first, list_any}
 use Rattle.std.specs.Option.{option_map_or}
 use Rattle.std.specs.Str.{bytes_eq}
+use Rattle.hashes.specs.Digest.{digest_len}
+use Rattle.hashes.specs.declared.alg.Alg.{Alg}
+use Rattle.hashes.specs.declared.alg.Alg.TheVariants as alg
+use Rattle.hashes.specs.Kinds.{kinds, longest}
+use Rattle.hashes.specs.declared.kind.Kind.{Kind}
+use Rattle.hashes.specs.declared.kind.Kind.TheVariants as kind
+use Rattle.hashes.specs.declared.share.Share.{Share}
 use Rattle.request.specs.CommandLine.{Given, Text, has_flag, mac_names, text_of}
-use Rattle.source.specs.Digest.{digest_len}
-use Rattle.source.specs.declared.alg.Alg.{Alg}
-use Rattle.source.specs.declared.alg.Alg.TheVariants as alg
-use Rattle.sumlist.specs.Kinds.{kinds, longest}
-use Rattle.sumlist.specs.declared.kind.Kind.{Kind}
-use Rattle.sumlist.specs.declared.kind.Kind.TheVariants as kind
-use Rattle.sumlist.specs.declared.share.Share.{Share}
 use Rattle.task.specs.Hashing.{compared, form_of, names_several, requested, stretch_of, wanted}
 use Rattle.task.specs.Settings.{◌>>=◌, ◌>>◌, absent, file_or_input, files, given, hexadecimal, named, names_or_input}
 use Rattle.task.specs.Settings.{needed, not_for, number, number_in, out_of_range, power_in, text, unless}

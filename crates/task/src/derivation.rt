@@ -1,8 +1,8 @@
 // What `kdf` is to print.
 
 ghost use Rattle.std.specs.Prelude.{◌≡◌, ◌*◌, ◌≤◌};
+ghost use Rattle.hashes.specs.Digest.{digest_len};
 ghost use Rattle.request.specs.CommandLine.{given_of};
-ghost use Rattle.source.specs.Digest.{digest_len};
 ghost use Rattle.task.specs.Tasks as spec;
 ghost use Rattle.task.specs.Tasks.{hmac_alg};
 ghost use Rattle.task.specs.inside.Seen.{IsAsDefined, seen};
@@ -10,9 +10,9 @@ ghost use Rattle.task.specs.inside.Steps.{derivation_of};
 
 use crate::fault::{Setting, TaskFault, UsageFault};
 use crate::parameters::{HmacHash, absent, given_bytes, needed, needed_kind, number_in};
+use hashes::Kind;
 use request::Request;
 use std::alloc::Global;
-use sumlist::Kind;
 
 /// How a key is derived from its material.
 #[derive(Debug, Drop)]

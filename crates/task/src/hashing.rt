@@ -3,8 +3,8 @@
 ghost use Rattle.std.specs.Prelude.{◌≡◌, ◌≢◌, ◌+◌, ◌++◌, ◌∷◌, [], ◌≤◌, IfOk, IfSome, MatchOption, codes, map};
 ghost use Rattle.std.specs.Prelude.{option_map, unwrap_or};
 ghost use Rattle.std.proofs.Props.{props};
+ghost use Rattle.hashes.specs.Digest.{IsInRange};
 ghost use Rattle.request.specs.CommandLine.{Text, given_of, text_of as request_text};
-ghost use Rattle.source.specs.Digest.{IsInRange};
 ghost use Rattle.task.specs.Hashing as spec;
 ghost use Rattle.task.specs.Hashing.{alg_of};
 ghost use Rattle.task.specs.Settings.{absent, given, not_for, power_in};
@@ -17,10 +17,9 @@ use crate::parameters::{
     absent, file_count, given_bytes, hexadecimal, needed_kind, number, of_length, power_in, sized,
     text_of, unless,
 };
+use hashes::{Alg, BLAKE2B_LEN, BLAKE2S_LEN, BLAKE3_LEN, Kind};
 use request::Request;
-use source::{Alg, BLAKE2B_LEN, BLAKE2S_LEN, BLAKE3_LEN};
 use std::alloc::Global;
-use sumlist::Kind;
 
 /// What is printed for a file: which bytes of which digest, and how.
 #[derive(Clone, Copy, Debug, PartialEq, Eq)]

@@ -3,9 +3,9 @@
 ghost use Rattle.std.specs.Prelude.{◌≡◌, ◌≢◌, ◌≤◌, ◌++◌, ◌&&◌, Bool, Err, IfOk, IfSome, IsSomeAnd, MatchResult, Ok};
 ghost use Rattle.std.specs.Prelude.{codes, count_ones, if◌then◌else◌, length, map, nat_le, ok_or};
 ghost use Rattle.std.specs.Prelude.{MatchOption, Some, option_map, replicate, unwrap_or};
+ghost use Rattle.hashes.specs.Digest.{digest_len};
+ghost use Rattle.hashes.specs.Kinds.{kinds};
 ghost use Rattle.request.specs.CommandLine.{Text, given_of, text_of};
-ghost use Rattle.source.specs.Digest.{digest_len};
-ghost use Rattle.sumlist.specs.Kinds.{kinds};
 ghost use Rattle.task.specs.Settings as spec;
 ghost use Rattle.task.specs.Settings.{given, named, needed, number_in, out_of_range, power_in, word};
 ghost use Rattle.task.specs.Tasks.{hmac_alg};
@@ -14,11 +14,10 @@ ghost use Rattle.task.specs.inside.Texts.{fault_text, setting_name};
 ghost use Rattle.task.specs.declared.fault.UsageFault.TheVariants.{OutOfRange, WrongLength};
 
 use crate::fault::{Setting, TaskFault, UsageFault};
+use hashes::{Alg, BLAKE2B_LEN, BLAKE2S_LEN, Kind};
 use hex::FromHexError;
 use request::Request;
-use source::{Alg, BLAKE2B_LEN, BLAKE2S_LEN};
 use std::alloc::Global;
-use sumlist::Kind;
 
 /// A hash under HMAC: SHA-256, SHA-512, BLAKE2b-512 or BLAKE2s-256.
 #[derive(Clone, Copy, Debug, PartialEq, Eq)]

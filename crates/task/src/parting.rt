@@ -15,8 +15,8 @@ ghost use Rattle.task.specs.inside.Steps.{names_blake3};
 use crate::fault::{Setting, UsageFault};
 use crate::hashing::Stretch;
 use crate::parameters::needed_kind;
+use hashes::Kind;
 use request::Request;
-use sumlist::Kind;
 
 /// Where a part of a file begins, and the most chunks that it has, if given.
 #[derive(Clone, Copy, Debug)]

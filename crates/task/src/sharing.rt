@@ -11,8 +11,8 @@ ghost use Rattle.task.specs.inside.Steps as steps;
 
 use crate::fault::{Setting, UsageFault};
 use crate::parameters::{file_or_input, number_in, text_of, unless};
+use hashes::Share;
 use request::Request;
-use sumlist::Share;
 
 /// A file, and which share of its parts is meant. Where there are other shares, it is not standard input, which
 /// they would not have.

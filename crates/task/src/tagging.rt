@@ -12,8 +12,8 @@ ghost use Rattle.task.specs.inside.Steps.{mac_of};
 
 use crate::fault::{Setting, TaskFault, UsageFault};
 use crate::parameters::{HmacHash, given_bytes, needed, number, unless};
+use hashes::{BLAKE2B_LEN, BLAKE2S_LEN, BLAKE3_LEN};
 use request::Request;
-use source::{BLAKE2B_LEN, BLAKE2S_LEN, BLAKE3_LEN};
 use std::alloc::Global;
 
 /// A keyed function, and the length in bytes of the tags that it prints.

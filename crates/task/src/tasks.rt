@@ -5,8 +5,8 @@ ghost use Rattle.std.specs.Prelude.{ok_or};
 ghost use Rattle.std.specs.Map.{lookup};
 ghost use Rattle.std.specs.Option.{option_map_or};
 ghost use Rattle.std.specs.Str.{bytes_eq};
+ghost use Rattle.hashes.specs.Kinds.{kinds};
 ghost use Rattle.request.specs.CommandLine.{given_of, text_of};
-ghost use Rattle.sumlist.specs.Kinds.{kinds};
 ghost use Rattle.task.specs.Hashing as hashing;
 ghost use Rattle.task.specs.Settings as settings;
 ghost use Rattle.task.specs.Settings.{files};
@@ -27,10 +27,9 @@ use crate::parting::{Joining, PartLength, Place, names_blake3};
 use crate::sharing::{SharedFile, share_of_entries, share_of_files};
 use crate::tagging::{Key, Mac, ShortMac, Tagging};
 use b3::MOST_CHUNKS;
+use hashes::{BLAKE3_LEN, Kind, Share};
 use request::Request;
-use source::BLAKE3_LEN;
 use std::alloc::{AllocError, Global};
-use sumlist::{Kind, Share};
 
 // The tags in a list have at most so many bytes.
 const LISTED_LEN: u64 = 64;

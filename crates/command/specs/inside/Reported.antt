@@ -1,9 +1,9 @@
 -- What `check` did of one list, by the answers of functions.
 use Rattle.std.specs.Prelude.{Option, Result, ℕ}
+use Rattle.hashes.specs.declared.share.Share.{Share}
 use Rattle.request.specs.CommandLine.{Text}
 use Rattle.source.specs.Written.{Shown}
 use Rattle.sumlist.specs.Report.{Meaning}
-use Rattle.sumlist.specs.declared.share.Share.{Share}
 use Rattle.task.specs.declared.tasks.Reporting.{Reporting}
 use Rattle.command.specs.Checking.{ListRuns}
 use Rattle.command.specs.Lines.{content_of, is_input}

@@ -1,10 +1,10 @@
 -- The rule of the lines that a command prints, as the code holds it, and how it is had.
 use Rattle.std.specs.Prelude.{◌⊎◌, ◌≡◌, ◌*◌, ◌^◌, ⊤, true, false, List, Option, None, ℕ, IsSome, MatchOption}
+use Rattle.hashes.specs.declared.share.Share.{Share}
 use Rattle.request.specs.CommandLine.{Text}
 use Rattle.sumlist.specs.Report.{Files, Meaning, keyed as under_key, unkeyed}
 use Rattle.sumlist.specs.declared.entries.Entries.{Entries}
 use Rattle.sumlist.specs.inside.Stepped.{meaning_of}
-use Rattle.sumlist.specs.declared.share.Share.{Share}
 use Rattle.task.specs.Tasks.{Source, Sum, digests, tags}
 use Rattle.task.specs.inside.Possible.{mac_len}
 use Rattle.task.specs.inside.Views.{key_shown}

@@ -1,5 +1,5 @@
 ghost use Rattle.std.specs.Prelude.{◌≡◌, length, IfOk, IfSome};
-ghost use Rattle.source.specs.Digest.{digest};
+ghost use Rattle.hashes.specs.Digest.{digest};
 ghost use Rattle.source.specs.Faults.{PumpCounts};
 
 use super::digests::is_spelled;

@@ -1,8 +1,8 @@
 -- What the numbers of a list hold of what was read.
 use Rattle.std.specs.Prelude.{◌≡◌, ◌≢◌, ◌++◌, ℕ, ◌+◌, [], List, Contains, take, Option, Some, None}
 use Rattle.std.specs.Prelude.{if◌then◌else◌, nat_le}
+use Rattle.hashes.specs.declared.kind.Kind.{Kind}
 use Rattle.sumlist.specs.Lines.{IsKept}
-use Rattle.sumlist.specs.declared.kind.Kind.{Kind}
 use Rattle.listing.specs.Numbers.{number_of}
 use Rattle.listing.specs.declared.line.ListLine.{ListLine}
 use Rattle.listing.specs.declared.line.TheConstants.{LINE_NONE}

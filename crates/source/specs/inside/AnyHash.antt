@@ -7,10 +7,10 @@ use Rattle.b3.specs.Modes.{hash_parameters}
 use Rattle.blake2.specs.Blake2.{from_list, listed, message_limit, unsalted}
 use Rattle.blake2.specs.inside.Hashers.{Holds2b, Holds2s, parameters_2b, parameters_2s, room_left_2b, room_left_2s}
 use Rattle.blake2.specs.inside.Rooms.{room_is_2b, room_is_2s}
+use Rattle.hashes.specs.declared.alg.Alg.{Alg}
+use Rattle.hashes.specs.declared.alg.Alg.TheVariants as alg
 use Rattle.mac.specs.inside.Streams.{StreamHolds256, StreamHolds512, room_256, room_512}
 use Rattle.words.specs.Blake2.{blake2b, blake2s}
-use Rattle.source.specs.declared.alg.Alg.{Alg}
-use Rattle.source.specs.declared.alg.Alg.TheVariants as alg
 use Rattle.source.specs.declared.any_hash.AnyHash.{AnyHash}
 use Rattle.source.specs.declared.any_hash.Inner.{Inner}
 use Rattle.source.specs.declared.any_hash.Inner.TheVariants as inner

@@ -1,10 +1,10 @@
 -- What a check of the lines that are left does.
 use Rattle.std.specs.Prelude.{◌≡◌, ℕ, ◌+◌, ◌≤◌, List, ◌++◌, fold, length, Option, IfSome, Result, MatchResult}
 use Rattle.std.specs.Io.KnownBytes.{Appends}
+use Rattle.hashes.specs.declared.share.Share.{Share}
 use Rattle.source.specs.Counts.{count_after}
 use Rattle.source.specs.Written.{AppendsPrefix}
 use Rattle.sumlist.specs.declared.checking.CheckFault.{CheckFault}
-use Rattle.sumlist.specs.declared.share.Share.{Share}
 use Rattle.sumlist.specs.declared.summary.Summary.{Summary}
 use Rattle.sumlist.specs.Lines.{lines}
 use Rattle.sumlist.specs.Report.{AllAllowed, Files, Meaning, Outcome, report_from, with_line}

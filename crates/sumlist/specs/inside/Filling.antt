@@ -1,7 +1,7 @@
 -- Lines in memory that is lent for them.
 use Rattle.std.specs.Prelude.{◌≡◌, ◌≢◌, ℕ, ◌+◌, ◌*◌, List, Bool, true, false, length, Result, Ok, Err}
-use Rattle.source.specs.declared.alg.Alg.{Alg}
-use Rattle.source.specs.Digest.{digest_len}
+use Rattle.hashes.specs.declared.alg.Alg.{Alg}
+use Rattle.hashes.specs.Digest.{digest_len}
 use Rattle.sumlist.specs.Escape.{escaped, lead}
 use Rattle.sumlist.specs.Filled.{HasLine, line_text}
 use Rattle.sumlist.specs.Tagged.{tagged_len}

@@ -4,14 +4,14 @@ use Rattle.std.specs.Prelude.{if◌then◌else◌, Option, None, Some, map}
 use Rattle.std.specs.Fmt.{decimal}
 use Rattle.std.specs.Map.{lookup}
 use Rattle.std.specs.Str.{bytes_eq}
-use Rattle.source.specs.declared.alg.Alg.{Alg}
-use Rattle.source.specs.declared.alg.Alg.TheVariants.{Blake2b, Blake2s}
-use Rattle.source.specs.declared.alg.TheConstants.{BLAKE2B_LEN, BLAKE2S_LEN}
-use Rattle.source.specs.Digest.{IsInRange, digest_len}
-use Rattle.sumlist.specs.Kinds.{kinds, label_of, longest}
+use Rattle.hashes.specs.declared.alg.Alg.{Alg}
+use Rattle.hashes.specs.declared.alg.Alg.TheVariants.{Blake2b, Blake2s}
+use Rattle.hashes.specs.declared.alg.TheConstants.{BLAKE2B_LEN, BLAKE2S_LEN}
+use Rattle.hashes.specs.Digest.{IsInRange, digest_len}
+use Rattle.hashes.specs.Kinds.{kinds, label_of, longest}
+use Rattle.hashes.specs.declared.kind.Kind.{Kind}
+use Rattle.hashes.specs.declared.kind.Kind.TheVariants as variant
 use Rattle.sumlist.specs.Tagged.{IsLabel}
-use Rattle.sumlist.specs.declared.kind.Kind.{Kind}
-use Rattle.sumlist.specs.declared.kind.Kind.TheVariants as variant
 
 -- the algorithm of a kind whose digests have n bytes
 abbrev pub alg_with : Kind → ℕ → Alg
@@ -33,10 +33,6 @@ sized alg n = if is_in_range alg && (n == 2 * digest_len alg) then Some alg else
 abbrev pub sized_alg : Option Kind → ℕ → Option Alg
 sized_alg None n = None
 sized_alg (Some kind) n = sized (alg_with kind (n / 2)) n
-
--- the kind whose longest digests have this label
-abbrev pub kind_labelled : List ℕ → Option Kind
-kind_labelled label = lookup (bytes_eq label) (map (λ row. (label_of (longest row.1), row.1)) kinds)
 
 -- no algorithm has this label
 abbrev pub NotNamed : List ℕ → Type 0

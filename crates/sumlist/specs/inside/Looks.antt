@@ -1,9 +1,9 @@
 -- What a malformed line looks like, by the answers of functions.
 use Rattle.std.specs.Prelude.{◌≡◌, ℕ, List, Option, Some, MatchOption, length}
+use Rattle.hashes.specs.declared.kind.Kind.{Kind}
 use Rattle.sumlist.specs.Entry.{Listing}
 use Rattle.sumlist.specs.Line.{Spells}
 use Rattle.sumlist.specs.Report.{IsForeign, Meaning}
-use Rattle.sumlist.specs.declared.kind.Kind.{Kind}
 use Rattle.sumlist.specs.declared.look.Look.{Look}
 
 -- of some kind the line would spell an entry with a digest of so many bytes

@@ -7,15 +7,15 @@ use Rattle.std.specs.Option.{option_and_then, option_map, option_or}
 use Rattle.std.specs.Result.{result_ok}
 use Rattle.std.specs.Str.{bytes_eq}
 use Rattle.hex.specs.Hex.{decode_of}
-use Rattle.source.specs.declared.alg.Alg.{Alg}
-use Rattle.source.specs.declared.alg.Alg.TheVariants.{Blake2b, Blake2s}
-use Rattle.source.specs.Digest.{digest_len}
-use Rattle.source.specs.declared.alg.TheConstants.{BLAKE2B_LEN, BLAKE2S_LEN}
-use Rattle.sumlist.specs.declared.kind.Kind.{Kind}
+use Rattle.hashes.specs.declared.alg.Alg.{Alg}
+use Rattle.hashes.specs.declared.alg.Alg.TheVariants.{Blake2b, Blake2s}
+use Rattle.hashes.specs.Digest.{digest_len}
+use Rattle.hashes.specs.declared.alg.TheConstants.{BLAKE2B_LEN, BLAKE2S_LEN}
+use Rattle.hashes.specs.declared.kind.Kind.{Kind}
+use Rattle.hashes.specs.Kinds.{kind_labelled, longest}
 use Rattle.sumlist.specs.Entry.{Listing, Fits}
-use Rattle.sumlist.specs.Kinds.{longest}
 use Rattle.sumlist.specs.inside.Body.{name_of}
-use Rattle.sumlist.specs.inside.Labels.{sized_alg, closing, kind_labelled}
+use Rattle.sumlist.specs.inside.Labels.{sized_alg, closing}
 
 -- a core that says nothing: there is none, or a comment
 abbrev pub IsBlank : List ℕ → Type 0

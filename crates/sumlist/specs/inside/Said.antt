@@ -1,7 +1,7 @@
 -- What the reading of a line returns that builds no name.
 use Rattle.std.specs.Prelude.{◌≡◌, ℕ, List, Option, Some}
+use Rattle.hashes.specs.declared.kind.Kind.{Kind}
 use Rattle.sumlist.specs.Line.{Spells, IsSkipped, IsMalformed, IsUntagged}
-use Rattle.sumlist.specs.declared.kind.Kind.{Kind}
 use Rattle.sumlist.specs.declared.line.Said.{Said}
 use Rattle.sumlist.specs.declared.line.Said.TheVariants.{Skipped, Malformed, Untagged, Entry}
 use Rattle.sumlist.specs.inside.Body.{name_of}

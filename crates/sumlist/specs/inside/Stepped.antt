@@ -2,6 +2,7 @@
 use Rattle.std.specs.Prelude.{◌⊎◌, ◌≡◌, ◌≤◌, ◌<◌, ⊤, ℕ, List, None, Option, Result, Ok, Err, IsSome, MatchResult}
 use Rattle.std.specs.Prelude.{◌∷◌, Bool, false, length, suc, true}
 use Rattle.std.specs.Io.KnownBytes.{Appends}
+use Rattle.hashes.specs.declared.share.Share.{Share}
 use Rattle.source.specs.Counts.{count_after, next_count}
 use Rattle.source.specs.Written.{AppendsPrefix}
 use Rattle.source.specs.declared.pumping.SourceFault.{SourceFault}
@@ -20,7 +21,6 @@ use Rattle.sumlist.specs.declared.line.Line.{Line}
 use Rattle.sumlist.specs.declared.line.Line.TheVariants as said
 use Rattle.sumlist.specs.declared.line.LineFault.{LineFault}
 use Rattle.sumlist.specs.declared.line.LineFault.TheVariants as fault
-use Rattle.sumlist.specs.declared.share.Share.{Share}
 use Rattle.sumlist.specs.declared.summary.Mark.{Mark}
 use Rattle.sumlist.specs.declared.summary.Mark.TheVariants.{Foreign, Malformed}
 use Rattle.sumlist.specs.declared.verdict.Verdict.{Verdict}

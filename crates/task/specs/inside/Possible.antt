@@ -2,10 +2,10 @@
 -- can.
 use Rattle.std.specs.Prelude.{◌≡◌, ℕ, ◌+◌, ◌/◌, ◌-◌, ◌%◌, ◌^◌, ◌<◌, ◌≤◌, Option, IfSome, count_ones}
 use Rattle.b3.specs.Parts.{IsLeastPowerFrom}
-use Rattle.source.specs.declared.alg.TheConstants.{BLAKE2B_LEN, BLAKE2S_LEN}
-use Rattle.source.specs.Digest.{digest_len}
-use Rattle.sumlist.specs.Kinds.{longest}
-use Rattle.sumlist.specs.declared.kind.Kind.TheVariants as kind
+use Rattle.hashes.specs.declared.alg.TheConstants.{BLAKE2B_LEN, BLAKE2S_LEN}
+use Rattle.hashes.specs.Digest.{digest_len}
+use Rattle.hashes.specs.Kinds.{longest}
+use Rattle.hashes.specs.declared.kind.Kind.TheVariants as kind
 use Rattle.task.specs.Hashing.{lengths}
 use Rattle.task.specs.Tasks.{hmac_alg}
 use Rattle.task.specs.declared.hashing.Form.{Form}

@@ -4,9 +4,9 @@ use Rattle.std.specs.Prelude.{if◌then◌else◌, is_some, not, ok_or}
 use Rattle.std.specs.List.{after_first, before_first, list_any}
 use Rattle.std.specs.Map.{lookup}
 use Rattle.std.specs.Str.{bytes_eq}
+use Rattle.hashes.specs.Kinds.{kinds}
+use Rattle.hashes.specs.declared.share.Share.{Share}
 use Rattle.request.specs.CommandLine.{Given, Text, has_flag, text_of}
-use Rattle.sumlist.specs.Kinds.{kinds}
-use Rattle.sumlist.specs.declared.share.Share.{Share}
 use Rattle.task.specs.Settings.{◌>>=◌, ◌>>◌, absent, given, named, names_or_input, needed, not_for, number_in, unless}
 use Rattle.task.specs.Tasks.{Asked, Derived, Source, checks, checks_tags, derived, has_parts, macs, one_key, under_key}
 use Rattle.task.specs.declared.tagging.Mac.{Mac}

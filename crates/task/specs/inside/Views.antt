@@ -1,8 +1,8 @@
 -- The tasks of the code as the definitions have them.
 use Rattle.std.specs.Prelude.{ℕ, List, Vec, map, option_map}
 use Rattle.std.specs.Borrow.{Bor}
+use Rattle.hashes.specs.declared.share.Share.{Share}
 use Rattle.request.specs.CommandLine.{Text}
-use Rattle.sumlist.specs.declared.share.Share.{Share}
 use Rattle.task.specs.Tasks.{Asked, Derived, Source, Sum, by_blake3, by_hkdf, checks, checks_tags, derives, digests}
 use Rattle.task.specs.Tasks.{hmac_alg, in_file, joins, prints_line, prints_lines, prints_part, prints_parts}
 use Rattle.task.specs.Tasks.{prints_starts, tags, these, verifies}

@@ -1,8 +1,8 @@
 use Rattle.std.proofs.Common.{List, Option, arith, length, ℕ, ◌≡◌, ◌≤◌}
+use Rattle.hashes.specs.declared.kind.Kind.{Kind}
 use Rattle.sumlist.proofs.EscapedNames.{length-escaped-least}
 use Rattle.sumlist.specs.Entry.{Fits, Listing}
 use Rattle.sumlist.specs.Line.{Spells}
-use Rattle.sumlist.specs.declared.kind.Kind.{Kind}
 use Rattle.listing.specs.Line.{HasEntry, Means}
 use Rattle.listing.specs.declared.line.ListLine.{ListLine}
 use Rattle.listing.specs.declared.line.TheConstants.{LINE_ENTRY}

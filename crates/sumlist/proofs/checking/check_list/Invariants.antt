@@ -1,9 +1,9 @@
+use Rattle.hashes.specs.declared.share.Share.{Share}
 use Rattle.sumlist.proofs.Common.{◌≡◌, ◌+◌, ◌-◌, ◌^◌, ◌≤◌, CheckFault, List, Option, Result, Summary, [], length}
 use Rattle.sumlist.proofs.Common.{Consumes, count_after, lines_of, no_lines, ℕ}
 use Rattle.std.specs.Prelude.{option_map}
 use Rattle.sumlist.specs.inside.Stepped.{meaning_of}
 use Rattle.sumlist.specs.Tally.{entries_of}
-use Rattle.sumlist.specs.declared.share.Share.{Share}
 use Rattle.sumlist.specs.inside.Ahead.{Checks, OpensEach}
 use Rattle.sumlist.proofs.checking.check_list.Given as goal
 

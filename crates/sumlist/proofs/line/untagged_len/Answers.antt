@@ -1,5 +1,5 @@
 use Rattle.std.proofs.Common.{ap, length}
-use Rattle.sumlist.specs.declared.kind.Kind.TheVariants.{Blake2b}
+use Rattle.hashes.specs.declared.kind.Kind.TheVariants.{Blake2b}
 use Rattle.sumlist.proofs.LineCases.{stated_any, untagged_unstated}
 use Rattle.sumlist.proofs.line.untagged_len.Goals as goal
 

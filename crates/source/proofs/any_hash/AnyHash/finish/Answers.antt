@@ -3,10 +3,10 @@ use Rattle.std.proofs.lemmas.Grind.{common_steps}
 use Rattle.blake2.specs.Blake2.{blake2, from_list, listed, unsalted}
 use Rattle.blake2.specs.inside.Hashers.{parameters_2b}
 use Rattle.words.specs.Blake2.{blake2b}
-use Rattle.source.specs.Digest.{digest}
+use Rattle.hashes.specs.Digest.{digest}
+use Rattle.hashes.specs.declared.alg.Alg.{Alg}
+use Rattle.hashes.specs.declared.alg.Alg.TheVariants.{Blake2b}
 use Rattle.source.specs.inside.AnyHash.{parameters_of}
-use Rattle.source.specs.declared.alg.Alg.{Alg}
-use Rattle.source.specs.declared.alg.Alg.TheVariants.{Blake2b}
 use Rattle.source.proofs.any_hash.AnyHash.finish.Goals as goal
 
 -- the digest under the parameters of BLAKE2b

@@ -6,8 +6,8 @@ use Rattle.blake2.specs.Blake2.{blake2, unsalted}
 use Rattle.sha2.specs.Sha256.{sha256}
 use Rattle.sha2.specs.Sha512.{sha512}
 use Rattle.words.specs.Blake2.{blake2b, blake2s}
-use Rattle.source.specs.declared.alg.Alg.{Alg}
-use Rattle.source.specs.declared.alg.Alg.TheVariants.{Sha256, Sha512, Blake2b, Blake2s, Blake3}
+use Rattle.hashes.specs.declared.alg.Alg.{Alg}
+use Rattle.hashes.specs.declared.alg.Alg.TheVariants.{Blake2b, Blake2s, Blake3, Sha256, Sha512}
 
 -- a hash function: how many bytes a digest, a block and the longest input have, and the digest of an input
 pub record Function : Type 0 where

@@ -1,7 +1,7 @@
 // Which hash, and its numbers.
 
 ghost use Rattle.std.specs.Prelude.{◌≡◌, ◌≤◌, ◌↔◌, IsTrue};
-ghost use Rattle.source.specs.Digest.{IsInRange, digest_len};
+ghost use Rattle.hashes.specs.Digest.{IsInRange, digest_len};
 
 // The length in bytes of the digests of SHA-256 (FIPS 180-4, section 6.2).
 const SHA256_LEN: usize = 32;

@@ -2,7 +2,7 @@ use Rattle.std.proofs.Common.{arith, bytes_eq, rules, tests}
 use Rattle.std.proofs.lemmas.Iterator.{YieldsList-from_slice, YieldsList-from_zip}
 use Rattle.std.proofs.lemmas.Iterator.Consumers.{YieldsList-at}
 use Rattle.std.proofs.lemmas.Iterator.Search.{find_from_yields_List}
-use Rattle.sumlist.proofs.kind.beside.Goals as goal
+use Rattle.hashes.proofs.kind.beside.Goals as goal
 
 pub returns : goal.returns
 returns c =
