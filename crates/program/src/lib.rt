@@ -23,7 +23,7 @@ use sumlist::Tree;
 use task::{Names, Task, TaskFault, UsageFault, Verdicts};
 
 /// Why words ask for no task.
-#[derive(Debug, Drop)]
+#[derive(Drop)]
 pub enum NoTask {
     /// They are wrong, or ask for help or the version: `clap`'s error says which.
     Words(Error),

@@ -13,7 +13,7 @@ use hashes::Kind;
 use std::alloc::{AllocError, Global};
 
 /// Why the words make no request.
-#[derive(Debug, Drop)]
+#[derive(Drop)]
 pub enum WordsFault {
     /// Memory ran out.
     OutOfMemory,
@@ -43,7 +43,7 @@ impl From<Error> for WordsFault {
 }
 
 /// What the words ask for: a command, and the values of its options and arguments, each under its id.
-#[derive(Debug, Drop)]
+#[derive(Drop)]
 pub struct Request<'a> {
     command: &'a str,
     matches: ArgMatches<'a>,

@@ -15,7 +15,7 @@ use request::Request;
 use std::alloc::Global;
 
 /// How a key is derived from its material.
-#[derive(Debug, Drop)]
+#[derive(Drop)]
 pub enum Derivation<'a> {
     /// By HKDF.
     Hkdf(Hkdf),
@@ -24,7 +24,7 @@ pub enum Derivation<'a> {
 }
 
 /// HKDF (RFC 5869) over a hash: a key of at most 255 times the length of the hash's digest.
-#[derive(Debug, Drop)]
+#[derive(Drop)]
 pub struct Hkdf {
     pub hash: HmacHash,
     pub length: usize,

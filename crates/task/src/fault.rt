@@ -8,7 +8,7 @@ ghost use Rattle.task.specs.declared.fault.TaskFault.TheVariants.{OutOfMemory, U
 use std::alloc::AllocError;
 
 /// What the words of a request set.
-#[derive(Clone, Copy, Debug, PartialEq, Eq)]
+#[derive(Clone, Copy)]
 pub enum Setting {
     /// `-a`.
     Algorithm,
@@ -53,7 +53,7 @@ pub enum Setting {
 }
 
 /// What is wrong with a request.
-#[derive(Clone, Copy, Debug, PartialEq, Eq)]
+#[derive(Clone, Copy)]
 pub enum UsageFault {
     /// It has to be given.
     Needed(Setting),
@@ -96,7 +96,7 @@ pub enum UsageFault {
 }
 
 /// Why a request makes no task.
-#[derive(Clone, Copy, Debug, PartialEq, Eq)]
+#[derive(Clone, Copy)]
 pub enum TaskFault {
     /// The first thing that is wrong with it.
     Usage(UsageFault),

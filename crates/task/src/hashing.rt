@@ -22,7 +22,7 @@ use request::Request;
 use std::alloc::Global;
 
 /// What is printed for a file: which bytes of which digest, and how.
-#[derive(Clone, Copy, Debug, PartialEq, Eq)]
+#[derive(Clone, Copy)]
 pub struct Requested {
     pub hash: Hash,
     pub stretch: Stretch,
@@ -30,7 +30,7 @@ pub struct Requested {
 }
 
 /// A hash, and what BLAKE2 takes besides its input: a salt and a personalization.
-#[derive(Clone, Copy, Debug, PartialEq, Eq)]
+#[derive(Clone, Copy)]
 pub enum Hash {
     /// A hash that takes nothing besides its input, with its longest digests.
     Whole(Kind),
@@ -40,14 +40,14 @@ pub enum Hash {
 }
 
 /// A stretch of a digest, from a position on: at least one byte. Digests other than BLAKE3's are whole.
-#[derive(Clone, Copy, Debug, PartialEq, Eq)]
+#[derive(Clone, Copy)]
 pub struct Stretch {
     pub position: u64,
     pub length: u64,
 }
 
 /// How a digest is printed.
-#[derive(Clone, Copy, Debug, PartialEq, Eq)]
+#[derive(Clone, Copy)]
 pub enum Form {
     /// In digits, on a line with the name.
     Plain,
@@ -58,7 +58,7 @@ pub enum Form {
 }
 
 /// A digest that exists, and the number of chunks in the parts in which files are hashed, if given.
-#[derive(Clone, Copy, Debug)]
+#[derive(Clone, Copy)]
 pub struct Hashing {
     pub requested: Requested,
     pub chunks: Option<u64>,

@@ -20,7 +20,7 @@ use request::Request;
 use std::alloc::Global;
 
 /// A hash under HMAC: SHA-256, SHA-512, BLAKE2b-512 or BLAKE2s-256.
-#[derive(Clone, Copy, Debug, PartialEq, Eq)]
+#[derive(Clone, Copy)]
 pub enum HmacHash {
     Sha256,
     Sha512,

@@ -19,7 +19,7 @@ use hashes::Kind;
 use request::Request;
 
 /// Where a part of a file begins, and the most chunks that it has, if given.
-#[derive(Clone, Copy, Debug)]
+#[derive(Clone, Copy)]
 pub struct Place {
     pub first: u64,
     pub chunks: Option<u64>,
@@ -28,7 +28,7 @@ pub struct Place {
 }
 
 /// How many chunks each part of a file has, except the last: a power of two.
-#[derive(Clone, Copy, Debug)]
+#[derive(Clone, Copy)]
 pub struct PartLength {
     pub chunks: u64,
     ghost some: { 1 ≤ chunks },
@@ -37,7 +37,7 @@ pub struct PartLength {
 }
 
 /// Bytes of the output of joined parts, and how many bytes the parts must have, if given.
-#[derive(Clone, Copy, Debug)]
+#[derive(Clone, Copy)]
 pub struct Joining {
     pub stretch: Stretch,
     pub bytes: Option<u64>,

@@ -16,7 +16,7 @@ use request::Request;
 
 /// A file, and which share of its parts is meant. Where there are other shares, it is not standard input, which
 /// they would not have.
-#[derive(Clone, Copy, Debug)]
+#[derive(Clone, Copy)]
 pub struct SharedFile<'a> {
     pub name: &'a str,
     pub share: Share,

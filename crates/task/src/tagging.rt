@@ -17,7 +17,7 @@ use request::Request;
 use std::alloc::Global;
 
 /// A keyed function, and the length in bytes of the tags that it prints.
-#[derive(Clone, Copy, Debug, PartialEq, Eq)]
+#[derive(Clone, Copy)]
 pub enum Mac {
     /// HMAC over a hash, with at least half the length of the hash's digest and at most all of it.
     Hmac(HmacHash, usize),
@@ -30,7 +30,7 @@ pub enum Mac {
 }
 
 /// What is printed for a tag.
-#[derive(Clone, Copy, Debug, PartialEq, Eq)]
+#[derive(Clone, Copy)]
 pub struct Tagging {
     /// The function, with the length of the tag.
     pub mac: Mac,
@@ -40,7 +40,7 @@ pub struct Tagging {
 }
 
 /// A keyed function with tags of at most 64 bytes, such as those of a list.
-#[derive(Clone, Copy, Debug, PartialEq, Eq)]
+#[derive(Clone, Copy)]
 pub struct ShortMac {
     pub mac: Mac,
     ghost has: { HasTag mac },
@@ -48,7 +48,7 @@ pub struct ShortMac {
 }
 
 /// A key.
-#[derive(Debug, Drop)]
+#[derive(Drop)]
 pub enum Key<'a> {
     /// These bytes.
     Given(Vec<u8>),

@@ -35,7 +35,7 @@ use std::alloc::{AllocError, Global};
 const LISTED_LEN: u64 = 64;
 
 /// What is printed of a file: a digest, or a tag under a key.
-#[derive(Debug, Drop)]
+#[derive(Drop)]
 pub enum Sum<'a> {
     Digest(Hashing),
     Tag(Tagging, Key<'a>),
@@ -51,14 +51,14 @@ impl<'a> Sum<'a> {
 }
 
 /// Of which files: those that were named, one at least, or those that a file names.
-#[derive(Debug, Drop)]
+#[derive(Drop)]
 pub enum Names<'a> {
     Given(Vec<&'a str>),
     From(&'a str),
 }
 
 /// What the entries of the lists are that `check` reads.
-#[derive(Debug, Drop)]
+#[derive(Drop)]
 pub enum Entries<'a> {
     /// Digests, those of untagged lines by this hash, if there is one.
     Digests(Option<Kind>),
@@ -67,7 +67,7 @@ pub enum Entries<'a> {
 }
 
 /// Where `check` has its verdicts from.
-#[derive(Debug, Drop)]
+#[derive(Drop)]
 pub enum Verdicts<'a> {
     /// The files of a share of the entries.
     Files(Share),
@@ -76,7 +76,7 @@ pub enum Verdicts<'a> {
 }
 
 /// What is told of each list beside the verdicts.
-#[derive(Clone, Copy, Debug)]
+#[derive(Clone, Copy)]
 pub struct Reporting {
     /// Whether how many lines had each outcome is told.
     pub is_summed: bool,
@@ -84,7 +84,7 @@ pub struct Reporting {
 
 /// What a run is to do. A name `-` of a file or a list is standard input; names are judged as they
 /// are used.
-#[derive(Debug, Drop)]
+#[derive(Drop)]
 pub enum Task<'a> {
     /// Print this of each file in a share of them.
     Lines {
