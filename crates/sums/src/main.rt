@@ -10,8 +10,6 @@ ghost use Rattle.command.specs.Run.{Tells};
 ghost use Rattle.sums.specs.Asking.{IsAsked};
 
 mod progress;
-#[cfg(test)]
-mod tests;
 mod watched;
 
 use command::{Fault, tell};
