@@ -1,6 +1,6 @@
 // The digests of the pieces of a buffer, each beside that of the call on the piece alone: pieces of each length from 1
-// to 300 bytes and of those about 1,024, 4,096 and 65,536, up to 20 of them and a short one at the end; and what the
-// calls refuse. See tests/library/library.
+// to 300 bytes and of those about 960, 1,024, 2,048, 4,096 and 65,536, up to 20 of them and a short one at the end; and
+// what the calls refuse. See tests/library/library.
 
 #include "library.h"
 
@@ -176,7 +176,7 @@ static void overflows(const struct kind *kind) {
 }
 
 int main(void) {
-    static const size_t about[] = {1024, 4096, 65536};
+    static const size_t about[] = {960, 1024, 2048, 4096, 65536};
     uint32_t word = 1;
     input_area = area(), out_area = area();
     for (size_t i = 0; i < sizeof text; i++) text[i] = (word = word * 1664525 + 1013904223) >> 24;

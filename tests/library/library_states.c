@@ -296,6 +296,26 @@ static void resets(void) {
     }
 }
 
+// ---- Chunks of BLAKE3 on both sides of number 2^32, eight hashed at once and one by one
+
+static void chunks_about_2_32(void) {
+    static uint8_t message[17 * 1024];
+    for (size_t i = 0; i < sizeof message; i++) message[i] = below(256);
+    for (uint64_t before = 0; before <= 17; before++) {
+        sums_blake3_state whole = {0}, pieces;
+        uint8_t want[32] = {0}, got[32] = {0};
+        blake3_begin(&whole);
+        whole.closed = (UINT64_C(1) << 32) - before;
+        pieces = whole;
+        status("update", sums_blake3_update(&whole, message, sizeof message), SUMS_OK);
+        for (size_t at = 0; at < sizeof message; at += 512)
+            status("update", sums_blake3_update(&pieces, message + at, 512), SUMS_OK);
+        status("output", sums_blake3_output(&whole, 0, got, sizeof got), SUMS_OK);
+        status("output", sums_blake3_output(&pieces, 0, want, sizeof want), SUMS_OK);
+        same("chunks about number 2^32", before, got, want, sizeof got);
+    }
+}
+
 // ---- The longest messages: a state that has taken all that the function takes but one byte
 
 #define IS_FULL(function, state, count)                                                           \
@@ -320,6 +340,14 @@ static void longest(void) {
     blake2s_begin(&narrow);
     narrow.compressed = UINT64_MAX - 63, narrow.used = 62;
     IS_FULL(blake2s, narrow, 32)
+    sums_blake2b_state wide_plain = {0};
+    status("init", sums_blake2b_init(&wide_plain, 64, NULL, 0), SUMS_OK);
+    wide_plain.compressed_low = UINT64_MAX - 127, wide_plain.compressed_high = UINT64_MAX, wide_plain.used = 126;
+    IS_FULL(blake2b, wide_plain, 64)
+    sums_blake2s_state narrow_plain = {0};
+    status("init", sums_blake2s_init(&narrow_plain, 32, NULL, 0), SUMS_OK);
+    narrow_plain.compressed = UINT64_MAX - 63, narrow_plain.used = 62;
+    IS_FULL(blake2s, narrow_plain, 32)
     sums_blake3_state tree = {0};
     blake3_begin(&tree);
     tree.closed = (UINT64_C(1) << 54) - 1, tree.len = 1022;
@@ -341,6 +369,11 @@ static void longest(void) {
     hmac_sha512_begin(&keyed_long);
     keyed_long.inner.taken_low = UINT64_MAX - 1, keyed_long.inner.taken_high = (UINT64_C(1) << 61) - 1;
     IS_FULL(hmac_sha512, keyed_long, 64)
+    sums_hmac_blake2b_state keyed_wide = {0};
+    hmac_blake2b_begin(&keyed_wide);
+    keyed_wide.inner.compressed_low = UINT64_MAX - 127, keyed_wide.inner.compressed_high = UINT64_MAX;
+    keyed_wide.inner.used = 126;
+    IS_FULL(hmac_blake2b, keyed_wide, 64)
     sums_hmac_blake2s_state keyed = {0};
     hmac_blake2s_begin(&keyed);
     keyed.inner.compressed = UINT64_MAX - 63, keyed.inner.used = 62;
@@ -364,6 +397,7 @@ int main(void) {
     blake2s_keyed_pieces_lengths();
     for (size_t i = 0; i < sizeof kinds / sizeof *kinds; i++) states_of(kinds[i]);
     resets();
+    chunks_about_2_32();
     longest();
     return ends("states");
 }
