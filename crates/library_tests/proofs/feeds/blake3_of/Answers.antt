@@ -2,7 +2,7 @@ use Rattle.std.proofs.Common.{[]}
 use Rattle.std.proofs.lemmas.Option.{IfSome_then}
 use Rattle.std.proofs.lemmas.Result.{IfOk-at_ok, IfOk-weaker}
 use Rattle.hashes.specs.declared.alg.Alg.TheVariants.{Blake3}
-use Rattle.list_tests.proofs.source_tests.calling.blake3_of.Goals as goal
+use Rattle.library_tests.proofs.feeds.blake3_of.Goals as goal
 
 pub returns-clause-tag : goal.returns-clause-tag
 returns-clause-tag g c =

@@ -1,3 +1,0 @@
-mod calling;
-mod digests;
-mod feeds_and_sinks;
