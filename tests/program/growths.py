@@ -58,6 +58,8 @@ WHOLE_RUNS = [
 WITHOUT_MEMORY = [
     ("parse_line, skipped", b"skipped\n"),
     ("parse_line, malformed", b"malformed\n"),
+    ("parse_line, LF in a comment", b"malformed\n"),
+    ("parse_line, LF in a name", b"malformed\n"),
     ("pump", DIGESTS),
     ("digest_of", DIGESTS),
     ("pieces", DIGESTS),

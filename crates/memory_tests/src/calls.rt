@@ -36,6 +36,8 @@ pub(crate) fn call<W: Sink, E: Sink>(
         "parse_line" => parse(alloc, ESCAPED, out),
         "parse_line, skipped" => parse(alloc, b"# end\r", out),
         "parse_line, malformed" => parse(alloc, UNKNOWN_ESCAPE, out),
+        "parse_line, LF in a comment" => parse(alloc, b"#\n", out),
+        "parse_line, LF in a name" => parse(alloc, LF_IN_NAME, out),
         "check" => check_into(alloc, LIST, out),
         "check, VecSink" => check_growing(alloc, LIST, out),
         "pump" => write_tags(Way::Pump, out),
@@ -56,6 +58,8 @@ const ESCAPED: &[u8] =
 
 const UNKNOWN_ESCAPE: &[u8] =
     b"\\ba7816bf8f01cfea414140de5dae2223b00361a396177a9cb410ff61f20015ad  a\\x";
+
+const LF_IN_NAME: &[u8] = b"ba7816bf8f01cfea414140de5dae2223b00361a396177a9cb410ff61f20015ad  a\nb";
 
 const LINE: &[u8] = b"ba7816bf8f01cfea414140de5dae2223b00361a396177a9cb410ff61f20015ad  abc.txt\n";
 

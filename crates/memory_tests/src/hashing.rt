@@ -3,7 +3,7 @@
 use crate::calls::Lack;
 use source::{AnyHash, Bytes, Sink, digest_of, pieces, pump, write_all};
 use sumlist::Kind;
-use words::Tag;
+use words::{Absorb, Tag};
 
 /// A way from bytes to their digest.
 #[derive(Clone, Copy, Debug, Drop)]
@@ -28,9 +28,15 @@ fn digest_by(way: Way, name: &str) -> Option<Tag> {
     let hasher = AnyHash::new(Kind::named(name)?.longest()).ok()?;
     match way {
         Way::Pump => pumped(hasher),
-        Way::DigestOf => digest_of(hasher, &mut Bytes::new(b"abc", 1)).ok(),
-        Way::Pieces => pieces(hasher, &[b"a", b"", b"bc"]).ok(),
+        Way::DigestOf => continued(hasher),
+        Way::Pieces => pieces(hasher, &[b"", b"ab", b"", b"c", b""]).ok(),
     }
+}
+
+// What the hasher has taken stands before what comes.
+fn continued(mut hasher: AnyHash) -> Option<Tag> {
+    hasher.update(b"a").ok()?;
+    digest_of(hasher, &mut Bytes::new(b"bc", 1)).ok()
 }
 
 fn pumped(mut hasher: AnyHash) -> Option<Tag> {
