@@ -13,7 +13,7 @@ use words::Tag;
 fn entry_of(alloc: Global, name: &str) -> Result<Entry, Fail> {
     let name = String::from_str(alloc, name)?;
     let tag = Tag::of(&[0x2e]).ok_or("tag")?;
-    Ok(Entry::new(Alg::Blake2b(1), name, tag).map_err(|_| "entry")?)
+    Ok(Entry::new(Alg::Blake2b(1), name, tag)?)
 }
 
 #[test]

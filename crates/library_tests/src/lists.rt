@@ -4,7 +4,7 @@
 ghost use Rattle.std.specs.Prelude.{◌≡◌, ◌≤◌, IfOk, IsTrue};
 
 use source::{Bytes, Feed, FixedSink, Sink, VecSink};
-use std::alloc::Global;
+use std::alloc::{AllocError, Global};
 use std::collections::BTreeMap;
 use std::process::Abort;
 use std::test::Fail;
@@ -39,14 +39,11 @@ ba7816bf8f01cfea414140de5dae2223b00361a396177a9cb410ff61f20015ad  none.txt\n\
 a7816bf8f01cfea414140de5dae2223b00361a396177a9cb410ff61f20015ad  abc.txt\n\
 # end\n";
 
-const REPORT: &str = "abc.txt: OK\nabc.txt: FAILED\nnone.txt: MISSING\nline 4: MALFORMED\n";
+const REPORT: &[u8] = b"abc.txt: OK\nabc.txt: FAILED\nnone.txt: MISSING\nline 4: MALFORMED\n";
 
-fn files(alloc: Global) -> Result<Files, Fail> {
+fn files(alloc: Global) -> Result<Files, AllocError> {
     let mut files = BTreeMap::new(alloc);
-    let content = Vec::from_slice(alloc, b"abc")?;
-    let _ = files
-        .insert(String::from_str(alloc, "abc.txt")?, content)
-        .map_err(|_| "memory")?;
+    files.insert(String::from_str(alloc, "abc.txt")?, b"abc".to_vec(alloc)?)?;
     Ok(files)
 }
 
@@ -71,7 +68,7 @@ fn reports(
     most: usize,
     limits: [usize; 3],
     fault: Option<CheckFault>,
-    report: Option<&str>,
+    report: Option<&[u8]>,
 ) -> Result<(), Fail>
     requires { 1 ≤ most }
 {
@@ -84,11 +81,7 @@ fn reports(
     let mut out = FixedSink::new(&mut storage[..room.min(100)]);
     let answer = check(alloc, &mut feed, Kind::Sha256, &mut tree, &mut out);
     assert_eq!(rt; answer.err(), fault, "{list} {file} {room}");
-    assert_eq!(rt;
-        Some(out.written()),
-        report.map(str::as_bytes),
-        "{list} {file} {room}"
-    );
+    assert_eq!(rt; Some(out.written()), report, "{list} {file} {room}");
     Ok(())
 }
 
@@ -124,7 +117,7 @@ fn a_list_that_fails_is_reported_up_to_there(rt: HostRuntime) -> Result<(), Fail
 #[test]
 fn a_file_that_fails_at_any_read_is_unreadable(rt: HostRuntime) -> Result<(), Fail> {
     let unreadable =
-        "abc.txt: UNREADABLE\nabc.txt: UNREADABLE\nnone.txt: MISSING\nline 4: MALFORMED\n";
+        b"abc.txt: UNREADABLE\nabc.txt: UNREADABLE\nnone.txt: MISSING\nline 4: MALFORMED\n";
     for place in 0..4 {
         for most in [1, 4096] {
             reports(
