@@ -14,7 +14,6 @@ import hashlib
 import html
 import json
 import os
-import posixpath
 import re
 import shutil
 import subprocess

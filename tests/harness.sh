@@ -94,9 +94,27 @@ is_answered() {
     is_equal "status $?, $(cat "$work/printed")" "$case_wanted"
 }
 
-# has TOOL WHAT: whether a command is installed; else it is told at the end that WHAT was not tried
+# has TOOL WHAT: whether a command is installed; else it is told at the end that WHAT was not tried, and which package
+# of Debian's has the command, if that is called otherwise
 has() {
-    command -v "$1" > /dev/null || lacks "$1" "$2"
+    command -v "$1" > /dev/null && return
+    case $1 in
+        aarch64-linux-gnu-gcc) case_package=gcc-aarch64-linux-gnu ;;
+        abidiff) case_package=abigail-tools ;;
+        dh) case_package=debhelper ;;
+        go | gofmt) case_package=golang-go ;;
+        man) case_package=man-db ;;
+        musl-gcc) case_package=musl-tools ;;
+        node) case_package=nodejs ;;
+        objdump) case_package=binutils ;;
+        qemu-aarch64-static) case_package=qemu-user-static ;;
+        qemu-*) case_package=qemu-user ;;
+        script) case_package=bsdutils ;;
+        setpriv | unshare) case_package=util-linux ;;
+        tsc) case_package=node-typescript ;;
+        *) lacks "$1" "$2"; return ;;
+    esac
+    lacks "$1 (package $case_package)" "$2"
 }
 
 # lacks NAME WHAT: tells at the end that something is not installed

@@ -1064,9 +1064,7 @@ class Memory(unittest.TestCase):
         """Where memory is refused a call is a MemoryError, or one that it is in any case, or does without."""
         if sys.version_info[:2] != (3, 11) or hasattr(sys, "gettotalrefcount"):
             self.skipTest("the interpreter's own calls fail there in other ways without memory")
-        try:
-            import _testcapi  # noqa: F401
-        except ImportError:
+        if importlib.util.find_spec("_testcapi") is None:
             self.skipTest("this Python has no module that refuses memory")
         self.assertEqual(in_process(WITHOUT_MEMORY), "ended\n")
 

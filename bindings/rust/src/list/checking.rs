@@ -126,6 +126,8 @@ fn digest_of(path: &Path, hash: Hash, digest_len: usize) -> Result<Vec<u8>, Verd
 }
 
 /// A message in pieces by any of the hashes.
+// one stands there for the time of a file, and a box would be an allocation for each
+#[allow(clippy::large_enum_variant)]
 enum Message {
     Sha256(Sha256),
     Sha512(Sha512),
