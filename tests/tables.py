@@ -131,10 +131,15 @@ def of_each(cells):
     return [cells]
 
 
-def rows():
-    """All rows of all tables, in their order."""
-    for path in sorted(glob.glob(f"{TABLES}/rows/*.tsv")):
-        for place, cells in table(os.path.relpath(path, TABLES)):
+def names():
+    """The names of the tables of rows, in their order."""
+    return [os.path.basename(path).removesuffix(".tsv") for path in sorted(glob.glob(f"{TABLES}/rows/*.tsv"))]
+
+
+def rows(*chosen):
+    """The rows of the tables of these names, or of all, in their order."""
+    for name in chosen or names():
+        for place, cells in table(f"rows/{name}.tsv"):
             yield from (row(place, each) for each in of_each(cells))
 
 

@@ -219,7 +219,7 @@ def check_first_screen():
     for text in FIRST_TEXTS:
         harness.judge(f"README.md has '{text.strip()}' in its first lines", text in first)
     for whole, text in [("README.md", readme), ("the first lines of README.md", first)]:
-        commands = re.findall(r"^(?:\$ .*\brt |tools/|make).*", text, re.M)
+        commands = re.findall(r"^(?:\$ .*\btools/|tools/|make).*", text, re.M)
         harness.judge(f"{whole}: two commands for those with the kit", len(commands) == 2, *commands)
     headings = re.findall(r"^## (.*)$", readme, re.M)
     harness.same("the first heading of README.md", headings[0], "What is proved")

@@ -2,7 +2,8 @@
 """Runs the program on each row of rows/*.tsv, over the files of files.tsv: status, standard output and standard error
 have to be those of the row, byte for byte. A call for help of usages.tsv has to print its line of usage, and nothing on
 standard error. Each command has a row of each hash. tables.py tells how a table is written.
-usage: tests/program/rows.py PROGRAM
+usage: tests/program/rows.py PROGRAM            all tables
+       tests/program/rows.py PROGRAM NAME..     the tables of these names alone, as hash for rows/hash.tsv
 """
 
 import os
@@ -40,20 +41,36 @@ def of_each_hash(rows):
             harness.judge(f"{command} has a row of {name}", f"{command} -a {name}" in begun)
 
 
+def run_table(program, name):
+    """Runs the rows of a table, and says how many cases are done."""
+    for row in tables.rows(name):
+        got = harness.run(program, row.words, row.given)
+        harness.judge(f"{row.place}: {row.name}", got == row.answer, row.words, *differences(got, row.answer))
+    print(f"{name}: {harness.passed + harness.failed} cases are done", flush=True)
+
+
+def run_usages(program):
+    for place, words, usage in tables.usages():
+        got = harness.run(program, words)
+        is_right = (got.status, got.err) == (0, b"") and usage in got.out.splitlines()
+        harness.judge(f"{place}: {usage.decode()}", is_right, words, got)
+
+
 def main():
-    program = harness.program()
-    rows = list(tables.rows())
-    once(rows)
-    of_each_hash(rows)
+    program, chosen = harness.program(), harness.arguments(1)[1:]
+    unknown = [name for name in chosen if name not in tables.names()]
+    if unknown:
+        print(f"there is no table {unknown[0]}; there are {' '.join(tables.names())}", file=sys.stderr)
+        sys.exit(2)
     with harness.folder():
         tables.make_files()
-        for row in rows:
-            got = harness.run(program, row.words, row.given)
-            harness.judge(f"{row.place}: {row.name}", got == row.answer, row.words, *differences(got, row.answer))
-        for place, words, usage in tables.usages():
-            got = harness.run(program, words)
-            is_right = (got.status, got.err) == (0, b"") and usage in got.out.splitlines()
-            harness.judge(f"{place}: {usage.decode()}", is_right, words, got)
+        for name in chosen or tables.names():
+            run_table(program, name)
+        if not chosen:
+            rows = list(tables.rows())
+            once(rows)
+            of_each_hash(rows)
+            run_usages(program)
     harness.finish()
 
 
