@@ -324,14 +324,10 @@ def keyed_runs(program, count, source):
 def of_keys(program, count, seed):
     """Random lists under keys."""
     print(f"tests/program/random_lists.py: {count} lists under keys, seed {seed}")
-    differences = 0
     with harness.folder():
         for about, run, wanted in keyed_runs(program, count, random.Random(seed)):
-            if run != wanted:
-                differences += 1
-                print(f"{about}: {run}, and not {wanted}")
-    print(f"tests/program/random_lists.py: {count} lists under keys, {differences} lists with a difference")
-    return 1 if differences else 0
+            harness.same(about, run, wanted)
+    harness.finish()
 
 
 def main():
@@ -345,7 +341,7 @@ def main():
     wanted = int(numbers[0]) if numbers else 200_000
     seed = int(numbers[1]) if len(numbers) > 1 else random.randrange(2**32)
     print(f"tests/program/random_lists.py: {wanted} lines, seed {seed}")
-    source, differences, done = random.Random(seed), 0, 0
+    source, done = random.Random(seed), 0
     with harness.folder():
         files = make_files(source)
         while done < wanted:
@@ -355,14 +351,11 @@ def main():
             words = ["check", *(["-a", kind] if kind else []), "-"]
             run = harness.run(program, words, b"".join(line + b"\n" for line in lines))
             wanted_run = report(lines, kind, has_looks)
-            if run != wanted_run:
-                differences += 1
-                pairs = zip((run.out + run.err).split(b"\n"), (wanted_run[1] + wanted_run[2]).split(b"\n"))
-                first = next((pair for pair in pairs if pair[0] != pair[1]), None)
-                print(f"the list after {done} lines, {kind}: {first}")
+            pairs = zip((run.out + run.err).split(b"\n"), (wanted_run[1] + wanted_run[2]).split(b"\n"))
+            first = next((pair for pair in pairs if pair[0] != pair[1]), None)
+            harness.judge(f"the list after {done} lines, {kind}", run == wanted_run, first)
             done += len(lines)
-    print(f"tests/program/random_lists.py: {done} lines, {differences} lists with a difference")
-    return 1 if differences else 0
+    harness.finish()
 
 
 if __name__ == "__main__":

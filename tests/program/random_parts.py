@@ -224,17 +224,17 @@ def main():
     cases = int(numbers[0]) if numbers else 10_000
     seed = int(numbers[1]) if len(numbers) > 1 else random.randrange(2**32)
     print(f"tests/program/random_parts.py: {cases} cases, seed {seed}")
-    source, differences = random.Random(seed), 0
+    source = random.Random(seed)
 
     def run(words, given=b""):
         return harness.run(program, words, given)
 
     with harness.folder():
         for _ in range(cases):
-            differences += case(source, run)
-    print(f"tests/program/random_parts.py: {cases} cases, {differences} differences")
-    return 1 if differences else 0
+            harness.passed += case(source, run) == 0
+        harness.failed = cases - harness.passed
+    harness.finish()
 
 
 if __name__ == "__main__":
-    sys.exit(main())
+    main()
