@@ -5,7 +5,7 @@ import { readList } from './lists.js';
 import { lastPart, shown } from './names.js';
 import { pastedDigest } from './pasted.js';
 import { Place, Places } from './places.js';
-import { FATE, fateOf, faultOf } from './reading.js';
+import { faultOf } from './reading.js';
 import { fromUtf16, isUtf16, looksLikeList } from './texts.js';
 import { TITLES } from './functions.js';
 import { MALFORMED } from './entries.js';
@@ -24,17 +24,6 @@ const readBytes = async (blob) => new Uint8Array(await blob.arrayBuffer());
 /** Whether bytes hold an entry, or would as UTF-8, of which the list then speaks. */
 function holdsEntries(library, bytes) {
   return looksLikeList(library, bytes) || (isUtf16(bytes) && looksLikeList(library, fromUtf16(bytes)));
-}
-
-/**
- * Of what was added before, what is added again: what is the same, or else what has changed, if that is one thing, and
- * what is gone.
- */
-async function addedAgain(things, now) {
-  const those = new Map(Object.values(FATE).map((it) => [it, []]));
-  for (const it of things) those.get(await fateOf(it.filesByPath, now.filesByPath)).push(it);
-  const [same, changed, gone] = [FATE.same, FATE.changed, FATE.gone].map((it) => those.get(it));
-  return same.length ? same : [...(changed.length === 1 ? changed : []), ...gone];
 }
 
 export class Added {
@@ -57,30 +46,30 @@ export class Added {
   // ---- what changes it
 
   /** Adds what was chosen or dropped together: `loose` files, and `folders` with their files and faults. */
-  async add({ loose, folders, isList }) {
+  async add({ loose, folders, isList }, mayGoOn) {
     this.said = [];
     const selection = ++this.#count;
-    const places = [];
-    for (const { name, files, closed } of folders) {
+    const all = [...folders, ...(loose.length ? [{ name: '', files: loose, closed: [] }] : [])];
+    const places = all.map(({ name, files, closed }) => {
       const place = new Place(name, selection);
       for (const { path, file } of files) place.add(path, file);
       for (const { path, fault } of closed) place.close(path, fault);
-      await this.#addFolder(place);
-      places.push(place);
-    }
-    if (loose.length) places.push(await this.#addLoose(loose, selection));
+      return place;
+    });
+    for (const place of places) this.#sayAdded(place, await this.places.add(place, mayGoOn));
+    this.#forgetGone();
     await this.#takeLists(places.flatMap((it) => [...it.items.values()]), isList);
   }
 
-  async #addFolder(place) {
-    const before = this.places.folders(place.name).filter((it) => it.selection !== place.selection);
-    const [replaced = null] = await addedAgain(before, place);
-    this.places.addFolder(place, replaced);
-    const [name, label] = [shown(place.name), shown(place.label)];
-    if (replaced) this.#say(`The folder ${label} was added again: all that it had before is replaced.`);
-    else if (label !== name) this.#say(`Another folder ${name} is there: this one is called ${label} here.`);
+  #sayAdded(place, replaced) {
+    const kind = place.isFolder ? 'folder' : 'file';
+    const names = [...new Set(replaced.map((it) => shown(it.label)))].join(', ');
+    if (names) this.#say(`Added again, which replaces what it was before: ${names}.`);
+    for (const it of place.things.filter(({ isRenamed }) => isRenamed)) {
+      const own = shown(place.isFolder ? it.name : it.path);
+      this.#say(`Another ${kind} ${own} is there: this one is called ${shown(it.label)} here.`);
+    }
     this.#sayClosed(place);
-    this.#forgetGone();
   }
 
   #sayClosed({ label, closed }) {
@@ -88,29 +77,6 @@ export class Added {
     const names = [...closed.keys()].slice(0, MOST_UNREAD).map(shown).join(', ');
     const more = closed.size > MOST_UNREAD ? `, and ${closed.size - MOST_UNREAD} more` : '';
     this.#say(`In the folder ${shown(label)} the browser could not read: ${names}${more}.`);
-  }
-
-  async #addLoose(loose, selection) {
-    const place = new Place('', selection);
-    for (const { path, file } of loose) place.add(path, file);
-    const replaced = [];
-    for (const item of [...place.items.values()].filter((it) => it.file)) {
-      const before = this.places.loose(item.path).filter((it) => it.file);
-      replaced.push(...(await addedAgain(before, item)));
-    }
-    this.places.addLoose(place, replaced);
-    this.#forgetGone();
-    this.#sayLoose(place, replaced);
-    return place;
-  }
-
-  #sayLoose(place, replaced) {
-    const names = replaced.map((it) => shown(it.path)).join(', ');
-    if (names) this.#say(`Added again, and so read again: ${names}.`);
-    const renamed = [...place.items.values()].filter((it) => it.isRenamed);
-    for (const { path, label } of renamed) {
-      this.#say(`Another file ${shown(path)} is there: this one is called ${shown(label)} here.`);
-    }
   }
 
   /** Takes the lists among items, in their order, and looks which others hold entries. */

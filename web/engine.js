@@ -19,6 +19,10 @@ function purposeOf({ functions, rows }) {
   return [...functions.map(keyOf), ...new Set(of)].sort().join(' ');
 }
 
+function progressOf({ total, taken, left, begun }) {
+  return { progress: { total: Math.max(total, taken), taken, left, seconds: (performance.now() - begun) / 1000 } };
+}
+
 export class Engine {
   #library;
   #post;
@@ -71,9 +75,22 @@ export class Engine {
     this.#number = number;
     if (kind === 'stop') return this.#interrupt();
     if (kind === 'write') return this.#write();
-    if (kind === 'choose') this.#added.chosen = value;
+    if (kind === 'add') await this.#add(value);
+    else if (kind === 'choose') this.#added.chosen = value;
     else if (kind !== 'go') await this.#added[kind](value);
     this.#isDue = true;
+  }
+
+  /** Adds files and folders. Says how far they are compared with what was added before, until that is stopped. */
+  async #add(value) {
+    const files = [value.loose, ...value.folders.map((it) => it.files)].flat();
+    const total = files.reduce((sum, { file }) => sum + file.size, 0);
+    const far = { total, taken: 0, left: 1, begun: performance.now(), told: performance.now() };
+    await this.#added.add(value, (bytes) => {
+      far.taken += bytes;
+      this.#tell(far, () => this.#post({ kind: 'comparing', ...progressOf(far) }));
+      return !this.#queue.some(({ kind }) => kind === 'stop');
+    });
   }
 
   /** Says what is to be checked, and checks it, until all is done or another command comes. */
@@ -101,12 +118,7 @@ export class Engine {
 
   /** Says something, with the rows that have changed and how far the run is. */
   #say(kind, more = {}) {
-    this.#post({ kind, number: this.#number, ...more, ...this.#run.view.taken(), ...this.#progress() });
-  }
-
-  #progress() {
-    const { total, taken, left, begun } = this.#run;
-    return { progress: { total, taken, left, seconds: (performance.now() - begun) / 1000 } };
+    this.#post({ kind, number: this.#number, ...more, ...this.#run.view.taken(), ...progressOf(this.#run) });
   }
 
   #goOn() {
@@ -169,6 +181,7 @@ export class Engine {
       this.#tell(run, () => {
         const share = `${Math.floor((100 * taken) / Math.max(1, job.item.file.size))} %`;
         for (const row of job.rows) run.view.draw(row, share);
+        this.#say('draw');
       });
     }
     run.taken = before;
@@ -184,15 +197,14 @@ export class Engine {
       settle(row, { digests: job.item.reading?.digests, fault });
       run.view.draw(row);
     }
-    this.#tell(run, () => {});
+    this.#tell(run, () => this.#say('draw'));
   }
 
   /** Says now and then how far it is. */
-  #tell(run, draw) {
-    if (performance.now() - run.told < TELL_AFTER) return;
-    run.told = performance.now();
-    draw();
-    this.#say('draw');
+  #tell(far, say) {
+    if (performance.now() - far.told < TELL_AFTER) return;
+    far.told = performance.now();
+    say();
   }
 
   #judge(run) {

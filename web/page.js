@@ -90,6 +90,10 @@ function answered(number) {
 }
 
 const SHOW = {
+  comparing({ progress }) {
+    say('', 'Comparing with what was added before ..', []);
+    showProgress(progress);
+  },
   plan({ summary, things, more, rows, hidden, progress, notes }) {
     byId('added').textContent = summary;
     drawThings(things, more, { remove: (id) => send('remove', id), use: (id) => send('use', id) });

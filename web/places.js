@@ -1,6 +1,7 @@
 // SPDX-License-Identifier: MIT OR Apache-2.0
 // What was added: folders, and files by themselves, each by one selection; and which of them a name in a list means.
 import { folderOf, foldersOf, lastPart } from './names.js';
+import { FATE, fateOf } from './reading.js';
 
 export const TWICE = 'two files of this name were added at once, so neither is judged';
 const SEVERAL_FILES = 'several files of this name were added: remove all but one';
@@ -24,6 +25,10 @@ class Item {
     Object.assign(this, { file: null, fault: TWICE });
   }
 
+  get selection() {
+    return this.place.selection;
+  }
+
   get filesByPath() {
     return new Map([[this.path, this.files]]);
   }
@@ -35,7 +40,7 @@ class Item {
 
   /** Whether it has another name here than where it comes from. */
   get isRenamed() {
-    return this.place.isFolder ? this.place.label !== this.place.name : this.label !== this.path;
+    return this.place.isFolder ? this.place.isRenamed : this.label !== this.path;
   }
 }
 
@@ -51,6 +56,20 @@ export class Place {
 
   get filesByPath() {
     return new Map([...this.items].map(([path, { files }]) => [path, files]));
+  }
+
+  get isRenamed() {
+    return this.label !== this.name;
+  }
+
+  /** Whether the browser could not read a part of it, which may be anything. */
+  get isPartlyClosed() {
+    return this.closed.size > 0;
+  }
+
+  /** What has a name of its own among all that was added: the folder, or each file. */
+  get things() {
+    return this.isFolder ? [this] : [...this.items.values()];
   }
 
   add(path, file) {
@@ -74,6 +93,14 @@ export class Place {
     if (closed) return faulty(closed.fault, closed);
     return this.folders.has(`${path}/`) ? faulty(NO_FILE) : null;
   }
+}
+
+/** Of what was added before under a name, what `now` is: what is the same, or the one that has changed, and what is gone. */
+async function addedAgain(before, now, mayGoOn) {
+  const those = new Map(Object.values(FATE).map((it) => [it, []]));
+  for (const it of before) those.get(await fateOf(it.filesByPath, now.filesByPath, mayGoOn)).push(it);
+  const [same, changed, gone] = [FATE.same, FATE.changed, FATE.gone].map((it) => those.get(it));
+  return same.length ? same : [...(changed.length === 1 ? changed : []), ...gone];
 }
 
 /** The folder above, which is null outside of what was added. */
@@ -120,27 +147,27 @@ export class Places {
     return this.#loose.map((it) => it.items.get(name)).filter(Boolean);
   }
 
-  /** Adds a folder, in the place of another one, or under a name of its own. */
-  addFolder(place, before) {
-    if (before) {
-      place.label = before.label;
-      this.#all[this.#all.indexOf(before)] = place;
-    } else {
-      const labels = new Set(this.folders().map((it) => it.label));
-      for (let count = 2; labels.has(place.label); count++) place.label = `${place.name} (${count})`;
-      this.#all.push(place);
+  /**
+   * Adds a folder, or files by themselves, and gives what they replace: that is what is added again. What has the name
+   * of another one is called by a number too. `mayGoOn` is told how many bytes are compared, and may end that.
+   */
+  async add(place, mayGoOn = () => true) {
+    const replaced = [];
+    for (const it of place.things) {
+      const others = place.isFolder ? this.folders(place.name) : this.loose(it.path);
+      const before = others.filter((old) => old.selection !== place.selection && !old.isPartlyClosed);
+      replaced.push(...(await addedAgain(before, it, mayGoOn)));
     }
-  }
-
-  /** Adds files by themselves, of which some take the place of others. */
-  addLoose(place, before) {
-    for (const item of before) this.remove(item);
-    const labels = new Set(this.#loose.flatMap((it) => [...it.items.values()].map(({ label }) => label)));
-    for (const item of place.items.values()) {
-      for (let count = 2; labels.has(item.label); count++) item.label = `${item.path} (${count})`;
-      labels.add(item.label);
+    for (const it of replaced) this.remove(it);
+    const alike = place.isFolder ? this.folders() : this.#loose.flatMap((it) => it.things);
+    const labels = new Set(alike.map((it) => it.label));
+    for (const it of place.things) {
+      const name = it.label;
+      for (let count = 2; labels.has(it.label); count++) it.label = `${name} (${count})`;
+      labels.add(it.label);
     }
     this.#all.push(place);
+    return replaced;
   }
 
   /** Removes an item, or a folder with all of its items. */

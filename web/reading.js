@@ -4,8 +4,6 @@ import { piecesOfBlob } from '../bindings/js/sources.js';
 
 // A file of up to so many bytes is read as a whole. Only so does Firefox tell that one has grown.
 const WHOLE = 2 ** 20;
-const EDGE = 2 ** 16; // bytes at either end, by which files are distinguished
-const MOST_COMPARED = 500; // files
 const PATIENCE = 10000; // milliseconds for a file that says to be empty, which may be a pipe
 
 class Changed extends Error {}
@@ -41,7 +39,11 @@ function wholeFile(file) {
 /** Whether a file is read in pieces. After it was read it is only looked at: a short one is read anew each time. */
 export const isLong = (file) => file.size > WHOLE;
 
-const areSame = (one, two) => one.length === two.length && one.every((it, at) => it === two[at]);
+function areSame(one, two) {
+  if (one.length !== two.length) return false;
+  for (let at = 0; at < one.length; at++) if (one[at] !== two[at]) return false;
+  return true;
+}
 
 /** Rejects if a file is gone, if the browser reports a change, and if a short one no longer has the bytes `held`. */
 export async function look(file, held = null) {
@@ -74,50 +76,44 @@ export async function* piecesOfFile(file) {
 /** A file is among those that are added now; still there and not among them; no longer what it was; or gone. */
 export const FATE = { same: 'same', other: 'other', changed: 'changed', gone: 'gone' };
 
-async function areEqual(one, two, begin, end) {
-  const read = async (file) => new Uint8Array(await file.slice(begin, end).arrayBuffer());
-  return areSame(...(await Promise.all([read(one), read(two)])));
-}
-
-/** Whether two files have the same bytes at both ends, as far as the shorter one goes. */
-async function haveSameEnds(one, two) {
-  const size = Math.min(one.size, two.size);
+/** Whether both files are read now, and have the same bytes. `mayGoOn` is told how many, and may end the reading. */
+async function haveSameBytes(one, two, mayGoOn) {
+  if (one.size !== two.size) return false;
+  const others = piecesOfFile(two);
   try {
-    return (await areEqual(one, two, 0, Math.min(EDGE, size))) &&
-      (await areEqual(one, two, Math.max(0, size - EDGE), size));
+    for await (const piece of piecesOfFile(one)) {
+      if (!areSame(piece, (await others.next()).value) || !mayGoOn(piece.length)) return false;
+    }
+    return (await others.next()).done;
   } catch {
     return false;
   }
 }
 
 /** The fate of a file, beside one that has its path now, if any. */
-async function fateBeside(before, now, mayCompare) {
-  const isAlike = now && now.size === before.size && now.lastModified === before.lastModified;
-  if (isAlike && (!mayCompare || (await haveSameEnds(before, now)))) return FATE.same;
+async function fateBeside(before, now, mayGoOn) {
+  if (now && (await haveSameBytes(before, now, mayGoOn))) return FATE.same;
   try {
     await look(before);
+    return FATE.other;
   } catch (error) {
     return isGone(error) ? FATE.gone : FATE.changed;
   }
-  // what is read as a whole has its size for certain
-  const mayBeSame = now && !isAlike && (now.size === before.size || isLong(before));
-  return mayBeSame && (await haveSameEnds(before, now)) ? FATE.same : FATE.other;
 }
 
-async function fateAmong(before, files, mayCompare) {
+async function fateAmong(before, files, mayGoOn) {
   for (const now of files) {
-    const fate = await fateBeside(before, now, mayCompare);
+    const fate = await fateBeside(before, now, mayGoOn);
     if (fate !== FATE.other) return fate;
   }
   return FATE.other;
 }
 
 /** The fate of files by their paths, beside those of now: `other` if one has that, `same` or `gone` if all have it. */
-export async function fateOf(before, now) {
+export async function fateOf(before, now, mayGoOn) {
   const all = new Set();
-  let compared = 0;
   for (const [path, files] of before) {
-    for (const file of files) all.add(await fateAmong(file, now.get(path) ?? [null], compared++ < MOST_COMPARED));
+    for (const file of files) all.add(await fateAmong(file, now.get(path) ?? [null], mayGoOn));
     if (all.has(FATE.other)) return FATE.other;
   }
   const [one = FATE.gone] = all;

@@ -179,12 +179,12 @@ async function ofPackage(kind, lists) {
 }
 
 /** The rows of the page, which was given the folder with these lists, and which of them have no entries. */
-function ofPage(kind, lists) {
+async function ofPage(kind, lists) {
   const place = new Place('top', 1);
   const places = new Places();
   for (const [path, content] of FILES) place.add(path, { content });
   for (const [name] of lists) place.add(name, {});
-  places.addFolder(place, null);
+  await places.add(place);
   const added = lists.map(([name, bytes], at) =>
     ({ id: at, name, item: place.items.get(name), selection: 1, read: readList(library, name, bytes, kind) }));
   const { rows, notes } = rowsOf({ places, lists: added, digests: [], chosen: kind });
@@ -223,7 +223,7 @@ function compared(kind, lists, theirs, ours) {
 
 /** Compares the two, and tells the first line that differs. */
 async function differs(kind, lists) {
-  const [theirs, ours] = [ofProgram(kind, lists.map(([name]) => name)), ofPage(kind, lists)];
+  const [theirs, ours] = [ofProgram(kind, lists.map(([name]) => name)), await ofPage(kind, lists)];
   const lines = compared(kind, lists, theirs, ours);
   const wrong = lines.find(([page, wanted]) => page !== wanted) ??
     (lines.length === theirs.report.length ? null : [`${lines.length} lines`, `${theirs.report.length} lines`]) ??
@@ -245,11 +245,11 @@ async function differsFromPackage(kind, lists, theirs) {
 }
 
 /** A list of two hashes: the page reads it for the one that more of its lines are right by. */
-function differsMixed() {
+async function differsMixed() {
   const line = (name, kind) => `${hash(kind, FILES.get(name))}  ${name}\n`;
   const bytes = Buffer.from(line('a', 'blake3') + line('b c', 'sha256') + line('sub/x', 'sha256'));
   writeFileSync(join(work, 'mixed'), bytes);
-  const { rows } = ofPage(null, [['mixed', bytes]]);
+  const { rows } = await ofPage(null, [['mixed', bytes]]);
   settleOpen(rows);
   const [got, wanted] = [rows.map((it) => reported(it, [0])).join(), ofProgram('sha256', ['mixed']).report.join()];
   if (got !== wanted) console.log(`a list of two hashes: sums check ${wanted}, the page ${got}`);
@@ -265,7 +265,7 @@ try {
     mkdirSync(join(work, path, '..'), { recursive: true });
     writeFileSync(join(work, path), content);
   }
-  different += differsMixed();
+  different += await differsMixed();
   for (const kind of KINDS) {
     for (let left = Number(rounds); left > 0; left -= AT_ONCE) {
       const lists = Array.from({ length: Math.min(left, AT_ONCE) }, () => [`list ${written++}`, drawnList(kind)]);

@@ -139,7 +139,8 @@ def try_again(page, work):
     page.folder(folder)
     shown = page.judged(2)
     harness.same("the same without a file", (shown["state"], shown["rows"]), ("", ["a: OK", "b: MISSING"]))
-    harness.judge("what is replaced is told", "again was added again" in shown["added"], shown["added"])
+    is_told = "replaces what it was before: again." in shown["added"]
+    harness.judge("what is replaced is told", is_told, shown["added"])
     harness.same("what a folder lacks is not folded", (shown["seen"], shown["folded"]), (2, ""))
     (folder / "SHA256SUMS").unlink()
     later(folder / "a", b"changed")
@@ -157,6 +158,30 @@ def try_again(page, work):
     harness.same("the same after a change", (shown["rows"], is_told), (["changing: FAILED"], True))
     page.files(changing)
     harness.same("and once more", page.done()["rows"], ["changing: FAILED"])
+
+
+def try_copies(page, work):
+    """Two copies, of one size and one time, that differ in a byte: each is judged by itself."""
+    right = b"x" * (3 << 20)
+    wrong = right[: 3 << 19] + b"y" + right[(3 << 19) + 1 :]
+    for disk, data in (("disk1", wrong), ("disk2", right)):
+        for path in (made(work, f"{disk}/photos/a", data), made(work, f"{disk}/photos/SHA256SUMS", list_of(("a", right)))):
+            os.utime(path, (10**9, 10**9))
+    page.anew()
+    page.folder(work / "disk1/photos")
+    harness.same("a wrong copy", page.judged(2)["verdict"], "a: FAILED")
+    page.folder(work / "disk2/photos")
+    shown = page.judged(4)
+    named = [f"{row} by {by}" for row, by in zip(shown["rows"], shown["by"])]
+    harness.same("and a right one of the same size and time", (shown["state"], named),
+        ("wrong", ["a: FAILED by photos/SHA256SUMS", "a: OK by photos (2)/SHA256SUMS"]))
+    page.folder(work / "disk2/photos")
+    harness.same("and the right one again", page.judged(4)["things"], ["photos", "photos (2)"])
+    page.anew()
+    page.files(work / "disk1/photos/a", work / "disk1/photos/SHA256SUMS")
+    page.judged(2)
+    page.files(work / "disk2/photos/a")
+    harness.same("two copies of a file", page.judged(3)["rows"], ["a: FAILED", "a (2): NOT LISTED"])
 
 
 def try_readings(page, work):
@@ -364,6 +389,7 @@ def try_meant(page, work, program):
     try_two_again(page, work)
     try_leading(page, work)
     try_again(page, work)
+    try_copies(page, work)
     try_readings(page, work)
     try_unreported(page, work)
     try_below(page, work)

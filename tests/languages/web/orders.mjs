@@ -128,6 +128,12 @@ const CHANGES = {
 
 // ---- what is added again
 
+/** Long contents of one size, which differ in one byte: a right one and a wrong one. */
+function copies() {
+  const half = 'x'.repeat(LONG);
+  return [`${half}x${half}`, `${half}y${half}`];
+}
+
 const AGAIN = {
   async 'a folder twice'(run) {
     run.folder('/x/dist', ['a', 'p/q']);
@@ -206,6 +212,61 @@ const AGAIN = {
     await run.files('/x/a', '/x/SHA256SUMS');
     await run.files('/y/a');
     return ['a: FAILED', 'a (2): NOT LISTED'];
+  },
+  async 'two copies of a folder, which differ within a long file'(run) {
+    const [right, wrong] = copies();
+    for (const [top, data] of [['/x/photos', wrong], ['/y/photos', right]]) {
+      run.write(`${top}/a`, data, 1);
+      run.write(`${top}/SHA256SUMS`, `${hash('sha256', right)}  a\n`, 1);
+      await run.input(top);
+    }
+    return ['a: FAILED by photos/SHA256SUMS', 'a: OK by photos (2)/SHA256SUMS'];
+  },
+  async 'two copies of a folder of many files, of which the last differ'(run) {
+    const names = Array.from({ length: 600 }, (_, at) => `f${at}`);
+    for (const [top, data] of [['/x/photos', 'evil'], ['/y/photos', 'good']]) {
+      for (const name of names) run.write(`${top}/${name}`, name === names.at(-1) ? data : 'good', 1);
+      await run.input(top);
+    }
+    run.list('/z/SHA256SUMS', `photos/${names.at(-1)}`);
+    await run.files('/z/SHA256SUMS');
+    const others = ['photos', 'photos (2)'].flatMap((it) => names.map((name) => `${it}/${name}: NOT LISTED`));
+    return [`photos/${names.at(-1)}: UNREADABLE, ${SEVERAL}`, ...others];
+  },
+  async 'two copies of a file, which differ within it'(run) {
+    const [right, wrong] = copies();
+    run.write('/x/a', wrong, 1);
+    run.write('/y/a', right, 1);
+    run.write('/x/SHA256SUMS', `${hash('sha256', right)}  a\n`);
+    await run.files('/x/a', '/x/SHA256SUMS');
+    await run.files('/y/a');
+    return ['a: FAILED', 'a (2): NOT LISTED'];
+  },
+  async 'two copies of a folder that are equal'(run) {
+    const [right] = copies();
+    for (const [top, time] of [['/x/photos', 1], ['/y/photos', 2]]) {
+      run.write(`${top}/a`, right, time);
+      run.list(`${top}/SHA256SUMS`, 'b');
+      run.write(`${top}/b`, 'good', time);
+      await run.input(top);
+    }
+    return ['b: OK', 'photos/a: NOT LISTED'];
+  },
+  async 'two copies of a folder, of which one has a part that the browser cannot read'(run) {
+    for (const top of ['/x/dist', '/y/dist']) run.folder(top, ['a', 'b']);
+    run.disk.closed = new Set(['/x/dist/b']);
+    await run.drop('/x/dist');
+    await run.drop('/y/dist');
+    return ['a: OK', 'b: UNREADABLE', 'a: OK', 'b: OK'].map((it, at) => `${it} by dist${at > 1 ? ' (2)' : ''}/SHA256SUMS`);
+  },
+  async 'two copies of a file, and a stop while they are compared'(run) {
+    const [right] = copies();
+    for (const top of ['/x', '/y']) run.write(`${top}/a`, right);
+    await run.files('/x/a');
+    run.page.give('add', { ...chosen(run.disk.input('/y/a')), isList: false });
+    await run.page.take('stop');
+    await run.page.take('go');
+    return ['a: DIGEST', 'a (2): DIGEST'];
   },
   async 'a file in the place of one that is gone, of its size and its time'(run) {
     run.write('/x/a', 'evil', 1);
@@ -448,7 +509,7 @@ for (const [what, does] of Object.entries(CASES)) {
     const wrong = await wrongIn(browser, does);
     if (wrong) failed++;
     else passed++;
-    if (wrong) console.log(`${browser}: ${what}: ${wrong}`);
+    if (wrong) console.log(`${browser}: ${what}: ${wrong.slice(0, 1000)}`);
   }
 }
 console.log(`${passed} passed, ${failed} failed`);
