@@ -72,8 +72,9 @@ export class Added {
     this.#sayClosed(place);
   }
 
-  #sayClosed({ label, closed }) {
-    if (!closed.size) return;
+  #sayClosed({ label, closed, refusal }) {
+    if (refusal) this.#say(`Not added: ${shown(label)}, for ${refusal}.`);
+    if (!closed.size || refusal) return;
     const names = [...closed.keys()].slice(0, MOST_UNREAD).map(shown).join(', ');
     const more = closed.size > MOST_UNREAD ? `, and ${closed.size - MOST_UNREAD} more` : '';
     this.#say(`In the folder ${shown(label)} the browser could not read: ${names}${more}.`);
@@ -132,11 +133,6 @@ export class Added {
     if (gone) this.places.remove(gone);
     this.said = [];
     this.#forgetGone();
-  }
-
-  /** Says what the page could not add. */
-  tell(text) {
-    this.said = [text];
   }
 
   #forgetGone() {
@@ -211,7 +207,7 @@ export class Added {
     const canUse = items.filter((item) => this.#offered.has(item)).map((item) => this.#offer(item));
     const own = items.filter((item) => lists.has(item)).length;
     const andLists = own ? ` and ${plural(own, 'list')}` : '';
-    const ofFolder = () => `a folder with ${plural(items.length - own, 'file')}${andLists}`;
+    const ofFolder = () => it.refusal ? 'not handed over' : `a folder with ${plural(items.length - own, 'file')}${andLists}`;
     const ofItem = () => (own ? this.#kindOf(lists.get(it)) : 'a file');
     return { id: it.id, label: shown(it.label), kind: it instanceof Place ? ofFolder() : ofItem(), canUse };
   }

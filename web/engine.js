@@ -40,7 +40,7 @@ export class Engine {
     this.#post = post;
   }
 
-  /** Takes a command: `add`, `tell`, `give`, `paste`, `choose`, `use`, `remove`, `go`, `stop` or `write`. */
+  /** Takes a command: `add`, `give`, `paste`, `choose`, `use`, `remove`, `go`, `stop` or `write`. */
   take(command) {
     this.#queue.push(command);
     if (!this.#isBusy) this.#work();

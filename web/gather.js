@@ -2,6 +2,11 @@
 // The files of an input and of what was dropped, as one selection: files by themselves, and folders.
 
 const CLOSED = 'the browser could not read it';
+const CLOSED_TOP = 'the browser does not let this page read it: choose it as “A whole folder”';
+const NO_FILE = 'the browser handed over no file';
+
+/** What was chosen or dropped, and not handed over: it is named as a folder that is closed as a whole. */
+const closedTop = (name, fault) => ({ name, files: [], closed: [{ path: '', fault }] });
 
 /**
  * The folder that was chosen, and the path of a file below it. The file's own name keeps a backslash. The name of a
@@ -24,6 +29,7 @@ export function chosen(input) {
     if (!folders.has(name)) folders.set(name, { name, files: [], closed: [] });
     folders.get(name).files.push({ path, file });
   }
+  if (!files.length) folders.set('', closedTop('what was chosen', NO_FILE));
   return { loose, folders: [...folders.values()] };
 }
 
@@ -48,14 +54,15 @@ async function gather(entry, path, folder) {
       const entries = await allOf(entry.createReader());
       for (const it of entries) await gather(it, path ? `${path}/${it.name}` : it.name, folder);
     }
-  } catch (error) {
-    // the folder itself, which a browser may give to no page
-    if (!path) throw error;
-    folder.closed.push({ path, fault: CLOSED });
+  } catch {
+    folder.closed.push({ path, fault: path ? CLOSED : CLOSED_TOP });
   }
 }
 
-/** What was dropped. Chromium gives the files of a folder to no page that is a file itself: then this rejects. */
+/** Whether files or folders are dropped, and not a text. */
+export const hasFiles = (transfer) => [...transfer.items].some((it) => it.kind === 'file');
+
+/** What was dropped. Chromium gives the files of a folder to no page that is a file itself. */
 export async function dropped(transfer) {
   const items = [...transfer.items].filter((it) => it.kind === 'file');
   // both have to be asked for before the event ends
@@ -68,6 +75,8 @@ export async function dropped(transfer) {
       selection.folders.push(folder);
     } else if (file) {
       selection.loose.push({ path: file.name, file });
+    } else {
+      selection.folders.push(closedTop(entry?.name ?? 'what was dropped', NO_FILE));
     }
   }
   return selection;

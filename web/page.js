@@ -1,14 +1,12 @@
 // SPDX-License-Identifier: MIT OR Apache-2.0
 // The page: what a person does goes to the worker as a command, and what it says is shown.
 import { TITLES } from './functions.js';
-import { chosen, dropped } from './gather.js';
+import { chosen, dropped, hasFiles } from './gather.js';
 import { bakedList, ofAddress, sayGiven } from './given.js';
 import { shown } from './names.js';
 import { byId, clearRows, copyButton, drawRows, drawThings, element } from './table.js';
 
 const TYPING = 300; // milliseconds without a key
-const NO_DROPPED_FOLDER =
-  'This browser does not let the page read a folder that was dropped: choose it as “A whole folder”.';
 
 /** A number of bytes, in units of a thousand. */
 function sizeOf(bytes) {
@@ -25,14 +23,25 @@ const workerUrl = URL.createObjectURL(new Blob([byId('worker').textContent], { t
 const baked = bakedList(byId('list'));
 let worker = null;
 let sent = 0;
+let awaited = new Set(); // what is dropped or typed, and not sent yet
 let isStopped = false;
 let isBroken = false;
+
+/** Takes the last verdict away, which is of what was there before. */
+function wait(text) {
+  if (isBroken) return;
+  byId('results').setAttribute('aria-busy', 'true');
+  byId('details').hidden = true;
+  byId('save').hidden = true;
+  say('', text, []);
+}
 
 function send(kind, value) {
   byId('results').dataset.commands = ++sent;
   if (isBroken) return;
   isStopped = kind === 'stop';
-  byId('results').setAttribute('aria-busy', 'true');
+  if (kind === 'write') byId('results').setAttribute('aria-busy', 'true');
+  else if (!isStopped) wait('Reading ..');
   worker.postMessage({ kind, value, number: sent });
 }
 
@@ -40,7 +49,7 @@ function send(kind, value) {
 function begin() {
   worker?.terminate();
   isBroken = false;
-  byId('verdict').textContent = '';
+  awaited = new Set();
   worker = new Worker(workerUrl);
   worker.onmessage = ({ data }) => SHOW[data.kind](data);
   worker.onerror = (event) => SHOW.broken({ message: event.message ?? 'no worker' });
@@ -85,8 +94,11 @@ function foldMissing(missing, all) {
   byId('details').classList.toggle('without-missing', isFolded);
 }
 
-function answered(number) {
-  if (number === sent) byId('results').setAttribute('aria-busy', 'false');
+/** Whether all that a person did is answered. */
+function isAnswer(number) {
+  const isLast = number === sent && !awaited.size;
+  if (isLast) byId('results').setAttribute('aria-busy', 'false');
+  return isLast;
 }
 
 const SHOW = {
@@ -113,28 +125,28 @@ const SHOW = {
     showProgress(progress);
   },
   verdict({ number, state, text, advice, notes, rows, hidden, missing, canWrite, progress, all }) {
+    if (!isAnswer(number)) return;
     drawRows(rows);
     showHidden(hidden);
     showProgress(progress);
     say(state, text, [...advice, ...notes]);
     foldMissing(missing, all);
     byId('save').hidden = !canWrite;
-    answered(number);
   },
   stopped({ number, state, text, rows, hidden }) {
+    if (!isAnswer(number)) return;
     drawRows(rows);
     showHidden(hidden);
     say(state, text, []);
     byId('progress').hidden = false;
     byId('stop').textContent = 'Go on';
-    answered(number);
   },
   written({ number, name, text }) {
     const address = URL.createObjectURL(new Blob([text], { type: 'text/plain' }));
     element('a', { href: address, download: name }).click();
     setTimeout(() => URL.revokeObjectURL(address), 60000);
     byId('copy').replaceChildren(copyButton(text, name));
-    answered(number);
+    isAnswer(number);
   },
   broken({ message }) {
     isBroken = true;
@@ -150,9 +162,29 @@ const SHOW = {
 let typing = 0;
 let gathering = Promise.resolve();
 
-/** Adds what a person chose or dropped, one selection after another. */
-function add(selection, isList) {
-  if (selection.loose.length || selection.folders.length) send('add', { ...selection, isList });
+const add = (selection, isList) => send('add', { ...selection, isList });
+
+/** Adds what is dropped as soon as its files are found, one drop after another. */
+function addDropped(coming) {
+  const mine = awaited;
+  mine.add(coming);
+  wait('Looking for the files of what was dropped ..');
+  gathering = gathering.then(async () => {
+    const selection = await coming;
+    mine.delete(coming);
+    if (mine === awaited) add(selection, false);
+  });
+}
+
+/** Takes the text when no key was pressed for a while. */
+function typed() {
+  clearTimeout(typing);
+  awaited.add('typing');
+  wait('');
+  typing = setTimeout(() => {
+    awaited.delete('typing');
+    send('paste', byId('text').value);
+  }, TYPING);
 }
 
 function startOver() {
@@ -171,10 +203,7 @@ on('folder', 'change', (input) => add(chosen(input), false));
 on('lists', 'change', (input) => add(chosen(input), true));
 on('hash', 'change', (select) => send('choose', select.value || null));
 on('missing', 'change', (box) => byId('details').classList.toggle('without-missing', !box.checked));
-on('text', 'input', (area) => {
-  clearTimeout(typing);
-  typing = setTimeout(() => send('paste', area.value), TYPING);
-});
+on('text', 'input', typed);
 on('stop', 'click', () => send(isStopped ? 'go' : 'stop'));
 on('write', 'click', () => send('write'));
 on('anew', 'click', startOver);
@@ -187,16 +216,9 @@ addEventListener('dragleave', () => over(false));
 addEventListener('drop', (event) => {
   event.preventDefault();
   over(false);
-  const [mine, found] = [worker, dropped(event.dataTransfer)];
-  found.catch(() => {});
-  gathering = gathering.then(async () => {
-    try {
-      const selection = await found;
-      if (mine === worker) add(selection, false);
-    } catch {
-      if (mine === worker) send('tell', NO_DROPPED_FOLDER);
-    }
-  });
+  if (hasFiles(event.dataTransfer)) return addDropped(dropped(event.dataTransfer));
+  byId('text').value = event.dataTransfer.getData('text');
+  typed();
 });
 
 byId('hash').append(...Object.entries(TITLES).map(([value, textContent]) => element('option', { value, textContent })));

@@ -62,9 +62,14 @@ export class Place {
     return this.label !== this.name;
   }
 
+  /** Why nothing of it was handed over, if so. */
+  get refusal() {
+    return this.closed.get('')?.fault ?? '';
+  }
+
   /** Whether the browser could not read a part of it, which may be anything. */
   get isPartlyClosed() {
-    return this.closed.size > 0;
+    return this.closed.size > 0 && !this.refusal;
   }
 
   /** What has a name of its own among all that was added: the folder, or each file. */

@@ -120,7 +120,8 @@ export function rowsOf({ places, lists, digests, chosen }) {
     ? { ...settled(shown(item.name), RESULT.unlisted), item }
     : rowOf(shown(item.name), item, [wholeOf(chosen ?? 'sha256')]);
   const closed = places.closed.filter((it) => !had.has(it));
-  const unread = ({ place, path, fault }) => settled(shown(`${place.label}/${path}`), RESULT.unreadable, [fault]);
+  const unread = ({ place, path, fault }) =>
+    settled(shown(path ? `${place.label}/${path}` : place.label), RESULT.unreadable, [fault]);
   const all = [...rows, ...others.map(other), ...closed.map(unread)];
   for (const row of all) row.from = lists.length > 1 && row.list ? shown(row.list.name) : '';
   return { rows: all, notes: parts.flatMap((it) => it.notes) };

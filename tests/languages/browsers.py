@@ -221,9 +221,9 @@ def try_dropped_folder(page, top, wanted):
     page.anew()
     page.drop(top)
     if page.browser.script("return location.protocol") == "file:":
-        shown = page.wait(lambda it: it["added"], "answer")
-        is_told = "choose it as" in shown["added"] and not shown["rows"]
-        harness.judge("dropped on a file: a folder", is_told, shown["added"])
+        shown = page.done()
+        harness.judge("dropped on a file: a folder", "choose it as" in shown["added"], shown["added"])
+        harness.same("and nothing of it is judged", shown["rows"], [f"{top.name}: UNREADABLE"])
     else:
         harness.same("dropped: a folder", sorted(page.judged(5)["rows"]), sorted(wanted))
 

@@ -359,27 +359,72 @@ def try_order(page, work):
         (["f: FAILED", "f: OK"], ["x.sha256", "x.sha256 (2)"]))
 
 
-def try_unread(page, work):
+# A drop of files by their names and texts, of folders, a part of one that cannot be read, and one that comes late.
+DROP = """
+    const file = ([name, text]) => ({ isFile: true, name, file: (give) => give(new File([text], name)) });
+    const entries = (all, wait) => ({ readEntries: (give) => setTimeout(() => give(all.splice(0)), wait) });
+    const closed = (name) => ({ isDirectory: true, name, createReader: () => ({ readEntries: (_, fail) => fail('no') }) });
+    const folder = ({ name, files, unread, wait }) => ({ isDirectory: true, name,
+        createReader: () => entries([...files.map(file), ...unread.map(closed)], wait ?? 0) });
+    const item = (entry, file) => ({ kind: 'file', webkitGetAsEntry: () => entry, getAsFile: () => file });
+    const event = new Event('drop', { cancelable: true });
+    const [loose, folders, refused] = arguments;
+    event.dataTransfer = { items: [
+        ...folders.map((it) => item(folder(it), null)), ...refused.map((it) => item(closed(it), null)),
+        ...loose.map((it) => item(file(it), new File([it[1]], it[0])))] };
+    dispatchEvent(event);
+"""
+
+
+def try_unread(page):
     """A folder of which a part cannot be read: the rest is added, and the part is UNREADABLE."""
-    folder = work / "partly"
-    made(folder, "a", b"a")
-    made(folder, "sub/x", b"x")
-    made(folder, "SHA256SUMS", list_of(("a", b"a"), ("sub/x", b"x")))
+    listed = list_of(("a", b"a"), ("sub/x", b"x")).decode()
     page.anew()
-    page.browser.script("""
-        const file = (name, text) => ({ isFile: true, name, file: (give) => give(new File([text], name)) });
-        const entries = (all) => ({ readEntries: (give) => give(all.splice(0)) });
-        const failing = { readEntries: (_, fail) => fail(new Error('no')) };
-        const closed = { isDirectory: true, name: 'sub', createReader: () => failing };
-        const top = { isDirectory: true, name: 'partly',
-            createReader: () => entries([file('a', 'a'), closed, file('SHA256SUMS', arguments[0])]) };
-        const event = new Event('drop', { cancelable: true });
-        event.dataTransfer = { items: [{ kind: 'file', webkitGetAsEntry: () => top, getAsFile: () => null }] };
-        dispatchEvent(event);
-    """, (folder / "SHA256SUMS").read_text())
+    folder = {"name": "partly", "files": [["a", "a"], ["SHA256SUMS", listed]], "unread": ["sub"]}
+    page.given(lambda: page.browser.script(DROP, [], [folder], []))
     shown = page.judged(2)
     harness.same("dropped: a folder of which a part cannot be read", shown["rows"], ["a: OK", "sub/x: UNREADABLE"])
     harness.judge("what cannot be read is told", "could not read: sub" in shown["added"], shown["added"])
+
+
+def try_refused(page, work):
+    """A folder that the browser refuses is named beside what was dropped with it, and nothing is green."""
+    page.anew()
+    page.paste(f"SHA256 (two.iso) = {sha256(b'two')}")
+    page.files(made(work, "two.iso", b"two"))
+    harness.same("before a drop", page.judged(1)["state"], "ok")
+    page.given(lambda: page.browser.script(DROP, [["three.iso", "three"]], [], ["photos"]))
+    shown = page.judged(2)
+    harness.same("dropped: a file, and a folder that is refused", (shown["state"], shown["rows"], shown["things"]),
+        ("wrong", ["two.iso: OK", "three.iso: NOT LISTED", "photos: UNREADABLE"], ["two.iso", "photos", "three.iso"]))
+    is_told = "Not added: photos" in shown["added"] and "choose it as" in shown["details"][2]
+    harness.judge("which is told", is_told, shown)
+    page.folder(made(work, "photos/two.iso", b"two").parent)
+    shown = page.judged(3)
+    harness.same("the folder is chosen", (shown["rows"][1:], shown["things"]),
+        (["three.iso: NOT LISTED", "photos/two.iso: NOT LISTED"], ["two.iso", "three.iso", "photos"]))
+    try_late(page)
+
+
+def try_late(page):
+    """The verdict goes when something is dropped or typed, and comes back when all is known."""
+    page.anew()
+    listed = list_of(("a", b"a")).decode()
+    page.given(lambda: page.browser.script(DROP, [["a", "a"], ["SHA256SUMS", listed]], [], []))
+    harness.same("before a long drop", page.judged(2)["verdict"], "a: OK")
+    late = {"name": "late", "files": [["b", "b"]], "unread": [], "wait": 2000}
+    page.browser.script(DROP, [], [late], [])
+    shown = page.read()
+    harness.same("a drop whose files are looked for", (shown["state"], shown["verdict"], shown["seen"]),
+        ("", "Looking for the files of what was dropped ..", 0))
+    page.paste(listed)
+    shown = page.wait(lambda it: it["rows"] or not it["isWorking"], "answer")
+    harness.judge("no verdict meanwhile", shown["state"] == "" and shown["isWorking"], shown)
+    shown = page.judged(3)
+    harness.same("all is there", (shown["state"], shown["rows"][-1]), ("", "late/b: NOT LISTED"))
+    page.browser.script("document.getElementById('text').dispatchEvent(new Event('input'))")
+    harness.same("while a text is typed", page.read()["verdict"], "")
+    page.done()
 
 
 def try_meant(page, work, program):
@@ -395,4 +440,5 @@ def try_meant(page, work, program):
     try_below(page, work)
     try_pairs(page, work, program)
     try_order(page, work)
-    try_unread(page, work)
+    try_unread(page)
+    try_refused(page, work)

@@ -365,6 +365,31 @@ const CLOSED = {
     const rows = ['a: UNREADABLE', 'b: UNREADABLE', 'c/d: UNREADABLE'];
     return run.page.verdict.text === 'Something is wrong: 3 UNREADABLE' ? rows : ['what is wrong'];
   },
+  async 'a folder as a whole, and a file that is dropped with it'(run) {
+    run.write('/x/a', 'good');
+    run.write('/x/b', 'good');
+    run.folder('/x/dist', ['c']);
+    run.list('/x/SHA256SUMS', 'a', 'b');
+    run.disk.closed = new Set(['/x/dist']);
+    await run.files('/x/SHA256SUMS', '/x/a');
+    if (run.page.verdict.state !== 'ok') return ['green at first'];
+    await run.drop('/x/dist', '/x/b');
+    const rows = ['a: OK', 'b: OK', 'dist: UNREADABLE'];
+    return run.page.verdict.state === 'wrong' ? rows : ['nothing green'];
+  },
+  async 'a folder as a whole, which is chosen then'(run) {
+    run.folder('/x/dist', ['a']);
+    run.disk.closed = new Set(['/x/dist']);
+    await run.drop('/x/dist');
+    await run.input('/x/dist');
+    return ['a: OK'];
+  },
+  async 'a choice of no file'(run) {
+    run.folder('/x/dist', ['a']);
+    await run.input('/x/dist');
+    await run.files();
+    return run.page.verdict.state === 'wrong' ? ['a: OK', 'what was chosen: UNREADABLE'] : ['nothing green'];
+  },
   async 'a file of which no list is made'(run) {
     for (const path of ['a', 'b']) run.write(`/x/dist/${path}`, 'good');
     run.disk.closed = new Set(['/x/dist/b']);
