@@ -18,7 +18,8 @@ NOTICES = ("1. ", "2. ", "==== MIT ", "==== UNICODE ")
 ONLY_IN_PROGRAM = re.compile(r"^   \w+ +program {3,}.*\n(?: {10,}Copyright.*\n)*", re.M)
 # What a script has in it, each file after those that it imports.
 PACKAGE = ["hashes", "bytes", "machine", "message", "sources", "lines", "checking", "library"]
-READING = ["functions", "entries", "listnames", "texts", "lists", "pasted", "names", "reading", "places", "plan"]
+READING = ["functions", "listnames", "texts", "lists", "pasted", "names", "reading", "places",
+           "meaning", "plan", "judging"]
 ENGINE = ["verdict", "added", "view", "written", "engine", "worker"]
 WORKER = [*(f"bindings/js/{name}.js" for name in PACKAGE), *(f"web/{name}.js" for name in READING + ENGINE)]
 SHOWING = ["functions", "names", "gather", "given", "table", "page"]

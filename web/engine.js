@@ -2,10 +2,11 @@
 // What the worker does: it keeps what is added, reads lists and files one after another, and says what is to be shown.
 import { Added } from './added.js';
 import { keyOf } from './functions.js';
+import { concluded, settle } from './judging.js';
 import { shown } from './names.js';
-import { jobsOf, RESULT, rowsOf, settle, settleOpen } from './plan.js';
-import { faultOf, isLong, look, piecesOfFile } from './reading.js';
-import { counts, plural, told, verdictOf } from './verdict.js';
+import { jobsOf, planOf, RESULT } from './plan.js';
+import { faultNow, faultOf, isLong, piecesOfFile } from './reading.js';
+import { stopped, verdictOf } from './verdict.js';
 import { View } from './view.js';
 import { writtenList } from './written.js';
 
@@ -79,6 +80,7 @@ export class Engine {
     else if (kind === 'choose') this.#added.chosen = value;
     else if (kind !== 'go') await this.#added[kind](value);
     this.#isDue = true;
+    this.#run = null;
   }
 
   /** Adds files and folders. Says how far they are compared with what was added before, until that is stopped. */
@@ -93,22 +95,25 @@ export class Engine {
     });
   }
 
-  /** Says what is to be checked, and checks it, until all is done or another command comes. */
-  async #check() {
+  /** Says what is to be checked. */
+  #plan() {
     const added = this.#added;
     const { lists, digests, places, chosen } = added;
-    const { rows, notes } = rowsOf({ places, lists, digests, chosen });
-    const jobs = jobsOf(rows);
+    const plan = planOf({ places, lists, digests, chosen });
+    const jobs = jobsOf(plan.rows);
     const total = jobs.reduce((sum, it) => sum + it.item.file.size, 0);
-    const hasFile = added.files.length > 0 || places.closed.length > 0 || jobs.length > 0;
-    const isAsking = !hasFile && (rows.length > 0 || digests.length > 0);
-    const view = new View(rows);
     const far = { total, taken: 0, left: jobs.length, begun: performance.now(), told: 0 };
-    this.#run = { rows, notes, jobs, lists, view, isAsking, ...far };
-    this.#say('plan', { summary: added.summary, ...added.things, notes });
+    const isGiven = lists.length > 0 || digests.length > 0;
+    this.#run = { ...plan, jobs, lists, isGiven, view: new View(plan.rows), ...far };
+    this.#say('plan', { summary: added.summary, ...added.things, notes: plan.notes });
+  }
+
+  /** Checks what was added, until all is done or another command comes. */
+  async #check() {
+    this.#plan();
     try {
       await this.#lookAgain(this.#run);
-      for (const job of jobs) if (!job.isDone) await this.#read(this.#run, job);
+      for (const job of this.#run.jobs) if (!job.isDone) await this.#read(this.#run, job);
     } catch (error) {
       if (error !== INTERRUPTED) throw error;
       return;
@@ -128,30 +133,18 @@ export class Engine {
   /** Settles long files that were read before, for the same lists, if they are still there; and looks at lists. */
   async #lookAgain(run) {
     const known = run.jobs.filter((it) => isLong(it.item.file) && it.item.reading?.purpose === purposeOf(it));
-    const lists = run.lists.filter((it) => it.item && !it.fault);
-    const looks = [
-      ...known.map((job) => ({ file: job.item.file, done: (fault) => this.#done(run, job, fault) })),
-      ...lists.map((list) => ({
-        file: list.item.file, held: list.bytes, done: (fault) => this.#listDone(run, list, fault),
-      })),
-    ];
-    for (let at = 0; at < looks.length; at += AT_ONCE) {
+    for (let at = 0; at < known.length; at += AT_ONCE) {
       this.#goOn();
-      await Promise.all(looks.slice(at, at + AT_ONCE).map(async ({ file, held, done }) => {
-        try {
-          await look(file, held);
-          done();
-        } catch (error) {
-          done(faultOf(error));
-        }
-      }));
+      const some = known.slice(at, at + AT_ONCE);
+      const faults = await Promise.all(some.map((it) => faultNow(it.item.file)));
+      some.forEach((job, of) => this.#done(run, job, faults[of]));
     }
-  }
-
-  #listDone(run, list, fault) {
-    if (!fault) return;
-    run.hasChanged = true;
-    run.notes.push(`${shown(list.name)}: ${fault}. Its lines here are those of before.`);
+    for (const { item, bytes, name } of run.lists.filter((it) => it.item && !it.fault)) {
+      this.#goOn();
+      const fault = await faultNow(item.file, bytes);
+      if (fault) run.notes.push(`${shown(name)}: ${fault}. Its lines here are those of before.`);
+      run.hasChanged ||= fault !== undefined;
+    }
   }
 
   /** Reads a file, for all rows that wait for it. */
@@ -209,29 +202,28 @@ export class Engine {
 
   #judge(run) {
     this.#isDue = false;
-    for (const row of settleOpen(run.rows)) run.view.draw(row);
-    const verdict = verdictOf(run.rows, run.isAsking);
-    if (run.hasChanged && verdict.state === 'ok') verdict.state = '';
-    const missing = run.rows.filter((it) => it.result === RESULT.missing && !it.isOfFolder).length;
-    const canWrite = writtenList(run.rows, this.#added.places) !== null;
+    Object.assign(run, { rows: concluded(run), comparisons: [] });
+    run.view = new View(run.rows);
+    const verdict = verdictOf(run, run.isGiven && run.rows.every((it) => !it.item));
+    const hasDoubt = run.hasChanged || run.lists.some((it) => it.read.isPartlySigned);
+    if (hasDoubt && verdict.state === 'ok') verdict.state = '';
+    const missing = run.rows.filter((it) => it.result === RESULT.missing && !run.isOfFolder).length;
+    const canWrite = writtenList(this.#library, run.rows, this.#added.places) !== null;
     this.#say('verdict', { ...verdict, notes: run.notes, missing, all: run.rows.length, canWrite });
   }
 
   /** Says how far it came, or once more what came out if all was read by then. */
   #interrupt() {
-    if (!this.#run) return;
-    const { rows, view, left } = this.#run;
-    if (!this.#isDue) return this.#judge(this.#run);
-    for (const row of rows) if (!row.result) view.draw(row, 'stopped');
-    const all = counts(rows.filter((it) => it.result));
-    const text = `Stopped: ${[...(all.length ? [told(all)] : []), `${plural(left, 'file')} not read`].join(', ')}`;
-    const state = verdictOf(rows.filter((it) => it.result)).state === 'wrong' ? 'wrong' : '';
-    this.#say('stopped', { state, text });
+    if (this.#run && !this.#isDue) return this.#judge(this.#run);
+    if (!this.#run) this.#plan();
+    const { rows, left } = this.#run;
+    this.#run.view = new View(rows, 'stopped');
+    this.#say('stopped', stopped(rows, left));
   }
 
   /** Gives the list of all rows. If they have changed since it was offered, they are said anew instead. */
   #write() {
-    const written = this.#run && writtenList(this.#run.rows, this.#added.places);
+    const written = this.#run && writtenList(this.#library, this.#run.rows, this.#added.places);
     if (written) this.#post({ kind: 'written', number: this.#number, ...written });
     else this.#isDue = true;
   }

@@ -13,6 +13,13 @@ export function shown(name) {
   });
 }
 
+const MOST_NAMED = 3;
+/** Some of these names, and how many more there are. */
+export function someOf(names) {
+  const more = names.length > MOST_NAMED ? `, and ${names.length - MOST_NAMED} more` : '';
+  return `${names.slice(0, MOST_NAMED).join(', ')}${more}`;
+}
+
 export const lastPart = (path) => path.slice(path.lastIndexOf('/') + 1);
 /** The folder of a path, with its slash, or nothing. */
 export const folderOf = (path) => path.slice(0, path.lastIndexOf('/') + 1);

@@ -73,9 +73,11 @@ function showProgress({ total, taken, left, seconds }) {
   byId('speed').textContent = `${sizeOf(taken)} of ${sizeOf(total)}${told}`;
 }
 
-function showHidden(hidden) {
-  const rows = `${hidden} more row${hidden === 1 ? '' : 's'}`;
-  byId('more').textContent = hidden ? `${rows} of the kinds above, which are counted, and not shown.` : '';
+/** Draws all rows that are shown, and how far they are read. */
+function drawAnew(told) {
+  clearRows();
+  SHOW.draw(told);
+  byId('details').hidden = !told.rows.length;
 }
 
 /** Shows what all comes to. Notes stand beside the verdict, where they are told aloud with it. */
@@ -106,37 +108,31 @@ const SHOW = {
     say('', 'Comparing with what was added before ..', []);
     showProgress(progress);
   },
-  plan({ summary, things, more, rows, hidden, progress, notes }) {
+  plan({ summary, things, more, notes, ...told }) {
     byId('added').textContent = summary;
     drawThings(things, more, { remove: (id) => send('remove', id), use: (id) => send('use', id) });
-    clearRows();
-    drawRows(rows);
-    showHidden(hidden);
+    drawAnew(told);
     foldMissing(0, 0);
-    byId('details').hidden = !rows.length;
     byId('save').hidden = true;
     byId('stop').textContent = 'Stop';
-    say('', progress.left ? 'Reading ..' : '', notes);
-    showProgress(progress);
+    say('', told.progress.left ? 'Reading ..' : '', notes);
   },
   draw({ rows, hidden, progress }) {
     drawRows(rows);
-    showHidden(hidden);
+    const count = `${hidden} more row${hidden === 1 ? '' : 's'}`;
+    byId('more').textContent = hidden ? `${count} of the kinds above, which are counted, and not shown.` : '';
     showProgress(progress);
   },
-  verdict({ number, state, text, advice, notes, rows, hidden, missing, canWrite, progress, all }) {
+  verdict({ number, state, text, advice, notes, missing, canWrite, all, ...told }) {
     if (!isAnswer(number)) return;
-    drawRows(rows);
-    showHidden(hidden);
-    showProgress(progress);
+    drawAnew(told);
     say(state, text, [...advice, ...notes]);
     foldMissing(missing, all);
     byId('save').hidden = !canWrite;
   },
-  stopped({ number, state, text, rows, hidden }) {
+  stopped({ number, state, text, ...told }) {
     if (!isAnswer(number)) return;
-    drawRows(rows);
-    showHidden(hidden);
+    drawAnew(told);
     say(state, text, []);
     byId('progress').hidden = false;
     byId('stop').textContent = 'Go on';

@@ -3,7 +3,7 @@
 // sha256:, openssl, Get-FileHash, certutil and gpg --print-md write it.
 import { toHex } from '../bindings/js/bytes.js';
 import { HASHES } from '../bindings/js/hashes.js';
-import { FEWEST_DIGITS, isNotHere, otherHash, sized, TITLES, usual } from './functions.js';
+import { FEWEST_DIGITS, hashNamed, isNotHere, onlyOf, otherHash, TITLES, usual } from './functions.js';
 
 const FEWEST_SEEN = 32; // digits, those of MD5
 const GROUPS = [2, 4, 8, 16];
@@ -15,17 +15,7 @@ const BASE64 =
   /(?<![a-z0-9])sha(?:256|512)-((?:[a-z0-9+/]{4}){10,21}(?:[a-z0-9+/]{3}=|[a-z0-9+/]{2}==))(?![a-z0-9+/=])/gi;
 const INVISIBLE = /[\u200b-\u200d\u2060\ufeff]/g;
 const NO_DIGEST = 'it is neither a digest nor the lines of a list';
-const SEVERAL_DIGESTS = 'it has several digests: paste one, or the lines of a list';
-
-/** What a label calls its hash: one of HASHES, or a title of one that is not here. */
-function hashLabelled(label) {
-  const word = label.toLowerCase();
-  if (Object.hasOwn(HASHES, word)) return word;
-  const [, family, rest] = /^(sha|md)-?(.*)$/.exec(word);
-  const own = `sha${rest.replace('2-', '')}`;
-  if (family === 'sha' && Object.hasOwn(HASHES, own)) return own;
-  return family === 'md' ? 'MD5' : `SHA${rest.startsWith('3-') ? '' : '-'}${rest}`;
-}
+const SEVERAL_DIGESTS = 'it has several digests: paste each on a line of its own, or the lines of a list';
 
 /** Groups of as many digits each that follow one another, as one text each. */
 function grouped(text) {
@@ -66,21 +56,40 @@ function functionsOf(digits, hash) {
   const other = hash ? null : otherHash(digits);
   if (other) return { of: [], fault: `it has ${other}` };
   if (digits < FEWEST_DIGITS) return { of: [], fault: `it has ${digits} digits, too few: was it copied whole?` };
-  const of = hash ? [sized(hash, digits)].filter(Boolean) : usual(digits);
+  const of = hash ? onlyOf(hash, digits).filter(Boolean) : usual(digits);
   if (of.length) return { of, fault: '' };
   const named = hash ? `no digest of ${TITLES[hash]} has as many` : 'no hash here has as many, unless you choose one';
   return { of, fault: `it has ${digits} digits, and ${named}: was it copied whole?` };
 }
 
 /**
- * What a text is that is no list: `{ digest, of, fault }`, the digits of one digest and the functions that it may be
- * of, one if the text or else `chosen` names it. If it is no such digest, `of` is empty, and `fault` says why.
+ * What a text with one digest is: `{ digest, of, fault }`, its digits and the functions that it may be of, one if the
+ * text or else `chosen` names it. If it is no such digest, `of` is empty, and `fault` says why.
  */
-export function pastedDigest(text, chosen) {
-  const plain = text.replace(INVISIBLE, '');
-  const digests = digestsIn(plain);
+function digestOf(text, chosen) {
+  const digests = digestsIn(text);
   if (digests.length !== 1) return { digest: '', of: [], fault: digests.length ? SEVERAL_DIGESTS : NO_DIGEST };
-  const labels = new Set(Array.from(plain.matchAll(LABEL), ([, label]) => hashLabelled(label)));
+  const labels = new Set(Array.from(text.matchAll(LABEL), ([, label]) => hashNamed(label)));
   const hash = labels.size === 1 ? [...labels][0] : chosen;
   return { digest: digests[0], ...functionsOf(digests[0].length, hash) };
+}
+
+/** The parts of a text with several digests: each line with one, and what stands before it. */
+function partsWithDigest(text) {
+  const parts = [];
+  let part = '';
+  for (const line of text.split('\n')) {
+    part += `${line}\n`;
+    if (!digestsIn(line).length) continue;
+    parts.push(part);
+    part = '';
+  }
+  return parts;
+}
+
+/** What a text is that is no list: each of its digests. */
+export function pastedDigests(text, chosen) {
+  const plain = text.replace(INVISIBLE, '');
+  const parts = digestsIn(plain).length > 1 ? partsWithDigest(plain) : [];
+  return (parts.length ? parts : [plain]).map((it) => digestOf(it, chosen));
 }

@@ -1,133 +1,106 @@
 // SPDX-License-Identifier: MIT OR Apache-2.0
-// What is to be checked, and what came out: the rows of the page, without the page.
-import { keyOf, titleOf, wholeOf } from './functions.js';
-import { MALFORMED } from './entries.js';
+// What is to be checked: the rows of the page, without the page, and the files that have to be read for them.
+import { keyOf, wholeOf } from './functions.js';
+import { meaningsOf } from './meaning.js';
 import { lastPart, shown } from './names.js';
 
-/** The results of a row, as `sums check` names them, and two more: a file that no list names, and a digest alone. */
+/** The results of a row, as `sums check` names them, and others: of what has no hash or no list that is known. */
 export const RESULT = {
   ok: 'OK',
   failed: 'FAILED',
+  unmatched: 'NO MATCH',
   missing: 'MISSING',
   unreadable: 'UNREADABLE',
   malformed: 'MALFORMED',
   unlisted: 'NOT LISTED',
   digest: 'DIGEST',
 };
-const code = (text) => ({ code: text });
+const NO_DETAIL = Object.freeze([]); // one for all of half a million rows
 
 // ---- rows: a label, what they are of, and a result as soon as there is one
 
-const settled = (label, result, detail = []) => ({ label, result, detail });
+export const settled = (label, result, detail = NO_DETAIL, item = null) => ({ label, result, detail, item, from: '' });
 
 /** A row that waits for the digests of a file by these functions, one of which has to be `digest` if there is one. */
-const waiting = (label, item, of, digest) => ({ label, item, of, digest, remark: '', result: '', detail: [] });
+const waiting = (label, item, of, digest, remark = '') =>
+  ({ label, result: '', detail: NO_DETAIL, item, from: '', of, digest, remark });
 
 /** A row that waits for an item, or says what is wrong with it. */
-function rowOf(label, item, of, digest) {
-  return item.fault ? { ...settled(label, RESULT.unreadable, [item.fault]), item } : waiting(label, item, of, digest);
+function rowOf(item, of, digest, remark) {
+  const label = shown(item.name);
+  return item.fault ? settled(label, RESULT.unreadable, [item.fault], item) : waiting(label, item, of, digest, remark);
 }
 
-/** Of the last part of each name of a list, the name, or null if several names end with it. */
-function endingsOf(lines) {
-  const endings = new Map();
-  for (const { entry } of lines) {
-    if (entry === MALFORMED) continue;
-    const part = lastPart(entry.name);
-    endings.set(part, endings.has(part) && endings.get(part) !== entry.name ? null : entry.name);
-  }
-  return endings;
+export const unlisted = (item) => settled(shown(item.name), RESULT.unlisted, NO_DETAIL, item);
+
+/** The row of a line, whose name means a file, has a fault, or means nothing. */
+function lineRow({ line, name, digest, of, isUnsigned }, meaningOf, shownName) {
+  if (name === null) return settled(`line ${line}`, RESULT.malformed);
+  const label = shownName(name);
+  const meaning = meaningOf(name);
+  if (!meaning) return settled(label, RESULT.missing);
+  if (meaning.fault) return settled(label, RESULT.unreadable, [meaning.fault], meaning.about);
+  const other = meaning.isOther ? `, of the file ${shown(meaning.item.name)}` : '';
+  return waiting(label, meaning.item, of, digest, `${other}${isUnsigned ? ', outside of the signed text' : ''}`);
 }
 
-/**
- * What finds the file of a name in a list. All of its names count from one folder: that of the list, or else, where
- * none of them is there, from the top of a folder that was added.
- */
-function finderOf(list, places, lines) {
-  const { item, selection } = list;
-  const isThere = (find) => lines.some(({ entry }) => entry !== MALFORMED && find(entry.name));
-  const from = (start) => (name) => places.named(start, name);
-  if (item?.place.isFolder) {
-    const folder = item.path.slice(0, item.path.lastIndexOf('/') + 1);
-    const own = from({ place: item.place, folder });
-    const top = from({ place: item.place, folder: '' });
-    return folder === '' || isThere(own) || !isThere(top) ? { find: own } : { find: top, isElsewhere: true };
-  }
-  const own = from({ selection });
-  if (isThere(own)) return { find: own };
-  const tops = places.folders().filter((place) => isThere(from({ place, folder: '' })));
-  return tops.length ? { find: (name) => places.amongTops(tops, name), isElsewhere: true } : { find: own };
-}
-
-/**
- * The rows of the entries of a list. A file that was added by itself may be named with a folder, if no other name ends
- * like it.
- */
-function entryRows(list, places) {
-  const { lines } = list.read;
-  const { find, isElsewhere } = finderOf(list, places, lines);
-  const isLoose = !list.item?.place.isFolder;
-  const endings = isLoose ? endingsOf(lines) : null;
-  return lines.map(({ number, entry, isOpen }) => {
-    if (entry === MALFORMED) return settled(`line ${number}`, RESULT.malformed);
-    const isEnding = isLoose && endings.get(lastPart(entry.name)) === entry.name;
-    const named = find(entry.name);
-    const found = named ?? (isEnding ? places.alone(entry.name) : null);
-    const label = shown(entry.name);
-    if (!found) return { ...settled(label, RESULT.missing), isOfFolder: !isLoose };
-    if (found.fault) return { ...settled(label, RESULT.unreadable, [found.fault]), item: found.about };
-    const row = waiting(label, found.item, entry.of, entry.digest);
-    const isOther = !named || isElsewhere || found.item.isRenamed;
-    return Object.assign(row, { remark: isOther ? `, of the file ${shown(found.item.name)}` : '', isOpen });
-  });
-}
-
-/** The rows and the notes of a list. */
-function listRows(list, places) {
+/** The rows of a list, and the notes on it. */
+function listPart(list, places) {
   const name = shown(list.name);
-  const notes = list.read.notes.map((it) => `${name}: ${it}`);
-  const { fault } = list.read;
-  const rows = fault ? [settled(name, RESULT.unreadable, [fault])] : entryRows(list, places);
-  return { rows: rows.map((row) => Object.assign(row, { list })), notes };
+  const { lines, notes, fault } = list.read;
+  const meaningOf = meaningsOf(list, places, lines.flatMap((it) => it.name ?? []));
+  const rows = lines.map((it) => lineRow(it, meaningOf, shown));
+  if (fault) rows.push(settled(name, RESULT.unreadable, [fault]));
+  for (const row of rows) row.list = list;
+  return { from: name, rows, notes: notes.map((it) => `${name}: ${it}`) };
 }
 
-/** The rows of a digest alone: each file is compared with it. */
-function digestRows({ title, digest, of, fault, name }, items) {
-  if (fault) return { rows: [settled(title, RESULT.malformed, [fault])], notes: [] };
-  const rows = items.map((item) => {
-    const row = rowOf(shown(item.name), item, of, digest);
-    const isOther = name !== undefined && lastPart(item.path) !== name;
-    return isOther ? Object.assign(row, { remark: `, of the file that is called ${shown(name)} there` }) : row;
-  });
-  const notes = items.length > 1 ? ['A digest is of one file. Each file was compared with it.'] : [];
-  return { rows, notes };
+/**
+ * The rows of a digest alone, which is compared with the files that are called as it says, or else with each file that
+ * was added, lists too. `isSure` says that it is of these. Otherwise it is if `isOne`, when there is but one of either.
+ */
+function digestPart(digest, items, isOne) {
+  const { title, of, fault, name } = digest;
+  if (fault) return { from: title, digest, rows: [settled(title, RESULT.malformed, [fault])], isSure: true };
+  const own = items.filter((it) => lastPart(it.path) === name);
+  const remark = name === undefined || own.length ? '' : `, of the file that is called ${shown(name)} there`;
+  const rows = (own.length ? own : items).map((it) => rowOf(it, of, digest.digest, remark));
+  return { from: title, digest, rows, isSure: own.length > 0 || isOne };
+}
+
+/** The rows of files that nothing names: NOT LISTED if something could, and else their digests. */
+function otherRows(files, { isJudged, chosen }) {
+  const other = (it) => (isJudged && !it.fault ? unlisted(it) : rowOf(it, [wholeOf(chosen ?? 'sha256')]));
+  return files.map(other);
+}
+
+function closedRow({ place, path, fault }) {
+  return settled(shown(path ? `${place.label}/${path}` : place.label), RESULT.unreadable, [fault]);
 }
 
 /**
  * The rows and the notes of what was added: `places`, `lists` of `{ name, item, selection, read }`, where `read` is
- * what readList gives, `digests` that stand alone, and the hash that was chosen, or null.
+ * what readList gives, `digests` that stand alone, and the hash that was chosen, or null. `files` are no lists,
+ * `comparisons` have the rows of each digest, and `isOfFolder` says that a folder was added.
  */
-export function rowsOf({ places, lists, digests, chosen }) {
-  const isList = new Set(lists.map((it) => it.item));
-  const files = places.items.filter((it) => !isList.has(it));
-  const parts = lists.map((list) => listRows(list, places));
-  parts.push(...digests.map((it) => digestRows(it, files)));
+export function planOf({ places, lists, digests, chosen }) {
+  const files = places.items.filter((it) => !it.list);
+  const items = places.items.filter((it) => !it.list?.read.digest);
+  const ofLists = lists.filter((it) => !it.read.digest).map((it) => listPart(it, places));
+  const isOne = digests.length === 1 && items.length === 1 && files.length === 1;
+  const comparisons = digests.map((it) => digestPart(it, items, isOne));
+  const parts = [...ofLists, ...comparisons];
+  if (parts.length > 1) for (const { from, rows } of parts) for (const row of rows) row.from = from;
   const rows = parts.flatMap((it) => it.rows);
   const had = new Set(rows.map((it) => it.item));
-  const others = files.filter((it) => !had.has(it));
-  const isJudged = lists.length > 0 || digests.some((it) => !it.fault);
-  const other = (item) => isJudged && !item.fault
-    ? { ...settled(shown(item.name), RESULT.unlisted), item }
-    : rowOf(shown(item.name), item, [wholeOf(chosen ?? 'sha256')]);
-  const closed = places.closed.filter((it) => !had.has(it));
-  const unread = ({ place, path, fault }) =>
-    settled(shown(path ? `${place.label}/${path}` : place.label), RESULT.unreadable, [fault]);
-  const all = [...rows, ...others.map(other), ...closed.map(unread)];
-  for (const row of all) row.from = lists.length > 1 && row.list ? shown(row.list.name) : '';
-  return { rows: all, notes: parts.flatMap((it) => it.notes) };
+  const isJudged = ofLists.length > 0 || digests.some((it) => !it.fault);
+  rows.push(...otherRows(files.filter((it) => !had.has(it)), { isJudged, chosen }));
+  rows.push(...places.closed.filter((it) => !had.has(it)).map(closedRow));
+  const isOfFolder = places.folders().length > 0;
+  return { rows, files, comparisons, isOfFolder, notes: ofLists.flatMap((it) => it.notes) };
 }
 
-// ---- files: which digests are needed of each, and what they say
+// ---- files: which digests are needed of each
 
 /** Of each item that rows wait for, these rows, and the functions of its digests. */
 export function jobsOf(rows) {
@@ -139,43 +112,4 @@ export function jobsOf(rows) {
     jobs.set(row.item, job);
   }
   return [...jobs.values()].map((job) => ({ ...job, functions: [...job.functions.values()] }));
-}
-
-/** Sets the result of a row, by its file's digests under their keys, or by the fault with which it was read. */
-export function settle(row, { digests, fault }) {
-  if (fault !== undefined) return Object.assign(row, { result: RESULT.unreadable, detail: [fault] });
-  if (row.digest === undefined) {
-    const detail = row.of.flatMap((it) => [`${titleOf(it)} `, code(digests.get(keyOf(it)))]);
-    return Object.assign(row, { result: RESULT.digest, detail });
-  }
-  const right = row.of.find((it) => digests.get(keyOf(it)) === row.digest);
-  if (right) {
-    const detail = [`${titleOf(right)}${row.remark} `, code(row.digest)];
-    return Object.assign(row, { result: RESULT.ok, right, detail });
-  }
-  const named = row.of.map(titleOf).join(', ');
-  const got = row.of.length === 1 ? ['it is ', code(digests.get(keyOf(row.of[0]))), ', and '] : [];
-  const detail = [`${named}${row.remark}: `, ...got, 'it should be ', code(row.digest)];
-  return Object.assign(row, { result: RESULT.failed, detail });
-}
-
-/**
- * Makes the lines of a list that names no hash lines of one: of the hash that most of them are right by. Those that are
- * right by another one alone are FAILED. The rows that changed.
- */
-export function settleOpen(rows) {
-  const counts = new Map();
-  const right = rows.filter((it) => it.isOpen && it.right);
-  for (const row of right) {
-    const its = counts.get(row.list) ?? new Map();
-    its.set(keyOf(row.right), (its.get(keyOf(row.right)) ?? 0) + 1);
-    counts.set(row.list, its);
-  }
-  const most = new Map([...counts].map(([list, its]) => [list, [...its].sort(([, one], [, two]) => two - one)[0][0]]));
-  const wrong = right.filter((row) => most.get(row.list) !== keyOf(row.right));
-  for (const row of wrong) {
-    row.result = RESULT.failed;
-    row.detail = [`${titleOf(row.right)}, and other lines of this list are of another hash`];
-  }
-  return wrong;
 }

@@ -46,13 +46,23 @@ function areSame(one, two) {
 }
 
 /** Rejects if a file is gone, if the browser reports a change, and if a short one no longer has the bytes `held`. */
-export async function look(file, held = null) {
+async function look(file, held = null) {
   if (isLong(file)) {
     const last = await file.slice(file.size - 1, file.size).arrayBuffer();
     if (!last.byteLength) throw new Changed();
   } else {
     const bytes = new Uint8Array(await wholeFile(file));
     if (held && !areSame(bytes, held)) throw new Changed();
+  }
+}
+
+/** Why a file is not what was added any more, as `look` finds it; or nothing. */
+export async function faultNow(file, held) {
+  try {
+    await look(file, held);
+    return undefined;
+  } catch (error) {
+    return faultOf(error);
   }
 }
 

@@ -65,8 +65,6 @@ function partOf(part, { result, label }) {
 
 function fill(line, row) {
   line.className = (row.result || 'waits').toLowerCase().replace(' ', '-');
-  // what a folder lacks is never folded
-  line.classList.toggle('stays', row.stays);
   const [, resultCell, detailCell] = line.children;
   resultCell.textContent = row.result || row.waits;
   detailCell.replaceChildren(...row.detail.flatMap((it) => partOf(it, row)));

@@ -3,25 +3,21 @@
 import { bind } from '../bindings/js/library.js';
 import { Engine } from './engine.js';
 
-/** The module, which is compressed in the page. */
-async function compiled(bytes) {
+/** The engine over the module, which is compressed in the page. */
+async function begun(bytes) {
   const stream = new Blob([bytes]).stream().pipeThrough(new DecompressionStream('deflate'));
-  return WebAssembly.compile(await new Response(stream).arrayBuffer());
+  const module = await WebAssembly.compile(await new Response(stream).arrayBuffer());
+  return new Engine(bind(module), (told) => postMessage(told));
 }
 
-const early = [];
-let engine = null;
+let engine = null; // the promise of it
 
-async function begin(bytes) {
-  engine = new Engine(bind(await compiled(bytes)), (told) => postMessage(told));
-  for (const command of early) engine.take(command);
-}
-
-// a fault of no file is one of the browser, which does not take the module
-const refuse = (error) => postMessage({ kind: 'broken', message: String(error?.message ?? error) });
-
-onmessage = ({ data }) => {
-  if (data.module) begin(data.module).catch(refuse);
-  else if (engine) engine.take(data);
-  else early.push(data);
+onmessage = async ({ data }) => {
+  try {
+    if (data.module) engine = begun(data.module);
+    else (await engine).take(data);
+  } catch (error) {
+    // a fault of no file is one of the browser, which does not take the module
+    postMessage({ kind: 'broken', message: String(error?.message ?? error) });
+  }
 };

@@ -122,7 +122,8 @@ def try_chosen(page, work):
     harness.same("a list whose name says no hash", page.judged(2)["details"][0].split()[0], "BLAKE2b-256")
     (work / "none.sha256").write_bytes(b"# nothing\n")
     page.anew()
-    page.files(work / "none.sha256", work / "a.iso")
+    page.files(work / "none.sha256", by="lists")
+    page.files(work / "a.iso")
     shown = page.judged(2)
     harness.same("a list of no entries", (shown["rows"], shown["notes"][-1], shown["state"]),
         (["a.iso: NOT LISTED"], "none.sha256: no entries.", ""))
@@ -247,7 +248,7 @@ def try_many_lines(page, work):
     harness.judge("its wrong line", "a.iso: FAILED" in shown["rows"])
     harness.same("how many lines are shown", (len(shown["rows"]), shown["more"]),
         (1001, f"{LINES - 1001} more rows of the kinds above, which are counted, and not shown."))
-    (work / "many.sha256").write_bytes(b"#\n" * (LIST_BYTES // 2))
+    (work / "many.sha256").write_bytes(lines[0] + b"#\n" * ((LIST_BYTES - len(lines[0])) // 2))
     page.anew()
     page.files(work / "many.sha256")
     shown = page.done()

@@ -90,7 +90,9 @@ class Page:
         """, label)
 
     def read(self):
-        return self.browser.script(READ)
+        """What is shown, with blanks for those at which no line ends."""
+        shown = self.browser.script(READ)
+        return {**shown, "verdict": shown["verdict"].replace("\xa0", " ")}
 
     def wait(self, is_done, what, seconds=SECONDS):
         end = time.monotonic() + seconds

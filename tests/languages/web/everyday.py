@@ -21,9 +21,11 @@ LISTS = {
     "b2-linux.b3": "blake3", "sha256-simd-1.0.tar.gz.b3": "blake3", "sha512-tool.blake3": "blake3", "prog.b3": "blake3",
     "BLAKE2SSUMS": "blake2s", "b3sum-1.0.tar.gz.b2": "blake2b", "DIGESTS": "sha512",
 }
+# files that are called as lists are, without a line of one
 OTHERS = {
     "weekly-digest.txt": b"Dear reader,\nall is well\n", "invoice-sum": b"12 and 30 is 42\n", "sum.txt": b"42\n",
-    "checksum": b"\x7fELF\0\0", "song.b2": b"\0\1\2\3",
+    "checksum": b"\x7fELF\0\0", "song.b2": b"\0\1\2\3", "app-1.0-b2": b"\x7fELF\2\1\1\0",
+    "README.sha256.txt": b"SHA-256 is a hash.\nIt has 64 digits.\n", "model.blake3": bytes(range(256)) * 400,
 }
 
 
@@ -44,7 +46,13 @@ def try_list_names(page, work, program):
     for name, data in OTHERS.items():
         page.anew()
         page.files(made(work, name, data))
-        harness.same(f"the file {name}", page.done()["rows"], [f"{name}: DIGEST"])
+        shown = page.done()
+        is_told = f"no list: {name}." in shown["added"]
+        harness.same(f"the file {name}", (shown["rows"], is_told), ([f"{name}: DIGEST"], True))
+        page.paste(f"SHA256 ({name}) = {sha256(data)}")
+        harness.same(f"the file {name}, which is listed", page.done()["rows"], [f"{name}: OK"])
+        page.paste(sha256(data))
+        harness.same(f"the file {name}, and its digest", page.done()["rows"], [f"{name}: OK"])
     listed = made(work, "list.txt", f"{digest_of(program, work, 'sha256', 'prog')}  prog\n".encode())
     page.anew()
     page.files(listed, work / "prog")
@@ -112,6 +120,13 @@ def try_texts(page, work):
         is_told = any("No signature is checked" in it for it in shown["notes"])
         harness.judge(f"{what}: that no signature is checked", is_told or rows is None, shown["notes"])
     page.anew()
+    page.files(made(work, "Fedora-39-CHECKSUM", (signed("# nothing\n") + line).encode()), file)
+    shown = page.done()
+    is_told = any("outside of the signed text" in it for it in shown["notes"])
+    harness.same("one with an entry behind its signature", (shown["state"], shown["rows"], is_told),
+        ("", ["Fedora.iso: OK"], True))
+    harness.judge("which its row says", "outside of the signed text" in shown["details"][0], shown["details"])
+    page.anew()
     page.files(made(work, "u.sha256", ("\ufeff" + f"{sha256(b'iso')}  Fedora.iso\r\n").encode("utf-16-le")), file)
     shown = page.done()
     is_told = any("UTF-16" in it for it in shown["notes"])
@@ -119,6 +134,75 @@ def try_texts(page, work):
     page.anew()
     page.files(made(work, "m.sha256", b"\xef\xbb\xbf" + f"{sha256(b'iso')}  Fedora.iso\n".encode()), file)
     harness.judge("a byte order mark", any("byte order mark" in it for it in page.done()["notes"]))
+
+
+def try_mixed(page, work, program):
+    """Lists whose lines do not say their hash: each length has its own, and what has none that is known is not FAILED."""
+    made(work, "prog", b"hello")
+    made(work, "other", b"other")
+    lines = [f"{digest_of(program, work, name, 'prog')}  prog\n" for name in ("sha256", "sha512")]
+    wrong = "".join(f"{'5a' * size}  other\n" for size in (32, 64))
+    for what, text, state, results in (
+        ("lines of SHA-256 and SHA-512", "".join(lines), "ok", ["OK", "OK"]),
+        ("wrong ones beside right ones", "".join(lines) + wrong, "wrong", ["OK", "OK", "FAILED", "FAILED"]),
+        ("wrong ones alone", wrong, "wrong", ["NO MATCH", "NO MATCH"]),
+        ("a line that may be of another hash", lines[0] + lines[0].replace(sha256(b"hello"), "5a" * 32), "wrong",
+            ["OK", "NO MATCH"]),
+    ):
+        page.anew()
+        page.files(made(work, "checksums.txt", text.encode()), work / "prog", work / "other")
+        shown = page.done()
+        got = [it.split(": ")[1] for it in shown["rows"] if "NOT LISTED" not in it]
+        harness.same(f"a list of any hash: {what}", got, results)
+        isDamaged = any("damaged" in it and it.startswith("FAILED") for it in shown["notes"])
+        harness.same(f"{what}: what is said", isDamaged, "FAILED" in results)
+        if state == "wrong":
+            harness.same(f"{what}: the verdict", shown["state"], state)
+
+
+def try_alone(page, work):
+    """A digest alone is of one file, which may be a list, or a file whose name or content makes it look like one."""
+    listed = made(work, "SHA256SUMS", f"{sha256(b'two')}  two.iso\n".encode())
+    file, own = made(work, "two.iso", b"two"), sha256((work / "SHA256SUMS").read_bytes())
+    cases = (
+        ("a right digest of the list", own, [listed], "ok", ["two.iso: MISSING", "SHA256SUMS: OK"]),
+        ("the same, with its file", own, [listed, file], "ok", ["two.iso: OK", "SHA256SUMS: OK"]),
+        ("a wrong digest of the list", "1" * 64, [listed], "", ["two.iso: MISSING", "the pasted text: NO MATCH"]),
+        ("the same, with its file", "1" * 64, [listed, file], "wrong", ["two.iso: OK", "the pasted text: NO MATCH"]),
+        ("a digest of the file", sha256(b"two"), [listed, file], "ok", ["two.iso: OK", "two.iso: OK"]),
+    )
+    for what, text, paths, state, rows in cases:
+        page.anew()
+        page.paste(text)
+        page.files(*paths)
+        shown = page.judged(len(paths))
+        harness.same(f"a digest alone: {what}", (shown["state"], shown["rows"]), (state, rows))
+    page.anew()
+    page.paste(sha256(b"two"))
+    page.files(file, made(work, "three.iso", b"three"))
+    shown = page.judged(2)
+    harness.same("a digest alone, of one of two files", (shown["state"], shown["rows"]),
+        ("", ["two.iso: OK", "three.iso: NOT LISTED"]))
+    page.anew()
+    page.files(file, made(work, "two.iso.sha256", f"{sha256(b'two')}\n".encode()))
+    shown = page.judged(2)
+    harness.same("a file with a digest alone", (shown["state"], shown["verdict"]), ("ok", "two.iso: OK"))
+    page.anew()
+    page.files(file, made(work, "two.iso.sha256", f"{sha256(b'other')}\n".encode()))
+    harness.same("with a wrong one", page.judged(2)["verdict"], "two.iso: FAILED")
+    page.anew()
+    page.paste("900150983cd24fb0d6963f7d28e17f72")
+    harness.same("a digest of no hash, and no file", page.done()["verdict"], "No digest can be read.")
+    page.anew()
+    page.files(listed)
+    page.folder(made(work, "folder/two.iso", b"two").parent)
+    harness.same("a list, and a folder with its file", page.judged(2)["state"], "ok")
+    page.anew()
+    page.files(made(work, "SHA256SUMS", f"{sha256(b'two')}  two.iso\n{sha256(b'x')}  x\n".encode()))
+    page.folder(work / "folder")
+    shown = page.judged(2)
+    harness.same("a list, and a folder with one of its files", (shown["state"], shown["verdict"], shown["folded"]),
+        ("", "two.iso: OK. Also 1 MISSING", ""))
 
 
 def grouped(digits, size):
@@ -156,7 +240,7 @@ def try_forms(page, work, program):
         ("a9993e364706816aba3e25717850c26c9cd0d89d", "SHA-1"), ("cb" * 48, "SHA-384"),
         ("sha384:" + "cb" * 48, "SHA-384"),
         ("SHA3-256: " + "3a" * 32, "SHA3-256"), (own[:63], "copied whole"), (own + "0", "copied whole"),
-        (f"{own}\n{digest['blake3']}", "several digests"), ("hello", "neither"),
+        (f"{own} {digest['blake3']}", "several digests"), ("hello", "neither"),
         (f"sha256-{in_base64} {digest['blake3']}", "several digests"), (f"sha256-{in_base64}=", "neither"),
     ):
         page.paste(text)
@@ -164,8 +248,17 @@ def try_forms(page, work, program):
         harness.same(f"pasted: {text[:60]!r}", (shown["state"], shown["rows"]),
             ("wrong", ["the pasted text: MALFORMED", "abc: DIGEST"]))
         harness.judge(f"what is told of {text[:60]!r}", told in shown["details"][0], shown["details"])
-    page.paste(own[:-1] + ("0" if own[-1] != "0" else "1"))
+    wrong = own[:-1] + ("0" if own[-1] != "0" else "1")
+    page.paste(f"SHA256: {wrong}")
     harness.same("pasted: a wrong digest", page.done()["verdict"], "abc: FAILED")
+    page.paste(wrong)
+    shown = page.done()
+    harness.same("pasted: a wrong digest of any hash", (shown["state"], shown["verdict"]), ("wrong", "abc: NO MATCH"))
+    for what, second in (("of one file", digest["sha512"]), ("of two files, one of which is here", "1" * 128)):
+        page.paste(f"SHA-256: {own}\nSHA-512: {second}\n")
+        shown = page.done()
+        wanted = ["abc: OK", "abc: OK" if second == digest["sha512"] else "the pasted text: NO MATCH"]
+        harness.same(f"pasted: two digests {what}", shown["rows"], wanted)
     page.anew()
     page.files(made(work, "MD5SUMS", b"900150983cd24fb0d6963f7d28e17f72  abc\n"), work / "abc", by="lists")
     harness.judge("a list of MD5", any("MD5" in it for it in page.done()["notes"]))
@@ -308,6 +401,8 @@ def try_everyday(page, work, program):
     try_list_names(page, work, program)
     try_one_of_many(page, work)
     try_texts(page, work)
+    try_mixed(page, work, program)
+    try_alone(page, work)
     try_forms(page, work, program)
     try_chosen_hash(page, work)
     try_removal(page, work)

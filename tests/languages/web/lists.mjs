@@ -10,7 +10,8 @@ import { keyOf } from '../../../web/functions.js';
 import { readList } from '../../../web/lists.js';
 import { shown } from '../../../web/names.js';
 import { Place, Places } from '../../../web/places.js';
-import { jobsOf, rowsOf, settle, settleOpen } from '../../../web/plan.js';
+import { concluded, settle } from '../../../web/judging.js';
+import { jobsOf, planOf } from '../../../web/plan.js';
 
 const [program, folder, rounds = '400'] = process.argv.slice(2);
 const library = await import(pathToFileURL(resolve(folder, 'node.js')));
@@ -185,16 +186,20 @@ async function ofPage(kind, lists) {
   for (const [path, content] of FILES) place.add(path, { content });
   for (const [name] of lists) place.add(name, {});
   await places.add(place);
-  const added = lists.map(([name, bytes], at) =>
-    ({ id: at, name, item: place.items.get(name), selection: 1, read: readList(library, name, bytes, kind) }));
-  const { rows, notes } = rowsOf({ places, lists: added, digests: [], chosen: kind });
-  for (const job of jobsOf(rows)) {
+  const added = lists.map(([name, bytes], at) => {
+    const item = place.items.get(name);
+    item.list = { id: at, name, item, selection: 1, read: readList(library, name, bytes, kind) };
+    return item.list;
+  });
+  const plan = planOf({ places, lists: added, digests: [], chosen: kind });
+  for (const job of jobsOf(plan.rows)) {
     const digestOf = (it) => hash(it.hash, job.item.file.content, { outputLength: it.length });
     const digests = new Map(job.functions.map((it) => [keyOf(it), digestOf(it)]));
+    job.item.reading = { digests };
     for (const row of job.rows) settle(row, { digests });
   }
-  const remarks = notes.filter((it) => it.endsWith(`: ${MESSAGES['no entries']}.`)).map((it) => it.slice(0, -1));
-  return { rows: rows.filter((it) => it.list), remarks };
+  const remarks = plan.notes.filter((it) => it.endsWith(`: ${MESSAGES['no entries']}.`)).map((it) => it.slice(0, -1));
+  return { plan, rows: plan.rows.filter((it) => it.list), remarks };
 }
 
 /** A row of the page as the line of a report. */
@@ -217,7 +222,8 @@ function compared(kind, lists, theirs, ours) {
     // a row that is settled without a file has no functions: each hash says the same of it
     const kinds = row.of?.map((it) => it.hash) ?? KINDS.filter((it) => it && !reports[it][at].endsWith(': MALFORMED'));
     const all = kinds.map((it) => reports[it][at]);
-    return [reported(row, lists), all.find((it) => it.endsWith(': OK')) ?? all[0]];
+    // what is FAILED by each hash is no more than NO MATCH, since it may be of another one
+    return [reported(row, lists), all.find((it) => it.endsWith(': OK')) ?? all[0].replace(/: FAILED$/, ': NO MATCH')];
   });
 }
 
@@ -244,16 +250,34 @@ async function differsFromPackage(kind, lists, theirs) {
   return !isSame;
 }
 
-/** A list of two hashes: the page reads it for the one that more of its lines are right by. */
-async function differsMixed() {
-  const line = (name, kind) => `${hash(kind, FILES.get(name))}  ${name}\n`;
-  const bytes = Buffer.from(line('a', 'blake3') + line('b c', 'sha256') + line('sub/x', 'sha256'));
+/** Lists of several hashes that name none, their lines `[kind, name, content]`, and the results of the page. */
+const MIXED = {
+  'one of two hashes of one length': [
+    [['blake3', 'a', 'one'], ['sha256', 'b c', 'two'], ['sha256', 'sub/x', 'three']], ['NO MATCH', 'OK', 'OK']],
+  'one of two hashes of one length, as often': [
+    [['blake3', 'a', 'one'], ['sha256', 'b c', 'two']], ['NO MATCH', 'NO MATCH']],
+  'one of two hashes of two lengths': [
+    [['sha256', 'a', 'one'], ['sha512', 'a', 'one'], ['sha512', 'b c', 'two']], ['OK', 'OK', 'OK']],
+  'one wrong line of each length': [
+    [['sha256', 'a', 'one'], ['sha256', 'b c', 'x'], ['sha512', 'a', 'one'], ['sha512', 'sub/x', 'x']],
+    ['OK', 'FAILED', 'OK', 'FAILED']],
+  'two digests of one file, one of which is of no hash': [
+    [['sha256', 'a', 'one'], ['sha256', 'a', 'x'], ['sha256', 'b c', 'x']], ['OK', 'NO MATCH', 'FAILED']],
+  'no right line': [[['sha256', 'a', 'x'], ['sha512', 'b c', 'x']], ['NO MATCH', 'NO MATCH']],
+};
+
+/** Whether the page judges a list of several hashes otherwise, or calls OK what `sums check` never does. */
+async function differsMixed([what, [lines, wanted]]) {
+  const bytes = Buffer.from(lines.map(([kind, name, content]) => `${hash(kind, content)}  ${name}\n`).join(''));
   writeFileSync(join(work, 'mixed'), bytes);
-  const { rows } = await ofPage(null, [['mixed', bytes]]);
-  settleOpen(rows);
-  const [got, wanted] = [rows.map((it) => reported(it, [0])).join(), ofProgram('sha256', ['mixed']).report.join()];
-  if (got !== wanted) console.log(`a list of two hashes: sums check ${wanted}, the page ${got}`);
-  return got !== wanted;
+  const { plan } = await ofPage(null, [['mixed', bytes]]);
+  const rows = concluded(plan).filter((it) => it.list);
+  const reports = KINDS.filter(Boolean).map((it) => ofProgram(it, ['mixed']).report);
+  const isOk = (row, at) => row.result !== 'OK' || reports.some((it) => it[at] === `${row.label}: OK`);
+  const got = rows.map((it, at) => (isOk(it, at) ? it.result : 'an OK of the page alone'));
+  const isSame = got.join() === wanted.join();
+  if (!isSame) console.log(`${what}: ${got}, not ${wanted}`);
+  return !isSame;
 }
 
 const work = mkdtempSync(join(tmpdir(), 'lists-'));
@@ -265,7 +289,7 @@ try {
     mkdirSync(join(work, path, '..'), { recursive: true });
     writeFileSync(join(work, path), content);
   }
-  different += await differsMixed();
+  for (const it of Object.entries(MIXED)) different += await differsMixed(it);
   for (const kind of KINDS) {
     for (let left = Number(rounds); left > 0; left -= AT_ONCE) {
       const lists = Array.from({ length: Math.min(left, AT_ONCE) }, () => [`list ${written++}`, drawnList(kind)]);

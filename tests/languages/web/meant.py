@@ -148,7 +148,7 @@ def try_again(page, work):
     harness.same("the same without its list", page.judged(1)["rows"], ["again/a: DIGEST"])
     changing = made(work, "changing", b"before")
     page.anew()
-    page.paste(sha256(b"before"))
+    page.paste("sha256:" + sha256(b"before"))
     page.files(changing)
     harness.same("a file", page.judged(1)["rows"], ["changing: OK"])
     later(changing, b"behind")
@@ -348,7 +348,7 @@ def try_pairs(page, work, program, is_dropped=False):
 
 def try_order(page, work):
     """Two lists of one name count in the order in which they are added, however long the first takes."""
-    long = b"# a comment\n" * 100000 + list_of(("f", b"other"))
+    long = list_of(("f", b"other")) + b"# a comment\n" * 100000
     first, second = made(work, "order/one/x.sha256", long), made(work, "order/two/x.sha256", list_of(("f", b"f")))
     page.anew()
     page.files(first)

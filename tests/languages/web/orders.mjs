@@ -363,7 +363,7 @@ const CLOSED = {
     run.disk.closed = new Set(['/x/dist/a', '/x/dist/b', '/x/dist/c']);
     await run.drop('/x/dist');
     const rows = ['a: UNREADABLE', 'b: UNREADABLE', 'c/d: UNREADABLE'];
-    return run.page.verdict.text === 'Something is wrong: 3 UNREADABLE' ? rows : ['what is wrong'];
+    return run.page.verdict.text === 'Something is wrong: 3\u00a0UNREADABLE' ? rows : ['what is wrong'];
   },
   async 'a folder as a whole, and a file that is dropped with it'(run) {
     run.write('/x/a', 'good');
@@ -414,9 +414,10 @@ const OF_LISTS = {
     run.write('/x/x.sha512', `${digest}  SHA256SUMS\n`);
     await run.files('/x/SHA256SUMS', '/x/x.sha512');
     if (run.page.verdict.text !== 'SHA256SUMS: OK') return ['an OK'];
-    run.write('/x/SHA256SUMS', '# another one\n');
+    run.list('/x/SHA256SUMS', 'none', 'another');
     await run.files('/x/SHA256SUMS');
-    return run.page.verdict.text === 'SHA256SUMS: FAILED' ? ['SHA256SUMS: FAILED by x.sha512'] : ['a FAILED'];
+    const rows = ['SHA256SUMS: FAILED by x.sha512', 'none: MISSING by SHA256SUMS', 'another: MISSING by SHA256SUMS'];
+    return run.page.verdict.text === 'SHA256SUMS: FAILED' ? rows : ['a FAILED'];
   },
 };
 
