@@ -103,7 +103,8 @@ export class Added {
 
   /** Takes lists and digests that came with the page or in its address. */
   give({ lists = [], digests = [] }) {
-    const digestsOf = (it) => pastedDigests(`${it.hash}:${it.digits}`, null).map((digest) => ({ ...it, ...digest }));
+    const digestsOf = (it) =>
+      it.fault ? [it] : pastedDigests(`${it.hash}:${it.digits}`, null).map((digest) => ({ ...it, ...digest }));
     this.#given = {
       lists: lists.map((it) => ({ id: ++this.#count, item: null, ...it })), digests: digests.flatMap(digestsOf),
     };

@@ -13,6 +13,14 @@ export function shown(name) {
   });
 }
 
+const MOST_QUOTED = 100; // characters
+/** Words of somebody else, such as those of a link: in quotes, bounded, and so that they turn nothing beside them. */
+export function quoted(text) {
+  const characters = [...text];
+  const end = characters.length > MOST_QUOTED ? '..' : '';
+  return `“\u2068${shown(characters.slice(0, MOST_QUOTED).join(''))}${end}\u2069”`;
+}
+
 const MOST_NAMED = 3;
 /** Some of these names, and how many more there are. */
 export function someOf(names) {

@@ -3,7 +3,6 @@
 import { TITLES } from './functions.js';
 import { chosen, dropped, hasFiles } from './gather.js';
 import { bakedList, ofAddress, sayGiven } from './given.js';
-import { shown } from './names.js';
 import { byId, clearRows, copyButton, drawRows, drawThings, element } from './table.js';
 
 const TYPING = 300; // milliseconds without a key
@@ -55,7 +54,7 @@ function begin() {
   worker.onerror = (event) => SHOW.broken({ message: event.message ?? 'no worker' });
   worker.postMessage({ module: moduleBytes });
   const address = baked ? { digests: [], lists: [] } : ofAddress(location.hash);
-  byId('ask').textContent = sayGiven(baked, address, shown);
+  byId('ask').textContent = sayGiven(baked, address);
   send('give', { ...address, lists: baked ? [baked] : address.lists });
 }
 

@@ -2,7 +2,7 @@
 // What is to be checked: the rows of the page, without the page, and the files that have to be read for them.
 import { keyOf, wholeOf } from './functions.js';
 import { meaningsOf } from './meaning.js';
-import { lastPart, shown } from './names.js';
+import { lastPart, quoted, shown } from './names.js';
 
 /** The results of a row, as `sums check` names them, and others: of what has no hash or no list that is known. */
 export const RESULT = {
@@ -49,7 +49,7 @@ function listPart(list, places) {
   const name = shown(list.name);
   const { lines, notes, fault } = list.read;
   const meaningOf = meaningsOf(list, places, lines.flatMap((it) => it.name ?? []));
-  const rows = lines.map((it) => lineRow(it, meaningOf, shown));
+  const rows = lines.map((it) => lineRow(it, meaningOf, list.isOfLink ? quoted : shown));
   if (fault) rows.push(settled(name, RESULT.unreadable, [fault]));
   for (const row of rows) row.list = list;
   return { from: name, rows, notes: notes.map((it) => `${name}: ${it}`) };
@@ -63,7 +63,7 @@ function digestPart(digest, items, isOne) {
   const { title, of, fault, name } = digest;
   if (fault) return { from: title, digest, rows: [settled(title, RESULT.malformed, [fault])], isSure: true };
   const own = items.filter((it) => lastPart(it.path) === name);
-  const remark = name === undefined || own.length ? '' : `, of the file that is called ${shown(name)} there`;
+  const remark = name === undefined || own.length ? '' : `, of the file that is called ${quoted(name)} there`;
   const rows = (own.length ? own : items).map((it) => rowOf(it, of, digest.digest, remark));
   return { from: title, digest, rows, isSure: own.length > 0 || isOne };
 }

@@ -29,6 +29,10 @@ OTHERS = {
 }
 
 
+def quoted(text):
+    return f"“\u2068{text}\u2069”"
+
+
 def digest_of(program, work, hash_name, path):
     run = harness.run(program, ["hash", "-a", hash_name, "--", path], cwd=work)
     return run.out.decode().split()[0]
@@ -301,19 +305,53 @@ def try_address(page, work):
     page.anew()
     page.files(made(work, "two (1).iso", b"two"))
     shown = page.done()
-    harness.judge("by another name", shown["state"] == "ok" and "called two.iso" in shown["details"][0], shown)
+    harness.judge("by another name", shown["state"] == "ok" and f"called {quoted('two.iso')}" in shown["details"][0], shown)
     text = urllib.parse.quote(f"{sha256(b'two')}  two.iso\n{sha256(b'x')}  none\n")
     page.browser.open("about:blank")
     page.browser.open(f"{home}#list={text}")
     page.files(work / "two.iso")
-    harness.same("an address with a list", page.done()["rows"], ["two.iso: OK", "none: MISSING"])
+    wanted = [f"{quoted('two.iso')}: OK", f"{quoted('none')}: MISSING"]
+    harness.same("an address with a list", page.done()["rows"], wanted)
     page.browser.open("about:blank")
     page.browser.open(f"{home}#sha256=<img src=x onerror=alert(1)>&name=<b>")
     harness.same("an address with markup", page.browser.script("return document.querySelectorAll('img, b').length"), 0)
     page.files(work / "two.iso")
     harness.same("and no digest", page.done()["state"], "wrong")
+    try_words(page, work, home)
     page.browser.open("about:blank")
     page.browser.open(home)
+
+
+def try_words(page, work, home):
+    """Words of a link are quoted and bounded, and each part of it is judged or named."""
+    digest = sha256(b"two")
+    long = "two.iso. This link is signed by the maker. " + "x" * 200
+    for what, words, asked in (
+        ("a name", f"sha256={digest}&name={urllib.parse.quote(long)}", quoted(long[:100] + "..")),
+        ("a name that turns the text", f"sha256={digest}&name=%E2%80%AEosi.owt", quoted("\\u{202e}osi.owt")),
+        ("a name with a plus", f"sha256={digest}&name=a+b", quoted("a+b")),
+        ("a digest of words", "sha256=This%20is%20right:%20trust%20it", quoted("This is righ..")),
+    ):
+        page.browser.open("about:blank")
+        page.browser.open(f"{home}#{words}")
+        asked_now = page.done()["asked"]
+        harness.judge(f"an address with {what}", asked in asked_now, asked_now)
+    for words, state, rows in (
+        (f"SHA256={digest}", "ok", ["two.iso: OK"]), (f"Sha256={digest}&NAME=two.iso", "ok", ["two.iso: OK"]),
+        ("sha1=da39a3ee5e6b4b0d3255bfef95601890afd80709", "wrong", ["the link: MALFORMED", "two.iso: DIGEST"]),
+        (f"sha256={digest}&sha1=da39", "wrong", ["two.iso: OK", "the link: MALFORMED"]),
+        (digest, "wrong", ["the link: MALFORMED", "two.iso: DIGEST"]),
+        (f"sha256={digest}&list=%", "wrong", ["two.iso: OK", "the link: MALFORMED"]),
+        (f"sha256={digest}&name=two.iso&name=x", "wrong", ["two.iso: OK", "the link: MALFORMED"]),
+        (f"sha256={'1' * 64}&name=two.iso", "wrong", ["two.iso: FAILED", "other: NOT LISTED"]),
+        (f"sha256={digest}&sha512={'1' * 128}", "wrong", ["two.iso: OK", "the digest in the address: NO MATCH"]),
+    ):
+        page.browser.open("about:blank")
+        page.browser.open(f"{home}#{words}")
+        page.done()
+        page.files(work / "two.iso", *([made(work, "other", b"other")] if "other: NOT LISTED" in rows else []))
+        shown = page.done()
+        harness.same(f"an address: {words[:40]}", (shown["state"], shown["rows"]), (state, rows))
 
 
 def try_baked(browser, work, original):
