@@ -19,11 +19,12 @@ const NO_DETAIL = Object.freeze([]); // one for all of half a million rows
 
 // ---- rows: a label, what they are of, and a result as soon as there is one
 
-export const settled = (label, result, detail = NO_DETAIL, item = null) => ({ label, result, detail, item, from: '' });
+export const settled = (label, result, detail = NO_DETAIL, item = null) =>
+  ({ label, result, detail, item, from: '', list: null });
 
 /** A row that waits for the digests of a file by these functions, one of which has to be `digest` if there is one. */
 const waiting = (label, item, of, digest, remark = '') =>
-  ({ label, result: '', detail: NO_DETAIL, item, from: '', of, digest, remark });
+  ({ label, result: '', detail: NO_DETAIL, item, from: '', list: null, of, digest, remark });
 
 /** A row that waits for an item, or says what is wrong with it. */
 function rowOf(item, of, digest, remark) {

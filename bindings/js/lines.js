@@ -1,6 +1,6 @@
 // SPDX-License-Identifier: MIT OR Apache-2.0
 // The lines of lists of digests, read and written by the calls of the module.
-import { bytesOf, toHex, whole } from './bytes.js';
+import { bytesOf, whole } from './bytes.js';
 import { HASHES, hashName } from './hashes.js';
 import { DIGEST_LENGTH, NO_LINE, Refused, within } from './machine.js';
 import { optionsOf } from './message.js';
@@ -26,6 +26,17 @@ let utf8 = null;
 function textOf(data) {
   utf8 ??= new TextDecoder('utf-8', { fatal: true, ignoreBOM: true });
   return utf8.decode(data);
+}
+
+const HEXADECIMAL = Array.from('0123456789abcdef', (it) => it.charCodeAt(0));
+/** The digits of a digest as one text. One that is put together digit by digit takes several times the memory. */
+function digitsOf(digest) {
+  const digits = new Uint8Array(2 * digest.length);
+  for (let at = 0; at < digest.length; at++) {
+    digits[2 * at] = HEXADECIMAL[digest[at] >> 4];
+    digits[2 * at + 1] = HEXADECIMAL[digest[at] & 15];
+  }
+  return textOf(digits);
 }
 
 /** A line of a list that is neither skipped nor an entry. */
@@ -112,7 +123,7 @@ function lineIn({ bytes, numbers }, kind) {
   }
   return {
     name: textOf(bytes.subarray(AT.name, AT.name + numbers.getUint32(AT.nameLength, true))),
-    digest: toHex(bytes.subarray(AT.digest, AT.digest + numbers.getUint32(AT.digestLength, true))),
+    digest: digitsOf(bytes.subarray(AT.digest, AT.digest + numbers.getUint32(AT.digestLength, true))),
     hash: NUMBERED[numbers.getUint32(AT.hash, true)],
     line,
   };
