@@ -70,8 +70,9 @@ export class Added {
       const own = `${isFolder ? 'folder' : 'file'} ${shown(isFolder ? it.name : it.path)}`;
       this.#said.push(`Another ${own} is there: this one is called ${shown(it.label)} here.`);
     }
-    const unread = `In the folder ${shown(label)} the browser could not read: ${someOf([...closed.keys()].map(shown))}.`;
-    if (closed.size) this.#said.push(refusal ? `Not added: ${shown(label)}, for ${refusal}.` : unread);
+    const unread = someOf([...closed.keys()].map(shown));
+    if (refusal) this.#said.push(`Not added: ${shown(label)}, for ${refusal}.`);
+    else if (unread) this.#said.push(`In the folder ${shown(label)} the browser could not read: ${unread}.`);
   }
 
   /** Takes the lists among items, in their order, and looks which others hold entries. */
@@ -176,7 +177,8 @@ export class Added {
     const things = all.slice(0, MOST_TOLD).map((it) => {
       const items = it.isFolder ? [...it.items.values()] : [it];
       const canUse = items.filter(({ isOffered }) => isOffered).map(({ id, name }) => ({ id, label: shown(name) }));
-      return { id: it.id, label: shown(it.label), kind: it.isFolder ? folderKind(it, items) : this.#kindOf(it), canUse };
+      const kind = it.isFolder ? folderKind(it, items) : this.#kindOf(it);
+      return { id: it.id, label: shown(it.label), kind, canUse };
     });
     return { things, more: all.length - things.length };
   }

@@ -204,12 +204,13 @@ export class Engine {
     this.#isDue = false;
     Object.assign(run, { rows: concluded(run), comparisons: [] });
     run.view = new View(run.rows);
-    const verdict = verdictOf(run, run.isGiven && run.rows.every((it) => !it.item));
+    const isAsking = run.isGiven && run.rows.every((it) => !it.item);
+    const verdict = verdictOf(run, isAsking);
     const hasDoubt = run.hasChanged || run.lists.some((it) => it.read.isPartlySigned);
     if (hasDoubt && verdict.state === 'ok') verdict.state = '';
     const missing = run.rows.filter((it) => it.result === RESULT.missing && !run.isOfFolder).length;
     const canWrite = writtenList(this.#library, run.rows, this.#added.places) !== null;
-    this.#say('verdict', { ...verdict, notes: run.notes, missing, all: run.rows.length, canWrite });
+    this.#say('verdict', { ...verdict, notes: run.notes, missing, all: run.rows.length, canWrite, isAsking });
   }
 
   /** Says how far it came, or once more what came out if all was read by then. */

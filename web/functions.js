@@ -4,7 +4,8 @@ import { HASHES } from '../bindings/js/hashes.js';
 
 /** Of a digest alone, 32 bytes: what is shorter is a part of one, or says little. */
 export const FEWEST_DIGITS = 64;
-export const TITLES = { sha256: 'SHA-256', sha512: 'SHA-512', blake2b: 'BLAKE2b', blake2s: 'BLAKE2s', blake3: 'BLAKE3' };
+export const TITLES =
+  { sha256: 'SHA-256', sha512: 'SHA-512', blake2b: 'BLAKE2b', blake2s: 'BLAKE2s', blake3: 'BLAKE3' };
 /** Hashes that are not here, by how many digits their digests have. */
 const OTHERS = { 32: 'MD5', 40: 'SHA-1', 56: 'SHA-224', 96: 'SHA-384' };
 
@@ -42,7 +43,7 @@ export function onlyDigits(bytes) {
   return bytes.length < 1024 ? ONLY_DIGITS.exec(String.fromCharCode(...bytes))?.[1] ?? '' : '';
 }
 
-/** What a word stands for, such as SHA-256, b2 or blake2s-256: one of HASHES, or the title of one that is not here. */
+/** What a word stands for, such as SHA-256, b2 or blake2s-256: one of HASHES, or the title of another hash. */
 export function hashNamed(word) {
   const [, family, rest] = /^(sha|md|blake|b)-?(.*)$/.exec(word.toLowerCase());
   const own = `${family}${rest.replace(/^2-/, '')}`;

@@ -13,7 +13,8 @@ function settleWrong(row, digests) {
     const detail = [`none of ${titlesOf(of)}${remark} gives `, code(digest), '. Choose its hash above'];
     return Object.assign(row, { result: RESULT.unmatched, detail });
   }
-  const detail = [`${titlesOf(of)}${remark}: it is `, code(digests.get(keyOf(of[0]))), ', and it should be ', code(digest)];
+  const got = code(digests.get(keyOf(of[0])));
+  const detail = [`${titlesOf(of)}${remark}: it is `, got, ', and it should be ', code(digest)];
   return Object.assign(row, { result: RESULT.failed, detail });
 }
 
@@ -46,8 +47,8 @@ function settleOpen(rows) {
   const isRight = new Set(rows.filter((it) => it.right).map((it) => it.item));
   for (const row of rows) {
     if (row.right && row.right !== most) {
-      const detail = [`${titleOf(row.right)} gives it, and other lines of this list are of another hash. Choose it above`];
-      Object.assign(row, { result: RESULT.unmatched, detail });
+      const detail = `${titleOf(row.right)} gives it, and other lines of this list are of another hash. Choose it above`;
+      Object.assign(row, { result: RESULT.unmatched, detail: [detail] });
     } else if (row.result === RESULT.unmatched && most && !isRight.has(row.item)) {
       settleWrong(Object.assign(row, { of: [most] }), row.item.reading.digests);
     }

@@ -86,6 +86,9 @@ function say(state, text, notes) {
   byId('notes').replaceChildren(...list(notes));
 }
 
+/** Brings the verdict into view, which is far below the form on a small screen. */
+const showVerdict = () => byId('verdict').scrollIntoView({ block: 'nearest' });
+
 /** Folds what a list names and was not added, if something else is there to see. */
 function foldMissing(missing, all) {
   const isFolded = missing > 0 && missing < all;
@@ -115,6 +118,7 @@ const SHOW = {
     byId('save').hidden = true;
     byId('stop').textContent = 'Stop';
     say('', told.progress.left ? 'Reading ..' : '', notes);
+    if (told.progress.left) showVerdict();
   },
   draw({ rows, hidden, progress }) {
     drawRows(rows);
@@ -122,12 +126,13 @@ const SHOW = {
     byId('more').textContent = hidden ? `${count} of the kinds above, which are counted, and not shown.` : '';
     showProgress(progress);
   },
-  verdict({ number, state, text, advice, notes, missing, canWrite, all, ...told }) {
+  verdict({ number, state, text, advice, notes, missing, canWrite, isAsking, all, ...told }) {
     if (!isAnswer(number)) return;
     drawAnew(told);
     say(state, text, [...advice, ...notes]);
     foldMissing(missing, all);
     byId('save').hidden = !canWrite;
+    if (all && !isAsking) showVerdict();
   },
   stopped({ number, state, text, ...told }) {
     if (!isAnswer(number)) return;

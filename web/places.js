@@ -101,7 +101,7 @@ export class Place {
   }
 }
 
-/** Of what was added before under a name, what `now` is: what is the same, or the one that has changed, and what is gone. */
+/** Of what was added before, what `now` is again: what is the same, or else the one that has changed and what is gone. */
 async function addedAgain(before, now, mayGoOn) {
   const those = new Map(Object.values(FATE).map((it) => [it, []]));
   for (const it of before) those.get(await fateOf(it.filesByPath, now.filesByPath, mayGoOn)).push(it);

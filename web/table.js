@@ -4,6 +4,7 @@
 export const byId = (id) => document.getElementById(id);
 export const element = (name, properties) => Object.assign(document.createElement(name), properties);
 
+const LINE_OF_DIGITS = /.{1,32}/g; // so that no line of a digest ends with a few of them
 const lines = new Map();
 
 /** A part of the table, whose role stays where a narrow screen lays it out in another way. */
@@ -58,7 +59,8 @@ function copySelected(text) {
 
 function partOf(part, { result, label }) {
   if (!part.code) return [part];
-  const digits = element('code', { textContent: part.code });
+  const digits = element('code');
+  for (const line of part.code.match(LINE_OF_DIGITS)) digits.append(line, element('wbr'));
   const isOwn = result === 'OK' || result === 'DIGEST';
   return isOwn ? [digits, ' ', copyButton(part.code, `the digest of ${label}`)] : [digits];
 }

@@ -11,8 +11,8 @@ const MEANING = {
   [RESULT.ok]: 'OK: the file has exactly the content that the list, or the digest, was made of.',
   [RESULT.failed]: 'FAILED: the file has another content. It is damaged, not whole, of another version, or somebody ' +
     'changed it. Do not use it. Download it again, from the maker’s own site.',
-  [RESULT.unmatched]: 'NO MATCH: no file here has the digest, as far as its hash is known. Either the file is another ' +
-    'one, or damaged, or the digest is of another hash: ask the maker which one it is, and choose it above.',
+  [RESULT.unmatched]: 'NO MATCH: no file here has the digest, as far as its hash is known. Either the file is ' +
+    'another one, or damaged, or the digest is of another hash: ask the maker for it, and choose it above.',
   [RESULT.missing]: 'MISSING: the list names a file that was not added here.',
   [RESULT.unreadable]: 'UNREADABLE: the file was not compared, and nothing is known of it. Its row says why.',
   [RESULT.malformed]: 'MALFORMED: this line cannot be read, so that nothing is known of the file that it may name.',

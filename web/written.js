@@ -3,7 +3,8 @@
 import { keyOf } from './functions.js';
 import { RESULT } from './plan.js';
 
-const NAMES = { sha256: 'SHA256SUMS', sha512: 'SHA512SUMS', blake2b: 'B2SUMS', blake2s: 'BLAKE2SSUMS', blake3: 'B3SUMS' };
+const NAMES =
+  { sha256: 'SHA256SUMS', sha512: 'SHA512SUMS', blake2b: 'B2SUMS', blake2s: 'BLAKE2SSUMS', blake3: 'B3SUMS' };
 
 /**
  * The list of all rows, `{ name, text }`, or null if one of them is no digest, or of a file that has another name where

@@ -369,6 +369,35 @@ def try_keyboard(page):
     harness.same("what is told aloud", live, 3)
 
 
+def try_small(page, work):
+    """On a small screen the verdict is in view when it comes, and lines end where they should."""
+    page.browser.resize(375, 667)
+    page.anew()
+    page.browser.script("scrollTo(0, 0)")
+    page.paste(f"SHA256 (a.iso) = {'0' * 64}\nSHA256 (empty) = {digest_of(work, 'sha256', 'empty')}")
+    state = page.done()["state"]
+    harness.same("what asks for files does not scroll", (state, page.browser.script("return scrollY")), ("", 0))
+    page.files(work / "a.iso", work / "empty")
+    shown = page.judged(2)
+    is_seen = page.browser.script("""
+        const { top, bottom } = document.getElementById('verdict').getBoundingClientRect();
+        return top >= 0 && bottom + 50 <= innerHeight;
+    """)
+    harness.judge("the verdict is in view", is_seen and shown["state"] == "wrong", shown["verdict"])
+    harness.judge("what FAILED means comes first", re.match("FAILED: a.iso", shown["notes"][0]), shown["notes"])
+    harness.judge("and OK after it", shown["notes"][1].startswith("FAILED: the file has"), shown["notes"])
+    lines, font, text = page.browser.script("""
+        const code = document.querySelector('#rows code');
+        return [[...code.childNodes].map((it) => it.textContent.length).filter((it) => it),
+            [...document.querySelectorAll('input')].map((it) => getComputedStyle(it).fontSize),
+            document.getElementById('verdict').textContent];
+    """)
+    harness.same("a digest is cut in halves", lines, [32, 32])
+    harness.same("the type of the inputs", set(font[:3]), {"16px"})
+    harness.judge("no count is cut", "1\xa0OK" in text and "1\xa0FAILED" in text, text)
+    page.browser.resize(1000, 1000)
+
+
 class Server(http.server.ThreadingHTTPServer):
     """A server of the page, which keeps what it is asked for."""
 
@@ -526,6 +555,7 @@ def try_browser(kind, work, files):
         try_everyday(page, folder_in(work, "everyday"), PROGRAM)
         try_many_lines(page, work)
         try_keyboard(page)
+        try_small(page, work)
         try_huge(page, work)
         harness.same("faults in the console, from a file", browser.faults(), [])
         try_baked(browser, folder_in(work, "baked"), PAGE)

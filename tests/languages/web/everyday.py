@@ -141,7 +141,7 @@ def try_texts(page, work):
 
 
 def try_mixed(page, work, program):
-    """Lists whose lines do not say their hash: each length has its own, and what has none that is known is not FAILED."""
+    """Lists whose lines do not say their hash: each length has its own, and a line without a known one is not FAILED."""
     made(work, "prog", b"hello")
     made(work, "other", b"other")
     lines = [f"{digest_of(program, work, name, 'prog')}  prog\n" for name in ("sha256", "sha512")]
@@ -305,7 +305,8 @@ def try_address(page, work):
     page.anew()
     page.files(made(work, "two (1).iso", b"two"))
     shown = page.done()
-    harness.judge("by another name", shown["state"] == "ok" and f"called {quoted('two.iso')}" in shown["details"][0], shown)
+    is_told = f"called {quoted('two.iso')}" in shown["details"][0]
+    harness.judge("by another name", shown["state"] == "ok" and is_told, shown)
     text = urllib.parse.quote(f"{sha256(b'two')}  two.iso\n{sha256(b'x')}  none\n")
     page.browser.open("about:blank")
     page.browser.open(f"{home}#list={text}")

@@ -165,8 +165,8 @@ def try_copies(page, work):
     right = b"x" * (3 << 20)
     wrong = right[: 3 << 19] + b"y" + right[(3 << 19) + 1 :]
     for disk, data in (("disk1", wrong), ("disk2", right)):
-        for path in (made(work, f"{disk}/photos/a", data), made(work, f"{disk}/photos/SHA256SUMS", list_of(("a", right)))):
-            os.utime(path, (10**9, 10**9))
+        for name, held in (("a", data), ("SHA256SUMS", list_of(("a", right)))):
+            os.utime(made(work, f"{disk}/photos/{name}", held), (10**9, 10**9))
     page.anew()
     page.folder(work / "disk1/photos")
     harness.same("a wrong copy", page.judged(2)["verdict"], "a: FAILED")
@@ -363,7 +363,8 @@ def try_order(page, work):
 DROP = """
     const file = ([name, text]) => ({ isFile: true, name, file: (give) => give(new File([text], name)) });
     const entries = (all, wait) => ({ readEntries: (give) => setTimeout(() => give(all.splice(0)), wait) });
-    const closed = (name) => ({ isDirectory: true, name, createReader: () => ({ readEntries: (_, fail) => fail('no') }) });
+    const failing = { readEntries: (_, fail) => fail('no') };
+    const closed = (name) => ({ isDirectory: true, name, createReader: () => failing });
     const folder = ({ name, files, unread, wait }) => ({ isDirectory: true, name,
         createReader: () => entries([...files.map(file), ...unread.map(closed)], wait ?? 0) });
     const item = (entry, file) => ({ kind: 'file', webkitGetAsEntry: () => entry, getAsFile: () => file });

@@ -1,5 +1,5 @@
 // What a line of a long list takes in the page's engine, whether its name says its hash or not: below 300 bytes.
-// usage: node --expose-gc tests/languages/web/memory.mjs PACKAGE    PACKAGE is the folder of the package, with its module
+// usage: node --expose-gc tests/languages/web/memory.mjs PACKAGE    the folder of the package, with its module
 import { join, resolve } from 'node:path';
 import { pathToFileURL } from 'node:url';
 import { Engine } from '../../../web/engine.js';

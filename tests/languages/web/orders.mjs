@@ -257,7 +257,8 @@ const AGAIN = {
     run.disk.closed = new Set(['/x/dist/b']);
     await run.drop('/x/dist');
     await run.drop('/y/dist');
-    return ['a: OK', 'b: UNREADABLE', 'a: OK', 'b: OK'].map((it, at) => `${it} by dist${at > 1 ? ' (2)' : ''}/SHA256SUMS`);
+    const first = ['a: OK by dist/SHA256SUMS', 'b: UNREADABLE by dist/SHA256SUMS'];
+    return [...first, 'a: OK by dist (2)/SHA256SUMS', 'b: OK by dist (2)/SHA256SUMS'];
   },
   async 'two copies of a file, and a stop while they are compared'(run) {
     const [right] = copies();
