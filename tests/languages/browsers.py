@@ -3,7 +3,8 @@
 what is dropped and what is pasted, lists in each form, wrong and missing files, odd names, a file of 3 GB, Stop. What
 it shows is compared with `sums check`, and no request may leave. What is not installed is told at the end, and not
 tried.
-usage: tests/languages/browsers.py PROGRAM PAGE [chromium|firefox]..     SHOTS names a folder for pictures of the page
+usage: tests/languages/browsers.py PROGRAM PAGE [chromium|firefox]..     SHOTS names a folder for pictures of the page,
+       ROUNDS says how many random folders with copies are tried
 """
 
 import base64
@@ -26,6 +27,7 @@ import harness
 
 sys.path.insert(0, os.path.join(harness.HERE, "languages/web"))
 sys.dont_write_bytecode = True
+from copies import try_random_copies  # noqa: E402
 from drivers import BROWSERS  # noqa: E402
 from driven import Page, TITLES  # noqa: E402
 from everyday import try_baked, try_everyday  # noqa: E402
@@ -42,6 +44,7 @@ EVIL = "<img src=x onerror=alert(1)>\u202etxt.exe"
 LINES = 400000
 LIST_BYTES = 2**26
 ANSWER = 3  # seconds
+ROUNDS = int(os.environ.get("ROUNDS", "100"))
 SIZES = {"a.iso": 9000001, "empty": 0, "b c.txt": 5, "step": 4 << 20, "ü.dat": 70000, "back\\slash": 3}
 
 
@@ -553,6 +556,7 @@ def try_browser(kind, work, files):
         try_folders(page, work)
         try_meant(page, folder_in(work, "meant"), PROGRAM)
         try_everyday(page, folder_in(work, "everyday"), PROGRAM)
+        try_random_copies(page, folder_in(work, "copies"), PROGRAM, ROUNDS)
         try_many_lines(page, work)
         try_keyboard(page)
         try_small(page, work)

@@ -1,6 +1,7 @@
 // The page's sets of files on a disk that changes: folders and files of one name are added in any order, by an input or
-// dropped, changed, removed and added again. A row is OK only where its file is right on the disk by now, in the folder
-// of its list if that was added with a folder, and where no other file may be meant.
+// dropped, changed, removed and added again; the browser refuses some of what is dropped. A row is OK only where its
+// file is right on the disk by now, in the folder of its list if that was added with a folder, and where no other file
+// may be meant; and nothing is green while something was refused or is not judged.
 // usage: node tests/languages/web/sets.mjs PACKAGE [ROUNDS]    PACKAGE is the folder of the package, with its module
 import { join, posix, resolve } from 'node:path';
 import { pathToFileURL } from 'node:url';
@@ -77,7 +78,15 @@ const WAYS = {
   files: { things: () => some(3, anyFile), add: (paths) => now.page.add(now.disk.input(...paths), !below(6)) },
   drop: {
     things: () => some(3, () => (below(2) ? anyFile() : anyFolder())),
-    add: (paths) => now.page.drop(now.disk.drop(...paths)),
+    async add(paths) {
+      const isTop = (it) => paths.includes(it) && !now.disk.files.has(it);
+      now.disk.closed = new Set(below(4) ? [] : [below(2) ? oneOf(paths) : anyFile()]);
+      if (now.disk.closed.size) now.steps.push(`closed: ${[...now.disk.closed].join(' ')}`);
+      for (const it of now.disk.closed) if (isTop(it)) now.refused.add(posix.basename(it));
+      const files = await now.page.drop(now.disk.drop(...paths));
+      now.disk.closed = new Set();
+      return files;
+    },
   },
 };
 
@@ -176,7 +185,7 @@ function isWeak(row) {
   const isOfNow = place.isFolder && file.selection === now.selection;
   if (!isOfNow || file.beside.some((it) => it.given !== it.path)) return false;
   const path = `${posix.dirname(file.real)}/${nameOf(row)}`;
-  return file.beside.some((it) => it.real === path && it.isThere);
+  return file.beside.some((it) => it.real === path && it.top === file.top && it.isThere);
 }
 
 /** What is wrong in the rows, and in what else is shown. */
@@ -191,9 +200,23 @@ function* wrongs() {
   const isOld = ({ real, held }) => !now.disk.files.get(real)?.bytes.equals(held.bytes);
   const hasOld = page.rows.some(({ list }) => list?.item && isOld(list.item.file));
   if (page.verdict.state === 'ok' && hasOld) yield 'green, with a list that has changed';
-  const labels = page.things.map(({ label, kind }) => `${kind.startsWith('a folder')} ${label}`);
+  if (page.verdict.state === 'ok') yield* notJudged();
+  const labels = page.things.map(({ label, kind }) => `${/^(a folder|not handed over)/.test(kind)} ${label}`);
   if (new Set(labels).size < labels.length) yield `two things of one name: ${labels.join(', ')}`;
 }
+
+/** What was not judged: what was refused and not removed, and what has no OK in its row. */
+function* notJudged() {
+  const { page, refused, hasRemoved } = now;
+  const isThere = (name) => page.things.some((it) => it.label.replace(/ \(\d+\)$/, '') === shownName(name));
+  for (const name of refused) if (!hasRemoved && !isThere(name)) yield `green, and ${name} that was refused is gone`;
+  const rest = page.things.find(({ kind }) => kind === 'not handed over');
+  if (rest) yield `green, and ${rest.label} was refused`;
+  const other = page.rows.find(({ result, item }) => item && result !== 'OK');
+  if (other) yield `green, and ${other.label} is ${other.result}`;
+}
+
+const shownName = (name) => name.replaceAll('\\', '\\\\');
 
 let judged = 0;
 let found = 0;
@@ -225,7 +248,8 @@ async function step() {
 for (let left = Number(rounds); left > 0; left--) {
   const browser = oneOf(['chromium', 'firefox']);
   const disk = new Disk(browser);
-  now = { browser, disk, page: new Page(library, disk), steps: [], added: [], selection: 0, hasRemoved: false };
+  now = { browser, disk, page: new Page(library, disk), steps: [], added: [], selection: 0 };
+  Object.assign(now, { hasRemoved: false, refused: new Set() });
   some(12, () => write(anyPath(), oneOf(TEXTS)));
   some(3, writeList);
   for (let steps = 3 + below(8); steps > 0; steps--) await step();
