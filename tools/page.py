@@ -18,11 +18,11 @@ NOTICES = ("1. ", "2. ", "==== MIT ", "==== UNICODE ")
 ONLY_IN_PROGRAM = re.compile(r"^   \w+ +program {3,}.*\n(?: {10,}Copyright.*\n)*", re.M)
 # What a script has in it, each file after those that it imports.
 PACKAGE = ["hashes", "bytes", "machine", "message", "sources", "lines", "checking", "library"]
-READING = ["functions", "listnames", "texts", "lists", "pasted", "names", "reading", "places",
+READING = ["functions", "groups", "listnames", "texts", "lists", "pasted", "names", "reading", "places",
            "meaning", "plan", "judging"]
 ENGINE = ["verdict", "added", "view", "written", "engine", "worker"]
 WORKER = [*(f"bindings/js/{name}.js" for name in PACKAGE), *(f"web/{name}.js" for name in READING + ENGINE)]
-SHOWING = ["functions", "names", "gather", "given", "table", "page"]
+SHOWING = ["functions", "groups", "names", "gather", "given", "table", "page"]
 SCRIPT = ["bindings/js/hashes.js", *(f"web/{name}.js" for name in SHOWING)]
 LIST = re.compile(r'(<script type="text/plain" id="list")[^>]*>[^<]*<')
 COMMENT = re.compile(r"^ *(?://.*|/\*\*(?:.|\n)*?\*/)\n", re.M)

@@ -1,6 +1,7 @@
 // SPDX-License-Identifier: MIT OR Apache-2.0
 // What is added: files and folders, the lists among them, and what is pasted or given with the page.
 import { TITLES } from './functions.js';
+import { groupsOf } from './groups.js';
 import { hashOfList, isListName } from './listnames.js';
 import { looksLikeList, readList, SNIFFED } from './lists.js';
 import { lastPart, shown, someOf } from './names.js';
@@ -11,28 +12,28 @@ import { plural } from './verdict.js';
 
 const LIST_BYTES = 2 ** 26;
 const TOO_LONG = 'it is longer than 64 MiB: use sums check';
-// Files of a selection that are looked into, whether they are lists by other names.
-const MOST_SEEN = 200;
+const MOST_SEEN = 200; // files of a selection that are looked into, whether they are lists by other names
 const MOST_TOLD = 200; // things
-
-const readBytes = async (blob) => new Uint8Array(await blob.arrayBuffer());
 
 /** The bytes of a list, or why there are none. */
 async function contentOf(file) {
   if (file.size > LIST_BYTES) return { fault: TOO_LONG };
   try {
-    return { bytes: await readBytes(file) };
+    return { bytes: new Uint8Array(await file.arrayBuffer()) };
   } catch (error) {
     return { fault: faultOf(error) };
   }
 }
 
-/** A folder with what was chosen or dropped of it, or files by themselves. */
-function placeOf({ name, files, closed }, selection) {
-  const place = new Place(name, selection);
-  for (const { path, file } of files) place.add(path, file);
-  for (const { path, fault } of closed) place.close(path, fault);
-  return place;
+/** Folders with what was chosen or dropped of them, and the files of each name by themselves. */
+function placesOf({ loose, folders }, selection) {
+  const alone = [...groupsOf(loose, (it) => it.path)].map(([name, files]) => ({ name, files, closed: [] }));
+  return [...folders, ...alone].map(({ name, files, closed }, at) => {
+    const place = new Place(name, selection, at < folders.length);
+    for (const { path, file } of files) place.add(path, file);
+    for (const { path, fault } of closed) place.close(path, fault);
+    return place;
+  });
 }
 
 export class Added {
@@ -53,23 +54,18 @@ export class Added {
   // ---- what changes it
 
   /** Adds what was chosen or dropped together: `loose` files, and `folders` with their files and faults. */
-  async add({ loose, folders, isList }, mayGoOn) {
+  async add(chosen, mayGoOn) {
     this.#said = [];
-    const selection = ++this.#count;
-    const all = loose.length ? [...folders, { name: '', files: loose, closed: [] }] : folders;
-    const places = all.map((it) => placeOf(it, selection));
-    for (const place of places) this.#sayAdded(place, await this.places.add(place, mayGoOn));
-    await this.#takeLists(places.flatMap((it) => [...it.items.values()]), isList);
+    const places = placesOf(chosen, ++this.#count);
+    const replaced = (await this.places.add(places, mayGoOn)).map((it) => shown(it.label));
+    if (replaced.length) this.#said.push(`Added again, which replaces what it was before: ${someOf(replaced)}.`);
+    for (const place of places) this.#sayAdded(place);
+    await this.#takeLists(places.flatMap((it) => [...it.items.values()]), chosen.isList);
   }
 
-  #sayAdded(place, replaced) {
-    const { label, closed, refusal, isFolder } = place;
-    const names = [...new Set(replaced.map((it) => shown(it.label)))];
-    if (names.length) this.#said.push(`Added again, which replaces what it was before: ${someOf(names)}.`);
-    for (const it of place.things.filter(({ isRenamed }) => isRenamed)) {
-      const own = `${isFolder ? 'folder' : 'file'} ${shown(isFolder ? it.name : it.path)}`;
-      this.#said.push(`Another ${own} is there: this one is called ${shown(it.label)} here.`);
-    }
+  #sayAdded({ name, label, closed, refusal, isFolder, isRenamed }) {
+    const own = `${isFolder ? 'folder' : 'file'} ${shown(name)}`;
+    if (isRenamed) this.#said.push(`Another ${own} is there: this one is called ${shown(label)} here.`);
     const unread = someOf([...closed.keys()].map(shown));
     if (refusal) this.#said.push(`Not added: ${shown(label)}, for ${refusal}.`);
     else if (unread) this.#said.push(`In the folder ${shown(label)} the browser could not read: ${unread}.`);
@@ -90,16 +86,13 @@ export class Added {
   }
 
   async #looksLikeList({ file, path }) {
-    try {
-      return looksLikeList(this.#library, await readBytes(file.slice(0, SNIFFED + 1)), lastPart(path));
-    } catch {
-      return false;
-    }
+    const { bytes } = await contentOf(file.slice(0, SNIFFED + 1));
+    return bytes !== undefined && looksLikeList(this.#library, bytes, lastPart(path));
   }
 
   async #takeList(item) {
-    const { name, selection } = item;
-    item.list = { id: ++this.#count, name, item, selection, ...(await contentOf(item.file)) };
+    const { name, place } = item;
+    item.list = { id: ++this.#count, name, item, selection: place.selection, ...(await contentOf(item.file)) };
   }
 
   /** Takes lists and digests that came with the page or in its address. */
@@ -125,8 +118,7 @@ export class Added {
   }
 
   remove(id) {
-    const gone = [...this.places.all, ...this.places.items].find((it) => it.id === id);
-    if (gone) this.places.remove(gone);
+    this.places.remove(id);
     this.#said = [];
   }
 
@@ -173,14 +165,12 @@ export class Added {
 
   /** Each thing that was added, to be named and removed: files by themselves, folders, and lists. */
   get things() {
-    const all = this.places.all.flatMap((it) => it.things);
-    const things = all.slice(0, MOST_TOLD).map((it) => {
-      const items = it.isFolder ? [...it.items.values()] : [it];
+    const things = this.places.all.slice(0, MOST_TOLD).map((it) => {
+      const items = [...it.items.values()];
       const canUse = items.filter(({ isOffered }) => isOffered).map(({ id, name }) => ({ id, label: shown(name) }));
-      const kind = it.isFolder ? folderKind(it, items) : this.#kindOf(it);
-      return { id: it.id, label: shown(it.label), kind, canUse };
+      return { id: it.id, label: shown(it.label), kind: it.isFolder ? folderKind(it) : this.#kindOf(items[0]), canUse };
     });
-    return { things, more: all.length - things.length };
+    return { things, more: this.places.all.length - things.length };
   }
 
   #kindOf({ list }) {
@@ -190,8 +180,8 @@ export class Added {
   }
 }
 
-function folderKind({ refusal }, items) {
+function folderKind({ refusal, items }) {
   if (refusal) return 'not handed over';
-  const lists = items.filter((it) => it.list).length;
-  return `a folder with ${plural(items.length - lists, 'file')}${lists ? ` and ${plural(lists, 'list')}` : ''}`;
+  const lists = [...items.values()].filter((it) => it.list).length;
+  return `a folder with ${plural(items.size - lists, 'file')}${lists ? ` and ${plural(lists, 'list')}` : ''}`;
 }

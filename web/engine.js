@@ -4,7 +4,7 @@ import { Added } from './added.js';
 import { keyOf } from './functions.js';
 import { concluded, settle } from './judging.js';
 import { shown } from './names.js';
-import { jobsOf, planOf, RESULT } from './plan.js';
+import { jobsOf, planOf } from './plan.js';
 import { faultNow, faultOf, isLong, piecesOfFile } from './reading.js';
 import { stopped, verdictOf } from './verdict.js';
 import { View } from './view.js';
@@ -28,7 +28,7 @@ export class Engine {
   #library;
   #post;
   #queue = [];
-  #isBusy = false;
+  #working = null; // until all commands are done
   #isDue = false; // whether something has changed that is not judged yet
   #added;
   #number = 0; // of the last command
@@ -44,11 +44,8 @@ export class Engine {
   /** Takes a command: `add`, `give`, `paste`, `choose`, `use`, `remove`, `go`, `stop` or `write`. */
   take(command) {
     this.#queue.push(command);
-    if (!this.#isBusy) this.#work();
-  }
-
-  get isBusy() {
-    return this.#isBusy;
+    this.#working ??= this.#work();
+    return this.#working;
   }
 
   /** What is checked by now. */
@@ -57,7 +54,6 @@ export class Engine {
   }
 
   async #work() {
-    this.#isBusy = true;
     try {
       while (this.#queue.length) {
         const command = this.#queue.shift();
@@ -67,7 +63,7 @@ export class Engine {
     } catch (error) {
       this.#post({ kind: 'broken', message: String(error?.message ?? error) });
     } finally {
-      this.#isBusy = false;
+      this.#working = null;
     }
   }
 
@@ -204,22 +200,16 @@ export class Engine {
     this.#isDue = false;
     Object.assign(run, { rows: concluded(run), comparisons: [] });
     run.view = new View(run.rows);
-    const isAsking = run.isGiven && run.rows.every((it) => !it.item);
-    const verdict = verdictOf(run, isAsking);
-    const hasDoubt = run.hasChanged || run.lists.some((it) => it.read.isPartlySigned);
-    if (hasDoubt && verdict.state === 'ok') verdict.state = '';
-    const missing = run.rows.filter((it) => it.result === RESULT.missing && !run.isOfFolder).length;
     const canWrite = writtenList(this.#library, run.rows, this.#added.places) !== null;
-    this.#say('verdict', { ...verdict, notes: run.notes, missing, all: run.rows.length, canWrite, isAsking });
+    this.#say('verdict', { ...verdictOf(run), notes: run.notes, canWrite, isStopped: false });
   }
 
   /** Says how far it came, or once more what came out if all was read by then. */
   #interrupt() {
     if (this.#run && !this.#isDue) return this.#judge(this.#run);
     if (!this.#run) this.#plan();
-    const { rows, left } = this.#run;
-    this.#run.view = new View(rows, 'stopped');
-    this.#say('stopped', stopped(rows, left));
+    this.#run.view = new View(this.#run.rows, 'stopped');
+    this.#say('verdict', { ...stopped(this.#run), notes: [], canWrite: false, isStopped: true });
   }
 
   /** Gives the list of all rows. If they have changed since it was offered, they are said anew instead. */

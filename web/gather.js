@@ -1,5 +1,6 @@
 // SPDX-License-Identifier: MIT OR Apache-2.0
 // The files of an input and of what was dropped, as one selection: files by themselves, and folders.
+import { groupsOf } from './groups.js';
 
 const CLOSED = 'the browser could not read it';
 const CLOSED_TOP = 'the browser does not let this page read it: choose it as “A whole folder”';
@@ -23,14 +24,9 @@ export function chosen(input) {
   const files = [...input.files];
   input.value = '';
   const loose = files.filter((it) => !it.webkitRelativePath).map((file) => ({ path: file.name, file }));
-  const folders = new Map();
-  for (const file of files.filter((it) => it.webkitRelativePath)) {
-    const { name, path } = partsOf(file);
-    if (!folders.has(name)) folders.set(name, { name, files: [], closed: [] });
-    folders.get(name).files.push({ path, file });
-  }
-  if (!files.length) folders.set('', closedTop('what was chosen', NO_FILE));
-  return { loose, folders: [...folders.values()] };
+  const parts = files.filter((it) => it.webkitRelativePath).map((file) => ({ file, ...partsOf(file) }));
+  const folders = [...groupsOf(parts, (it) => it.name)].map(([name, all]) => ({ name, files: all, closed: [] }));
+  return { loose, folders: files.length ? folders : [closedTop('what was chosen', NO_FILE)] };
 }
 
 const promised = (call) => new Promise((resolve, reject) => call(resolve, reject));
@@ -73,11 +69,8 @@ export async function dropped(transfer) {
       const folder = { name: entry.name, files: [], closed: [] };
       await gather(entry, '', folder);
       selection.folders.push(folder);
-    } else if (file) {
-      selection.loose.push({ path: file.name, file });
-    } else {
-      selection.folders.push(closedTop(entry?.name ?? 'what was dropped', NO_FILE));
-    }
+    } else if (file) selection.loose.push({ path: file.name, file });
+    else selection.folders.push(closedTop(entry?.name ?? 'what was dropped', NO_FILE));
   }
   return selection;
 }

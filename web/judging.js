@@ -1,6 +1,7 @@
 // SPDX-License-Identifier: MIT OR Apache-2.0
 // What came out: the result of each row, as soon as its file is read, and what the rows come to in the end.
 import { keyOf, titleOf } from './functions.js';
+import { groupsOf } from './groups.js';
 import { RESULT, settled, unlisted } from './plan.js';
 
 const code = (text) => ({ code: text });
@@ -35,10 +36,9 @@ export function settle(row, { digests, fault }) {
 
 /** The function that more of these rows are right by than by any other one, or null. */
 function mostOf(rows) {
-  const counts = new Map();
-  for (const { right } of rows) if (right) counts.set(right, (counts.get(right) ?? 0) + 1);
-  const [[most, count] = [null, 0], [, next] = [null, 0]] = [...counts].sort(([, one], [, two]) => two - one);
-  return count > next ? most : null;
+  const groups = [...groupsOf(rows.filter((it) => it.right), (it) => it.right).values()];
+  const [most = [], next = []] = groups.sort((one, two) => two.length - one.length);
+  return most.length > next.length ? most[0].right : null;
 }
 
 /** Settles the lines of one list and one length that do not say their hash, which is the one of most of them. */
@@ -47,24 +47,12 @@ function settleOpen(rows) {
   const isRight = new Set(rows.filter((it) => it.right).map((it) => it.item));
   for (const row of rows) {
     if (row.right && row.right !== most) {
-      const detail = `${titleOf(row.right)} gives it, and other lines of this list are of another hash. Choose it above`;
+      const detail = `${titleOf(row.right)} gives it, and other lines here are of another hash. Choose one above`;
       Object.assign(row, { result: RESULT.unmatched, detail: [detail] });
     } else if (row.result === RESULT.unmatched && most && !isRight.has(row.item)) {
       settleWrong(Object.assign(row, { of: [most] }), row.item.reading.digests);
     }
   }
-}
-
-/** The rows of lists that do not say their hash, by their lists and the lengths of their digests. */
-function openRows(rows) {
-  const groups = new Map();
-  for (const row of rows) {
-    if (!row.list || !(row.of?.length > 1)) continue;
-    const key = `${row.list.id} ${row.digest.length}`;
-    if (!groups.has(key)) groups.set(key, []);
-    groups.get(key).push(row);
-  }
-  return [...groups.values()];
 }
 
 // ---- all rows
@@ -76,7 +64,8 @@ const isWrong = ({ result }) => [RESULT.failed, RESULT.unmatched].includes(resul
  * What it is not of counts as not listed.
  */
 export function concluded({ rows, files, comparisons }) {
-  for (const group of openRows(rows)) settleOpen(group);
+  const open = rows.filter((it) => it.list && it.of?.length > 1);
+  for (const group of groupsOf(open, (it) => `${it.list.id} ${it.digest.length}`).values()) settleOpen(group);
   const unsure = comparisons.filter((it) => !it.isSure);
   const missed = new Set(unsure.flatMap((it) => it.rows.filter(isWrong)));
   const all = rows.filter((it) => !missed.has(it));

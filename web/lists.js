@@ -4,9 +4,8 @@ import { onlyDigits, onlyOf, otherHash, sized, TITLES, usual } from './functions
 import { hashOfList, isListName } from './listnames.js';
 import { armourOf, hasMark, isSigned, isUtf16, asUtf8 } from './texts.js';
 
-// A list with more lines is for `sums check`, which keeps one at a time.
-export const MOST_LINES = 500000;
-export const TOO_MANY_LINES = `it has more than ${MOST_LINES} lines: use sums check`;
+const MOST_LINES = 500000; // `sums check` has no bound, and keeps one line at a time
+const TOO_MANY_LINES = `it has more than ${MOST_LINES} lines: use sums check`;
 export const SNIFFED = 65536; // bytes from which a file is taken for a list
 const LF = 10;
 const ANY = 'blake2b'; // has digests of every length that another hash has
@@ -50,8 +49,7 @@ function notOfHash(library, lines, { bytes, hash }) {
   if (!lengths.length) return [];
   const other = lengths.map(otherHash).find(Boolean);
   if (other) return [`its digests have ${other}.`];
-  const their = `${lengths[0]} digits`;
-  if (hash) return [`it has digests of another length, ${their}, than ${TITLES[hash]} has. Choose its hash above.`];
+  if (hash) return [`it has digests of ${lengths[0]} digits, and ${TITLES[hash]} has others. Choose its hash above.`];
   return ['its lines do not say which hash they are of. Choose it above.'];
 }
 

@@ -1,5 +1,6 @@
 // SPDX-License-Identifier: MIT OR Apache-2.0
 // Which of the files that were added a name in a list means.
+import { groupsOf } from './groups.js';
 import { folderOf, lastPart } from './names.js';
 import { faulty } from './places.js';
 
@@ -23,9 +24,7 @@ function meant(found, selection) {
 
 /** What a name means at the top of all that was added, as a folder or as a file by itself. */
 function atTop(places, { selection }, name, isFolder) {
-  const found = meant(isFolder ? places.folders(name) : places.loose(name), selection);
-  const others = isFolder ? places.loose(name) : places.folders(name);
-  return found ?? (others.length ? faulty() : null);
+  return meant(places.named(isFolder, name), selection) ?? (places.named(!isFolder, name).length ? faulty() : null);
 }
 
 /** The folder of this name in a folder. A file on the way leads to none. */
@@ -58,7 +57,7 @@ function named(places, from, name) {
   if (!last) return faulty();
   if (at.place) return at.place.at(`${at.folder}${last}`);
   const found = atTop(places, at, last, false);
-  return found?.place ? found.place.at(last) : found;
+  return found && !found.fault ? found.at(last) : found;
 }
 
 /** What a name means from the tops of these folders, where only one may have it. */
@@ -67,20 +66,11 @@ function amongTops(places, tops, name) {
   return tops.length > 1 && found.length ? faulty(SEVERAL_FOLDERS) : found[0] ?? null;
 }
 
-/** The one file that was added by itself under the last part of a name, or null. */
+/** The one file that was added by itself under this name, or null. */
 function alone(places, name) {
-  const found = places.loose(lastPart(name));
-  return found.length === 1 && !found[0].fault ? { item: found[0], fault: '' } : null;
-}
-
-/** Of the last part of each of these names, the name, or null if several of them end with it. */
-function endingsOf(names) {
-  const endings = new Map();
-  for (const name of names) {
-    const part = lastPart(name);
-    endings.set(part, endings.has(part) && endings.get(part) !== name ? null : name);
-  }
-  return endings;
+  const found = places.named(false, name);
+  const meaning = found.length === 1 ? found[0].at(name) : null;
+  return meaning?.item ? meaning : null;
 }
 
 /**
@@ -92,7 +82,7 @@ function finderOf({ item, selection }, places, names) {
   const isThere = (find) => names.some(find);
   const isInFolder = item?.place.isFolder === true;
   const own = from(isInFolder ? { place: item.place, folder: folderOf(item.path) } : { selection });
-  const tops = isInFolder ? [item.place] : places.folders().filter((place) => isThere(from({ place, folder: '' })));
+  const tops = isInFolder ? [item.place] : places.folders.filter((place) => isThere(from({ place, folder: '' })));
   const top = (name) => amongTops(places, tops, name);
   const isElsewhere = !isThere(own) && isThere(top);
   return { find: isElsewhere ? top : own, isElsewhere };
@@ -105,11 +95,11 @@ function finderOf({ item, selection }, places, names) {
  */
 export function meaningsOf(list, places, names) {
   const { find, isElsewhere } = finderOf(list, places, names);
-  const endings = list.item?.place.isFolder ? new Map() : endingsOf(names);
+  const namesByEnd = groupsOf(new Set(names), lastPart);
   return (name) => {
     const found = find(name);
-    const other = found || endings.get(lastPart(name)) !== name ? null : alone(places, name);
-    const meaning = found ?? other;
-    return meaning && { ...meaning, isOther: !found || isElsewhere || meaning.item?.isRenamed === true };
+    const mayBeAlone = !list.item?.place.isFolder && namesByEnd.get(lastPart(name)).length === 1;
+    const meaning = found ?? (mayBeAlone ? alone(places, lastPart(name)) : null);
+    return meaning && { ...meaning, isOther: !found || isElsewhere || meaning.item?.place.isRenamed === true };
   };
 }

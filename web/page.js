@@ -60,8 +60,6 @@ function begin() {
 
 // ---- what it says
 
-const list = (texts) => texts.map((textContent) => element('li', { textContent }));
-
 function showProgress({ total, taken, left, seconds }) {
   byId('progress').hidden = !left;
   byId('bar').max = Math.max(1, total);
@@ -83,19 +81,18 @@ function drawAnew(told) {
 function say(state, text, notes) {
   byId('results').className = state;
   byId('verdict').textContent = text;
-  byId('notes').replaceChildren(...list(notes));
+  byId('notes').replaceChildren(...notes.map((textContent) => element('li', { textContent })));
 }
 
 /** Brings the verdict into view, which is far below the form on a small screen. */
 const showVerdict = () => byId('verdict').scrollIntoView({ block: 'nearest' });
 
-/** Folds what a list names and was not added, if something else is there to see. */
-function foldMissing(missing, all) {
-  const isFolded = missing > 0 && missing < all;
-  byId('fold').hidden = !isFolded;
+/** Folds so many rows of what a list names and was not added. */
+function foldMissing(count) {
+  byId('fold').hidden = !count;
   byId('missing').checked = false;
-  byId('foldtext').textContent = `Show ${missing} more on the list, which ${missing === 1 ? 'was' : 'were'} not added`;
-  byId('details').classList.toggle('without-missing', isFolded);
+  byId('foldtext').textContent = `Show ${count} more on the list, which ${count === 1 ? 'was' : 'were'} not added`;
+  byId('details').classList.toggle('without-missing', count > 0);
 }
 
 /** Whether all that a person did is answered. */
@@ -114,7 +111,7 @@ const SHOW = {
     byId('added').textContent = summary;
     drawThings(things, more, { remove: (id) => send('remove', id), use: (id) => send('use', id) });
     drawAnew(told);
-    foldMissing(0, 0);
+    foldMissing(0);
     byId('save').hidden = true;
     byId('stop').textContent = 'Stop';
     say('', told.progress.left ? 'Reading ..' : '', notes);
@@ -126,20 +123,15 @@ const SHOW = {
     byId('more').textContent = hidden ? `${count} of the kinds above, which are counted, and not shown.` : '';
     showProgress(progress);
   },
-  verdict({ number, state, text, advice, notes, missing, canWrite, isAsking, all, ...told }) {
+  verdict({ number, state, text, advice, notes, folded, canWrite, isAsking, isStopped: isEarly, ...told }) {
     if (!isAnswer(number)) return;
     drawAnew(told);
     say(state, text, [...advice, ...notes]);
-    foldMissing(missing, all);
+    foldMissing(folded);
     byId('save').hidden = !canWrite;
-    if (all && !isAsking) showVerdict();
-  },
-  stopped({ number, state, text, ...told }) {
-    if (!isAnswer(number)) return;
-    drawAnew(told);
-    say(state, text, []);
-    byId('progress').hidden = false;
-    byId('stop').textContent = 'Go on';
+    byId('progress').hidden = !isEarly;
+    byId('stop').textContent = isEarly ? 'Go on' : 'Stop';
+    if (!isAsking) showVerdict();
   },
   written({ number, name, text }) {
     const address = URL.createObjectURL(new Blob([text], { type: 'text/plain' }));
@@ -198,9 +190,7 @@ function startOver() {
 const over = (isOver) => document.body.classList.toggle('over', isOver);
 const on = (id, kind, does) => byId(id).addEventListener(kind, (event) => does(event.target));
 
-on('files', 'change', (input) => add(chosen(input), false));
-on('folder', 'change', (input) => add(chosen(input), false));
-on('lists', 'change', (input) => add(chosen(input), true));
+for (const id of ['files', 'folder', 'lists']) on(id, 'change', (input) => add(chosen(input), id === 'lists'));
 on('hash', 'change', (select) => send('choose', select.value || null));
 on('missing', 'change', (box) => byId('details').classList.toggle('without-missing', !box.checked));
 on('text', 'input', typed);

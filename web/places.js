@@ -1,7 +1,8 @@
 // SPDX-License-Identifier: MIT OR Apache-2.0
 // What was added: folders, and files by themselves, each by one selection, and what is added again.
+import { groupsOf } from './groups.js';
 import { foldersOf } from './names.js';
-import { FATE, fateOf } from './reading.js';
+import { fateOf } from './reading.js';
 
 const TWICE = 'two files of this name were added at once, so neither is judged';
 const NO_FILE = 'it is no file';
@@ -17,7 +18,6 @@ class Item {
 
   constructor(place, path, file) {
     Object.assign(this, { place, path, file, files: [file] });
-    this.label = path;
   }
 
   addTwin(file) {
@@ -25,38 +25,21 @@ class Item {
     Object.assign(this, { file: null, fault: TWICE });
   }
 
-  get selection() {
-    return this.place.selection;
-  }
-
-  get filesByPath() {
-    return new Map([[this.path, this.files]]);
-  }
-
-  /** What it is called: with the folder that was added, or with a number, if another has the name. */
+  /** What it is called here, with the folder that was added. */
   get name() {
-    return this.place.isFolder ? `${this.place.label}/${this.path}` : this.label;
-  }
-
-  /** Whether it has another name here than where it comes from. */
-  get isRenamed() {
-    return this.place.isFolder ? this.place.isRenamed : this.label !== this.path;
+    return this.place.isFolder ? `${this.place.label}/${this.path}` : this.place.label;
   }
 }
 
-/** A folder with all that was added of it, or the files that one selection added by themselves. */
+/** A folder with all that was added of it, or a file by itself. Its label is not its name if another one has that. */
 export class Place {
   id = ++made;
   items = new Map();
   folders = new Set(['']);
   closed = new Map();
 
-  constructor(name, selection) {
-    Object.assign(this, { name, selection, label: name, isFolder: name !== '' });
-  }
-
-  get filesByPath() {
-    return new Map([...this.items].map(([path, { files }]) => [path, files]));
+  constructor(name, selection, isFolder) {
+    Object.assign(this, { name, selection, label: name, isFolder });
   }
 
   get isRenamed() {
@@ -66,16 +49,6 @@ export class Place {
   /** Why nothing of it was handed over, if so. */
   get refusal() {
     return this.closed.get('')?.fault ?? '';
-  }
-
-  /** Whether the browser could not read a part of it, which may be anything. */
-  get isPartlyClosed() {
-    return this.closed.size > 0 && !this.refusal;
-  }
-
-  /** What has a name of its own among all that was added: the folder, or each file. */
-  get things() {
-    return this.isFolder ? [this] : [...this.items.values()];
   }
 
   add(path, file) {
@@ -99,70 +72,71 @@ export class Place {
     if (closed) return faulty(closed.fault, closed);
     return this.folders.has(`${path}/`) ? faulty() : null;
   }
+
+  /** What has become of it, beside what is added now. A part that could not be read may be anything. */
+  fate(now, mayGoOn) {
+    return this.closed.size && !this.refusal ? 'other' : fateOf(this.items, now.items, mayGoOn);
+  }
 }
 
-/** Of what was added before, what `now` is again: what is the same, or else the one that has changed and what is gone. */
+/** What was added before and is `now` again: what is the same, or else the one that has changed, and what is gone. */
 async function addedAgain(before, now, mayGoOn) {
-  const those = new Map(Object.values(FATE).map((it) => [it, []]));
-  for (const it of before) those.get(await fateOf(it.filesByPath, now.filesByPath, mayGoOn)).push(it);
-  const [same, changed, gone] = [FATE.same, FATE.changed, FATE.gone].map((it) => those.get(it));
-  return same.length ? same : [...(changed.length === 1 ? changed : []), ...gone];
+  const of = { same: [], other: [], changed: [], gone: [] };
+  for (const it of before) of[await it.fate(now, mayGoOn)].push(it);
+  return of.same.length ? of.same : [...(of.changed.length === 1 ? of.changed : []), ...of.gone];
 }
+
+const keyOfName = (isFolder, name) => `${isFolder ? 'folder' : 'file'} ${name}`;
 
 /** All that was added, in its order. */
 export class Places {
-  #all = [];
-
-  get all() {
-    return this.#all;
-  }
+  all = [];
+  #named = new Map(); // the places of each name
 
   get items() {
-    return this.#all.flatMap((place) => [...place.items.values()]);
+    return this.all.flatMap((place) => [...place.items.values()]);
+  }
+
+  get folders() {
+    return this.all.filter((it) => it.isFolder);
   }
 
   /** What could not be added of folders, `{ place, path, fault }` each. */
   get closed() {
-    return this.#all.flatMap((place) => [...place.closed.values()]);
+    return this.all.flatMap((place) => [...place.closed.values()]);
   }
 
-  folders(name) {
-    return this.#all.filter((it) => it.isFolder && (name === undefined || it.name === name));
+  /** The folders of this name, or the files by themselves. */
+  named(isFolder, name) {
+    return this.#named.get(keyOfName(isFolder, name)) ?? [];
   }
 
-  /** The files that were added by themselves, all of them or those of this name. */
-  loose(name) {
-    const places = this.#all.filter((it) => !it.isFolder);
-    if (name === undefined) return places.flatMap((it) => it.things);
-    return places.map((it) => it.items.get(name)).filter(Boolean);
+  #keep(all) {
+    this.all = all;
+    this.#named = groupsOf(all, (it) => keyOfName(it.isFolder, it.name));
   }
 
   /**
-   * Adds a folder, or files by themselves, and gives what they replace: that is what is added again. What has the name
-   * of another one is called by a number too. `mayGoOn` is told how many bytes are compared, and may end that.
+   * Adds what comes by one selection, and gives what that replaces. What has the name of another one is called by a
+   * number too. `mayGoOn` is told how many bytes are compared, and may end that.
    */
-  async add(place, mayGoOn = () => true) {
-    const replaced = [];
-    for (const it of place.things) {
-      const others = place.isFolder ? this.folders(place.name) : this.loose(it.path);
-      const before = others.filter((old) => old.selection !== place.selection && !old.isPartlyClosed);
-      replaced.push(...(await addedAgain(before, it, mayGoOn)));
+  async add(places, mayGoOn) {
+    const replaced = new Set();
+    for (const place of places) {
+      const before = this.named(place.isFolder, place.name);
+      for (const it of await addedAgain(before, place, mayGoOn)) replaced.add(it);
     }
-    for (const it of replaced) this.remove(it);
-    const labels = new Set((place.isFolder ? this.folders() : this.loose()).map((it) => it.label));
-    for (const it of place.things) {
-      const name = it.label;
-      for (let count = 2; labels.has(it.label); count++) it.label = `${name} (${count})`;
-      labels.add(it.label);
+    const left = this.all.filter((it) => !replaced.has(it));
+    const labels = new Set(left.map((it) => keyOfName(it.isFolder, it.label)));
+    for (const it of places) {
+      for (let count = 2; labels.has(keyOfName(it.isFolder, it.label)); count++) it.label = `${it.name} (${count})`;
+      labels.add(keyOfName(it.isFolder, it.label));
     }
-    this.#all.push(place);
-    return replaced;
+    this.#keep([...left, ...places]);
+    return [...replaced];
   }
 
-  /** Removes an item, or a folder with all of its items. */
-  remove(gone) {
-    if (gone instanceof Item) gone.place.items.delete(gone.path);
-    const isLeft = (it) => it !== gone && (it.items.size > 0 || it.closed.size > 0 || it !== gone.place);
-    this.#all = this.#all.filter(isLeft);
+  remove(id) {
+    this.#keep(this.all.filter((it) => it.id !== id));
   }
 }

@@ -1,19 +1,14 @@
 // SPDX-License-Identifier: MIT OR Apache-2.0
 // What is to be checked: the rows of the page, without the page, and the files that have to be read for them.
 import { keyOf, wholeOf } from './functions.js';
+import { groupsOf } from './groups.js';
 import { meaningsOf } from './meaning.js';
 import { lastPart, quoted, shown } from './names.js';
 
 /** The results of a row, as `sums check` names them, and others: of what has no hash or no list that is known. */
 export const RESULT = {
-  ok: 'OK',
-  failed: 'FAILED',
-  unmatched: 'NO MATCH',
-  missing: 'MISSING',
-  unreadable: 'UNREADABLE',
-  malformed: 'MALFORMED',
-  unlisted: 'NOT LISTED',
-  digest: 'DIGEST',
+  ok: 'OK', failed: 'FAILED', unmatched: 'NO MATCH', missing: 'MISSING', unreadable: 'UNREADABLE',
+  malformed: 'MALFORMED', unlisted: 'NOT LISTED', digest: 'DIGEST',
 };
 const NO_DETAIL = Object.freeze([]); // one for all of half a million rows
 
@@ -69,15 +64,8 @@ function digestPart(digest, items, isOne) {
   return { from: title, digest, rows, isSure: own.length > 0 || isOne };
 }
 
-/** The rows of files that nothing names: NOT LISTED if something could, and else their digests. */
-function otherRows(files, { isJudged, chosen }) {
-  const other = (it) => (isJudged && !it.fault ? unlisted(it) : rowOf(it, [wholeOf(chosen ?? 'sha256')]));
-  return files.map(other);
-}
-
-function closedRow({ place, path, fault }) {
-  return settled(shown(path ? `${place.label}/${path}` : place.label), RESULT.unreadable, [fault]);
-}
+const closedRow = ({ place, path, fault }) =>
+  settled(shown(path ? `${place.label}/${path}` : place.label), RESULT.unreadable, [fault]);
 
 /**
  * The rows and the notes of what was added: `places`, `lists` of `{ name, item, selection, read }`, where `read` is
@@ -88,16 +76,17 @@ export function planOf({ places, lists, digests, chosen }) {
   const files = places.items.filter((it) => !it.list);
   const items = places.items.filter((it) => !it.list?.read.digest);
   const ofLists = lists.filter((it) => !it.read.digest).map((it) => listPart(it, places));
-  const isOne = digests.length === 1 && items.length === 1 && files.length === 1;
+  const isOne = [digests, items, files].every((it) => it.length === 1);
   const comparisons = digests.map((it) => digestPart(it, items, isOne));
   const parts = [...ofLists, ...comparisons];
   if (parts.length > 1) for (const { from, rows } of parts) for (const row of rows) row.from = from;
   const rows = parts.flatMap((it) => it.rows);
   const had = new Set(rows.map((it) => it.item));
   const isJudged = ofLists.length > 0 || digests.some((it) => !it.fault);
-  rows.push(...otherRows(files.filter((it) => !had.has(it)), { isJudged, chosen }));
+  const other = (it) => (isJudged && !it.fault ? unlisted(it) : rowOf(it, [wholeOf(chosen ?? 'sha256')]));
+  rows.push(...files.filter((it) => !had.has(it)).map(other));
   rows.push(...places.closed.filter((it) => !had.has(it)).map(closedRow));
-  const isOfFolder = places.folders().length > 0;
+  const isOfFolder = places.folders.length > 0;
   return { rows, files, comparisons, isOfFolder, notes: ofLists.flatMap((it) => it.notes) };
 }
 
@@ -105,12 +94,7 @@ export function planOf({ places, lists, digests, chosen }) {
 
 /** Of each item that rows wait for, these rows, and the functions of its digests. */
 export function jobsOf(rows) {
-  const jobs = new Map();
-  for (const row of rows.filter((it) => !it.result)) {
-    const job = jobs.get(row.item) ?? { item: row.item, rows: [], functions: new Map() };
-    job.rows.push(row);
-    for (const it of row.of) job.functions.set(keyOf(it), it);
-    jobs.set(row.item, job);
-  }
-  return [...jobs.values()].map((job) => ({ ...job, functions: [...job.functions.values()] }));
+  const functionsOf = (all) => [...new Map(all.flatMap((it) => it.of).map((it) => [keyOf(it), it])).values()];
+  const groups = groupsOf(rows.filter((it) => !it.result), (it) => it.item);
+  return [...groups].map(([item, all]) => ({ item, rows: all, functions: functionsOf(all) }));
 }

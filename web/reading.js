@@ -83,9 +83,6 @@ export async function* piecesOfFile(file) {
 
 // ---- what has become of what was added before
 
-/** A file is among those that are added now; still there and not among them; no longer what it was; or gone. */
-export const FATE = { same: 'same', other: 'other', changed: 'changed', gone: 'gone' };
-
 /** Whether both files are read now, and have the same bytes. `mayGoOn` is told how many, and may end the reading. */
 async function haveSameBytes(one, two, mayGoOn) {
   if (one.size !== two.size) return false;
@@ -100,32 +97,24 @@ async function haveSameBytes(one, two, mayGoOn) {
   }
 }
 
-/** The fate of a file, beside one that has its path now, if any. */
-async function fateBeside(before, now, mayGoOn) {
-  if (now && (await haveSameBytes(before, now, mayGoOn))) return FATE.same;
+/** The fate of a file: the `same` as one of its path now, or else an `other` that is there, or `changed`, or `gone`. */
+async function fateOfFile(before, now, mayGoOn) {
+  for (const it of now) if (await haveSameBytes(before, it, mayGoOn)) return 'same';
   try {
     await look(before);
-    return FATE.other;
+    return 'other';
   } catch (error) {
-    return isGone(error) ? FATE.gone : FATE.changed;
+    return isGone(error) ? 'gone' : 'changed';
   }
 }
 
-async function fateAmong(before, files, mayGoOn) {
-  for (const now of files) {
-    const fate = await fateBeside(before, now, mayGoOn);
-    if (fate !== FATE.other) return fate;
-  }
-  return FATE.other;
-}
-
-/** The fate of files by their paths, beside those of now: `other` if one has that, `same` or `gone` if all have it. */
+/** The fate of items by their paths, beside those of now: `other` if one has that, `same` or `gone` if all have it. */
 export async function fateOf(before, now, mayGoOn) {
   const all = new Set();
-  for (const [path, files] of before) {
-    for (const file of files) all.add(await fateAmong(file, now.get(path) ?? [null], mayGoOn));
-    if (all.has(FATE.other)) return FATE.other;
+  for (const [path, { files }] of before) {
+    for (const file of files) all.add(await fateOfFile(file, now.get(path)?.files ?? [], mayGoOn));
+    if (all.has('other')) return 'other';
   }
-  const [one = FATE.gone] = all;
-  return all.size > 1 ? FATE.changed : one;
+  const [one = 'gone'] = all;
+  return all.size > 1 ? 'changed' : one;
 }

@@ -28,14 +28,20 @@ function lineOf({ label, from }) {
   return line;
 }
 
+function button(textContent, label, does) {
+  const made = element('button', { type: 'button', textContent });
+  made.setAttribute('aria-label', label);
+  made.addEventListener('click', does);
+  return made;
+}
+
 /** A button that copies a text. */
 export function copyButton(text, what) {
-  const button = element('button', { type: 'button', className: 'copy', textContent: 'Copy' });
-  button.setAttribute('aria-label', `Copy ${what}`);
-  button.addEventListener('click', async () => {
-    button.textContent = (await copy(text)) ? 'Copied' : 'Not copied';
+  const made = button('Copy', `Copy ${what}`, async () => {
+    made.textContent = (await copy(text)) ? 'Copied' : 'Not copied';
   });
-  return button;
+  made.className = 'copy';
+  return made;
 }
 
 async function copy(text) {
@@ -90,12 +96,6 @@ export function drawRows(rows) {
 
 /** Draws what was added, each with a button that removes it, and with one for each file that is a list by its lines. */
 export function drawThings(things, more, { remove, use }) {
-  const button = (textContent, label, does) => {
-    const made = element('button', { type: 'button', textContent });
-    made.setAttribute('aria-label', label);
-    made.addEventListener('click', does);
-    return made;
-  };
   const lineOfThing = ({ id, label, kind, canUse }) => {
     const line = element('li');
     line.append(element('bdi', { textContent: label }), `, ${kind} `);

@@ -1,5 +1,6 @@
 // SPDX-License-Identifier: MIT OR Apache-2.0
 // What the rows say together, in words for whoever never saw a list.
+import { groupsOf } from './groups.js';
 import { someOf } from './names.js';
 import { RESULT } from './plan.js';
 
@@ -11,8 +12,8 @@ const MEANING = {
   [RESULT.ok]: 'OK: the file has exactly the content that the list, or the digest, was made of.',
   [RESULT.failed]: 'FAILED: the file has another content. It is damaged, not whole, of another version, or somebody ' +
     'changed it. Do not use it. Download it again, from the maker’s own site.',
-  [RESULT.unmatched]: 'NO MATCH: no file here has the digest, as far as its hash is known. Either the file is ' +
-    'another one, or damaged, or the digest is of another hash: ask the maker for it, and choose it above.',
+  [RESULT.unmatched]: 'NO MATCH: no file here has this digest, as far as its hash is known. The file is another one, ' +
+    'or damaged, or the digest is of another hash: choose that above, and do not use the file before it is OK.',
   [RESULT.missing]: 'MISSING: the list names a file that was not added here.',
   [RESULT.unreadable]: 'UNREADABLE: the file was not compared, and nothing is known of it. Its row says why.',
   [RESULT.malformed]: 'MALFORMED: this line cannot be read, so that nothing is known of the file that it may name.',
@@ -25,9 +26,8 @@ export const plural = (count, name) => `${count} ${name}${count === 1 ? '' : 's'
 
 /** How many rows have each result, in the order of the results; rows without one are left out. */
 function counts(rows) {
-  const of = new Map();
-  for (const { result } of rows) of.set(result, (of.get(result) ?? 0) + 1);
-  return IN_ORDER.filter((it) => of.has(it)).map((it) => [it, of.get(it)]);
+  const groups = groupsOf(rows, (it) => it.result);
+  return IN_ORDER.filter((it) => groups.has(it)).map((it) => [it, groups.get(it).length]);
 }
 
 /** The counts in words, each on one line with its result. */
@@ -72,21 +72,28 @@ function judging(rows, count, isOfFolder) {
 }
 
 /**
- * What the rows say together: whether all is `ok`, something is `wrong`, or neither, a text, and advice, in which what
- * is wrong comes first. `isAsking` says that there is something to compare with, and no file yet.
+ * What the rows of a run say together: whether all is `ok`, something is `wrong`, or neither; a text; advice, in which
+ * what is wrong comes first; how many rows are `folded`; and whether there is something to compare with, and no file.
  */
-export function verdictOf({ rows, isOfFolder }, isAsking) {
+export function verdictOf({ rows, isGiven, isOfFolder, hasChanged, lists }) {
   const count = new Map(counts(rows));
-  if (!count.size && !isAsking) return { state: '', text: '', advice: [] };
+  const isAsking = isGiven && rows.every((it) => !it.item);
+  if (!count.size && !isAsking) return { state: '', text: '', advice: [], folded: 0, isAsking: true };
   const { state, text } = isAsking ? asking(rows, count) : judging(rows, count, isOfFolder);
   const explained = WRONG_FIRST.filter((it) => count.has(it) && !(isAsking && it === RESULT.missing));
   const names = text.endsWith(`: ${RESULT.failed}`) ? [] : failedNames(rows);
-  return { state, text, advice: [...names, ...explained.map((it) => MEANING[it])] };
+  const hasDoubt = hasChanged || lists.some((it) => it.read.isPartlySigned);
+  const missing = isOfFolder ? 0 : count.get(RESULT.missing) ?? 0;
+  return {
+    state: state === 'ok' && hasDoubt ? '' : state, text, advice: [...names, ...explained.map((it) => MEANING[it])],
+    folded: missing < rows.length ? missing : 0, isAsking,
+  };
 }
 
-/** What is said at a stop, when so many files are left. */
-export function stopped(rows, left) {
+/** What is said of a run that is stopped. */
+export function stopped({ rows, left }) {
   const all = counts(rows.filter((it) => it.result));
   const text = `Stopped: ${[...(all.length ? [told(all)] : []), `${plural(left, 'file')} not read`].join(', ')}`;
-  return { state: all.some(([it]) => WRONG.includes(it)) ? 'wrong' : '', text };
+  const state = all.some(([it]) => WRONG.includes(it)) ? 'wrong' : '';
+  return { state, text, advice: [], folded: 0, isAsking: false };
 }

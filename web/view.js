@@ -5,18 +5,18 @@ const MOST_SHOWN = 1000; // rows of one result
 export class View {
   #keys = new Map();
   #changed = new Map();
-  #hidden = 0;
+  #hidden;
 
   /** `waits` is what is said of rows without a result. */
   constructor(rows, waits = 'waits') {
-    const shown = new Map();
+    const counts = new Map();
     for (const row of rows) {
-      const count = shown.get(row.result) ?? 0;
-      shown.set(row.result, count + 1);
+      const count = counts.get(row.result) ?? 0;
+      counts.set(row.result, count + 1);
       if (count < MOST_SHOWN) this.#keys.set(row, this.#keys.size);
-      else this.#hidden++;
+      this.draw(row, waits);
     }
-    for (const row of this.#keys.keys()) this.#changed.set(row, waits);
+    this.#hidden = rows.length - this.#keys.size;
   }
 
   /** Shows a row anew, with what it says meanwhile if it has no result. */

@@ -13,7 +13,7 @@ const NAMES =
 export function writtenList({ formatLine }, rows, places) {
   if (!rows.length || rows.some((it) => it.result !== RESULT.digest)) return null;
   const isAlone = places.all.length === 1 && places.all[0].isFolder;
-  if (!isAlone && rows.some(({ item }) => item.isRenamed)) return null;
+  if (!isAlone && rows.some(({ item }) => item.place.isRenamed)) return null;
   const [{ hash }] = rows[0].of;
   const named = rows.map(({ item, of }) => [isAlone ? item.path : item.name, item.reading.digests.get(keyOf(of[0]))]);
   named.sort(([one], [two]) => (one < two ? -1 : 1));

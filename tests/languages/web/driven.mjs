@@ -166,9 +166,9 @@ export class Page {
     this.give(command);
   }
 
-  /** Gives a command, and does not wait. */
+  /** Gives a command. What it returns can be waited for, until all is done. */
   give(kind, value) {
-    this.engine.take({ kind, number: ++this.#number, value });
+    return this.engine.take({ kind, number: ++this.#number, value });
   }
 
   /** Gives a command as soon as something of this kind is said. */
@@ -176,23 +176,17 @@ export class Page {
     this.#awaited = { kind, command };
   }
 
-  /** Gives a command, and waits until all is done. */
-  async take(kind, value) {
-    this.give(kind, value);
-    while (this.engine.isBusy) await new Promise((done) => setImmediate(done));
-  }
-
   /** Adds what an input has, and gives its files. */
   async add(input, isList = false) {
     const files = [...input.files];
-    await this.take('add', { ...chosen(input), isList });
+    await this.give('add', { ...chosen(input), isList });
     return files;
   }
 
   /** Adds what is dropped, and gives its files. */
   async drop(transfer) {
     const { loose, folders } = await dropped(transfer);
-    await this.take('add', { loose, folders, isList: false });
+    await this.give('add', { loose, folders, isList: false });
     return [...loose, ...folders.flatMap((it) => it.files)].map(({ file }) => file);
   }
 

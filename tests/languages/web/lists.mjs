@@ -181,11 +181,11 @@ async function ofPackage(kind, lists) {
 
 /** The rows of the page, which was given the folder with these lists, and which of them have no entries. */
 async function ofPage(kind, lists) {
-  const place = new Place('top', 1);
+  const place = new Place('top', 1, true);
   const places = new Places();
   for (const [path, content] of FILES) place.add(path, { content });
   for (const [name] of lists) place.add(name, {});
-  await places.add(place);
+  await places.add([place]);
   const added = lists.map(([name, bytes], at) => {
     const item = place.items.get(name);
     item.list = { id: at, name, item, selection: 1, read: readList(library, name, bytes, kind) };

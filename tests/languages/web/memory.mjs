@@ -20,8 +20,7 @@ async function bytesOfLine(name, bytes) {
   const before = await heap();
   let said = '';
   const engine = new Engine(library, (it) => { said = it.text ?? said; });
-  engine.take({ kind: 'give', number: 1, value: { lists: [{ name, bytes }] } });
-  while (engine.isBusy) await new Promise((done) => setTimeout(done, 10));
+  await engine.take({ kind: 'give', number: 1, value: { lists: [{ name, bytes }] } });
   const taken = ((await heap()) - before) / LINES;
   if (said !== `Now add the files. The list names ${LINES}.` || engine.rows.length !== LINES) return Infinity;
   return Math.round(taken);

@@ -265,8 +265,8 @@ const AGAIN = {
     for (const top of ['/x', '/y']) run.write(`${top}/a`, right);
     await run.files('/x/a');
     run.page.give('add', { ...chosen(run.disk.input('/y/a')), isList: false });
-    await run.page.take('stop');
-    await run.page.take('go');
+    await run.page.give('stop');
+    await run.page.give('go');
     return ['a: DIGEST', 'a (2): DIGEST'];
   },
   async 'a file in the place of one that is gone, of its size and its time'(run) {
@@ -428,7 +428,7 @@ const OF_LISTS = {
 async function pasted(run, text) {
   run.write('/x/a', 'good');
   await run.files('/x/a');
-  await run.page.take('paste', text);
+  await run.page.give('paste', text);
 }
 
 const [GOOD, EVIL] = ['good', 'evil'].map((it) => `sha256-${hash('sha256', it, 'base64')}`);
@@ -461,7 +461,7 @@ const PASTED = {
   },
   async 'one in an address that is too long'(run) {
     run.write('/x/a', 'good');
-    await run.page.take('give', ofAddress(`#sha256=${encodeURIComponent(GOOD.replace('=', '++='))}`));
+    await run.page.give('give', ofAddress(`#sha256=${encodeURIComponent(GOOD.replace('=', '++='))}`));
     await run.files('/x/a');
     return ['the digest in the address: MALFORMED', 'a: DIGEST'];
   },
@@ -476,7 +476,7 @@ const MEANWHILE = {
     run.list('/y/SHA256SUMS', 'a');
     await run.files('/x/a');
     run.page.give('add', { ...chosen(run.disk.input('/y/SHA256SUMS')), isList: false });
-    await run.page.take('write');
+    await run.page.give('write');
     return run.page.answer === 'verdict' ? ['a: FAILED'] : ['a verdict'];
   },
   async 'a list is saved while files are read'(run) {
@@ -490,13 +490,13 @@ const MEANWHILE = {
   },
   async 'a list is saved when all begins anew'(run) {
     run.page.give('give', {});
-    await run.page.take('write');
+    await run.page.give('write');
     return run.page.answer === 'verdict' ? [] : ['a verdict'];
   },
   async 'a stop after all was read'(run) {
     run.folder('/x/dist', ['a']);
     await run.input('/x/dist');
-    await run.page.take('stop');
+    await run.page.give('stop');
     return run.page.answer === 'verdict' && run.page.verdict.state === 'ok' ? ['a: OK'] : ['the verdict'];
   },
   async 'a stop while something is added'(run) {
@@ -504,9 +504,9 @@ const MEANWHILE = {
     run.write('/y/b', 'evil');
     await run.input('/x/dist');
     run.page.give('add', { ...chosen(run.disk.input('/y/b')), isList: false });
-    await run.page.take('stop');
-    if (run.page.answer !== 'stopped') return ['a stop'];
-    await run.page.take('go');
+    await run.page.give('stop');
+    if (run.page.answer !== 'verdict' || !run.page.verdict.isStopped) return ['a stop'];
+    await run.page.give('go');
     return ['a: OK', 'b: NOT LISTED'];
   },
 };

@@ -104,7 +104,7 @@ async function add() {
 async function paste() {
   const text = below(3) ? linesIn(anyFolder()) : hash('sha256', oneOf(TEXTS));
   now.steps.push(`paste ${brief(text)}`);
-  await now.page.take('paste', text);
+  await now.page.give('paste', text);
 }
 
 async function removeThing() {
@@ -112,7 +112,7 @@ async function removeThing() {
   const thing = oneOf(now.page.things);
   now.steps.push(`remove ${thing.label}`);
   now.hasRemoved = true;
-  await now.page.take('remove', thing.id);
+  await now.page.give('remove', thing.id);
 }
 
 // ---- what has to be so
