@@ -63,7 +63,7 @@ export async function dropped(transfer) {
   const items = [...transfer.items].filter((it) => it.kind === 'file');
   // both have to be asked for before the event ends
   const both = items.map((it) => [it.webkitGetAsEntry?.(), it.getAsFile()]);
-  const selection = { loose: [], folders: [] };
+  const selection = { loose: [], folders: both.length ? [] : [closedTop('what was dropped', NO_FILE)] };
   for (const [entry, file] of both) {
     if (entry?.isDirectory) {
       const folder = { name: entry.name, files: [], closed: [] };

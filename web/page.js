@@ -206,8 +206,9 @@ addEventListener('dragleave', () => over(false));
 addEventListener('drop', (event) => {
   event.preventDefault();
   over(false);
-  if (hasFiles(event.dataTransfer)) return addDropped(dropped(event.dataTransfer));
-  byId('text').value = event.dataTransfer.getData('text');
+  const text = hasFiles(event.dataTransfer) ? '' : event.dataTransfer.getData('text');
+  if (!text) return addDropped(dropped(event.dataTransfer));
+  byId('text').value = text;
   typed();
 });
 

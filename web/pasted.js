@@ -13,6 +13,7 @@ const LABELS = 'sha-?(?:2-)?(?:256|512)|sha-?(?:1|224|384)|sha-?3-\\d+(?!\\d)|md
 const LABEL = new RegExp(`(?<![a-z0-9])(${LABELS})(?![a-z]|(?:[-_]\\S{0,99})?\\.[a-z0-9])`, 'gi');
 const BASE64 =
   /(?<![a-z0-9])sha(?:256|512)-((?:[a-z0-9+/]{4}){10,21}(?:[a-z0-9+/]{3}=|[a-z0-9+/]{2}==))(?![a-z0-9+/=])/gi;
+const PART_OF_ONE = /(?<![^\s:=])[0-9a-f]{16,31}(?!\S)/gi;
 const INVISIBLE = /[\u200b-\u200d\u2060\ufeff]/g;
 const NO_DIGEST = 'it is neither a digest nor the lines of a list';
 const SEVERAL_DIGESTS = 'it has several digests: paste each on a line of its own, or the lines of a list';
@@ -40,7 +41,8 @@ function hexadecimalIn(text) {
   // one digest over two lines
   const isCut = long.length < 2 && solid.length > 1 && WHOLE_DIGITS.includes(solid.join('').length);
   if (isCut) return [solid.join('')];
-  return long.length ? long : grouped(text).map((it) => it.toLowerCase());
+  const groups = long.length ? [] : grouped(text).map((it) => it.toLowerCase());
+  return groups.length ? groups : [...long, ...(text.match(PART_OF_ONE) ?? [])];
 }
 
 /** The digits of each digest in a text, in lower case. */

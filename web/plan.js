@@ -76,7 +76,7 @@ export function planOf({ places, lists, digests, chosen }) {
   const files = places.items.filter((it) => !it.list);
   const items = places.items.filter((it) => !it.list?.read.digest);
   const ofLists = lists.filter((it) => !it.read.digest).map((it) => listPart(it, places));
-  const isOne = [digests, items, files].every((it) => it.length === 1);
+  const isOne = [digests, items, files].every((it) => it.length === 1) && !places.closed.length;
   const comparisons = digests.map((it) => digestPart(it, items, isOne));
   const parts = [...ofLists, ...comparisons];
   if (parts.length > 1) for (const { from, rows } of parts) for (const row of rows) row.from = from;

@@ -263,6 +263,10 @@ def try_forms(page, work, program):
         shown = page.done()
         wanted = ["abc: OK", "abc: OK" if second == digest["sha512"] else "the pasted text: NO MATCH"]
         harness.same(f"pasted: two digests {what}", shown["rows"], wanted)
+    page.paste(f"SHA-256: {own}\nSHA-512: {'1' * 30}\n")
+    shown = page.done()
+    harness.same("pasted: a digest, and a part of one", (shown["state"], shown["rows"]),
+        ("wrong", ["abc: OK", "the pasted text: MALFORMED"]))
     page.anew()
     page.files(made(work, "MD5SUMS", b"900150983cd24fb0d6963f7d28e17f72  abc\n"), work / "abc", by="lists")
     harness.judge("a list of MD5", any("MD5" in it for it in page.done()["notes"]))

@@ -405,6 +405,25 @@ def try_refused(page, work):
     harness.same("the folder is chosen", (shown["rows"][1:], shown["things"]),
         (["three.iso: NOT LISTED", "photos/two.iso: NOT LISTED"], ["two.iso", "three.iso", "photos"]))
     try_late(page)
+    try_dropped_text(page, work)
+
+
+def try_dropped_text(page, work):
+    """A text that is dropped is pasted, and what is neither a file nor a text is named."""
+    drop = """
+        const event = new Event('drop', { cancelable: true });
+        const [text] = arguments;
+        event.dataTransfer = { items: [{ kind: 'string' }], getData: () => text };
+        dispatchEvent(event);
+    """
+    page.anew()
+    page.files(made(work, "two.iso", b"two"))
+    page.given(lambda: page.browser.script(drop, sha256(b"two")))
+    harness.same("a digest is dropped", page.judged(1)["verdict"], "two.iso: OK")
+    page.given(lambda: page.browser.script(drop, ""))
+    shown = page.judged(1)
+    harness.same("what is no file is dropped", (shown["state"], shown["rows"]),
+        ("wrong", ["two.iso: OK", "what was dropped: UNREADABLE"]))
 
 
 def try_late(page):

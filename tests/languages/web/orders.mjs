@@ -385,6 +385,14 @@ const CLOSED = {
     await run.input('/x/dist');
     return ['a: OK'];
   },
+  async 'a digest that may be of a folder which is refused'(run) {
+    run.folder('/x/dist', ['b']);
+    run.write('/x/a', 'evil');
+    run.disk.closed = new Set(['/x/dist']);
+    await run.page.give('paste', `SHA256: ${hash('sha256', 'good')}`);
+    await run.drop('/x/dist', '/x/a');
+    return ['dist: UNREADABLE', 'the pasted text: NO MATCH', 'a: NOT LISTED'];
+  },
   async 'a choice of no file'(run) {
     run.folder('/x/dist', ['a']);
     await run.input('/x/dist');
