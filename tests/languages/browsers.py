@@ -29,7 +29,7 @@ sys.path.insert(0, os.path.join(harness.HERE, "languages/web"))
 sys.dont_write_bytecode = True
 from copies import try_random_copies  # noqa: E402
 from drivers import BROWSERS  # noqa: E402
-from driven import Page, TITLES  # noqa: E402
+from driven import Page, TITLES, made, sha256  # noqa: E402
 from everyday import try_baked, try_everyday  # noqa: E402
 from meant import try_meant, try_pairs  # noqa: E402
 
@@ -504,37 +504,49 @@ def try_requests(browser, work, files):
     server.shutdown()
 
 
-# ---- pictures, to be looked at
+# ---- pictures, to be looked at, and those of web/README.md
 
 
-def take_pictures(kind, work, files):
+def added_one_of_many(page, work):
+    lines = [f"{'%064x' % at}  file-{at}.iso\n" for at in range(99)]
+    lines.insert(50, f"{sha256(b'two')}  two.iso\n")
+    page.files(made(work, "SHA256SUMS", "".join(lines).encode()))
+    page.files(made(work, "two.iso", b"two"))
+
+
+def added_wrong(page, work):
+    listed = made(work, "app.tgz.sha256", f"{sha256(b'right')}  app.tgz\n".encode())
+    page.files(made(work, "app.tgz", b"wrong"), listed)
+
+
+def added_folder(page, work):
+    for name in ("app-1.0.zip", "README", "app-1.0.tar.gz"):
+        made(work, f"release/{name}", name.encode())
+    page.folder(work / "release")
+
+
+# what is added, the size of the page, whether it is dark, and whether all of it is shown from its top
+PICTURES = {
+    "wide": (added_one_of_many, (960, 900), False, True), "narrow": (added_wrong, (375, 1290), False, True),
+    "dark": (added_folder, (700, 1150), True, True), "phone": (added_wrong, (375, 667), False, False),
+}
+
+
+def take_pictures(kind, work):
     folder = os.environ.get("SHOTS")
     if not folder:
         return
     os.makedirs(folder, exist_ok=True)
-    address = pathlib.Path(PAGE).as_uri()
-    for dark in (False, True):
-        browser = kind(dark=dark)
+    for name, (add, size, is_dark, is_from_top) in PICTURES.items():
+        browser = kind(dark=is_dark)
         try:
-            page = Page(browser, address)
-            mode = "dark" if dark else "light"
-            def save(name):
-                pathlib.Path(folder, f"{kind.name}-{mode}-{name}.png").write_bytes(browser.screenshot())
-            browser.resize(1000, 1000)
-            save("empty")
-            page.files(work / "sha256sums", *files)
-            page.judged(1 + len(files))
-            save("wrong")
-            browser.resize(375, 1400)
-            save("narrow")
-            browser.script("scrollTo(0, 99999)")
-            save("narrow-end")
-            browser.resize(1000, 1000)
-            page.anew()
-            page.paste(sums(work, "hash", "-a", "sha256", "--tag", "a.iso").stdout.decode())
-            page.files(work / "a.iso")
-            page.judged(1)
-            save("ok")
+            page = Page(browser, pathlib.Path(PAGE).as_uri())
+            browser.resize(*size)
+            add(page, folder_in(work, f"picture-{name}"))
+            page.done()
+            if is_from_top:
+                browser.script("scrollTo(0, 0)")
+            pathlib.Path(folder, f"{kind.name}-{name}.png").write_bytes(browser.screenshot())
         finally:
             browser.quit()
 
@@ -568,7 +580,7 @@ def try_browser(kind, work, files):
         try_requests(browser, work, files)
     finally:
         browser.quit()
-    take_pictures(kind, work, files)
+    take_pictures(kind, work)
 
 
 def main():
