@@ -196,18 +196,26 @@ def read_list(
 
 def _hashed(path: bytes, entry: Entry) -> str:
     """The verdict on a file."""
+def _raise_unless_of_system(fault: OSError) -> None:
+    """Raises a fault that is not the system's: one without a number, as a handler of a signal raises it. That a file
+    has no bytes yet has no number either.
+    """
+    if fault.errno is None and not isinstance(fault, BlockingIOError):
+        raise fault
+
+
     kind = _HASHES[entry.algorithm]
     sized = {"digest_size": len(entry.digest)} if kind in (_native.blake2b, _native.blake2s) else {}
     try:
         file = open(path, "rb", buffering=0)
-    except FileNotFoundError:
-        return "MISSING"
-    except OSError:
-        return "UNREADABLE"
+    except OSError as fault:
+        _raise_unless_of_system(fault)
+        return "MISSING" if isinstance(fault, FileNotFoundError) else "UNREADABLE"
     with file:
         try:
             hasher = file_digest(file, lambda: kind(**sized))
-        except OSError:
+        except OSError as fault:
+            _raise_unless_of_system(fault)
             return "UNREADABLE"
         except Refused:
             return "TOO LONG"
@@ -241,7 +249,8 @@ def check(
 ) -> Report:
     """Hashes the files of a list, and compares. The list is the path of a file, or what read_list() takes; names are
     looked up from the folder on. With `inside`, which is for lists that are not trusted, no name that is absolute or
-    holds `..` is opened: it is UNREADABLE. Links are followed. A list that can't be read is an OSError.
+    holds `..` is opened: it is UNREADABLE. Links are followed. A list that can't be read is an OSError. So is what a
+    handler of a signal raises meanwhile, such as TimeoutError(), unless it has an errno, as a fault of a file has.
     """
     state, folder_name = _native.ListState(_number(algorithm)), os.fsencode(folder)
     if isinstance(source, (str, os.PathLike)):

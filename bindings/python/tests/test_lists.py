@@ -5,6 +5,7 @@ tests/list_cases.py has printed, which is run where it is not set."""
 
 import base64
 import copy
+import errno
 import hashlib
 import io
 import itertools
@@ -12,10 +13,12 @@ import json
 import mmap
 import os
 import pickle
+import signal
 import subprocess
 import sys
 import tempfile
 import unittest
+import unittest.mock
 
 import sums_hash
 
@@ -230,6 +233,42 @@ class Checking(InFolder):
 
     def test_truth(self):
         """A list that checks nothing is not true."""
+    def test_handlers(self):
+        """What a handler of a signal raises goes on, whether a file is opened or read then."""
+        os.mkfifo("pipe")
+        line = sums_hash.format_line("pipe", ABC.digest(), "sha256")
+        for fault in TimeoutError(), TimeoutError("late"), OSError("late"), FileNotFoundError(), ZeroDivisionError():
+            def handler(_number, _frame):
+                raise fault
+
+            self.addCleanup(signal.signal, signal.SIGALRM, signal.signal(signal.SIGALRM, handler))
+            with self.assertRaises(type(fault)):
+                signal.setitimer(signal.ITIMER_REAL, 0.1)
+                sums_hash.check(line, "sha256")
+            with self.assertRaises(type(fault)), open("pipe", "r+b", buffering=0):
+                signal.setitimer(signal.ITIMER_REAL, 0.1)
+                sums_hash.check(line, "sha256")
+
+    def test_faults(self):
+        """What the system says of a file while it is read is of that file alone, and so is that it has no bytes yet."""
+        class Opened(io.RawIOBase):
+            def __init__(self, *answers):
+                self.answers = iter(answers)
+
+            def readable(self):
+                return True
+
+            def readinto(self, room):
+                answer = next(self.answers)
+                if isinstance(answer, OSError):
+                    raise answer
+                return answer
+
+        faults = [OSError(number, "fault") for number in (errno.EIO, errno.ENOENT, errno.ETIMEDOUT)]
+        for fault in *faults, None:
+            with unittest.mock.patch.object(sums_hash.lists, "open", lambda *_, **__: Opened(5, fault), create=True):
+                self.assertEqual(sums_hash.check([LINE], "sha256").results, [(1, "abc.txt", "UNREADABLE")])
+
         self.assertTrue(sums_hash.check(LINE, "sha256"))
         self.assertTrue(sums_hash.check(b"# comment\n" + LINE, "sha256"))
         for lines in (b"", b"# comment\n", LINE + b"x", LINE + LINE.replace(b"abc.txt", b"none"), LINE[:-3]):
