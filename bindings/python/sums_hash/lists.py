@@ -35,7 +35,7 @@ _BLOCK = 2**16
 
 class MalformedLine(ValueError):
     """A line of a list that is no entry, no comment and not empty. `line` is its number, from 1. `untagged` says
-    whether it is an entry of another algorithm than that of the call.
+    whether it would be an entry if its algorithm were named.
     """
 
     def __init__(self, line: int, untagged: bool = False) -> None:
@@ -44,12 +44,13 @@ class MalformedLine(ValueError):
         self.untagged = untagged
 
     def __str__(self) -> str:
-        return f"line {self.line} is malformed" + (": it has no tag, and needs another algorithm" * self.untagged)
+        because = ": it has no tag, and its algorithm has to be named" if self.untagged else ""
+        return f"line {self.line} is malformed{because}"
 
 
 class Entry(typing.NamedTuple):
     """The digest of the file of a name, and the number of its line, from 1. Of a malformed line the first three are
-    None; `untagged` says whether it is an entry of another algorithm.
+    None; `untagged` says whether it would be an entry if its algorithm were named.
     """
 
     name: str | Any
@@ -72,7 +73,7 @@ class Result(typing.NamedTuple):
 @dataclasses.dataclass
 class Report:
     """What became of the lines of a list. It is true if there are entries, each is OK, and no line is malformed.
-    `untagged` is how many of the malformed lines are entries of another algorithm.
+    `untagged` is how many of the malformed lines would be entries if their algorithm were named.
     """
 
     ok: int = 0
@@ -92,7 +93,7 @@ class Report:
     def __str__(self) -> str:
         return (
             f"{self.ok} OK, {self.failed} failed, {self.missing} missing, {self.unreadable} unreadable, "
-            f"{self.too_long} too long, {self.malformed} malformed, {self.skipped} skipped"
+            f"{self.too_long} too long, {self.malformed} malformed ({self.untagged} untagged), {self.skipped} skipped"
         )
 
     @property
@@ -183,8 +184,9 @@ def read_list(
     malformed: typing.Literal["raise", "yield"] = "raise",
 ) -> abc.Iterator[Entry]:
     """The entries of a list, one after another, as they are read. The list is a file that is open for bytes, bytes, or
-    any iterable of bytes. Untagged lines are of the algorithm; if it is None, each line needs a tag. A malformed
-    line raises MalformedLine, or with "yield" is an Entry whose name is None. Empty lines and comments are skipped.
+    any iterable of bytes, which may be cut anywhere: pieces that are lines keep their LF. Untagged lines are of the
+    algorithm; if it is None, each line needs a tag. A malformed line raises MalformedLine, or with "yield" is an Entry
+    whose name is None. Empty lines and comments are skipped.
     """
     if malformed not in ("raise", "yield"):
         raise ValueError("malformed must be 'raise' or 'yield'")
@@ -194,8 +196,6 @@ def read_list(
 # ---- checking
 
 
-def _hashed(path: bytes, entry: Entry) -> str:
-    """The verdict on a file."""
 def _raise_unless_of_system(fault: OSError) -> None:
     """Raises a fault that is not the system's: one without a number, as a handler of a signal raises it. That a file
     has no bytes yet has no number either.
@@ -204,6 +204,8 @@ def _raise_unless_of_system(fault: OSError) -> None:
         raise fault
 
 
+def _hashed(path: bytes, entry: Entry) -> str:
+    """The verdict on a file."""
     kind = _HASHES[entry.algorithm]
     sized = {"digest_size": len(entry.digest)} if kind in (_native.blake2b, _native.blake2s) else {}
     try:
@@ -270,9 +272,12 @@ def _text(name: str | os.PathLike[str]) -> str:
 
 
 def format_line(name: str | os.PathLike[str], digest: Buffer, algorithm: str, tag: bool = False) -> bytes:
-    """The line of a list, with its LF: that of sha256sum, or with `tag` that of sha256sum --tag. It is a ValueError if
-    the algorithm has no such digest, or if the name has no line: it is empty, not UTF-8, holds NUL, or is too long.
+    """The line of a list, with its LF: that of sha256sum, or with `tag` that of sha256sum --tag. The digest is bytes,
+    as digest() gives them. It is a ValueError if the algorithm has no such digest, or if the name has no line: it is
+    empty, not UTF-8, holds NUL, or is too long.
     """
+    if isinstance(digest, str):
+        raise TypeError("digest must be bytes, as digest() gives them, not str")
     return _native.list_line(_number(algorithm), tag, digest, _text(name))
 
 

@@ -116,7 +116,8 @@ class Reading(unittest.TestCase):
             for again in fault, copy.copy(fault), pickle.loads(pickle.dumps(fault)):
                 self.assertIsInstance(again, ValueError)
                 self.assertEqual((again.line, again.untagged), (number, untagged))
-                self.assertTrue(str(again).startswith(f"line {number} is malformed"))
+                because = ": it has no tag, and its algorithm has to be named" * untagged
+                self.assertEqual(str(again), f"line {number} is malformed{because}")
             self.assertEqual(list(source), [])
             entries = sums_hash.read_list(lines, algorithm, malformed="yield")
             self.assertEqual([entry for entry in entries if entry.name is None], [(None, None, None, number, untagged)])
@@ -228,11 +229,10 @@ class Checking(InFolder):
         self.assertEqual(report.results, want)
         self.assertEqual((report.ok, report.failed, report.missing, report.unreadable, report.too_long,
                           report.malformed, report.skipped, report.untagged), (4, 1, 2, 4, 0, 2, 1, 1))
-        self.assertEqual(str(report), "4 OK, 1 failed, 2 missing, 4 unreadable, 0 too long, 2 malformed, 1 skipped")
+        self.assertEqual(str(report), "4 OK, 1 failed, 2 missing, 4 unreadable, 0 too long, 2 malformed (1 untagged), "
+                                      "1 skipped")
         self.assertEqual(report.lines[-3:], [b"abc.txt: FAILED\n", b"line 12: MALFORMED\n", b"line 14: MALFORMED\n"])
 
-    def test_truth(self):
-        """A list that checks nothing is not true."""
     def test_handlers(self):
         """What a handler of a signal raises goes on, whether a file is opened or read then."""
         os.mkfifo("pipe")
@@ -269,6 +269,8 @@ class Checking(InFolder):
             with unittest.mock.patch.object(sums_hash.lists, "open", lambda *_, **__: Opened(5, fault), create=True):
                 self.assertEqual(sums_hash.check([LINE], "sha256").results, [(1, "abc.txt", "UNREADABLE")])
 
+    def test_truth(self):
+        """A list that checks nothing is not true."""
         self.assertTrue(sums_hash.check(LINE, "sha256"))
         self.assertTrue(sums_hash.check(b"# comment\n" + LINE, "sha256"))
         for lines in (b"", b"# comment\n", LINE + b"x", LINE + LINE.replace(b"abc.txt", b"none"), LINE[:-3]):
@@ -327,6 +329,8 @@ class Writing(unittest.TestCase):
         for name, digest, algorithm in ((b"x", bytes(32), "sha256"), (None, bytes(32), "sha256"),
                                         ("x", ABC.hexdigest(), "sha256"), ("x", bytes(32), 1)):
             self.assertRaises(TypeError, sums_hash.format_line, name, digest, algorithm)
+        self.assertRaisesRegex(TypeError, r"^digest must be bytes, as digest\(\) gives them, not str$",
+                               sums_hash.format_line, "x", ABC.hexdigest(), "sha256")
 
     def test_reports(self):
         for verdict in ("OK", "FAILED", "MISSING", "UNREADABLE", "TOO LONG"):
