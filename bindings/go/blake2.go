@@ -2,7 +2,7 @@
 
 package hash
 
-// #include "sums_hash.h"
+// #include "library.h"
 import "C"
 
 // NewBLAKE2b begins a message that BLAKE2b (RFC 7693) hashes, for a digest of size bytes, 1 to 64, under a key of up to

@@ -9,7 +9,7 @@
 // claimed: compare tags by hmac.Equal.
 package hash
 
-// #include "sums_hash.h"
+// #include "library.h"
 import "C"
 
 import (

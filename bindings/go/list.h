@@ -2,7 +2,7 @@
  * SPDX-License-Identifier: MIT OR Apache-2.0 */
 #include <string.h>
 
-#include "sums_hash.h"
+#include "library.h"
 
 /* What is told of a line that is not skipped. The digest follows, and then the name. */
 typedef struct {

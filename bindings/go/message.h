@@ -3,7 +3,7 @@
  * SPDX-License-Identifier: MIT OR Apache-2.0 */
 #include <string.h>
 
-#include "sums_hash.h"
+#include "library.h"
 
 typedef enum {
     SUMS_OF_SHA256,

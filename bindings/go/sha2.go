@@ -2,7 +2,7 @@
 
 package hash
 
-// #include "sums_hash.h"
+// #include "library.h"
 import "C"
 
 // What a message without a key begins with.
