@@ -50,8 +50,8 @@ type Result struct {
 	Verdict Verdict
 }
 
-// Report is what became of the lines of a list. Of the malformed lines so many are Untagged: entries of another
-// algorithm than that of the call.
+// Report is what became of the lines of a list. Of the malformed lines so many are Untagged: they would be entries if
+// their algorithm were named.
 type Report struct {
 	OK, Failed, Missing, Unreadable, TooLong, Malformed, Skipped, Untagged uint64
 
@@ -65,8 +65,8 @@ func (r *Report) Passed() bool {
 
 // Summary is the numbers in words.
 func (r *Report) Summary() string {
-	return fmt.Sprintf("%d OK, %d failed, %d missing, %d unreadable, %d too long, %d malformed, %d skipped",
-		r.OK, r.Failed, r.Missing, r.Unreadable, r.TooLong, r.Malformed, r.Skipped)
+	return fmt.Sprintf("%d OK, %d failed, %d missing, %d unreadable, %d too long, %d malformed (%d untagged), "+
+		"%d skipped", r.OK, r.Failed, r.Missing, r.Unreadable, r.TooLong, r.Malformed, r.Untagged, r.Skipped)
 }
 
 // String is the lines of the report, as sums check prints them.

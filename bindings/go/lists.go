@@ -48,8 +48,8 @@ type Entry struct {
 	Malformed *MalformedError
 }
 
-// MalformedError is a line of a list that is no entry, no comment and not empty. It is Untagged if it is an entry of
-// another algorithm than that of the call.
+// MalformedError is a line of a list that is no entry, no comment and not empty. It is Untagged if it would be an entry
+// if its algorithm were named.
 type MalformedError struct {
 	Line     uint64
 	Untagged bool
@@ -58,7 +58,7 @@ type MalformedError struct {
 func (e *MalformedError) Error() string {
 	text := "sums: line " + strconv.FormatUint(e.Line, 10) + " is malformed"
 	if e.Untagged {
-		text += ": it has no tag, and needs another algorithm"
+		text += ": it has no tag, and its algorithm has to be named"
 	}
 	return text
 }

@@ -198,9 +198,9 @@ func TestMalformedLines(t *testing.T) {
 	}{
 		{lineABC + "x\n" + lineABC, hash.AlgorithmSHA256, hash.MalformedError{Line: 2}, "sums: line 2 is malformed"},
 		{"\n" + lineABC, hash.AlgorithmAny, hash.MalformedError{Line: 2, Untagged: true},
-			"sums: line 2 is malformed: it has no tag, and needs another algorithm"},
+			"sums: line 2 is malformed: it has no tag, and its algorithm has to be named"},
 		{lineABC, hash.AlgorithmSHA512, hash.MalformedError{Line: 1, Untagged: true},
-			"sums: line 1 is malformed: it has no tag, and needs another algorithm"},
+			"sums: line 1 is malformed: it has no tag, and its algorithm has to be named"},
 	} {
 		s := hash.NewListScanner(strings.NewReader(c.list), c.alg)
 		_, err := all(s)
@@ -308,7 +308,7 @@ func TestCheckVerdicts(t *testing.T) {
 	want = append(want, hash.Result{Line: 14, Name: "abc.txt", Verdict: hash.VerdictFailed}, hash.Result{Line: 15},
 		hash.Result{Line: 17})
 	write(t, folder, map[string][]byte{"SUMS": list})
-	summary := "2 OK, 1 failed, 3 missing, 8 unreadable, 0 too long, 2 malformed, 1 skipped"
+	summary := "2 OK, 1 failed, 3 missing, 8 unreadable, 0 too long, 2 malformed (1 untagged), 1 skipped"
 	for _, fsys := range []fs.FS{os.DirFS(folder), open(folder)} {
 		report, err := hash.Check(fsys, "SUMS", hash.AlgorithmSHA256)
 		if err != nil || !reflect.DeepEqual(report.Results, want) || report.Summary() != summary || report.Untagged != 1 {

@@ -42,7 +42,7 @@ function digitsOf(digest) {
 /** A line of a list that is neither skipped nor an entry. */
 export class MalformedLine extends SyntaxError {
   constructor(line, untagged) {
-    super(`line ${line} is malformed${untagged ? ': it has no tag, and needs another hash' : ''}`);
+    super(`line ${line} is malformed${untagged ? ': it has no tag, and its hash has to be named' : ''}`);
     this.name = 'MalformedLine';
     this.line = line;
     /** Whether it would be an entry if some other hash were named. */

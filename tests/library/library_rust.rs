@@ -109,7 +109,9 @@ fn lists() -> Result<(), Refusal> {
     assert_eq!(list.skipped(), 2);
     let untagged = sums_hash::list::line(Hash::Sha256, &[7; 32], "a")?;
     let mut without = List::new(untagged.as_bytes(), None);
-    assert!(matches!(without.next(), Some(Err(Error::Malformed { line: 1, untagged: true }))));
+    let malformed = without.next().expect("a line").expect_err("a malformed line");
+    assert!(matches!(malformed, Error::Malformed { line: 1, untagged: true }));
+    assert_eq!(malformed.to_string(), "line 1 is malformed: it has no tag, and its hash has to be named");
     let mut whole = List::new(LIST, Some(Hash::Blake2b)).filter_map(Result::ok);
     assert_eq!(whole.by_ref().map(|entry| entry.line).collect::<Vec<_>>(), [2, 3, 6, 7]);
     assert!(whole.next().is_none());

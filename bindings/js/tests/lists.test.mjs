@@ -54,7 +54,8 @@ test('a malformed line is thrown behind the entries before it, or given', async 
   assert.throws(() => read.next(), { name: 'MalformedLine', line: 2, untagged: false, message: 'line 2 is malformed' });
   assert.deepEqual(read.next(), { done: true, value: undefined });
   await assert.rejects(all(readList(Readable.from([list]), 'sha256')), MalformedLine);
-  assert.throws(() => [...readList(list)], { line: 1, untagged: true, message: /^line 1 is malformed: it has no tag/ });
+  const message = 'line 1 is malformed: it has no tag, and its hash has to be named';
+  assert.throws(() => [...readList(list)], { line: 1, untagged: true, message });
   assert.ok(new MalformedLine(3, false) instanceof SyntaxError);
   const bad = (line, untagged) => ({ name: null, digest: null, hash: null, line, untagged });
   const given = [...readList(list, 'sha256', { malformed: 'yield' })];

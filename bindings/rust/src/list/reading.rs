@@ -48,7 +48,10 @@ impl fmt::Display for Error {
         match self {
             Error::Malformed { line, untagged: false } => write!(f, "line {line} is malformed"),
             Error::Malformed { line, untagged: true } => {
-                write!(f, "line {line} is malformed: it has no tag, and needs another hash")
+                write!(
+                    f,
+                    "line {line} is malformed: it has no tag, and its hash has to be named"
+                )
             }
             Error::Io(fault) => write!(f, "the list was not read: {fault}"),
             Error::Refused(refusal) => refusal.fmt(f),
