@@ -76,6 +76,19 @@ impl Read for Failing {
     }
 }
 
+/// A list is read, and its files are hashed, on a stack that has no room for a line of a list.
+fn on_a_small_stack() -> Result<(), Refusal> {
+    let list = std::env::temp_dir().join(format!("sums-hash-stack-{}", std::process::id()));
+    let name = list.to_str().expect("a name in UTF-8");
+    let lines = [Hash::Sha256, Hash::Blake2s, Hash::Blake3].map(|hash| tagged_line(hash, &[7; 32], name));
+    std::fs::write(&list, lines.into_iter().collect::<Result<String, _>>()?).unwrap();
+    let (path, small) = (list.clone(), std::thread::Builder::new().stack_size(64 << 10));
+    let report = small.spawn(|| check(path, None, "/")).unwrap().join().unwrap().unwrap();
+    assert_eq!(report.count(Verdict::Failed), 3);
+    std::fs::remove_file(list).unwrap();
+    Ok(())
+}
+
 /// A list of lines of each kind, in pieces of a byte, and from a reader that fails behind it.
 fn lists() -> Result<(), Refusal> {
     const LIST: &[u8] = b"# list\n\\2e  a\\nb\r\n50  x\n\nSHA256 (x) = 2e\nBLAKE2s-8 (x y) = 50\n2E *last";
@@ -312,6 +325,7 @@ fn main() -> Result<(), Refusal> {
     told("blake2s_pieces", &digests[..20 * 13]);
     pieces_of_each_length()?;
     written()?;
+    on_a_small_stack()?;
     lists()?;
     lines()?;
     checked().unwrap();

@@ -39,6 +39,10 @@
 //! ```
 
 use core::fmt;
+#[cfg(feature = "std")]
+use std::alloc::{alloc_zeroed, handle_alloc_error, Layout};
+#[cfg(feature = "std")]
+use std::boxed::Box;
 
 use crate::native;
 use crate::refusal::{checked, Refusal};
@@ -157,6 +161,13 @@ impl ListLine {
         self.0.number
     }
 
+    /// No line yet, on the heap.
+    #[cfg(feature = "std")]
+    fn boxed() -> Box<Self> {
+        // SAFETY: a line is integers
+        unsafe { zeros() }
+    }
+
     #[cfg(feature = "std")]
     fn has_ended(&self) -> bool {
         self.0.kind != 0
@@ -208,10 +219,23 @@ pub struct ListState(native::ListState);
 impl ListState {
     /// Begins a list whose untagged lines are of this hash. Without one they are malformed.
     pub fn new(hash: Option<Hash>) -> Self {
-        let mut state = native::ListState::ZERO;
+        let mut state = Self(native::ListState::ZERO);
+        state.begin(hash);
+        state
+    }
+
+    /// Begins it on the heap.
+    #[cfg(feature = "std")]
+    fn boxed(hash: Option<Hash>) -> Box<Self> {
+        // SAFETY: a state is integers
+        let mut state: Box<Self> = unsafe { zeros() };
+        state.begin(hash);
+        state
+    }
+
+    fn begin(&mut self, hash: Option<Hash>) {
         let number = hash.map_or(0, |hash| hash as u32);
-        checked(unsafe { native::sums_list_init(&mut state, number) }).expect("each hash has a number of the library");
-        Self(state)
+        checked(unsafe { native::sums_list_init(&mut self.0, number) }).expect("each hash has a number of the library");
     }
 
     /// Reads a piece of the list up to its first LF, and what the line means that ends there. If the piece has no LF,
@@ -232,6 +256,20 @@ impl fmt::Debug for ListState {
     fn fmt(&self, f: &mut fmt::Formatter<'_>) -> fmt::Result {
         f.debug_struct("ListState").finish_non_exhaustive()
     }
+}
+
+/// Zeros on the heap. `Box::new` has its argument on the stack, which takes several copies if they are not optimised away.
+///
+/// # Safety
+/// Zeros have to be a value of the type, which has some bytes.
+#[cfg(feature = "std")]
+unsafe fn zeros<T>() -> Box<T> {
+    let layout = Layout::new::<T>();
+    let memory = alloc_zeroed(layout);
+    if memory.is_null() {
+        handle_alloc_error(layout);
+    }
+    Box::from_raw(memory.cast())
 }
 
 /// How many bytes the line of an entry has, with its LF, if there is one: the hash has digests of that length, and the

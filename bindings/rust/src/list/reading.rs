@@ -114,8 +114,8 @@ impl<R: Read> List<R> {
             piece: vec![0; PIECE],
             at: 0,
             end: 0,
-            state: Box::new(ListState::new(hash)),
-            line: Box::default(),
+            state: ListState::boxed(hash),
+            line: ListLine::boxed(),
             has_ended: false,
             skipped: 0,
         }
@@ -247,4 +247,17 @@ pub fn report(verdict: Verdict, name: &str) -> Result<String, Refusal> {
 
 fn text(line: Vec<u8>) -> String {
     String::from_utf8(line).expect("a line of a name that is UTF-8 is so too")
+}
+
+#[cfg(test)]
+mod tests {
+    use super::*;
+
+    /// A stack of 64 KiB has no room for the memory of a state or of a line.
+    #[test]
+    fn a_list_on_a_small_stack() {
+        let small = std::thread::Builder::new().stack_size(64 << 10);
+        let list = || List::new(&b"BLAKE2b-8 (empty) = 2e"[..], None).count();
+        assert_eq!(small.spawn(list).unwrap().join().unwrap(), 1);
+    }
 }
