@@ -47,7 +47,7 @@ int main(int argc, char **argv) {
     static sums_list_entry line;
     uint8_t piece[4096];
     size_t count;
-    int all_are_right = 1;
+    int all_are_right = 1, has_entries = 0;
     FILE *list = argc == 2 ? fopen(argv[1], "rb") : NULL;
     if (!list) {
         fprintf(stderr, "usage: check LIST, a file of SHA-256 digests that can be read\n");
@@ -58,7 +58,12 @@ int main(int argc, char **argv) {
         for (size_t at = 0; at < count; at += (size_t)line.taken) {
             if (sums_list_read(&state, &line, piece + at, count - at) != SUMS_OK) return 2;
             all_are_right &= is_right(&line);
+            has_entries |= line.kind == SUMS_LINE_ENTRY;
         }
     if (ferror(list) || sums_list_end(&state, &line) != SUMS_OK) return 2;
-    return all_are_right & is_right(&line) ? 0 : 1;
+    all_are_right &= is_right(&line);
+    has_entries |= line.kind == SUMS_LINE_ENTRY;
+    /* nothing was checked by a list that is empty, as after a download that has failed */
+    if (all_are_right && !has_entries) fprintf(stderr, "%s: no entries\n", argv[1]);
+    return all_are_right && has_entries ? 0 : 1;
 }
