@@ -162,7 +162,7 @@ function addDropped(coming) {
   mine.add(coming);
   wait('Looking for the files of what was dropped ..');
   gathering = gathering.then(async () => {
-    const selection = await coming;
+    const selection = await coming.catch(() => dropped({ items: [] }));
     mine.delete(coming);
     if (mine === awaited) add(selection, false);
   });

@@ -406,6 +406,7 @@ def try_refused(page, work):
         (["three.iso: NOT LISTED", "photos/two.iso: NOT LISTED"], ["two.iso", "three.iso", "photos"]))
     try_late(page)
     try_dropped_text(page, work)
+    try_broken_drop(page, work)
 
 
 def try_dropped_text(page, work):
@@ -424,6 +425,20 @@ def try_dropped_text(page, work):
     shown = page.judged(1)
     harness.same("what is no file is dropped", (shown["state"], shown["rows"]),
         ("wrong", ["two.iso: OK", "what was dropped: UNREADABLE"]))
+
+
+def try_broken_drop(page, work):
+    """A drop that the browser fails to give is named, and the next one is added."""
+    page.anew()
+    page.given(lambda: page.browser.script("""
+        const event = new Event('drop', { cancelable: true });
+        const item = { kind: 'file', webkitGetAsEntry() { throw new Error('no'); }, getAsFile: () => null };
+        event.dataTransfer = { items: [item] };
+        dispatchEvent(event);
+    """))
+    harness.same("a drop that fails", page.done()["rows"], ["what was dropped: UNREADABLE"])
+    page.drop(made(work, "three.iso", b"three"))
+    harness.same("and another one", page.judged(1)["rows"], ["three.iso: DIGEST", "what was dropped: UNREADABLE"])
 
 
 def try_late(page):
