@@ -134,53 +134,39 @@ def disks_of(draw, program, work):
     text = lines_of(draw, program, work / "right", listed, list_name)
     copies = [changed(draw, right), changed(draw, right)]
     copies.append(dict(copies[0]))
-    return [Disk(work / f"disk{at}", {**it, list_name: (text, 1, None)}, list_name, listed) for at, it in enumerate(copies)]
+    held = {list_name: (text, 1, None)}
+    return [Disk(work / f"disk{at}", {**it, **held}, list_name, listed) for at, it in enumerate(copies)]
 
 
-class Shown:
-    """Which folders are there in the end, by the rule of what is added again, and what is no green."""
+class Wanted:
+    """Which folders are there in the end, by the rule of what is added again, and whether something else is no green."""
 
     def __init__(self):
-        self.places, self.refused, self.loose, self.has_wrong_digest = {}, set(), False, False
+        self.places, self.has_rest = {}, False
 
     def drop(self, disk):
         for label, old in list(self.places.items()):
             if all(disk.files.get(name) == held for name, held in old.files.items()):
                 del self.places[label]
-        taken = set(self.places) | (self.refused - {"photos"})
-        self.refused.discard("photos")
         labels = ["photos", *(f"photos ({at})" for at in range(2, 9))]
-        self.places[next(it for it in labels if it not in taken)] = disk
-
-    def refuse(self, name):
-        labels = [name, *(f"{name} ({at})" for at in range(2, 9))]
-        self.refused.add(next(it for it in labels if it not in self.refused and it not in self.places))
+        self.places[next(it for it in labels if it not in self.places)] = disk
 
 
 def steps_of(draw, disks):
-    """What a person does, and which folders are there then."""
-    steps, shown = [], Shown()
+    """What a person does, and what is there then."""
+    steps, wanted = [], Wanted()
     for disk in draw.choices(disks, k=draw.randint(1, 3)):
-        step = {"loose": [], "folders": [["photos", list(disk.files.items())]], "refused": []}
-        shown.drop(disk)
-        if draw.random() < 0.15:
-            step["loose"], shown.loose = [["loose.bin", ["l", 3, None]]], True
-        if draw.random() < 0.15:
-            step["refused"] = ["other"]
-            shown.refuse("other")
-        steps.append(step)
+        loose = [["loose.bin", ["l", 3, None]]] if draw.random() < 0.15 else []
+        refused = ["other"] if draw.random() < 0.15 else []
+        steps.append({"loose": loose, "folders": [["photos", list(disk.files.items())]], "refused": refused})
+        wanted.drop(disk)
+        wanted.has_rest = wanted.has_rest or bool(loose or refused)
     if draw.random() < 0.15:
         is_right = draw.random() < 0.5
         list_bytes = bytes_of(disks[0].files[disks[0].list_name])
         steps.append({"text": f"SHA-256: {sha256(list_bytes) if is_right else '5a' * 32}"})
-        shown.has_wrong_digest = not is_right
-    return steps, shown
-
-
-def rows_by(shown, label, list_name):
-    by = f"{label}/{list_name}"
-    own = [row for row, its in zip(shown["rows"], shown["by"]) if its in (by, "")]
-    return [row.rpartition(": ")[2] for row in own if not row.endswith(("NOT LISTED", "DIGEST"))]
+        wanted.has_rest = wanted.has_rest or not is_right
+    return steps, wanted
 
 
 def wrongs(shown, wanted, program):
@@ -202,8 +188,7 @@ def wrongs(shown, wanted, program):
             yield f"{len(rows)} rows of {len(results)} lines of {label}"
         is_named = set(disk.files) <= {*disk.listed, disk.list_name}
         is_right = is_right and is_named and all("OK" in it for it in results)
-    has_rest = wanted.refused or wanted.loose or wanted.has_wrong_digest
-    if shown["state"] == "ok" and (has_rest or not is_right):
+    if shown["state"] == "ok" and (wanted.has_rest or not is_right):
         yield "green, and something was not judged"
     if shown["green"]:
         yield "an old green stands after a drop"

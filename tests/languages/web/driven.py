@@ -23,7 +23,8 @@ READ = """
         things: [...document.querySelectorAll('#things > li')].map((it) => it.querySelector('bdi').textContent),
         offers: texts('#things .offer bdi'), folded: id('fold').hidden ? '' : id('foldtext').textContent,
         isWorking: id('results').getAttribute('aria-busy') === 'true',
-        commands: id('results').dataset.commands, speed: id('speed').textContent, more: id('more').textContent, canSave: !id('save').hidden,
+        commands: id('results').dataset.commands, speed: id('speed').textContent, more: id('more').textContent,
+        canSave: !id('save').hidden,
     };
 """
 

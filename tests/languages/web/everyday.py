@@ -141,7 +141,7 @@ def try_texts(page, work):
 
 
 def try_mixed(page, work, program):
-    """Lists whose lines do not say their hash: each length has its own, and a line without a known one is not FAILED."""
+    """Lists whose lines do not say their hash: each length has its own, and a line that has none is not FAILED."""
     made(work, "prog", b"hello")
     made(work, "other", b"other")
     lines = [f"{digest_of(program, work, name, 'prog')}  prog\n" for name in ("sha256", "sha512")]
