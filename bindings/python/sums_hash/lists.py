@@ -251,8 +251,8 @@ def check(
 ) -> Report:
     """Hashes the files of a list, and compares. The list is the path of a file, or what read_list() takes; names are
     looked up from the folder on. With `inside`, which is for lists that are not trusted, no name that is absolute or
-    holds `..` is opened: it is UNREADABLE. Links are followed. A list that can't be read is an OSError. So is what a
-    handler of a signal raises meanwhile, such as TimeoutError(), unless it has an errno, as a fault of a file has.
+    holds `..` is opened: it is UNREADABLE. Links are followed. A list that can't be read is an OSError. What a handler
+    of a signal raises ends the check, as TimeoutError() does; an OSError with an errno counts as a fault of the file.
     """
     state, folder_name = _native.ListState(_number(algorithm)), os.fsencode(folder)
     if isinstance(source, (str, os.PathLike)):
