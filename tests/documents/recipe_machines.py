@@ -94,12 +94,6 @@ LogLevel ERROR
 
 
 def over_ssh(bench, ssh):
-    folder, names = large_files(bench)
-    text = bench.text("docs/SCALE.md", "hosts")
-    for name in names:
-        wanted = bench.sums(folder, "hash", "-a", "blake3", "--", name)
-        bench.judge(f"docs/SCALE.md hosts, {name!r}",
-                    lambda: ends(bench.run(text, folder, f=name, PARALLEL_SSH=ssh), 0, wanted))
     folder, listed = listed_files(bench)
     text = bench.text("docs/SCALE.md", "shares-hosts") + bench.text("docs/SCALE.md", "told")
     bench.judge("docs/SCALE.md shares-hosts", lambda: ends(bench.run(text, folder, PARALLEL_SSH=ssh)))
@@ -124,15 +118,6 @@ def reported(folder, count):
     same((len(lines), all(line.endswith(b": OK") for line in lines)), (count, True), "the lines, and whether all are OK")
 
 
-def large_files(bench):
-    """A folder with a file that is cut on other machines too, under each name."""
-    folder = bench.folder()
-    fill(os.path.join(folder, NAMES[0]), 300000001)
-    for name in NAMES[1:]:
-        os.link(os.path.join(folder, NAMES[0]), os.path.join(folder, name))
-    return folder, NAMES
-
-
 # ---- Slurm
 
 
@@ -144,7 +129,6 @@ def scale_slurm(bench):
     children = []
     try:
         if cluster(bench, children):
-            steps(bench)
             shares(bench)
             arrays(bench)
             bench.judge("docs/SCALE.md shares-slurm, a task that fails", lambda: failing(bench))
@@ -205,20 +189,6 @@ PartitionName=all Nodes=ALL Default=YES MaxTime=INFINITE State=UP
             return False
         children.append(child)
     return True
-
-
-def steps(bench):
-    """The runs of sums-parallel that srun begins, for a file of each name."""
-    text = bench.text("docs/SCALE.md", "srun")
-    folder, names = large_files(bench)
-    jobs = [(name, bench.run(text, folder, f=name)) for name in names]
-    waited(bench, 900)
-    for name, got in jobs:
-        def case():
-            same((got[0], got[2]), (0, b""), "status and standard error")
-            with open(os.path.join(folder, f"slurm-{got[1].split()[-1].decode()}.out"), "rb") as file:
-                same(file.read(), bench.sums(folder, "hash", "-a", "blake3", "--", name), "the output of the job")
-        bench.judge(f"docs/SCALE.md srun, {name!r}", case)
 
 
 def shares(bench):

@@ -544,19 +544,27 @@ def scale_shares(bench):
 
 
 def scale_shares_hash(bench):
-    """The files of a folder that are hashed in shares."""
+    """The files of a folder that are hashed in shares, and outputs that are lost or of another job."""
     text = bench.text("docs/SCALE.md", "shares-hash")
 
-    def case():
+    def case(does):
         folder = bench.folder()
         os.mkdir(os.path.join(folder, "folder"))
         names = ["folder/" + each for each in tree(os.path.join(folder, "folder"))]
-        ends(bench.run(text, folder))
+        with open(os.path.join(folder, "out.00.old"), "wb") as file:
+            file.write(b"a line of an earlier job\n")
+        got = bench.run(text.replace("paste", f"{does}\npaste"), folder)
+        if does:
+            same((got[0], got[1].startswith((b"- wanted differ", b"cmp: EOF"))), (1, True), "the status, and what cmp tells")
+            return
+        ends(got)
         with open(os.path.join(folder, "LIST"), "rb") as file:
             listed = bench.sums(folder, "hash", "-a", "blake3", "--", *names)
             same(sorted(file.read().splitlines()), sorted(listed.splitlines()), "the list")
 
-    bench.judge("docs/SCALE.md shares-hash", case)
+    bench.judge("docs/SCALE.md shares-hash", lambda: case(""))
+    for does in "rm out.05", "sed -i 2d out.03", "cp out.01 out.02":
+        bench.judge(f"docs/SCALE.md shares-hash, {does}", lambda: case(does))
 
 
 # ---- All of them
@@ -565,7 +573,7 @@ def scale_shares_hash(bench):
 RUNS = {
     "README.md": {"first": readme_first, "download": readme_download, "folder": readme_folder, "new": readme_folder,
                   "use": readme_use, "checks": readme_checks},
-    "docs/SCALE.md": {"cores": scale_cores, "hosts": scale_hosts, "srun": scale_slurm, "file": scale_parts,
+    "docs/SCALE.md": {"cores": scale_cores, "file": scale_parts,
                       "shares": scale_shares, "told": scale_shares, "shares-hash": scale_shares_hash,
                       "shares-hosts": scale_hosts, "share.sh": scale_slurm, "shares-slurm": scale_slurm,
                       "shares-spark": scale_spark, "parts-slurm": scale_slurm, "parts-spark": scale_spark,
