@@ -2,17 +2,14 @@
 
 import os
 import shlex
-import sys
 import time
 
 import harness
 from harness import judge, same
 
-FRONT = os.path.join(os.path.dirname(harness.HERE), "scripts/sums-parallel")
+FRONT, SHARES = (os.path.join(os.path.dirname(harness.HERE), "scripts", name) for name in (
+    "sums-parallel", "sums-shares"))
 MIB = 1 << 20
-
-
-# ---- files
 
 
 def fill(name, size):
@@ -28,67 +25,58 @@ def content(path):
         return file.read()
 
 
-# ---- runs
+# ---- runs: by `own` words of sums-parallel, or by a number of shares, which also small files are given to
 
 
-def front(program, words, given=b"", **variables):
-    return harness.run(sys.executable, ["-ISXutf8", FRONT, *words], given, timeout=600,
-                       env={**os.environ, "SUMS": program, **variables})
+def command(program, own):
+    return [FRONT, *own] if isinstance(own, list) else ["/usr/bin/env", "--block-signal=INT", SHARES, program, str(own)]
+
+
+def front(program, own, words, given=b"", **options):
+    path, *first = command(program, own)
+    return harness.run(path, [*first, *words], given, timeout=100, env={**os.environ, "SUMS": program}, **options)
 
 
 def by_shell(program, own, text):
-    """What a line of a shell answers in which sums is sums-parallel with these words, or where there are none sums."""
-    command = shlex.join([program] if own is None else [sys.executable, "-ISXutf8", FRONT, *own])
-    return harness.run("sh", ["-c", f'rm -f told; sums() {{ {command} "$@"; }}; {text}'], timeout=600,
+    """What a line of a shell answers in which sums is sums-parallel, or where `own` is None sums."""
+    begin = shlex.join([program] if own is None else command(program, own))
+    return harness.run("sh", ["-c", f'rm -f told; sums() {{ {begin} "$@"; }}; {text}'], timeout=100,
                        env={**os.environ, "SUMS": program})
+
+
+def in_order(run):
+    """A run whose messages are in one order: those of runs that are at work together come as they come."""
+    return run.status, run.out, sorted(run.err.splitlines())
 
 
 def compare(program, ways, cases):
     for name, words, given in cases:
-        wanted = harness.run(program, words, given)
+        wanted = in_order(harness.run(program, words, given))
         for own in ways:
-            same(f"{' '.join(own)} {name}", front(program, [*own, *words], given), wanted)
+            same(f"{own} {name}", in_order(front(program, own, words, given)), wanted)
 
 
 def faulty(program, how):
     """A program that is sums, but for what lines of sh do first."""
     path = os.path.abspath("faulty/sums")
     os.makedirs("faulty", exist_ok=True)
+    if os.path.exists(path):
+        os.unlink(path)  # one that a run has just begun cannot be written to
     with open(path, "w") as file:
         file.write(f"#!/bin/sh\nsums={program}\n{how}\nexec \"$sums\" \"$@\"\n")
     os.chmod(path, 0o755)
     return path
 
 
-def runs_of(program, own, words):
-    """The commands of the runs that are begun, and what all answers."""
-    with open("begun", "wb"):
-        path = faulty(program, f'echo $1 >> "{os.path.abspath("begun")}"')
-    run = front(path, [*own, *words], PATH=os.path.dirname(path) + ":" + os.environ["PATH"])
-    return content("begun").split(), run
-
-
-def begun_by(begin, words, program):
-    """What the process answers where its processes are begun by these lines of Python, which have `begin` for Popen."""
-    script = ("import errno, os, runpy, signal, subprocess, sys, time\nbegin = subprocess.Popen\n" + begin +
-              "subprocess.Popen = begun_so\nsys.argv[:] = sys.argv[1:]\n"
-              "runpy.run_path(sys.argv[0], run_name='__main__')")
-    return harness.run(sys.executable, ["-c", script, FRONT, "-j2", "--block=1", *words], timeout=600,
-                       env={**os.environ, "SUMS": program})
-
-
-# ---- processes that are left
+def wait_for(holds):
+    for _ in range(400):
+        if holds():
+            return True
+        time.sleep(0.025)
+    return False
 
 
 def none_left(how, begun):
     """None of the processes is left that runs have told in a file."""
     left = [f"/proc/{int(process)}" for process in content(begun).split()]
     judge(f"{how}: no run is left", wait_for(lambda: not any(map(os.path.exists, left))), left)
-
-
-def wait_for(holds):
-    for _ in range(200):
-        if holds():
-            return True
-        time.sleep(0.05)
-    return False

@@ -226,7 +226,7 @@ _sums_parallel() {{
     while ((i < COMP_CWORD)); do
         case ${{COMP_WORDS[i]}} in
             {valued})
-                # --by=VALUE comes as three words
+                # -j=N comes as three words
                 [[ ${{COMP_WORDS[i + 1]}} != = ]] || ((i += 1))
                 ((i += 2)) ;;
             -*) ((i += 1)) ;;

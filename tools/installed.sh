@@ -197,9 +197,11 @@ program_texts() {
     "$1" 644 "$completions/sums.fish" share/fish/vendor_completions.d/sums.fish
 }
 
-# parallel_files DO [ZSH]: sums-parallel, which stands beside the program, with its manual page and completions
+# parallel_files DO [ZSH]: sums-parallel, which stands beside the program, with what begins its runs, its manual page and
+# completions
 parallel_files() {
     "$1" 755 scripts/sums-parallel bin/sums-parallel
+    "$1" 755 scripts/sums-shares libexec/sums-shares
     "$1" 644 man/sums-parallel.1 share/man/man1/sums-parallel.1
     "$1" 644 "$completions/sums-parallel.bash" share/bash-completion/completions/sums-parallel
     "$1" 644 "$completions/_sums-parallel" "${2:-share/zsh/site-functions}/_sums-parallel"

@@ -92,7 +92,8 @@ class Bench:
         bin_ = os.path.join(work, "bin")
         os.mkdir(bin_)
         shutil.copy(program, os.path.join(bin_, "sums"))
-        shutil.copy(os.path.join(HERE, "scripts/sums-parallel"), bin_)
+        for script in "sums-parallel", "sums-shares":
+            shutil.copy(os.path.join(HERE, "scripts", script), bin_)
         # a cargo of rustup finds its toolchain in the home of whoever runs this
         rustup = os.environ.get("RUSTUP_HOME", os.path.expanduser("~/.rustup"))
         self.environment = {"PATH": bin_ + ":" + os.environ["PATH"] + ":/usr/sbin:/sbin", "HOME": work,

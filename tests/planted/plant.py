@@ -39,8 +39,8 @@ LAYERS = {
     "rust": ("rustc --edition 2021 -D warnings --crate-type lib --cfg 'feature=\"std\"' --emit metadata "
              "-o $OUT bindings/rust/src/lib.rs",
              "LANGUAGES='rust python' tests/library/library $LIB", "LANGUAGES=rust tests/languages/bindings $LIB"),
-    "parallel": ("python3 -m py_compile scripts/sums-parallel", "tests/program/parallel_edges.py $SUMS",
-                 "tests/program/parallel.py $SUMS"),
+    "parallel": ("sh -n scripts/sums-parallel && python3 -m py_compile scripts/sums-shares",
+                 "tests/program/parallel.py $SUMS", "tests/program/parallel_edges.py $SUMS"),
     "launcher": ("cc -std=gnu11 -O2 -Wall -Wextra -Werror -o $OUT packaging/launcher.c", "tests/packages/release $SUMS"),
     "fat": ("sh -n packaging/fat", "tests/packages/release $SUMS", "LANGUAGES=rust tests/languages/bindings $LIB"),
     "install": ("for file in tools/install tools/uninstall tools/*.sh; do sh -n $file || exit; done",

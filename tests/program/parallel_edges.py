@@ -1,249 +1,296 @@
 #!/usr/bin/env python3
-"""What sums-parallel does where few runs come by: parts that are wrong in one way alone, a share that answers what none
-should, many files without a line, and a run that is late or ahead. The files are small, and so it takes a program that
-is slow, too.
-usage: tests/program/parallel_edges.py PROGRAM
+"""What sums-parallel does if something goes wrong meanwhile: lists, names, keys and files that are replaced, runs that
+are killed, stopped, late, or print what they should not, and signals at random moments. No run is left, nothing hangs,
+and what is printed is the beginning of what one run prints, unless a file is told to have changed. A release tries
+1,000 signals and 100 files.
+usage: tests/program/parallel_edges.py PROGRAM [SIGNALS] [FILES]    by default 60 and 8
 """
 
+import contextlib
 import os
+import random
+import resource
 import select
 import signal
 import subprocess
 import sys
+import threading
 import time
 
 sys.path.append(os.path.join(os.path.dirname(os.path.realpath(__file__)), ".."))
 
 import harness
-from fronts import FRONT, MIB, begun_by, by_shell, compare, content, faulty, front, none_left, runs_of, wait_for
+from fronts import MIB, by_shell, command, content, faulty, fill, front, in_order, none_left, wait_for
 from harness import judge, same
 
 FEW = [f"f{number}" for number in range(20)]
-GONE = [f"gone{number}" for number in range(60)]
-WAYS = (["-j2", "--block=1"], ["-j3", "--block=1"], ["--block=1"], ["-j3", "--by", "env A=b", "--block=1"])
-# the share that has no entry, and is asked what it reads
-ASKED = '*" --share 18446744073709551614/"*'
-# of the file in ten parts the last one, and its chunks
-LAST = '"part "*" --first 36 "*'
+HASH, CHECK = ["hash", "-a", "sha256", "--files0-from", "names"], ["check", "-a", "sha256", "--summary", "list"]
+MAC = ["mac", "-a", "blake2s", "--key-file=key", "--files0-from", "names"]
+SIGNALS = (signal.SIGINT, signal.SIGTERM, signal.SIGHUP, signal.SIGQUIT, signal.SIGKILL)
+
+
+def write(name, data):
+    with open(name, "wb") as file:
+        file.write(data)
 
 
 def files(program):
     for name in FEW:
-        with open(name, "w") as file:
-            file.write(name)
-    for name, first in (("large", 0), ("other", 1)):
-        with open(name, "wb") as file:
-            file.write((bytes(range(first, 256)) * 200)[:40000])
-    with open("list", "wb") as file:
-        file.write(harness.run(program, ["hash", "-a", "sha256", *FEW]).out)
-    with open("long", "wb") as file:
-        file.write(content("list") * 100)
+        write(name, name.encode())
+    for at in "12":
+        names = FEW if at == "1" else FEW[::-1] * 2
+        write(f"names{at}", b"".join(os.fsencode(name) + b"\0" for name in names))
+        write(f"list{at}", harness.run(program, ["hash", "-a", "sha256", *names]).out)
+        write(f"key{at}", at.encode() * 32)
+    for name in ("names", "list", "key"):
+        write(name, content(f"{name}1"))
+    fill("large", 33 * MIB)
+    fill("other", 33 * MIB)
 
 
-# ---- one large file
+# ---- what is replaced or changed
 
 
-def wrong_parts(program):
-    """A part whose line is that of other bytes, and which fails; one without a line; and lines that are not joined."""
-    words = ["-j2", "--block=1", "hash", "-a", "blake3", "large"]
-    wanted = harness.run(program, words[2:])
-    other = '"$sums" part -a blake3 --first 8 --chunks 4 -- other'
-    for how in (f'case "$1 $*" in "part "*" --first 8 "*) {other}; exit 1 ;; esac',
-                f'case "$1 $*" in "part "*" --first 8 "*) {other}; kill -9 $$ ;; esac',
-                f'case "$1 $*" in {LAST}) exit 0 ;; esac', f'case "$1 $*" in {LAST}) exit 1 ;; esac',
-                'case $1 in join) echo "00  large"; exit 1 ;; esac', 'case $1 in join) exit 3 ;; esac'):
-        same(f"parts: {how}", front(faulty(program, how), words), wanted)
-    same("parts", front(program, words), wanted)
+def replaced(program):
+    """A list, the names or the key that one share sees and the other does not."""
+    for name, words in (("list", CHECK), ("names", HASH), ("key", MAC), ("list", [*CHECK, "list2", "list"]),
+                        ("names", ["hash", "-a", "sha256", "--files0-from=names"]),
+                        ("key", [*MAC[:3], "--key-file", "key", *MAC[4:]])):
+        for how in (f"cp {name}2 new; mv new {name}", f"cp {name}2 {name}", f"rm {name}", f"echo >> {name}"):
+            write(name, content(f"{name}1"))
+            path = faulty(program, f'case "$*" in *"--share 1/"*) sleep 0.3; {how} ;; esac')
+            run = front(path, 2, words)
+            told = f"sums-parallel: '{name}' has changed; lines are missing\n".encode()
+            judge(f"{words}: {how}", run.status == 3 and run.err.endswith(told), run)
+        write(name, content(f"{name}1"))
+    path = faulty(program, 'case "$*" in *"--share 1/"*) sleep 0.3; touch list ;; esac')
+    run = by_shell(path, 2, "sums check -a sha256 < list")
+    judge("the list of standard input", run.status == 3 and b"'/dev/stdin' has changed" in run.err, run)
+
+
+def at_random(program, rounds):
+    """A file that is replaced again and again has one of its contents, or that it has changed is told."""
+    for name, words in (("list", CHECK), ("names", HASH), ("key", MAC)):
+        answers, seen = [], set()
+        for at in "12":
+            write(name, content(f"{name}{at}"))
+            answers.append(in_order(harness.run(program, words)))
+        for _ in range(rounds):
+            ends = threading.Event()
+
+            def replaces():
+                while not ends.wait(random.random() * 0.02):
+                    write("new", content(f"{name}{random.choice('12')}"))
+                    os.replace("new", name)
+            thread = threading.Thread(target=replaces)
+            thread.start()
+            run = front(program, 9, words)
+            ends.set()
+            thread.join()
+            judge(f"{name} is replaced at random", in_order(run) in answers
+                  or run.status == 3 and f"'{name}' has changed".encode() in run.err, run)
+            seen.add(run.status)
+        judge(f"{name} is replaced at random: seen", 3 in seen, seen)
+        write(name, content(f"{name}1"))
 
 
 def changed(program):
-    """A file that changes when its first part is hashed is hashed anew, however little of it tells the change."""
-    for name, does in (("is written to", "printf x | dd of=changes conv=notrunc 2> told"),
-                       ("is written to, at the same time",
-                        "printf x | dd of=changes conv=notrunc 2> told; touch -r stamp changes"),
-                       ("is replaced, at the same time", "cp other new; touch -r stamp new; mv new changes"),
-                       ("grows", "printf x >> changes"), ("shrinks", "truncate -s 30000 changes"),
-                       ("is lost", "rm changes")):
-        with open("changes", "wb") as file:
-            file.write(content("large"))
-        path = faulty(program, f'case "$1 $*" in "part "*" --first 0 "*) "$sums" "$@"; cp -p changes stamp; {does}; '
-                      'exit 0 ;; esac')
-        time.sleep(0.02)  # so that the time of a change is another one
-        run = front(path, ["-j2", "--block=1", "hash", "-a", "blake3", "changes"])
-        same(f"a file that {name}", run, harness.run(program, ["hash", "-a", "blake3", "changes"]))
+    """A large file that changes while its parts are hashed is hashed anew, however little of it tells the change."""
+    words = ["hash", "-a", "blake3", "changes"]
+    for does in ("printf x | dd of=changes conv=notrunc 2> told", "cp other new; touch -r changes new; mv new changes",
+                 "printf x | dd of=changes conv=notrunc 2> told; touch -r large changes", "printf x >> changes",
+                 "truncate -s 30000 changes", "rm changes"):
+        write("changes", content("large"))
+        run = front(faulty(program, f'case "$*" in *"--share 1/"*) "$sums" "$@"; sleep 0.02; {does}; exit 0 ;; esac'),
+                    ["-j3"], words)
+        same(f"large: {does}", run, harness.run(program, words))
 
 
-def labelled(program):
-    """The label of a line stands for 32 bytes from the first one on, whatever a share takes."""
-    for words in (["-l", "9"], ["--seek", "5"], ["-l9", "--seek=5"]):
-        words = ["hash", "-a", "blake3", "--tag", *words, "large"]
-        path = faulty(program, f'case " $*" in {ASKED}) exit 0 ;; esac')
-        same(f"{words}", front(path, ["-j2", "--block=1", *words]), harness.run(program, words))
-    for words in (["-l", "32"], ["--seek=0"], ["-l32", "--seek", "0"]):
-        words = ["hash", "-a", "blake3", "--tag", *words, "large"]
-        same(f"{words}", front(program, ["-j2", "--block=1", *words]), harness.run(program, words))
+# ---- runs that fail
 
 
-# ---- the share that is asked
+def failed(program):
+    """Runs that are killed, fail, or print what they should not: the beginning of the lines, and status 3."""
+    share, told = 'case "$*" in *"--share 1/"*', 'case "$*" in *--told*'
+    for words in HASH, CHECK:
+        whole = harness.run(program, words)
+        for how, text in ((f'{share}) printf "half a line"; kill -9 $$ ;; esac', b"was killed by signal 9"),
+                          (f"{share}) kill -9 $$ ;; esac", b"was killed by signal 9"),
+                          (f'{share}) "$sums" "$@" | head -n 3; kill -9 $$ ;; esac', b"was killed by signal 9"),
+                          (f'{share}) "$sums" "$@"; exit 3 ;; esac', b"ended with status 3"),
+                          (f'{share}) exec "$sums" ;; esac', b"ended with status 2"),
+                          (f"{share}) exec /nothing ;; esac", b"ended with status 127"),
+                          (f'{share}) "$sums" "$@" | head -n 3; exit 0 ;; esac', b"different lines"),
+                          (f'{share}) "$sums" "$@" | head -c 30; exit 0 ;; esac', b"different lines"),
+                          (f'{share}) "$sums" "$@"; "$sums" "$@" ;; esac', b"different lines"),
+                          (f"{share}) exit 1 ;; esac", b"different lines")):
+            run = front(faulty(program, how), 3, words)
+            judge(f"{words[0]}: {how}", run.status == 3 and whole.out.startswith(run.out) and text in run.err
+                  and run.err.endswith(b"; lines are missing\n"), run)
+    whole = harness.run(program, CHECK)
+    for how in (f"{told}) kill -9 $$ ;; esac", f"{told}) exit 3 ;; esac", f"{told}) exit 0 ;; esac",
+                f"{told}) exec 1< names ;; esac", f"{told}) sleep 1; kill -9 $$ ;; esac",
+                f'{share}) "$sums" "$@" | sed "2s/OK/OKAY/"; exit 0 ;; esac',
+                f'{share}) "$sums" "$@" | tac; exit 0 ;; esac',
+                f'{share}) set -- check --share 2/3 -a sha256 list ;; *"--share 2/"*) '
+                'set -- check --share 1/3 -a sha256 list ;; esac'):
+        run = front(faulty(program, how), 3, CHECK)
+        judge(f"check: {how}", run.status == 3 or how.endswith("--told*) exit 0 ;; esac"), run)
+    run = front(faulty(program, f"{told}) sleep 1 ;; esac"), 3, CHECK)
+    same("the run that compares is late", run, whole)
+    os.mkdir("cats")
+    for how, words, name in [(how, words, name) for how in ("head -c 9; kill -9 $$", "head -c 9; exit 1", "exit 1")
+                             for words, name in (([*HASH[:-1], "-"], "names"), (CHECK[:-1], "list"))]:
+        write("cats/cat", f"#!/bin/sh\n{how}\n".encode())
+        os.chmod("cats/cat", 0o755)
+        path, *own = command(program, 3)
+        run = harness.run(path, [*own, *words], content(name), timeout=100,
+                          env={**os.environ, "PATH": os.path.abspath("cats") + ":" + os.environ["PATH"]})
+        judge(f"{words[0]}: a copy that is cut, {how}", run.status == 3
+              and run.err.endswith(b"; lines are missing\n"), run)
 
 
 def asked(program):
-    """A share without an entry that prints something, or has a status, leaves all to one run, and so does one that
-    cannot be begun."""
-    begun = os.path.abspath("begun")
-    for words in (["hash", "-a", "sha256", *FEW], ["check", "-a", "sha256", "list"]):
-        wanted = harness.run(program, words)
-        for how in ("echo x; exit 0", "echo; exit 0", "exit 1", "exit 2", "exit 3", "kill -9 $$", "echo x; exit 1"):
-            with open(begun, "wb"):
-                path = faulty(program, f'echo "$1 $2" >> "{begun}"; case " $*" in {ASKED}) {how} ;; esac')
-            same(f"{words[0]}, asked: {how}", front(path, ["-j3", "--block=1", *words]), wanted)
-            same(f"{words[0]}, asked, {how}: the runs", content(begun).decode().splitlines(),
-                 [f"{words[0]} --share", f"{words[0]} -a"])
-        with open(begun, "wb"):
-            path = faulty(program, f'echo "$1 $2" >> "{begun}"')
-        run = begun_by("calls = []\ndef begun_so(*words, **options):\n    calls.append(words)\n"
-                       "    if len(calls) == 1: raise OSError(errno.EAGAIN, 'refused')\n"
-                       "    return begin(*words, **options)\n", words, path)
-        same(f"{words[0]}, a share that cannot be begun", (run, content(begun)), (wanted, f"{words[0]} -a\n".encode()))
+    """A share without an entry that prints something, or has a status, leaves all to one run."""
+    for words in HASH, CHECK:
+        for how in ("echo x; exit 0", "echo; exit 0", "exit 1", "exit 2", "exit 3", "kill -9 $$"):
+            path = faulty(program, f'case "$*" in *"--share 18446744073709551614/"*) {how} ;; *--share*) exit 9 ;; '
+                          'esac')
+            same(f"{words[0]}, asked: {how}", front(path, 3, words), harness.run(program, words))
 
 
-def sizes(program):
-    """Each file counts as 8,192 bytes more than it has. Files of a block in all are shared, and of less are not."""
-    size = sum(8192 + len(name) for name in FEW)
-    words = ["hash", "-a", "sha256", *FEW]
-    for block, runs in ((size, 3), (size + 1, 1)):
-        begun, run = runs_of(program, ["-j=2", f"--block={block}"], words)
-        same(f"--block={block}", (len(begun), run), (runs, harness.run(program, words)))
-
-
-# ---- files without a line
-
-
-def without_lines(program):
-    """Many of them after another, in each run, and nothing else; with what is reported between the lines."""
-    mixed = [name for at, gone in enumerate(GONE) for name in ([gone] if at % 7 else [gone, FEW[at % 20]])]
-    listed = ["hash", "-a", "sha256", "--files0-from", "-"]
-    compare(program, WAYS, (("files that are all gone", listed, "\0".join(GONE).encode()),
-                            ("a file that is gone, alone", listed, b"gone"),
-                            ("one file among those that are gone", ["hash", "-a", "sha256", *GONE, "f1", *GONE], b""),
-                            ("few files among those that are gone", ["hash", "-a", "sha256", *mixed], b""),
-                            ("few files, long lines", ["hash", "-a", "blake3", "-l", "70000", *mixed[:20]], b"")))
-    for names in (mixed, [*FEW, *GONE, *FEW]):
-        text = f"sums hash -a sha256 {' '.join(names)} 2>&1"
-        for own in WAYS:
-            same(f"{own} {text}", by_shell(program, own, text), by_shell(program, None, text))
-
-
-# ---- runs that are late, or ahead
+def wrong_parts(program):
+    """A large file of which a part is lost or wrong is hashed by one run."""
+    words = ["hash", "-a", "blake3", "large"]
+    wanted = harness.run(program, words)
+    other = '"$sums" part -a blake3 --each 4096 --share 1/3 -- other'
+    for how in ("exit 0", "exit 1", "kill -9 $$", "echo x; exit 0", 'printf "half a line"', f"{other}; exit 1",
+                f"{other}; kill -9 $$", '"$sums" "$@" | head -n 1; exit 0', '"$sums" "$@"; exit 1',
+                "exec >&-; sleep 0.3"):
+        path = faulty(program, f'case "$*" in *"--share 1/"*) {how} ;; esac')
+        same(f"parts: {how}", front(path, ["-j3"], words), wanted)
+    path = faulty(program, 'case "$*" in *"--share 2/3"*) "$sums" "$@" | head -n 2; exit 0 ;; esac')
+    same("parts: the last one is missing", front(path, ["-j3"], words), wanted)
+    for how in ('echo "00  large"; exit 1', "exit 3", "kill -9 $$", "sleep 0.3; exit 0"):
+        run = front(faulty(program, f"case $1 in join) {how} ;; esac"), ["-j3"], words)
+        judge(f"parts: join {how}", run == wanted or "exit 0" in how and not run.out, run)
 
 
 def late(program):
-    """What stands before the line of a run that is late is shown, all of it and nothing more."""
-    for words in (["hash", "-a", "sha256", *FEW], ["check", "-a", "sha256", "list"]):
-        lines = harness.run(program, words).out.splitlines(keepends=True)
-        path = faulty(program, 'case "$*" in *"--share 1/2"*) "$sums" "$@" | sed -u 3q; sleep 60 ;; esac')
-        run = subprocess.Popen([sys.executable, FRONT, "-j2", "--block=1", *words], stdout=subprocess.PIPE,
-                               env={**os.environ, "SUMS": path})
-        text = b""
-        while text.count(b"\n") < 7 and select.select([run.stdout], [], [], 60)[0]:
-            text += os.read(run.stdout.fileno(), MIB)
-        more = select.select([run.stdout], [], [], 0.5)[0]
-        same(f"{words[0]}: lines before one that is late", (text, more), (b"".join(lines[:7]), []))
-        run.terminate()
-        run.communicate(timeout=30)
+    """What stands before the line of a run that is late is shown at once; a run that is stopped goes on."""
+    for words in HASH, CHECK:
+        whole = harness.run(program, words)
+        path = faulty(program, 'case "$*" in *"--share 1/2"*) echo $$ > begun; kill -STOP $$ ;; esac')
+        write("begun", b"")
+        begin, *own = command(path, 2)
+        with subprocess.Popen([begin, *own, *words], stdout=subprocess.PIPE, stderr=subprocess.PIPE) as run:
+            first = os.read(run.stdout.fileno(), MIB) if select.select([run.stdout], [], [], 60)[0] else b""
+            wait_for(lambda: content("begun"))
+            more = select.select([run.stdout], [], [], 0.3)[0]
+            same(f"{words[0]}: before a run that is stopped", (first, more), (whole.out.splitlines(True)[0], []))
+            os.kill(int(content("begun")), signal.SIGCONT)
+            out, err = run.communicate(timeout=60)
+            same(f"{words[0]}: behind it", (run.returncode, first + out, err), whole)
 
 
-def overtaken(program):
-    """A run that has filled its pipe before the process that began it goes on."""
-    words = ["hash", "-a", "blake3", "-l", "70000", *FEW[:6]]
-    run = begun_by("def begun_so(*words, **options):\n    process = begin(*words, **options)\n    time.sleep(0.3)\n"
-                   "    return process\n", words, program)
-    same("runs that are faster than what begins them", run, harness.run(program, words))
+def side_by_side(program):
+    """Lines of two processes that write into one pipe stay whole."""
+    reading, writing = os.pipe()
+    write("many", content("names2") * 500)
+    runs = [subprocess.Popen([*command(program, 3), *HASH[:-1], "many"], stdout=writing) for _ in range(4)]
+    os.close(writing)
+    with open(reading, "rb") as pipe:
+        lines = pipe.read().splitlines()
+    same("side by side: statuses", [run.wait() for run in runs], [0] * 4)
+    judge("side by side", sorted(lines) == sorted(content("list2").splitlines() * 2000), set(lines))
 
 
-def ahead(program):
-    """A run that is ahead of the others waits, in memory that does not grow."""
-    path = faulty(program, 'case "$*" in *"--share 0/2"*) sleep 1 ;; '
-                  '*"--share 1/2"*) cat $(yes line | head -n 150); exit 0 ;; esac')
-    with open("line", "wb") as file:
-        file.write(b"x" * MIB + b"\n")
-    run = subprocess.Popen([sys.executable, "-ISXutf8", FRONT, "-j2", "--block=1", "hash", "-a", "sha256", "f1", "f2"],
-                           stdout=subprocess.DEVNULL, stderr=subprocess.DEVNULL, env={**os.environ, "SUMS": path})
-    _, status, used = os.wait4(run.pid, 0)
-    run.returncode = os.waitstatus_to_exitcode(status)
-    same("a run that is ahead: the status", run.returncode, 3)
-    judge("a run that is ahead: memory", used.ru_maxrss < 80 << 10, f"{used.ru_maxrss} KiB")
+# ---- signals
 
 
-def ended(program):
-    """A signal that comes while a run is waited for ends all at once, not when the runs would have been killed."""
-    begun = os.path.abspath("begun")
-    with open(begun, "wb"):
-        path = faulty(program, f'case "$*" in *"--share "[01]/2*) echo >> "{begun}"; sleep 60 ;; esac')
-    run = subprocess.Popen([sys.executable, "-ISXutf8", FRONT, "-j2", "--by", "env A=b", "--block=1", "hash", "-a",
-                            "sha256", "f1", "f2"], stdout=subprocess.DEVNULL, env={**os.environ, "SUMS": path})
-    wait_for(lambda: len(content(begun)) == 2)
-    time.sleep(0.5)
-    start = time.monotonic()
-    run.terminate()
-    run.wait(timeout=60)
-    judge("a signal while a run is waited for", time.monotonic() - start < 8, time.monotonic() - start)
+def left(mark):
+    """The processes that have a mark in their environment."""
+    for process in filter(str.isdigit, os.listdir("/proc")):
+        with contextlib.suppress(OSError):
+            if mark in content(f"/proc/{process}/environ"):
+                yield process
 
 
-def unseen(program):
-    """A signal that comes just before a wait, and so does not end it, is obeyed soon."""
-    begun = os.path.abspath("begun")
-    with open(begun, "wb"):
-        path = faulty(program, f'case "$*" in *"--share 1/2"*) sleep 60 & echo $$ $! > "{begun}"; wait ;; esac')
-    # a second thread takes the signal, so that it ends no wait of the first; what began the tests may ignore it
-    script = ("import runpy, signal, sys, threading, time\n"
-              "threading.Thread(target=time.sleep, args=(60,), daemon=True).start()\n"
-              "signal.signal(signal.SIGINT, signal.SIG_DFL)\n"
-              "signal.pthread_sigmask(signal.SIG_BLOCK, [signal.SIGINT])\n"
-              "sys.argv[:] = sys.argv[1:]\nrunpy.run_path(sys.argv[0], run_name='__main__')")
-    run = subprocess.Popen([sys.executable, "-c", script, FRONT, "-j2", "--block=1", "hash", "-a", "sha256", "f1",
-                            "f2"], stdout=subprocess.DEVNULL, env={**os.environ, "SUMS": path})
-    wait_for(lambda: content(begun))
-    time.sleep(0.5)
-    run.send_signal(signal.SIGINT)
-    same("a signal just before a wait", run.wait(timeout=30), -signal.SIGINT)
-    none_left("a signal just before a wait", begun)
+def signals(program, count):
+    """A signal at any moment, to sums-parallel alone or to its group, ends all."""
+    slow = faulty(program, 'case "$*" in *"--share 1/"*) "$sums" "$@" | { sleep 0.05; cat; }; exit 0 ;; esac')
+    os.mkdir("temporary")
+    for number in range(count):
+        words, given = random.choice(((HASH, b""), (CHECK, b""), (MAC, b""), (CHECK[:-1], content("list")),
+                                      ([*HASH[:-1], "-"], content("names")), (["hash", "-a", "blake3", "large"], b"")))
+        number = f"mark={random.getrandbits(64):x}"
+        path, own = random.choice(((program, ["-j3"]), (program, []), (slow, 3)))
+        whole, sent = harness.run(program, words, given), random.choice(SIGNALS)
+        write("given", given)
+        with open("given", "rb") as file, subprocess.Popen(
+                [*command(path, own), *words], stdin=file if random.random() < 0.5 else subprocess.PIPE,
+                stdout=subprocess.PIPE, stderr=subprocess.PIPE, start_new_session=True,
+                env={**os.environ, "SUMS": path, "TMPDIR": os.path.abspath("temporary"), "mark": number[5:]}) as run:
+            if run.stdin:
+                with contextlib.suppress(OSError):
+                    run.stdin.write(given)
+                    run.stdin.close()
+                run.stdin = None
+            time.sleep(random.random() * random.choice((0.02, 0.1, 0.2)))
+            with contextlib.suppress(ProcessLookupError):
+                (os.killpg if random.random() < 0.4 else os.kill)(run.pid, sent)
+            begin = time.monotonic()
+            out, err = run.communicate(timeout=60)
+        how = f"signal {sent} to {own} {words}"
+        judge(how, run.returncode == -sent and whole.out.startswith(out)
+              or in_order(harness.Run(run.returncode, out, err)) == in_order(whole), run.returncode, out, err)
+        judge(f"{how}: the time", time.monotonic() - begin < 20, time.monotonic() - begin)
+        judge(f"{how}: none is left", wait_for(lambda: not [*left(number.encode())]), [*left(number.encode())])
+    same("signals leave no file", os.listdir("temporary"), [])
 
 
-def alarms(program):
-    """No alarm of its own ends the one run that takes its place, and one that was set for it does."""
-    path = faulty(program, 'case "$*" in *--share*) exit 2 ;; esac; sleep 2.5')
-    words = ["-j2", "--block=1", "hash", "-a", "sha256", "f1", "f2"]
-    same("one run that takes longer than a second", front(path, words), harness.run(program, words[2:]))
-    script = ("import os, signal, sys; signal.signal(signal.SIGALRM, signal.SIG_DFL); signal.alarm(1); "
-              "os.execv(sys.argv[1], sys.argv[1:])")
-    for path in (path, faulty(program, 'case "$*" in *"--share "[01]/2*) sleep 2.5 ;; esac')):
-        run = harness.run(sys.executable, ["-c", script, sys.executable, "-ISXutf8", FRONT, *words],
-                          env={**os.environ, "SUMS": path})
-        same("an alarm that was set before", (run.status, run.out), (-signal.SIGALRM, b""))
+def ignored(program):
+    """A signal that is ignored, as SIGHUP is by nohup, ends no run."""
+    for number in SIGNALS[:4]:
+        path = faulty(program, 'case "$*" in *"--share 1/"*) echo $$ > begun; sleep 0.5 ;; esac')
+        write("begun", b"")
+        with subprocess.Popen([*command(path, 2), *HASH], stdout=subprocess.PIPE, start_new_session=True,
+                              preexec_fn=lambda: signal.signal(number, signal.SIG_IGN)) as run:
+            wait_for(lambda: content("begun"))
+            os.killpg(run.pid, number)
+            out = run.communicate(timeout=60)[0]
+        same(f"signal {number} is ignored", (run.returncode, out), (0, content("list1")))
 
 
-def told_ends(program):
-    """Lines are shown whatever becomes of the run that compares them, and one that begins late reads them all."""
-    words = ["check", "-a", "sha256", "--summary", "long"]
-    whole = harness.run(program, words)
-    path = faulty(program, 'case "$*" in *--told*) kill -9 $$ ;; esac')
-    run = front(path, ["-j3", *words])
-    same("the run that compares is killed at once", (run.status, run.out), (3, whole.out))
-    path = faulty(program, 'case "$*" in *--told*) sleep 1 ;; esac')
-    for given in (b"", content("long")):
-        words = [*words[:4], *(["-"] if given else ["long"])]
-        same(f"the run that compares begins late, {words[-1]}", front(path, ["-j3", *words], given),
-             harness.run(program, words, given))
+def stubborn(program):
+    """A run that passes over signals is ended, too, and so is one at work whose line nobody takes."""
+    path = faulty(program, 'case "$*" in *"--share 1/"*) trap "" INT TERM HUP; echo $$ > begun; '
+                  'while :; do sleep 0.1; done ;; *"--share 0/"*) until [ -s begun ]; do sleep 0.1; done ;; esac')
+    for number in SIGNALS:
+        write("begun", b"")
+        with subprocess.Popen([*command(path, 2), *HASH], stdout=subprocess.DEVNULL) as run:
+            wait_for(lambda: content("begun"))
+            run.send_signal(number)
+            same(f"signal {number} and a run that ignores it", run.wait(timeout=60), -number)
+        none_left(f"signal {number} and a run that ignores it", "begun")
+    write("begun", b"")
+    run = by_shell(path, 2, f"sums {' '.join(HASH)} > /dev/full")
+    judge("a full device and a run at work", run.status == 3 and b"No space left on device" in run.err, run)
+    none_left("a full device and a run at work", "begun")
 
 
 def main():
     program = harness.program()
+    words = harness.arguments(1)[1:]
+    for number in SIGNALS[:4]:  # which what began the tests may ignore
+        signal.signal(number, signal.SIG_DFL)
+    resource.setrlimit(resource.RLIMIT_CORE, (0, 0))
     with harness.folder():
         files(program)
-        for tried in (wrong_parts, changed, labelled, asked, sizes, without_lines, late, overtaken, ahead, ended,
-                      unseen, alarms, told_ends):
+        for tried in (replaced, changed, failed, asked, wrong_parts, late, side_by_side, ignored, stubborn):
             tried(program)
+        signals(program, int(words[0]) if words else 60)
+        at_random(program, int(words[1]) if words[1:] else 8)
     harness.finish()
 
 

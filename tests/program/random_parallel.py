@@ -1,6 +1,6 @@
 #!/usr/bin/env python3
-"""Compares random command lines of sums-parallel with one run of sums: both streams and the status. Words, names,
-lists, files of names and standard input are random, and many are wrong. A release tries 10,000.
+"""Compares random command lines of sums-parallel with one run of sums: lines, messages in any order, and the status.
+Words, names, lists, files of names and standard input are random, and many are wrong. A release tries 10,000.
 usage: tests/program/random_parallel.py PROGRAM [COUNT] [SEED]    COUNT is 300 where it is not named
 """
 
@@ -13,13 +13,12 @@ sys.path.append(os.path.join(os.path.dirname(os.path.realpath(__file__)), ".."))
 
 import harness
 import tables
+from fronts import command, in_order
 
-FRONT = os.path.join(os.path.dirname(harness.HERE), "scripts/sums-parallel")
 FILES = ["f0", "f1", "f2", "f3", "f4", "empty", "a b", " a", "größe", "a\\b", "a\nb", "-dash", "large", "-large",
          "x (y) = z"]
 NONE = ["missing", "folder", "f0/x", "", "x" * 300, "dangling"]
-OWN = ([], ["-j2", "--block=1"], ["-j", "3", "--block", "1"], ["-j5", "--block=1"], ["--block=1"],
-       ["-j4", "--by", "env A=b", "--block=1"])
+OWN = ([], ["-j2"], ["-j", "3"], 2, 3, 5)  # words of sums-parallel, or a number of shares
 WRONG = (["-x"], ["--tag=1"], ["-l"], ["--share", "0/1"], ["--help"], ["--raw"], ["--seek", "1"], ["--verify", "00"],
          ["--name", "x"], ["-"], ["--none"], ["-l", "99999"], ["--told", "names"])
 
@@ -129,16 +128,17 @@ def case(program, digests):
     return words, given
 
 
-def run(command, program, words, given, is_file):
+def run(words, program, given, is_file):
     """What a run answers, whose standard input is a pipe or a file."""
+    options = {"env": {**os.environ, "SUMS": program}, "timeout": 100}
     if not is_file:
-        return harness.run(command[0], [*command[1:], *words], given, env={**os.environ, "SUMS": program}, timeout=300)
+        return in_order(harness.run(words[0], words[1:], given, **options))
     with open("given", "wb+") as file:
         file.write(given)
         file.seek(0)
-        done = subprocess.run([harness.called(command[0]), *command[1:], *words], executable=command[0], stdin=file,
-                              capture_output=True, env={**os.environ, "SUMS": program}, timeout=300)
-    return harness.Run(done.returncode, done.stdout, done.stderr)
+        done = subprocess.run([harness.called(words[0]), *words[1:]], executable=words[0], stdin=file,
+                              capture_output=True, check=False, **options)
+    return in_order(harness.Run(done.returncode, done.stdout, done.stderr))
 
 
 def main():
@@ -155,9 +155,9 @@ def main():
             file.write(harness.run(program, ["part", "-a", "blake3", "--each", "1", "large"]).out)
         for number in range(count):
             words, given = case(program, digests)
-            is_file, own = random.random() < 0.3, random.choice(OWN)
-            wanted = run([program], program, words, given, is_file)
-            got = run([sys.executable, "-ISXutf8", FRONT, *own], program, words, given, is_file)
+            is_file, own = random.random() < 0.3, random.choice(OWN if words[0] != "part" else OWN[:3])
+            wanted = run([program, *words], program, given, is_file)
+            got = run([*command(program, own), *words], program, given, is_file)
             harness.same(f"{number}: {own} {words} < {'file' if is_file else 'pipe'} {given[:300]}", got, wanted)
     harness.finish()
 
