@@ -185,6 +185,7 @@ def one_runs(program):
                                ([], ["hash", "-a", "sha256", "f1", "less"], ["hash"]),
                                (["-j", "3"], ["hash", "-a", "sha256", "f1", "just"], ["hash"] * 4),
                                (["-j9"], ["hash", "-a", "sha256", "f1", "just"], ["hash"] * 6),
+                               (["-j3"], ["hash", "-a", "sha256", "--files0-from", "names"], ["hash"] * 4),
                                (["-j3"], ["hash", "-a", "sha256", *["just"] * 3, *FEW * 30], ["hash"]),
                                (["-j3"], ["hash", "-a", "sha256", *FEW * 30, "just"], ["hash"] * 4),
                                (["-j3"], ["hash", "-a", "blake3", "just"], [*part, "part", "part"]),
