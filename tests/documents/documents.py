@@ -1,7 +1,7 @@
 #!/usr/bin/env python3
 """Checks the documents: each link leads somewhere, here and where they are installed, sentences and pages are short,
 nothing is dated, quoted code is there, pictures show what they are made of, README begins with what its readers ask
-first, among it two commands for those with the kit, and has the options and statuses of the program's help and manual
+first, soon has two commands for those with the kit, and has the options and statuses of the program's help and manual
 pages; those have what tools/pages writes, name the same faults, and list the same terminals as code and tests do.
 usage: tests/documents/documents.py PROGRAM
 """
@@ -25,17 +25,17 @@ MOST_WORDS = {
     "docs/BENCHMARKS.md": 2300,
     "docs/CONTRIBUTING.md": 2250,
     "docs/DECISIONS.md": 2150,
-    "docs/FORMAT.md": 2700,
-    "docs/INSTALL.md": 330,
+    "docs/FORMAT.md": 2760,
     "docs/PROOFS.md": 3600,
     "docs/READING.md": 1200,
     "docs/RELEASING.md": 900,
     "docs/SCALE.md": 1600,
     "docs/SECURITY.md": 850,
 }
-FIRST_LINES = 40
-FIRST_TEXTS = ["sums check -a ", "sums hash -a ", " --verify ", ": OK\n", "apt install", "tar -xf", "pip install",
-               "(docs/INSTALL.md)", "(#what-is-proved)", "**proved**"]
+# what stands in how many first lines of README.md
+FIRST_TEXTS = {24: ["sums check -a ", "sums hash -a ", " --verify ", ": OK\n", "apt install", "tar -xf", "pip install",
+                    "(#packages)", "(#what-is-proved)"],
+               60: ["**With the kit**", "tools/try", "tools/test", "grep -F", "gpg ", "`OK`", "`MALFORMED`"]}
 SENTENCE_WORDS = 40
 DIARY = re.compile(r"20[0-9]{2}-|November|was seen|beside other")
 # the one line that tells when and on what was measured
@@ -212,17 +212,17 @@ def check_terminals():
 
 
 def check_first_screen():
-    """The first lines show what is printed, how to get it, and the two commands for those with the kit; no other command
-    needs the kit. What is proved comes next."""
+    """The first lines show what is printed and how to get it, and then the two commands for those with the kit, and how
+    a download is checked, which is the first heading. No other command needs the kit."""
     readme = read("README.md")
-    first = "".join(readme.splitlines(keepends=True)[:FIRST_LINES])
-    for text in FIRST_TEXTS:
-        harness.judge(f"README.md has '{text.strip()}' in its first lines", text in first)
-    for whole, text in [("README.md", readme), ("the first lines of README.md", first)]:
-        commands = re.findall(r"^(?:\$ .*\btools/|tools/|make).*", text, re.M)
-        harness.judge(f"{whole}: two commands for those with the kit", len(commands) == 2, *commands)
+    for most, texts in FIRST_TEXTS.items():
+        first = "".join(readme.splitlines(keepends=True)[:most])
+        for text in texts:
+            harness.judge(f"README.md has '{text.strip()}' in its first {most} lines", text in first)
+    commands = re.findall(r"^(?:\$ .*\btools/|tools/|make).*", readme, re.M)
+    harness.judge("README.md: two commands for those with the kit", len(commands) == 2, *commands)
     headings = re.findall(r"^## (.*)$", readme, re.M)
-    harness.same("the first heading of README.md", headings[0], "What is proved")
+    harness.same("the first heading of README.md", headings[0], "Check a download")
 
 
 def one_line(text):

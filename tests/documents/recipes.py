@@ -265,22 +265,32 @@ def readme_checks(bench):
 
 
 def readme_download(bench):
-    """The list of a download: files that are right, and then one that is not."""
+    """The list of a download: files that are right, and then one that is not; one file of it, or none; its digest alone."""
+    page = "README.md download"
+    every, one, _, _, alone = bench.text("README.md", "download").splitlines()
     folder = pictures(bench.folder())
     listed = lists_of(bench, folder)
-    text = bench.text("README.md", "download")
     count = listed.count(b"\n")
-    bench.judge("README.md download", lambda: same(
-        (bench.run(text, folder)[0], bench.run(text, folder)[1].count(b": OK\n")), (0, count), "status and files"))
+    digest = bench.sums(folder, "hash", "-a", "sha256", "two.iso")[:64].decode()
+    bench.judge(page, lambda: same(
+        (bench.run(every, folder)[0], bench.run(every, folder)[1].count(b": OK\n")), (0, count), "status and files"))
+    bench.judge(f"{page}, one file", lambda: ends(bench.run(one, folder), 0, b"two.iso: OK\n"))
+    bench.judge(f"{page}, a digest", lambda: ends(bench.run(alone, folder, digest=digest), 0, b"two.iso: OK\n"))
     fill(os.path.join(folder, "two.iso"), 7)
-    got = bench.run(text, folder)
-    bench.judge("README.md download, a wrong file",
+    got = bench.run(every, folder)
+    bench.judge(f"{page}, a wrong file",
                 lambda: same((got[0], b"two.iso: FAILED\n" in got[1]), (1, True), "status and report"))
+    bench.judge(f"{page}, a digest, a wrong file",
+                lambda: ends(bench.run(alone, folder, digest=digest), 1, b"two.iso: FAILED\n"))
+    with open(os.path.join(folder, "SHA256SUMS"), "wb") as file:
+        file.write(b"".join(line for line in listed.splitlines(keepends=True) if b"two" not in line))
+    bench.judge(f"{page}, one file that no line has", lambda: ends(bench.run(one, folder), 1, b""))
 
 
-def readme_folder(bench):
+def folder_later(bench):
     """A list of a folder with files of each name, and what is not OK of it later: nothing, or what was changed."""
-    make, check = bench.text("README.md", "folder").splitlines()
+    page = "docs/FORMAT.md"
+    make, check = bench.text(page, "folder").splitlines()
 
     def case(changed, report):
         folder = bench.folder()
@@ -306,12 +316,12 @@ def readme_folder(bench):
         for name in names:
             fill(os.path.join(folder, "backup", name), 2)
         os.remove(os.path.join(folder, "backup/old"))
-        ends(bench.run(bench.text("README.md", "new"), folder), 0, "".join(f"backup/{name}\n" for name in names).encode())
+        ends(bench.run(bench.text(page, "new"), folder), 0, "".join(f"backup/{name}\n" for name in names).encode())
 
-    bench.judge("README.md new, nothing", lambda: new([]))
-    bench.judge("README.md new", lambda: new(["a c", "new", "with  two blanks"]))
-    bench.judge("README.md folder", lambda: case([], []))
-    bench.judge("README.md folder, changed", lambda: case(["a b", "a\nb"], [
+    bench.judge(f"{page} new, nothing", lambda: new([]))
+    bench.judge(f"{page} new", lambda: new(["a c", "new", "with  two blanks"]))
+    bench.judge(f"{page} folder", lambda: case([], []))
+    bench.judge(f"{page} folder, changed", lambda: case(["a b", "a\nb"], [
         b"backup/a b: FAILED", b"backup/sub dir/a b: MISSING", b"backup/a\\nb: FAILED",
         b"backup/sub dir/a\\nb: MISSING"]))
 
@@ -405,15 +415,25 @@ def signed_lists(bench):
         bench.missing("gpg made no key: the recipes for signed lists were not run")
         return
     bench.judge("sums-check(1) signed", lambda: signed(bench, bench.text("man/sums-check.1", "signed")))
+    _, _, beside, inside, _ = bench.text("README.md", "download").splitlines()
+    bench.judge("README.md download, a signature in the list", lambda: signed(bench, inside))
+    bench.judge("README.md download, a signature beside the list", lambda: signed_beside(bench, beside))
     bench.run("gpgconf --kill all", bench.work)
 
 
-def signed(bench, text):
+def signed_folder(bench, how):
+    """A folder with a file, and a list that is signed in this way."""
     folder = bench.folder()
     fill(os.path.join(folder, "-a"), 5)
     listed = bench.sums(folder, "hash", "-a", "sha256", "--", "-a").decode()
     write(folder, "SHA256SUMS", "# a list\n" + listed)
-    same(bench.run("gpg --batch --quiet --clearsign SHA256SUMS && rm SHA256SUMS", folder)[0], 0, "status of signing")
+    same(bench.run(f"gpg --batch --quiet {how} SHA256SUMS", folder)[0], 0, "status of signing")
+    return folder, listed
+
+
+def signed(bench, text):
+    folder, listed = signed_folder(bench, "--clearsign")
+    os.remove(os.path.join(folder, "SHA256SUMS"))
     got = bench.run(text, folder)
     same((got[0], got[1]), (0, b"-a: OK\n"), "a good signature")
     with open(os.path.join(folder, "SHA256SUMS.asc"), encoding="utf-8") as file:
@@ -425,6 +445,14 @@ def signed(bench, text):
         write(folder, "SHA256SUMS.asc", other)
         got = bench.run(text, folder)
         same((got[0] > 0, got[1]), (True, b""), name)
+
+
+def signed_beside(bench, text):
+    folder, listed = signed_folder(bench, "--armor --detach-sign")
+    same(bench.run(text, folder)[:2], (0, b"-a: OK\n"), "a good signature")
+    write(folder, "SHA256SUMS", listed)
+    got = bench.run(text, folder)
+    same((got[0] > 0, got[1]), (True, b""), "another list")
 
 
 # ---- Folders
@@ -571,8 +599,7 @@ def scale_shares_hash(bench):
 
 # each recipe of each page, and what runs it
 RUNS = {
-    "README.md": {"first": readme_first, "download": readme_download, "folder": readme_folder, "new": readme_folder,
-                  "use": readme_use, "checks": readme_checks},
+    "README.md": {"first": readme_first, "download": readme_download, "use": readme_use, "checks": readme_checks},
     "docs/SCALE.md": {"cores": scale_cores, "file": scale_parts,
                       "shares": scale_shares, "told": scale_shares, "shares-hash": scale_shares_hash,
                       "shares-hosts": scale_hosts, "share.sh": scale_slurm, "shares-slurm": scale_slurm,
@@ -580,7 +607,7 @@ RUNS = {
                       "device": scale_parts, "parts": scale_parts, "own": scale_own, "lines": scale_own,
                       "damage-list": scale_damage, "damage-trust": scale_damage, "damage-find": scale_damage,
                       "damage-mend": scale_damage},
-    "docs/FORMAT.md": {"keyed": keyed_list},
+    "docs/FORMAT.md": {"folder": folder_later, "new": folder_later, "keyed": keyed_list},
     "man/sums.1": {"lines": lambda bench: lines_of(bench, "man/sums.1"), "folder": folders},
     "man/sums-hash.1": {"lines": hash_page},
     "man/sums-mac.1": {"lines": lambda bench: lines_of(bench, "man/sums-mac.1"), "tag": tags},
