@@ -1,8 +1,9 @@
 #!/usr/bin/env python3
 """Checks the documents: each link leads somewhere, here and where they are installed, sentences and pages are short,
-nothing is dated, quoted code is there, pictures show what they are made of, README begins with what its readers ask
-first, soon has two commands for those with the kit, and has the options and statuses of the program's help and manual
-pages; those have what tools/pages writes, name the same faults, and list the same terminals as code and tests do.
+nothing is dated but the versions in CHANGELOG, each of which begins with lines for users, quoted code is there, pictures
+show what they are made of, README begins with what its readers ask first, soon has two commands for those with the kit,
+and has the options and statuses of the program's help and manual pages; those have what tools/pages writes, name the
+same faults, and list the same terminals as code and tests do.
 usage: tests/documents/documents.py PROGRAM
 """
 
@@ -32,6 +33,11 @@ MOST_WORDS = {
     "docs/SCALE.md": 1600,
     "docs/SECURITY.md": 850,
 }
+# of CHANGELOG.md: the heading of a version, how many lines for users it begins with, its parts, and how many words it has
+RELEASED = re.compile(r"## (\d+\.\d+\.\d+) - (?:20\d\d-\d\d-\d\d|not yet released)")
+MOST_LINES = 5
+PARTS_OF_VERSION = ["Added", "Changed", "Fixed", "Security"]
+MOST_OF_VERSION = 1250
 # what stands in how many first lines of README.md
 FIRST_TEXTS = {24: ["sums check -a ", "sums hash -a ", " --verify ", ": OK\n", "apt install", "tar -xf", "pip install",
                     "(#packages)", "(#what-is-proved)"],
@@ -123,6 +129,25 @@ def check_diary(page):
     lines = [line for line in read(page).splitlines() if DIARY.search(line)]
     may_date = page == "docs/BENCHMARKS.md"
     none(f"{page}: lines that tell when", [line for line in lines if not (may_date and DATED.match(line))])
+
+
+def check_changelog():
+    """Each version has its date, a few lines for users, and then its parts in their order; the newest is the first."""
+    _, *versions = re.split(r"^(?=## )", read("CHANGELOG.md"), flags=re.M)
+    numbers = [found[1] for version in versions if (found := RELEASED.fullmatch(version.partition("\n")[0]))]
+    harness.judge("each version of CHANGELOG.md has a number and a date", len(numbers) == len(versions), *numbers)
+    harness.same("the versions of CHANGELOG.md", numbers,
+                 sorted(numbers, key=lambda number: [int(part) for part in number.split(".")], reverse=True))
+    for version in versions:
+        heading, *parts = re.split(r"^### ", version, flags=re.M)
+        name = heading.partition("\n")[0]
+        lines = heading.split("\n\n", 1)[1].strip().split("\n")
+        harness.judge(f"{name}: at most {MOST_LINES} lines for users",
+                      len(lines) <= MOST_LINES and all(line.startswith("- ") for line in lines), *lines)
+        titles = [part.partition("\n")[0] for part in parts]
+        harness.same(f"{name}: its parts", titles, [title for title in PARTS_OF_VERSION if title in titles])
+        count = len(version.split())
+        harness.judge(f"{name} has {count} words, and {MOST_OF_VERSION} at most", count <= MOST_OF_VERSION)
 
 
 # ---- what README says beside help, manual pages and code
@@ -265,6 +290,7 @@ def main():
     for page in PAGES:
         check_diary(page)
     check_words()
+    check_changelog()
     check_first_screen()
     check_commands()
     check_statuses()
