@@ -24,12 +24,11 @@ MOST_WORDS = {
     "README.md": 1500,
     "docs/ARCHITECTURE.md": 1550,
     "docs/BENCHMARKS.md": 2300,
-    "docs/CONTRIBUTING.md": 2250,
+    "docs/CONTRIBUTING.md": 2510,
     "docs/DECISIONS.md": 2150,
     "docs/FORMAT.md": 2760,
     "docs/PROOFS.md": 3600,
     "docs/READING.md": 1200,
-    "docs/RELEASING.md": 900,
     "docs/SCALE.md": 1600,
     "docs/SECURITY.md": 850,
 }

@@ -56,7 +56,7 @@ def source_build(bench):
     page = "docs/CONTRIBUTING.md"
     works(bench, page, "build", clone(bench))
     works(bench, page, "build, installed", bench.folder(), "printf abc | /usr/local/bin/sums hash -a blake2s -")
-    works(bench, "docs/RELEASING.md", "staged", clone(bench))
+    works(bench, page, "staged", clone(bench))
     works(bench, page, "build, undone", clone(bench), "sudo tools/uninstall && rm -r /tmp/staged")
 
 
@@ -85,18 +85,18 @@ def second_builder(bench):
         return
     origin = os.path.join(bench.folder(), "origin")
     subprocess.run(["git", "clone", "--quiet", "--bare", HERE, origin], check=True)
-    text = bench.text("docs/RELEASING.md", "second")
+    page = "docs/CONTRIBUTING.md"
+    text = bench.text(page, "second")
     tag = re.search(r"--branch (\S+) URL ", text).group(1)
     subprocess.run(["git", "-C", origin, "tag", "--force", tag], check=True)
     text = text.replace(" URL ", f" {origin} ").replace("/path/to/the/first/", packages() + "/")
-    works(bench, "docs/RELEASING.md", "second", bench.folder(), text)
+    works(bench, page, "second", bench.folder(), text)
 
 
 LONG = {
     "README.md": {"try": readme_try, "package": readme_package},
-    "docs/CONTRIBUTING.md": {"build": source_build, "languages": languages,
+    "docs/CONTRIBUTING.md": {"build": source_build, "staged": source_build, "second": second_builder, "languages": languages,
                              **{name: in_clone("docs/CONTRIBUTING.md", name) for name in ["minute", "crate"]}},
-    "docs/RELEASING.md": {"staged": source_build, "second": second_builder},
     "docs/BENCHMARKS.md": {name: in_clone("docs/BENCHMARKS.md", name)
                            for name in ["speed", "speed-parts", "speed-hashers", "speed-library", "speed-provider",
                                         "speed-languages", "speed-lists", "speed-javascript"]},
