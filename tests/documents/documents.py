@@ -23,7 +23,7 @@ ROOT = os.path.dirname(harness.HERE)
 MOST_WORDS = {
     "README.md": 1500,
     "docs/ARCHITECTURE.md": 1550,
-    "docs/BENCHMARKS.md": 2300,
+    "docs/BENCHMARKS.md": 750,
     "docs/CONTRIBUTING.md": 2510,
     "docs/DECISIONS.md": 2150,
     "docs/FORMAT.md": 2760,
