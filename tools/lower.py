@@ -7,6 +7,9 @@ the places in memory and the types of the exports are those of the first module.
 4 GiB. As long as the first module stays below that too, no address has more than 32 bits, nothing is cut off, and the
 second does what the first does. Custom sections describe the code of the first, and are left out.
 
+The kit's own target has such addresses, which half of the engines do not take. binaryen's lowering refuses loads of
+vectors that the module has. What this script does is compared with the first module, instruction by instruction.
+
 A module with anything that is not known here is refused, with status 1: imports, tables, several memories, a memory
 that the code itself grows, and each instruction that is in no table below.
 """

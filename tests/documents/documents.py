@@ -25,7 +25,7 @@ MOST_WORDS = {
     "docs/ARCHITECTURE.md": 1550,
     "docs/BENCHMARKS.md": 750,
     "docs/CONTRIBUTING.md": 2510,
-    "docs/DECISIONS.md": 2150,
+    "docs/DECISIONS.md": 1280,
     "docs/FORMAT.md": 2760,
     "docs/PROOFS.md": 3600,
     "docs/READING.md": 1200,
