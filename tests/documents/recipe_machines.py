@@ -10,7 +10,7 @@ import sys
 import tempfile
 import time
 
-from recipe_runner import CHUNK, NAMES, Wrong, behind_file, ends, fill, named, same, write
+from recipe_runner import CHUNK, NAMES, Wrong, ends, fill, of_work, same, write
 
 
 # ---- Services, and runs over ssh
@@ -95,9 +95,10 @@ LogLevel ERROR
 
 def over_ssh(bench, ssh):
     folder, listed = listed_files(bench)
-    text = bench.text("docs/SCALE.md", "shares-hosts") + bench.text("docs/SCALE.md", "told")
-    bench.judge("docs/SCALE.md shares-hosts", lambda: ends(bench.run(text, folder, PARALLEL_SSH=ssh)))
-    bench.judge("docs/SCALE.md shares-hosts, the report", lambda: reported(folder, listed))
+    of_work(bench, folder, "check")
+    text = bench.text("docs/SCALE.md", "on-hosts")
+    bench.judge("docs/SCALE.md on-hosts", lambda: ends(bench.run(text, folder, PARALLEL_SSH=ssh)))
+    bench.judge("docs/SCALE.md on-hosts, the report", lambda: reported(folder, listed))
 
 
 def listed_files(bench):
@@ -131,7 +132,7 @@ def scale_slurm(bench):
         if cluster(bench, children):
             shares(bench)
             arrays(bench)
-            bench.judge("docs/SCALE.md shares-slurm, a task that fails", lambda: failing(bench))
+            bench.judge("docs/SCALE.md on-slurm, a task that fails", lambda: failing(bench))
         else:
             bench.missing("Slurm did not start: its recipe was not run")
     finally:
@@ -192,11 +193,10 @@ PartitionName=all Nodes=ALL Default=YES MaxTime=INFINITE State=UP
 
 
 def shares(bench):
-    """An array whose tasks check shares of a list, and the job behind it."""
+    """An array whose tasks check shares of a list, and the job after it."""
     folder, count = listed_files(bench)
-    write(folder, "share.sh", bench.text("docs/SCALE.md", "share.sh"))
-    write(folder, "told.sh", "#!/bin/sh\n" + bench.text("docs/SCALE.md", "told"))
-    got = bench.run(bench.text("docs/SCALE.md", "shares-slurm"), folder)
+    of_work(bench, folder, "check")
+    got = bench.run(bench.text("docs/SCALE.md", "on-slurm"), folder)
     waited(bench, 900)
 
     def case():
@@ -205,24 +205,25 @@ def shares(bench):
             same(file.read(), b"", "what the job says")
         reported(folder, count)
 
-    bench.judge("docs/SCALE.md shares-slurm", case)
+    bench.judge("docs/SCALE.md on-slurm", case)
 
 
 def arrays(bench):
-    """An array whose tasks hash the parts of a file, of each name, all at once; then the outputs of the jobs behind."""
-    text = behind_file(bench, "parts-slurm")
+    """An array whose tasks hash the parts of a file, of each name, all at once; then the outputs of the jobs after it."""
+    text = bench.text("docs/SCALE.md", "on-slurm")
     cases = []
     for name, size, chunks in [("big", 200000001, None), *((name, 4321, 1) for name in NAMES), ("many", 1002 * CHUNK, 1)]:
         folder = bench.folder()
         fill(os.path.join(folder, name), size)
-        cases.append((name, folder, bench.run(text if chunks is None else named(text, name, chunks), folder)))
+        of_work(bench, folder, "part", name, chunks)
+        cases.append((name, folder, bench.run(text, folder)))
     waited(bench, 900)
     for name, folder, got in cases:
         def case():
             same((got[0], got[2]), (0, b""), "status and standard error")
             with open(os.path.join(folder, f"slurm-{got[1].split()[-1].decode()}.out"), "rb") as file:
                 same(file.read(), bench.sums(folder, "hash", "-a", "blake3", "--", name), "the output of the job")
-        bench.judge(f"docs/SCALE.md parts-slurm, {name!r}", case)
+        bench.judge(f"docs/SCALE.md on-slurm, {name!r}", case)
 
 
 def waited(bench, seconds):
@@ -232,16 +233,16 @@ def waited(bench, seconds):
 
 
 def failing(bench):
-    """Tasks that fail: the job behind them is ended, and prints nothing."""
+    """Tasks that fail: the job after them is ended, and prints nothing."""
     folder = bench.folder()
+    of_work(bench, folder, "check")
     write(folder, "share.sh", "#!/bin/sh\nexit 2\n")
-    write(folder, "told.sh", "#!/bin/sh\n" + bench.text("docs/SCALE.md", "told"))
-    got = bench.run(bench.text("docs/SCALE.md", "shares-slurm"), folder)
+    got = bench.run(bench.text("docs/SCALE.md", "on-slurm"), folder)
     same(got[0], 0, "status")
     waited(bench, 120)
     same(bench.run("squeue -h", folder)[1], b"", "jobs that wait")
     job = got[1].split()[-1].decode()
-    same(os.path.exists(os.path.join(folder, f"slurm-{job}.out")), False, "whether the report was told")
+    same(os.path.exists(os.path.join(folder, f"slurm-{job}.out")), False, "whether there is a report")
 
 
 # ---- Spark
@@ -286,27 +287,17 @@ def scale_spark(bench):
         write(bench.work, "stand_in.py", f"import os\nimport sys\nsys.path.insert(0, {here!r})\n"
               "from recipe_machines import Numbers\ncontext = Numbers(os.environ, '.')\n")
     folder, count = listed_files(bench)
-    script = write(folder, "script.py", start + bench.text("docs/SCALE.md", "shares-spark"))
-    shown = " 2>&3" if found else ""
-    got = bench.run(f"{shlex.quote(sys.executable)} {script}{shown}", folder)
-    bench.judge("docs/SCALE.md shares-spark", lambda: same((got[0], got[1]), (0, b""), "status and output"))
-    bench.judge("docs/SCALE.md shares-spark, told", lambda: ends(bench.run(bench.text("docs/SCALE.md", "told"), folder)))
-    bench.judge("docs/SCALE.md shares-spark, the report", lambda: reported(folder, count))
-    spark_parts(bench, start, shown)
-
-
-def spark_parts(bench, start, shown):
-    """The parts of a file of each name, and their lines, which the recipe behind it joins."""
-    text = bench.text("docs/SCALE.md", "parts-spark")
-    for name, size, chunks in [("big", 200000001, 65536), *((name, 4321, 1) for name in NAMES)]:
-        folder = bench.folder()
-        fill(os.path.join(folder, name), size)
-        script = write(folder, "script.py", f"{start}import shlex\nf, n, size = {name!r}, {chunks}, {size}\n{text}")
-
+    of_work(bench, folder, "check")
+    text, shown = start + bench.text("docs/SCALE.md", "on-spark"), " 2>&3" if found else ""
+    got = bench.run(f"{shlex.quote(sys.executable)} {write(folder, 'script.py', text)}{shown}", folder)
+    bench.judge("docs/SCALE.md on-spark", lambda: same((got[0], got[1]), (0, b""), "status and output"))
+    bench.judge("docs/SCALE.md on-spark, the report", lambda: reported(folder, count))
+    for name, size, chunks in [("big", 200000001, None), *((name, 4321, 1) for name in NAMES)]:
         def case():
-            got = bench.run(f"{shlex.quote(sys.executable)} {script}{shown}", folder)
-            same((got[0], got[1]), (0, b""), "status and output")
-            ends(bench.run(named(behind_file(bench, "lines"), name, chunks), folder), 0,
-                 bench.sums(folder, "hash", "-a", "blake3", "--", name))
+            folder = bench.folder()
+            fill(os.path.join(folder, name), size)
+            of_work(bench, folder, "part", name, chunks)
+            got = bench.run(f"{shlex.quote(sys.executable)} {write(folder, 'script.py', text)}{shown}", folder)
+            same(got[:2], (0, bench.sums(folder, "hash", "-a", "blake3", "--", name)), "status and output")
 
-        bench.judge(f"docs/SCALE.md parts-spark, {name!r}", case)
+        bench.judge(f"docs/SCALE.md on-spark, {name!r}", case)

@@ -182,6 +182,16 @@ def behind_file(bench, name):
     return bench.text("docs/SCALE.md", "file") + bench.text("docs/SCALE.md", name)
 
 
+def of_work(bench, folder, work, name=None, chunks=None):
+    """Leaves the two scripts of docs/SCALE.md for a kind of work in a folder, for parts those of a file and a size."""
+    for script in ["share", "after"]:
+        text = bench.text("docs/SCALE.md", f"{script}-{work}")
+        if work == "part":
+            text = bench.text("docs/SCALE.md", "file") + text
+            text = text if chunks is None else named(text, name, chunks)
+        write(folder, f"{script}.sh", "#!/bin/sh\n" + text)
+
+
 def write(folder, name, text, mode=0o644):
     path = os.path.join(folder, name)
     with open(path, "w", encoding="utf-8") as file:

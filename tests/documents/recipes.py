@@ -21,21 +21,22 @@ import tempfile
 
 from recipe_builds import LONG
 from recipe_machines import scale_hosts, scale_slurm, scale_spark
-from recipe_runner import CHUNK, HERE, NAMES, Bench, Wrong, behind_file, ends, fenced, fill, named, paged, same, write
+from recipe_runner import (CHUNK, HERE, NAMES, Bench, Wrong, behind_file, ends, fenced, fill, named, of_work, paged, same,
+                           write)
 
 
 # ---- The recipes of one file in parts
 
 
-def in_parts(bench, title, text, takes_one=False):
-    """A recipe of a file in parts: as it stands, and with each name, in parts of one chunk. A file of one part is hashed,
-    or else refused by `join`."""
+def in_parts(bench, title, runs, first="big"):
+    """A recipe of a file in parts, which `runs` with a name and a size of parts in a folder: as it stands, of the file
+    `first`, and with each name, in parts of one chunk. A file of one part is refused by `join`."""
 
     def case(name, size, chunks, is_one=False):
         folder = bench.folder()
         path = os.path.join(folder, name)
         fill(path, size)
-        got = bench.run(text if chunks is None else named(text, name, chunks), folder)
+        got = runs(folder, name, chunks)
         if is_one:
             told = got[2] if got[2] in [b"sums: one part alone: hash the file itself\n", b"sums: no parts\n"] else b"one"
             ends(got, 1, b"", told)
@@ -43,38 +44,36 @@ def in_parts(bench, title, text, takes_one=False):
             ends(got, 0, bench.sums(folder, "hash", "-a", "blake3", "--", name))
         os.remove(path)
 
-    first = re.match(r"f=(\S+) n=", text).group(1)
     bench.judge(title, lambda: case(first, 200000001, None))
     for name in NAMES:
         bench.judge(f"{title}, {name!r}", lambda: case(name, 4321, 1))
     for size in [0, 1, CHUNK]:
-        bench.judge(f"{title}, {size} bytes", lambda: case("x", size, 1, not takes_one))
+        bench.judge(f"{title}, {size} bytes", lambda: case("x", size, 1, True))
     for size in [CHUNK + 1, 2 * CHUNK, 64 * CHUNK]:
         bench.judge(f"{title}, {size} bytes", lambda: case("x", size, 1))
 
-
-def linked(bench, title, text):
-    """The same of a symbolic link, whose file is hashed."""
-
-    def case():
+    def linked():
         folder = bench.folder()
         fill(os.path.join(folder, "far"), 5000)
         os.symlink("far", os.path.join(folder, "link"))
-        ends(bench.run(named(text, "link", 1), folder), 0, bench.sums(folder, "hash", "-a", "blake3", "link"))
+        ends(runs(folder, "link", 1), 0, bench.sums(folder, "hash", "-a", "blake3", "link"))
 
-    bench.judge(title + ", a symbolic link", case)
+    bench.judge(title + ", a symbolic link", linked)
+
+
+def of_page(bench, page, name):
+    """What runs the recipe of a page with a name and a size of parts, and the file that it names itself."""
+    text = bench.text(page, name)
+    runs = lambda folder, file, chunks: bench.run(text if chunks is None else named(text, file, chunks), folder)
+    return runs, re.match(r"f=(\S+) n=", text).group(1)
 
 
 def join_page(bench):
-    text = bench.text("man/sums-join.1", "parts")
-    in_parts(bench, "sums-join(1) parts", text)
-    linked(bench, "sums-join(1) parts", text)
+    in_parts(bench, "sums-join(1) parts", *of_page(bench, "man/sums-join.1", "parts"))
 
 
 def part_page(bench):
-    text = bench.text("man/sums-part.1", "list")
-    in_parts(bench, "sums-part(1) list", text)
-    linked(bench, "sums-part(1) list", text)
+    in_parts(bench, "sums-part(1) list", *of_page(bench, "man/sums-part.1", "list"))
 
 
 def part_damage(bench):
@@ -92,9 +91,11 @@ def part_damage(bench):
 
 
 def scale_parts(bench):
-    text = behind_file(bench, "parts")
-    in_parts(bench, "docs/SCALE.md parts", text, takes_one=True)
-    linked(bench, "docs/SCALE.md parts", text)
+    def runs(folder, name, chunks):
+        of_work(bench, folder, "part", name, chunks)
+        return bench.run(bench.text("docs/SCALE.md", "on-cores"), folder)
+
+    in_parts(bench, "docs/SCALE.md share-part", runs)
     device(bench)
 
 
@@ -111,9 +112,12 @@ def device(bench):
         bench.missing("no loop device can be made: the recipe for a device was not run")
         return
     place = made[1].decode().strip()
-    text = bench.text("docs/SCALE.md", "file") + bench.text("docs/SCALE.md", "device") + bench.text("docs/SCALE.md", "parts")
+    of_work(bench, folder, "part", place, 4)
+    with open(os.path.join(folder, "after.sh"), encoding="utf-8") as file:
+        begin, size, join = re.split(r"^(size=.*\n)", file.read(), flags=re.M)
+    write(folder, "after.sh", begin + size + bench.text("docs/SCALE.md", "device") + join)
     wanted = bench.sums(folder, "hash", "-a", "blake3", place)
-    bench.judge("docs/SCALE.md device", lambda: ends(bench.run(named(text, place, 4), folder), 0, wanted))
+    bench.judge("docs/SCALE.md device", lambda: ends(bench.run(bench.text("docs/SCALE.md", "on-cores"), folder), 0, wanted))
     bench.run(f"losetup --detach {place}", folder)
 
 
@@ -166,7 +170,7 @@ def scale_damage(bench):
 
 
 def scale_own(bench):
-    """The part of a file that a machine has, and the lines of parts in files."""
+    """The part of a file that a machine has, and the lines of parts that many have."""
     folder = bench.folder()
     whole, second = os.path.join(folder, "whole"), os.path.join(folder, "second")
     fill(whole, 100000000)
@@ -182,13 +186,13 @@ def scale_own(bench):
         fill(os.path.join(folder, name), 12 * CHUNK)
         for number in range(12):
             line = bench.sums(folder, "part", "-a", "blake3", "--first", str(number), "--chunks", "1", "--", name)
-            with open(os.path.join(folder, f"part.{number}"), "wb") as file:
+            with open(os.path.join(folder, f"out.{number}"), "wb") as file:
                 file.write(line)
-        ends(bench.run(named(behind_file(bench, "lines"), name, 1), folder), 0,
+        ends(bench.run(named(behind_file(bench, "after-part"), name, 1), folder), 0,
              bench.sums(folder, "hash", "-a", "blake3", "--", name))
 
     for name in NAMES:
-        bench.judge(f"docs/SCALE.md lines, {name!r}", lambda: joined(name))
+        bench.judge(f"docs/SCALE.md after-part, {name!r}", lambda: joined(name))
 
 
 # ---- Lists
@@ -553,13 +557,14 @@ def checked(bench, folder, count):
 
 
 def scale_shares(bench):
-    """A list that is checked in shares: the report and the status of one run, and what is told of a lost output."""
-    text = bench.text("docs/SCALE.md", "shares") + bench.text("docs/SCALE.md", "told")
+    """A list that is checked in shares: the report and the status of one run, and what is said of a lost output."""
+    text = bench.text("docs/SCALE.md", "on-cores")
 
     def case(loses):
         folder = bench.folder()
         wanted = checked(bench, folder, 40)
-        got = bench.run(text.replace("paste", "rm out.05; paste") if loses else text, folder)
+        of_work(bench, folder, "check")
+        got = bench.run(text.replace("sh after.sh", "rm out.05; sh after.sh") if loses else text, folder)
         if loses:
             same((got[0], got[1]), (1, b""), "the status and the output")
             same(re.fullmatch(rb"sums: report: line \d+: not of this list\n", got[2]) is not None, True, "what is told")
@@ -567,13 +572,13 @@ def scale_shares(bench):
         with open(os.path.join(folder, "report"), "rb") as file:
             same((got[0], file.read()), wanted[:2], "the status and the report")
 
-    bench.judge("docs/SCALE.md shares", lambda: case(False))
-    bench.judge("docs/SCALE.md shares, an output is lost", lambda: case(True))
+    bench.judge("docs/SCALE.md share-check", lambda: case(False))
+    bench.judge("docs/SCALE.md share-check, an output is lost", lambda: case(True))
 
 
 def scale_shares_hash(bench):
     """The files of a folder that are hashed in shares, and outputs that are lost or of another job."""
-    text = bench.text("docs/SCALE.md", "shares-hash")
+    text = bench.text("docs/SCALE.md", "on-cores")
 
     def case(does):
         folder = bench.folder()
@@ -581,7 +586,9 @@ def scale_shares_hash(bench):
         names = ["folder/" + each for each in tree(os.path.join(folder, "folder"))]
         with open(os.path.join(folder, "out.00.old"), "wb") as file:
             file.write(b"a line of an earlier job\n")
-        got = bench.run(text.replace("paste", f"{does}\npaste"), folder)
+        bench.run("find folder -type f -print0 > names", folder)
+        of_work(bench, folder, "hash")
+        got = bench.run(text.replace("sh after.sh", f"{does}\nsh after.sh"), folder)
         if does:
             same((got[0], got[1].startswith((b"- wanted differ", b"cmp: EOF"))), (1, True), "the status, and what cmp tells")
             return
@@ -590,9 +597,9 @@ def scale_shares_hash(bench):
             listed = bench.sums(folder, "hash", "-a", "blake3", "--", *names)
             same(sorted(file.read().splitlines()), sorted(listed.splitlines()), "the list")
 
-    bench.judge("docs/SCALE.md shares-hash", lambda: case(""))
+    bench.judge("docs/SCALE.md share-hash", lambda: case(""))
     for does in "rm out.05", "sed -i 2d out.03", "cp out.01 out.02":
-        bench.judge(f"docs/SCALE.md shares-hash, {does}", lambda: case(does))
+        bench.judge(f"docs/SCALE.md share-hash, {does}", lambda: case(does))
 
 
 # ---- All of them
@@ -600,11 +607,11 @@ def scale_shares_hash(bench):
 # each recipe of each page, and what runs it
 RUNS = {
     "README.md": {"first": readme_first, "download": readme_download, "use": readme_use, "checks": readme_checks},
-    "docs/SCALE.md": {"cores": scale_cores, "file": scale_parts,
-                      "shares": scale_shares, "told": scale_shares, "shares-hash": scale_shares_hash,
-                      "shares-hosts": scale_hosts, "share.sh": scale_slurm, "shares-slurm": scale_slurm,
-                      "shares-spark": scale_spark, "parts-slurm": scale_slurm, "parts-spark": scale_spark,
-                      "device": scale_parts, "parts": scale_parts, "own": scale_own, "lines": scale_own,
+    "docs/SCALE.md": {"cores": scale_cores, "file": scale_parts, "on-cores": scale_shares, "on-hosts": scale_hosts,
+                      "on-slurm": scale_slurm, "on-spark": scale_spark,
+                      "share-check": scale_shares, "after-check": scale_shares,
+                      "share-hash": scale_shares_hash, "after-hash": scale_shares_hash,
+                      "share-part": scale_parts, "after-part": scale_own, "own": scale_own, "device": scale_parts,
                       "damage-list": scale_damage, "damage-trust": scale_damage, "damage-find": scale_damage,
                       "damage-mend": scale_damage},
     "docs/FORMAT.md": {"folder": folder_later, "new": folder_later, "keyed": keyed_list},
