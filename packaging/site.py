@@ -241,8 +241,9 @@ def body_of(text, form="gfm"):
 
 
 def text_of(text):
-    """A text as HTML."""
-    return f"<pre>{html.escape(text, quote=False)}</pre>\n"
+    """A text as HTML, in which a link may name a line."""
+    lines = html.escape(text, quote=False).split("\n")
+    return "<pre>" + "\n".join(f'<a id="L{number}"></a>{line}' for number, line in enumerate(lines, 1)) + "</pre>\n"
 
 
 def page_of(path):

@@ -209,13 +209,12 @@ parallel_files() {
 }
 
 # documents DO: the pages with all that they link, each in the folder that it has here, so that links hold there too:
-# the definitions that a reader of the proofs has to believe, the kit's of SHA-2 among them, and the lines of code that
-# ask the system
+# the definitions that a reader of the proofs has to believe, the kit's of SHA-2 among them, and the sources with the
+# contracts that docs/PROOFS.md names and with the lines that ask the system
 documents() {
     for document in README.md CHANGELOG.md LICENSE-MIT LICENSE-APACHE THIRD-PARTY docs/*.md docs/*.svg bindings/*/README.md \
-        web/README.md web/*.png bindings/openssl/configuration bindings/c/sums_hash.h crates/*/CALLING.md crates/source/src/device.rt \
-        crates/sumlist/src/files.rt crates/sums/src/main.rt crates/sums/src/progress.rt crates/sums/src/watched.rt \
-        packaging/aarch64.c \
+        web/README.md web/*.png bindings/openssl/configuration bindings/c/sums_hash.h crates/*/CALLING.md \
+        packaging/aarch64.c $(grep -o 'crates/[a-z0-9_]*/src/[a-z0-9_/]*\.rt' docs/PROOFS.md | sort -u) \
         $(find crates/*/specs -type f); do
         "$1" 644 "$document" "share/doc/sums/$document"
     done

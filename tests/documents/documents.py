@@ -27,7 +27,7 @@ MOST_WORDS = {
     "docs/CONTRIBUTING.md": 2510,
     "docs/DECISIONS.md": 1280,
     "docs/FORMAT.md": 2760,
-    "docs/PROOFS.md": 3600,
+    "docs/PROOFS.md": 3570,
     "docs/READING.md": 1200,
     "docs/SCALE.md": 1250,
     "docs/SECURITY.md": 850,

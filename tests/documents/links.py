@@ -1,7 +1,7 @@
 #!/usr/bin/env python3
-"""Tells each link of the pages below a folder, as of the documents where they are installed, that leads to no file in
-that folder, or to a heading that is not there. Links of the web are not asked.
-usage: tests/documents/links.py FOLDER    status 1 where a link leads nowhere, or where there is no README.md
+"""Names each link of the pages below a folder, such as the documents in an installation, that leads to no file in that
+folder, or to a heading or a line that is not there. Links of the web are not tried.
+usage: tests/documents/links.py FOLDER    status 1 if a link leads nowhere, or if there is no README.md
 """
 
 import glob
@@ -38,10 +38,18 @@ def target(page, link):
 
 
 def leads(root, page, link):
-    """Whether a link leads to a file or folder below the root, and to a heading of it where it names one."""
+    """Whether a link leads to a file or folder below the root, and to a heading of a page or a line of a source if it names
+    one."""
     path, anchor = target(page, link), link.partition("#")[2]
-    is_there = not path.startswith("..") and os.path.exists(os.path.join(root, path))
-    return is_there and (not anchor or anchor in anchors(read(os.path.join(root, path))))
+    if path.startswith("..") or not os.path.exists(os.path.join(root, path)):
+        return False
+    if not anchor:
+        return True
+    text = read(os.path.join(root, path))
+    if path.endswith(".md"):
+        return anchor in anchors(text)
+    line = re.fullmatch(r"L([1-9]\d*)", anchor)
+    return line is not None and int(line[1]) <= text.count("\n")
 
 
 def lost(root, page):
