@@ -2,7 +2,8 @@
 r"""Reads the tables of tests/tables: rows/*.tsv (runs of the program and what they answer), usages.tsv (calls for help and a
 line of what they print), failed.tsv (runs where a call fails), places.tsv (each place of a file in the words and in a
 list), runs.tsv (runs whose calls and allocations are failed), files.tsv (the files that all find), hashes.tsv (the
-hashes), messages.tsv (what is said of a list) and values.tsv (texts with names).
+hashes), messages.tsv (what is said of a list), faults.tsv (what a run reports), orders.tsv (in which order) and values.tsv
+(texts with names).
 
 A table has a line of headings, and then a row a line, with a tab between two cells. Lines that begin with # are
 comments. In a cell `-` alone stands for nothing, `\n`, `\t`, `\\` and `\xHH` for bytes, and braces for

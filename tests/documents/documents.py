@@ -2,8 +2,8 @@
 """Checks the documents: each link leads somewhere, here and where they are installed, sentences and pages are short,
 nothing is dated but the versions in CHANGELOG, each of which begins with lines for users, quoted code is there, pictures
 show what they are made of, README begins with what its readers ask first, soon has two commands for those with the kit,
-and has the options and statuses of the program's help and manual pages; those have what tools/pages writes, name the
-same faults, and list the same terminals as code and tests do.
+and has the options and statuses of the program's help and manual pages; those have what tools/pages writes, with the
+faults that the program reports in their order, and list the same terminals as code and tests do.
 usage: tests/documents/documents.py PROGRAM
 """
 
@@ -17,6 +17,7 @@ sys.path.append(os.path.join(os.path.dirname(os.path.realpath(__file__)), ".."))
 
 import harness
 import links
+import tables
 
 ROOT = os.path.dirname(harness.HERE)
 # how many words each of these has at most, as `wc -w` counts them
@@ -50,10 +51,12 @@ KINDS = ["dumb", "unknown", "ansi", "vt52"]
 TERMINALS = {
     "crates/sums/specs/Progress.antt": (r"^is_simple kind = .*?\n\n", r'codes "(\w+)"'),
     "crates/sums/src/progress.rt": (r'None \| Some\("" [^)]*\) => false', r'"(\w+)"'),
-    "man/sums-hash.1": (r"^\.B TERM\nis unset, empty,\n.*?^nothing is shown", r"^\.BR? (?!TERM$)(\w+)"),
+    "man/sums-hash.1": (r"\\fBTERM\\fR is unset, empty,.*?^nothing is shown", r"\\fB(?!TERM)(\w+)\\fR"),
     "tests/program/progress": (r"for kind in TERM=dumb [^;]*", r"TERM=(\w+)"),
 }
 COMMANDS = ["hash", "mac", "kdf", "check", "part", "join"]
+# how many words the manual pages have at most, as `wc -w` counts them
+MOST_OF_PAGES = 13000
 PROGRAM = harness.program()
 
 
@@ -211,21 +214,34 @@ def check_pages():
     harness.judge("what tools/pages writes", done.status == 0, *(done.out + done.err).decode().splitlines())
 
 
-def faults(page):
-    """What a manual page says of faults, each without what is at fault, where that is more than a word."""
-    section = read(page).split(".SH DIAGNOSTICS\n")[1].split("\n.SH")[0].replace("\\-", "-")
-    bold = re.findall(r'^\.(?:B|BR|IB) (.*?)"?(?:\\fR.?)?(?: [,;.:])?$', section, re.M)
-    return {text for text in (re.split(r': |"', line)[-1] for line in bold) if re.match(r"[a-z]+ [a-z-]", text)}
+def first_fault(fault):
+    """The first text of a row of tests/tables/orders.tsv, as it is reported of a file that is not there."""
+    options = re.match(r"((?:-\S+, )*-\S+): (.*)", fault)
+    if options:
+        return f"{options[1].split(', ')[0]}: {options[2].split(', ')[0]}"
+    return re.sub(r"^[A-Z]+(?=: )", "none", fault.split(", ")[0])
 
 
 def check_faults():
-    """A fault in the page of a command stands in sums(1), with its meaning."""
-    told = faults("man/sums.1")
-    harness.judge("there are faults in sums(1)", len(told) > 20, sorted(told))
+    """Each command has faults in its page, and reports the first of a row before those of later rows, with its status."""
+    rows = [row for _, row in tables.table("orders.tsv")]
+    statuses = {text: row["status"] for _, row in tables.table("faults.tsv") for text in row["text"].split(": ")[-1].split(", ")}
     for command in COMMANDS:
-        page = f"man/sums-{command}.1"
-        harness.judge(f"there are faults in sums-{command}(1)", len(faults(page)) > 3)
-        none(f"faults of sums-{command}(1) that sums(1) has not", sorted(faults(page) - told))
+        of_command = [row for row in rows if row["command"] == command]
+        harness.judge(f"there are faults of sums {command}", len(of_command) > 3)
+        for row in of_command:
+            if row["words"] != "-":
+                wanted = first_fault(row["fault"])
+                with harness.folder():
+                    done = harness.run(PROGRAM, [command, *row["words"].split()])
+                harness.same(f"sums {command} {row['words']}", done.err.decode(), f"sums: {wanted}\n")
+                status = statuses.get(wanted.split(": ")[-1], statuses.get(wanted))
+                harness.same(f"status of sums {command} {row['words']}", str(done.status), status)
+
+
+def check_words_of_pages():
+    count = sum(len(read(page).split()) for page in found("man/*"))
+    harness.judge(f"the manual pages have {count} words, and {MOST_OF_PAGES} at most", count <= MOST_OF_PAGES)
 
 
 def check_terminals():
@@ -295,6 +311,7 @@ def main():
     check_statuses()
     check_pages()
     check_faults()
+    check_words_of_pages()
     check_terminals()
     check_quotes()
     check_pictures()

@@ -27,7 +27,7 @@ WRITTEN_PAGE = re.compile(r'^\.\\" from .*?^\.\\" by hand$', re.M | re.S)
 MORE = re.compile(r'^\.\\" more\n(.*?)^(?=\.TP$|\.\\" by hand$)', re.M | re.S)
 STATUS_ROW = re.compile(r"^\| *\d+ *\|.*$", re.M)
 STATUSES = re.compile(r"^\.SH EXIT STATUS$.*?^(?=\.PP$|\.SH )", re.M | re.S)
-# a fault, such as `-a: not for this command`; tests/documents/documents.py asks for it in two pages
+# what the program prints or reports, such as `-a: not for this command`, as the heading of its meaning
 FAULT = re.compile(r"^\.(?:B|BR|IB) .*: .*$", re.M)
 CODE_OF_PAGE = re.compile(r"^\.ft CW$.*?^\.ft$", re.M | re.S)
 # what ends a paragraph: an empty line, a heading, an item, a row
