@@ -211,7 +211,7 @@ def go(out, releases):
 
 
 def module(out, zipped, version):
-    """What it serves of one version, whose zip tells the path."""
+    """What it serves of one version, whose zip has the path."""
     with zipfile.ZipFile(zipped) as archive:
         path = archive.namelist()[0].partition("@")[0]
         manifest = archive.read(f"{path}@{version}/go.mod").decode()
@@ -222,7 +222,7 @@ def module(out, zipped, version):
 
 
 def folder_of(path):
-    """Where a proxy has a module: an upper case letter of its path has a sign before it."""
+    """The folder in which a proxy has a module: an upper case letter of its path has a sign before it."""
     return "go/" + re.sub("([A-Z])", lambda it: "!" + it[1].lower(), path) + "/@v"
 
 

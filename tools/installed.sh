@@ -3,7 +3,7 @@
 # files, and where each file of an installation goes. They run at the top of the repository.
 #
 # CC, CC_AARCH64, CFLAGS and LDFLAGS are taken from the environment. LIBDIR is the folder of libraries below the prefix,
-# lib where it is not set; one that begins with the prefix is fine.
+# lib if it is not set; one that begins with the prefix is fine.
 
 version=$(cat VERSION)
 # What would break a program that is linked already changes the first number, and so the name that it asks for.
@@ -12,7 +12,7 @@ soname=libsums_hash.so.${version%%.*}
 completions=completion
 # The folder of the kit's definitions of SHA-2, which tools/build copies.
 sha2=kit/sha2
-# The provider for OpenSSL, where tools/build lib has made it.
+# The provider for OpenSSL, if tools/build lib has made it.
 provider_module=lib/ossl-modules/sums.so
 
 # processor_of LEVEL: the processor that a build of this level is for, as `uname -m` names it
@@ -51,7 +51,7 @@ is_folder() {
     [ -d "$1" ] && [ ! -L "$1" ]
 }
 
-# pkgconfig PREFIX LIBDIR INCLUDEDIR LIBS: the text of the library's pkg-config file, where each blank, quote,
+# pkgconfig PREFIX LIBDIR INCLUDEDIR LIBS: the text of the library's pkg-config file, in which each blank, quote,
 # backslash and # of a path has a backslash before it
 pkgconfig() {
     cat <<END
@@ -121,7 +121,7 @@ text_for() {
     esac
 }
 
-# shared ARCHIVE FILE [LEVEL]: the archive as a shared library. Where LEVEL is named, the loader refuses it on a
+# shared ARCHIVE FILE [LEVEL]: the archive as a shared library. If LEVEL is named, the loader refuses it on a
 # processor below, which would else end the program by a signal. No file of the C compiler's own goes in, since the
 # library has nothing to do at its beginning and end: its bytes depend on the archive and the linker alone.
 shared() {
@@ -149,7 +149,7 @@ library() {
 }
 
 # compile_with_openssl PROCESSOR WORD..: the C compiler for this processor, with the headers of OpenSSL. Debian keeps
-# two of them apart for each processor. Where another's are not installed, this machine's are taken: they say the same
+# two of them apart for each processor. If another's are not installed, this machine's are taken: they say the same
 # to the provider, which tests/packages/check_arm64 tries.
 compile_with_openssl() {
     openssl_compiler=$(compiler_for "$1")
@@ -184,7 +184,7 @@ functions() {
 
 # Each of the next nine calls DO MODE FILE PLACE for each file that belongs to it, DO link TARGET PLACE for each link,
 # and DO text - PLACE for each file that text_for writes. PLACE is below the prefix. `built_in` is the folder with the
-# bin/ and lib/ that tools/build has made, as aarch64/, and empty where they stand here.
+# bin/ and lib/ that tools/build has made, as aarch64/, and empty if they stand here.
 built_in=
 
 # program_texts DO [ZSH]: the program's manual pages and completions; ZSH is the folder for those of zsh

@@ -23,7 +23,7 @@ OF_LISTS = ("sumlist", "partlist")
 OF_CODE = ("b3/Begun", "blake2/Begun", "states/Begun", "partlist/Laws", "sumlist/Checked", "sumlist/Named", "sumlist/Opening",
            "sumlist/Parsed", "sumlist/Settled", "sumlist/TaggedFaults", "sumlist/Tally")
 STANDARD = re.compile(r"RFC (?:7693|2104|5869)|the BLAKE[23] paper")
-# the section behind a standard, and one that stands alone in a comment
+# the section after a standard, and one that stands alone in a comment
 SECTION = re.compile(STANDARD.pattern.join(["(?:", r")(?:, (?:section )?| \()[1-9]\b"]))
 ALONE = re.compile(r"\([^()]*\b[1-9]\.[1-9]\b[^()]*\)")
 HEADING = re.compile(r"docs/FORMAT\.md, ([A-Z][^:.)]*)")

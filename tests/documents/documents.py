@@ -45,7 +45,7 @@ FIRST_TEXTS = {24: ["sums check -a ", "sums hash -a ", " --verify ", ": OK\n", "
                60: ["**With the kit**", "tools/try", "tools/test", "grep -F", "gpg ", "`OK`", "`MALFORMED`"]}
 SENTENCE_WORDS = 40
 DIARY = re.compile(r"20[0-9]{2}-|November|was seen|beside other")
-# the one line that tells when and on what was measured
+# the one line that says when and on what was measured
 DATED = re.compile(r"Machine: ")
 # the kinds of terminal that show no progress; the place of each list of them, and how a kind stands there
 KINDS = ["dumb", "unknown", "ansi", "vt52"]
@@ -133,7 +133,7 @@ def check_words():
 def check_diary(page):
     lines = [line for line in read(page).splitlines() if DIARY.search(line)]
     may_date = page == "docs/BENCHMARKS.md"
-    none(f"{page}: lines that tell when", [line for line in lines if not (may_date and DATED.match(line))])
+    none(f"{page}: lines that say when", [line for line in lines if not (may_date and DATED.match(line))])
 
 
 def check_changelog():

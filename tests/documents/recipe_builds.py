@@ -34,7 +34,7 @@ def in_clone(page, name):
 
 
 def languages(bench):
-    """The examples of the languages. Cargo takes the crates of Debian where they are installed, and else the network."""
+    """The examples of the languages. Cargo takes the crates of Debian if they are installed, and else the network."""
     home = os.path.join(bench.work, "cargo")
     os.makedirs(home, exist_ok=True)
     if os.path.isdir(REGISTRY):
@@ -44,7 +44,7 @@ def languages(bench):
 
 
 def readme_try(bench):
-    """The session of the program that is not proved; what the toolchain tells is its own."""
+    """The session of the program that is not proved; what the toolchain says is its own."""
     command, _, printed = bench.text("README.md", "try").removeprefix("$ ").partition("\n")
     bench.judge("README.md try", lambda: same(bench.run(command, clone(bench), "bash")[:2], (0, printed.encode()), "output"))
 

@@ -17,7 +17,7 @@ from recipe_runner import CHUNK, NAMES, Wrong, ends, fill, of_work, same, write
 
 
 def started(words, ready, **options):
-    """A service, when it is ready; None where it is not within ten seconds."""
+    """A service, when it is ready; None if it is not within ten seconds."""
     child = subprocess.Popen(words, stdin=subprocess.DEVNULL, **options)
     for _ in range(100):
         if child.poll() is not None:
@@ -113,7 +113,7 @@ def listed_files(bench):
 
 
 def reported(folder, count):
-    """The report tells of all files that they are OK."""
+    """The report says of all files that they are OK."""
     with open(os.path.join(folder, "report"), "rb") as file:
         lines = file.read().splitlines()
     same((len(lines), all(line.endswith(b": OK") for line in lines)), (count, True), "the lines, and whether all are OK")
@@ -140,7 +140,7 @@ def scale_slurm(bench):
 
 
 def cluster(bench, children):
-    """Starts the three, and tells whether there is a node to run jobs."""
+    """Starts the three, and answers whether there is a node to run jobs."""
     folder = tempfile.mkdtemp(dir=bench.work)
     os.chmod(folder, 0o755)
     host = socket.gethostname().split(".")[0]
@@ -276,7 +276,7 @@ class Numbers:
 
 
 def scale_spark(bench):
-    """The recipe in a Python of its own, where Spark is installed; else over a stand-in of its `pipe`."""
+    """The recipe in a Python of its own, if Spark is installed; else over a stand-in of its `pipe`."""
     found = bench.run(f"{shlex.quote(sys.executable)} -c 'import pyspark' && java -version", bench.work)[0] == 0
     if not found:
         bench.missing("Spark is not installed: its recipe was run over a stand-in of `pipe`")

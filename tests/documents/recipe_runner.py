@@ -62,7 +62,7 @@ def paged(path):
 
 
 def shown(path, line):
-    """A line of a manual page, as it is shown where it is set in the fount of a terminal."""
+    """A line of a manual page, as it is shown in the fount of a terminal."""
     rest = re.sub(r"\\(-|\(aq|e)", "", line)
     if re.search(r"[-'`^~\\]", rest):
         raise Wrong(f"{path}: a sign that is shown as another one: {line}")
@@ -116,7 +116,7 @@ class Bench:
         return path
 
     def there(self, command, what):
-        """Whether a command is installed; else tells that `what` was not run."""
+        """Whether a command is installed; else says that `what` was not run."""
         if shutil.which(command, path=self.environment["PATH"]):
             return True
         self.missing(f"{command} is not installed: {what}")
@@ -127,7 +127,7 @@ class Bench:
         print(text, flush=True)
 
     def run(self, text, folder, shell="sh", seconds=900, **variables):
-        """What a shell does with a text: status, output, and what it tells. The variables are of its environment."""
+        """What a shell does with a text: status, output, and what it reports. The variables are of its environment."""
         environment = {**self.environment, **variables}
         done = subprocess.run([shell, "-c", text], cwd=folder, env=environment, stdin=subprocess.DEVNULL,
                               capture_output=True, timeout=seconds)
@@ -138,7 +138,7 @@ class Bench:
         return subprocess.run([self.program, *words], cwd=folder, check=True, capture_output=True).stdout
 
     def judge(self, title, test):
-        """Counts a case: the test raises Wrong where it is not right."""
+        """Counts a case: the test raises Wrong if it is not right."""
         try:
             test()
             for mark in self.marks + glob.glob(os.path.join(self.work, "**", "PWNED*"), recursive=True):
@@ -157,7 +157,7 @@ def same(got, wanted, what):
 
 
 def ends(got, status=0, output=None, told=b""):
-    """The status, what was told, and where it is given the output are these."""
+    """The status, what was reported, and the output if it is given are these."""
     same((got[0], got[2]), (status, told), "status and standard error")
     if output is not None:
         same(got[1], output, "standard output")
@@ -178,7 +178,7 @@ def named(text, name, chunks):
 
 
 def behind_file(bench, name):
-    """A recipe of docs/SCALE.md behind the one that names the file."""
+    """A recipe of docs/SCALE.md after the one that names the file."""
     return bench.text("docs/SCALE.md", "file") + bench.text("docs/SCALE.md", name)
 
 

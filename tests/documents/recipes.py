@@ -1,12 +1,12 @@
 #!/usr/bin/env python3
 """Runs each recipe of the documents as it stands there: in README.md and docs/*.md the blocks that are fenced with
-a language and a name, in man/*.1 those behind a comment `recipe NAME`. A block of the language `console` is a session:
-what stands below a command has to be what it prints. Where a recipe has a name of a file to choose, it is run with each
-of NAMES too. A recipe has to print what is wanted, end with the status that is wanted, tell nothing on
-standard error, and run nothing that a name spells. What is not installed is told, and not run. No part of tools/test.
-Builds, packages and measurements take long and are run where they are named alone: in a clone of what is committed,
-as root, with the packages of this commit in dist/ where a recipe takes packages.
-usage: tests/documents/recipes.py PROGRAM [NAME..]    the recipes of these names; all but the long ones where none is named
+a language and a name, in man/*.1 those after a comment `recipe NAME`. A block of the language `console` is a session:
+what stands below a command has to be what it prints. If a recipe has a name of a file to choose, it is run with each
+of NAMES too. A recipe has to print what is wanted, end with the status that is wanted, report nothing on
+standard error, and run nothing that a name spells. What is not installed is said, and not run. No part of tools/test.
+Builds, packages and measurements take long and are run if they are named alone: in a clone of what is committed,
+as root, with the packages of this commit in dist/ if a recipe takes packages.
+usage: tests/documents/recipes.py PROGRAM [NAME..]    the recipes of these names; all but the long ones if none is named
        tests/documents/recipes.py PROGRAM long        the long ones
 """
 
@@ -199,7 +199,7 @@ def scale_own(bench):
 
 
 def pictures(folder):
-    """Files of each name with .iso behind it, and the other files that lines to copy name."""
+    """Files of each name with .iso after it, and the other files that lines to copy name."""
     for number, name in enumerate(NAMES + ["one", "two"]):
         fill(os.path.join(folder, name + ".iso"), 100 + number)
     for name, size in [("backup.tar", 300000), ("seed.bin", 77), ("message", 9), ("key", 64), ("key32", 32),

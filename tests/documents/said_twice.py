@@ -63,7 +63,7 @@ def starts(words):
 
 
 def twice(texts):
-    """The longest runs that stand in two of these documents: of each where it stands, and its words."""
+    """The longest runs that stand in two of these documents: of each its documents and its words."""
     parts = [(path, words) for path, text in texts.items() for words in paragraphs(path, text)]
     places = collections.defaultdict(list)
     for part, (_, words) in enumerate(parts):
