@@ -1,8 +1,8 @@
 #!/usr/bin/env python3
 """Checks the documents: each link leads somewhere, here and where they are installed, sentences and pages are short,
-nothing is dated but the versions in CHANGELOG, each of which begins with lines for users, quoted code is there, pictures
-show what they are made of, README begins with what its readers ask first, soon has two commands for those with the kit,
-and has the options and statuses of the program's help and manual pages; those have what tools/pages writes, with the
+nothing is dated but the versions in CHANGELOG, each of which begins with lines for users, quoted code is there,
+pictures show what they are made of, README begins with what its readers ask first, soon has two commands for those with
+the kit, and has the options and statuses of the program's help and manual pages; those have what tools/pages writes, with the
 faults that the program reports in their order, and list the same terminals as code and tests do.
 usage: tests/documents/documents.py PROGRAM
 """
@@ -34,7 +34,7 @@ MOST_WORDS = {
     "docs/SCALE.md": 1230,
     "docs/SECURITY.md": 850,
 }
-# of CHANGELOG.md: the heading of a version, how many lines for users it begins with, its parts, and how many words it has
+# of CHANGELOG.md: the heading of a version, how many lines for users it begins with, its parts, and how many words
 RELEASED = re.compile(r"## (\d+\.\d+\.\d+) - (?:20\d\d-\d\d-\d\d|not yet released)")
 MOST_LINES = 5
 PARTS_OF_VERSION = ["Added", "Changed", "Fixed", "Security"]
@@ -226,9 +226,10 @@ def first_fault(fault):
 
 
 def check_faults():
-    """Each command has faults in its page, and reports the first of a row before those of later rows, with its status."""
+    """Each command has faults in its page, and reports the first of a row before later ones, with its status."""
     rows = [row for _, row in tables.table("orders.tsv")]
-    statuses = {text: row["status"] for _, row in tables.table("faults.tsv") for text in row["text"].split(": ")[-1].split(", ")}
+    faults = [row for _, row in tables.table("faults.tsv")]
+    statuses = {text: row["status"] for row in faults for text in row["text"].split(": ")[-1].split(", ")}
     for command in COMMANDS:
         of_command = [row for row in rows if row["command"] == command]
         harness.judge(f"there are faults of sums {command}", len(of_command) > 3)

@@ -38,8 +38,8 @@ def target(page, link):
 
 
 def leads(root, page, link):
-    """Whether a link leads to a file or folder below the root, and to a heading of a page or a line of a source if it names
-    one."""
+    """Whether a link leads to a file or folder below the root, and to a heading of a page, or a line of a source, if it
+    names one."""
     path, anchor = target(page, link), link.partition("#")[2]
     if path.startswith("..") or not os.path.exists(os.path.join(root, path)):
         return False

@@ -95,8 +95,8 @@ def second_builder(bench):
 
 LONG = {
     "README.md": {"try": readme_try, "package": readme_package},
-    "docs/CONTRIBUTING.md": {"build": source_build, "staged": source_build, "second": second_builder, "languages": languages,
-                             **{name: in_clone("docs/CONTRIBUTING.md", name) for name in ["minute", "crate"]}},
+    "docs/CONTRIBUTING.md": {"build": source_build, "staged": source_build, "second": second_builder,
+                             "languages": languages, **{name: in_clone("docs/CONTRIBUTING.md", name) for name in ["minute", "crate"]}},
     "docs/BENCHMARKS.md": {name: in_clone("docs/BENCHMARKS.md", name)
                            for name in ["speed", "speed-parts", "speed-hashers", "speed-library", "speed-provider",
                                         "speed-languages", "speed-lists", "speed-javascript"]},

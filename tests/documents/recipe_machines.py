@@ -209,7 +209,7 @@ def shares(bench):
 
 
 def arrays(bench):
-    """An array whose tasks hash the parts of a file, of each name, all at once; then the outputs of the jobs after it."""
+    """Arrays whose tasks hash the parts of a file, of each name, all at once; then the outputs of the jobs after them."""
     text = bench.text("docs/SCALE.md", "on-slurm")
     cases = []
     for name, size, chunks in [("big", 200000001, None), *((name, 4321, 1) for name in NAMES), ("many", 1002 * CHUNK, 1)]:

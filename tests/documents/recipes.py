@@ -21,8 +21,8 @@ import tempfile
 
 from recipe_builds import LONG
 from recipe_machines import scale_hosts, scale_slurm, scale_spark
-from recipe_runner import (CHUNK, HERE, NAMES, Bench, Wrong, behind_file, ends, fenced, fill, named, of_work, paged, same,
-                           write)
+from recipe_runner import (CHUNK, HERE, NAMES, Bench, Wrong, behind_file, ends, fenced, fill, named, of_work, paged,
+                           same, write)
 
 
 # ---- The recipes of one file in parts
@@ -117,7 +117,8 @@ def device(bench):
         begin, size, join = re.split(r"^(size=.*\n)", file.read(), flags=re.M)
     write(folder, "after.sh", begin + size + bench.text("docs/SCALE.md", "device") + join)
     wanted = bench.sums(folder, "hash", "-a", "blake3", place)
-    bench.judge("docs/SCALE.md device", lambda: ends(bench.run(bench.text("docs/SCALE.md", "on-cores"), folder), 0, wanted))
+    start = bench.text("docs/SCALE.md", "on-cores")
+    bench.judge("docs/SCALE.md device", lambda: ends(bench.run(start, folder), 0, wanted))
     bench.run(f"losetup --detach {place}", folder)
 
 
@@ -269,7 +270,7 @@ def readme_checks(bench):
 
 
 def readme_download(bench):
-    """The list of a download: files that are right, and then one that is not; one file of it, or none; its digest alone."""
+    """A list of right files, and then of a wrong one; one file of it, or none; a digest alone."""
     page = "README.md download"
     every, one, _, _, alone = bench.text("README.md", "download").splitlines()
     folder = pictures(bench.folder())
