@@ -36,6 +36,9 @@ VERSION = re.compile(r"[-_]([0-9]+\.[0-9]+\.[0-9]+)[-_.]")
 ADDRESS = re.compile(r"https?://[\w.:~/-]*[\w~]")
 # the registry that a crate's own dependencies are from, as the protocol of Cargo names it
 CRATES_IO = "https://github.com/rust-lang/crates.io-index"
+# what README says as long as the packages have no address, and what it says in a site, which is one
+NO_ADDRESS = "The packages have no public address yet: ask whoever showed you this page."
+ADDRESS_OF_SITE = 'The <a href="../index.html">first page</a> of this site installs the packages.'
 # what a page shows as it is; any other file gets a page with its text
 SHOWN = ".svg", ".png"
 HEAD = """<!doctype html>
@@ -287,6 +290,7 @@ def document(out, path, place, version):
         return
     text = read(path)
     body = linked(body_of(text), os.path.dirname(path)) if path.endswith(".md") else text_of(text)
+    body = body.replace(NO_ADDRESS, ADDRESS_OF_SITE)
     page(out, place, place.removeprefix("doc/").removesuffix(".html"), body, version)
 
 
