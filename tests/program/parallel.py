@@ -179,17 +179,17 @@ def shared(program):
 def one_runs(program):
     """Words that are left to one run, and the number of runs of others."""
     path = faulty(program, f'echo $1 >> "{os.path.abspath("begun")}"')
-    check, part = ["check", "-a", "sha256", "good"], ["join", "part"]
+    check, parts = ["check", "-a", "sha256", "good"], ["join", *["part"] * 4]
     for own, words, wanted in ((["-j1"], check, ["check"]), (["-j3"], check, ["check"] * 5),
                                ([], ["hash", "-a", "sha256", *FEW], ["hash"]),
                                ([], ["hash", "-a", "sha256", "f1", "less"], ["hash"]),
                                (["-j", "3"], ["hash", "-a", "sha256", "f1", "just"], ["hash"] * 4),
-                               (["-j9"], ["hash", "-a", "sha256", "f1", "just"], ["hash"] * 6),
+                               (["-j9"], ["hash", "-a", "sha256", "f1", "just"], ["hash"] * 10),
                                (["-j3"], ["hash", "-a", "sha256", "--files0-from", "names"], ["hash"] * 4),
                                (["-j3"], ["hash", "-a", "sha256", *["just"] * 3, *FEW * 30], ["hash"]),
                                (["-j3"], ["hash", "-a", "sha256", *FEW * 30, "just"], ["hash"] * 4),
-                               (["-j3"], ["hash", "-a", "blake3", "just"], [*part, "part", "part"]),
-                               (["-j3"], ["hash", "-a", "blake3", "--", "link"], [*part, "part", "part"]),
+                               (["-j3"], ["hash", "-a", "blake3", "just"], parts),
+                               (["-j3"], ["hash", "-a", "blake3", "--", "link"], parts),
                                (["-j3"], ["hash", "-a", "blake3", "less"], ["hash"]),
                                (["-j3"], ["hash", "-a", "blake3", "--tag", "just"], ["hash"] * 4),
                                (["-j3"], ["part", "-a", "blake3", "--each", "8192", "large"], ["part"])):
@@ -276,7 +276,8 @@ def begun_with(program):
     """Ignored signals, few descriptors, little memory, no folder for temporary files, and a folder that is gone."""
     for words in (["check", "-a", "sha256", "--summary", "mixed"], ["hash", "-a", "sha256", "--files0-from", "names"]):
         wanted = in_order(harness.run(program, words))
-        run = front(program, ["-j4"], words, preexec_fn=lambda: signal.signal(signal.SIGCHLD, signal.SIG_IGN))
+        run = harness.run("bash", [FRONT, "-j4", *words], env={**os.environ, "SUMS": program},  # dash resets SIGCHLD
+                          preexec_fn=lambda: signal.signal(signal.SIGCHLD, signal.SIG_IGN))
         same(f"SIGCHLD ignored: {words}", in_order(run), wanted)
         for number in (11, 12, 13, 14, 16, 20, 24, 30, 40):  # sh takes 11
             run = front(program, ["-j9"], words, preexec_fn=limited(resource.RLIMIT_NOFILE, number))
@@ -297,12 +298,11 @@ def begun_with(program):
           and run.err == b"sums-parallel: File too large; lines are missing\n", run)
     script = "mkdir lost; cd lost; rmdir ../lost; sums hash -a sha256 \"$OLDPWD/f1\" \"$OLDPWD/just\""
     same("a folder that is gone", by_shell(program, ["-j3"], script)[:2], by_shell(program, None, script)[:2])
-    names = os.path.abspath("modules")
-    os.mkdir(names)
-    for module in ("os", "signal", "ctypes", "itertools", "tempfile"):
+    os.mkdir("modules")
+    for module in ("os", "signal", "itertools", "subprocess", "tempfile"):
         with open(f"modules/{module}.py", "w", encoding="utf-8") as file:
             file.write("raise SystemExit(99)\n")
-    run = harness.run(SHARES, [program, "3", *words], content("names"), env={**os.environ, "PYTHONPATH": names})
+    run = harness.run(SHARES, [program, "3", *words], content("names"), env={**os.environ, "PYTHONPATH": "modules"})
     same("modules of the user's", in_order(run), in_order(harness.run(program, words, content("names"))))
 
 

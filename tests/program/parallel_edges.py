@@ -63,9 +63,9 @@ def replaced(program):
             told = f"sums-parallel: '{name}' has changed; lines are missing\n".encode()
             judge(f"{words}: {how}", run.status == 3 and run.err.endswith(told), run)
         write(name, content(f"{name}1"))
-    path = faulty(program, 'case "$*" in *"--share 1/"*) sleep 0.3; touch list ;; esac')
-    run = by_shell(path, 2, "sums check -a sha256 < list")
-    judge("the list of standard input", run.status == 3 and b"'/dev/stdin' has changed" in run.err, run)
+    path = faulty(program, 'case "$*" in *"--share 1/"*) sleep 0.3; cp list2 given ;; esac')
+    text = "cp list1 given; sums check -a sha256 < given"
+    same("the list of standard input", by_shell(path, 2, text), by_shell(program, None, text))
 
 
 def at_random(program, rounds):
@@ -98,8 +98,8 @@ def changed(program):
     """A large file that changes while its parts are hashed is hashed anew, however little of it tells the change."""
     words = ["hash", "-a", "blake3", "changes"]
     for does in ("printf x | dd of=changes conv=notrunc 2> told", "cp other new; touch -r changes new; mv new changes",
-                 "printf x | dd of=changes conv=notrunc 2> told; touch -r large changes", "printf x >> changes",
-                 "truncate -s 30000 changes", "rm changes"):
+                 "touch -r changes kept; printf x | dd of=changes conv=notrunc 2> told; touch -r kept changes",
+                 "printf x >> changes", "truncate -s 30000 changes", "rm changes"):
         write("changes", content("large"))
         run = front(faulty(program, f'case "$*" in *"--share 1/"*) "$sums" "$@"; sleep 0.02; {does}; exit 0 ;; esac'),
                     ["-j3"], words)
@@ -178,16 +178,16 @@ def wrong_parts(program):
 
 def late(program):
     """What stands before the line of a run that is late is shown at once; a run that is stopped goes on."""
-    for words in HASH, CHECK:
+    for words, shown in ((HASH, 0), (HASH, 1), (CHECK, 0), (CHECK, 1)):
         whole = harness.run(program, words)
-        path = faulty(program, 'case "$*" in *"--share 1/2"*) echo $$ > begun; kill -STOP $$ ;; esac')
+        path = faulty(program, f'case "$*" in *"--share 1/2"*) "$sums" "$@" > lines; head -n {shown} lines; '
+                      f'echo $$ > begun; kill -STOP $$; tail -n +{shown + 1} lines; exit 0 ;; esac')
         write("begun", b"")
-        begin, *own = command(path, 2)
-        with subprocess.Popen([begin, *own, *words], stdout=subprocess.PIPE, stderr=subprocess.PIPE) as run:
-            first = os.read(run.stdout.fileno(), MIB) if select.select([run.stdout], [], [], 60)[0] else b""
+        with subprocess.Popen([*command(path, 2), *words], stdout=subprocess.PIPE, stderr=subprocess.PIPE) as run:
             wait_for(lambda: content("begun"))
-            more = select.select([run.stdout], [], [], 0.3)[0]
-            same(f"{words[0]}: before a run that is stopped", (first, more), (whole.out.splitlines(True)[0], []))
+            time.sleep(0.3)
+            first = os.read(run.stdout.fileno(), MIB) if select.select([run.stdout], [], [], 0)[0] else b""
+            same(f"{words[0]}: before a stopped run", first, b"".join(whole.out.splitlines(True)[:1 + 2 * shown]))
             os.kill(int(content("begun")), signal.SIGCONT)
             out, err = run.communicate(timeout=60)
             same(f"{words[0]}: behind it", (run.returncode, first + out, err), whole)
@@ -264,8 +264,8 @@ def ignored(program):
 
 def stubborn(program):
     """A run that passes over signals is ended, too, and so is one at work whose line nobody takes."""
-    path = faulty(program, 'case "$*" in *"--share 1/"*) trap "" INT TERM HUP; echo $$ > begun; '
-                  'while :; do sleep 0.1; done ;; *"--share 0/"*) until [ -s begun ]; do sleep 0.1; done ;; esac')
+    path = faulty(program, 'case "$*" in *"--share 1/"*) trap "" INT TERM HUP; echo $$ > begun; for _ in $(seq 99); do '
+                  'sleep 1; done ;; *"--share 0/"*) until [ -s begun ]; do sleep 0.1; done ;; esac')
     for number in SIGNALS:
         write("begun", b"")
         with subprocess.Popen([*command(path, 2), *HASH], stdout=subprocess.DEVNULL) as run:
