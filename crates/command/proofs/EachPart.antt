@@ -1,16 +1,17 @@
 -- The run of `part --each`.
 use Rattle.std.proofs.Common.{◌≡◌, ◌∙◌, ℕ, zero, suc, ◌+◌, ◌-◌, ◌*◌, ◌/◌, ◌^◌, ◌<◌, ◌≤◌, List, [], ◌∷◌, ◌++◌, length}
-use Rattle.std.proofs.Common.{min}
-use Rattle.std.proofs.Common.{take, drop, Option, Some, None, IfSome, Result, Ok, Err, Bool, true, false, refl, sym}
-use Rattle.std.proofs.Common.{ap, inl, inr}
-use Rattle.std.proofs.Common.{arith, length-drop}
+use Rattle.std.proofs.Common.{min, take, drop, Option, Some, None, IfSome, Result, Ok, Err, Bool, true, false, refl}
+use Rattle.std.proofs.Common.{sym, ap, inl, inr, subst, arith, length-drop}
 use Rattle.std.proofs.KnownBytes.{Appends-nil}
-use Rattle.std.proofs.lemmas.List.{drop-drop, length-take, nil_from_length, take_all}
+use Rattle.std.proofs.Math.Nat.{div-le_self}
+use Rattle.std.proofs.lemmas.Bool.{cases_lt}
+use Rattle.std.proofs.lemmas.List.{length-take, take_all}
+use Rattle.std.proofs.lemmas.Nat.{le-div}
 use Rattle.std.proofs.lemmas.Result.{err_from_is_err_and}
-use Rattle.std.specs.Io.KnownBytes.{IsAtEnd}
 use Rattle.std.specs.List.{flat_map, range_with_len}
 use Rattle.std.specs.Borrow.{Bor}
-use Rattle.std.specs.Prelude.{◌⊎◌, IsErrAnd, MatchOption, MatchResult, OnOk}
+use Rattle.std.specs.Option.{option_map_or}
+use Rattle.std.specs.Prelude.{◌⊎◌, IsErrAnd, IsSomeAnd, MatchOption}
 use Rattle.b3.specs.Modes.{hash_parameters}
 use Rattle.b3.specs.declared.row.PartValue.{PartValue}
 use Rattle.b3.specs.Values.{IsValueOf}
@@ -18,134 +19,35 @@ use Rattle.hashes.specs.declared.share.Share.{Share}
 use Rattle.request.specs.CommandLine.{Text}
 use Rattle.partlist.specs.PartLine.{line_of}
 use Rattle.source.proofs.Writing.{Writing, Writing-end, Writing-failed, Writing-step}
-use Rattle.source.specs.Pumped.{Gives, IsLongerThan, LeavesBehind, up_to}
-use Rattle.source.specs.declared.pumping.SourceFault.{SourceFault}
-use Rattle.source.specs.declared.pumping.SourceFault.TheVariants as source
+use Rattle.source.specs.Counts.{count_after}
 use Rattle.source.specs.Written.{Done, Failed, Shown}
 use Rattle.sumlist.specs.Report.{Files}
-use Rattle.command.specs.Run.{Run, stops}
+use Rattle.sumlist.specs.Shared.{every}
+use Rattle.command.specs.Run.{Run, prints}
 use Rattle.command.specs.Cutting.{EachRuns, lines_of, numbers_of}
 use Rattle.command.specs.Lines.{content_of, is_input}
-use Rattle.command.specs.inside.Seen.{Does}
-use Rattle.command.specs.inside.Troubles.{Counted, MayFail, MayRefuse, Trouble, cannot_read, refusal, shown, status_of}
-use Rattle.command.specs.inside.Troubles.{too_long, trouble_of}
+use Rattle.command.specs.inside.Seen.{Does, DoesBeside}
+use Rattle.command.specs.inside.Troubles.{Counted, Failures, MayFail, MayRefuse, Trouble, counts, failed_reads}
+use Rattle.command.specs.inside.Troubles.{failures_from, out_of_memory, plus, refusal, too_long, trouble_of}
 use Rattle.command.specs.declared.fault.Fault.{Fault}
-use Rattle.command.specs.declared.fault.Fault.TheVariants.{CannotWrite}
-use Rattle.command.specs.inside.Faults.{of_source}
-use Rattle.command.specs.inside.Cutting.{PrintsLines, PrintsParts, TakesChunks, TakesPart, all_parts, part_count}
+use Rattle.command.specs.declared.fault.Fault.TheVariants.{CannotWrite, OutOfMemory}
+use Rattle.command.specs.inside.Cutting.{EachOf, PrintsEach, part_count, part_numbers}
+use Rattle.command.specs.inside.Places.{EndsAt, TakesAt, after_part, first_bytes}
 use Rattle.command.specs.inside.Reading.{failed}
-use Rattle.command.proofs.Turns.{every-all}
+use Rattle.command.proofs.Turns.{every-from}
 use Rattle.command.proofs.CutParts.{IsLimit, told_line, too_long_for_a_number}
-use Rattle.command.proofs.Refused.{Counted-quiet, Counted-refusal, Counted-told, refused_by, unread_by}
-use Rattle.command.proofs.Starting.{counts_none, counts_on}
-use Rattle.command.proofs.Tagging.{Taken, Taken-printed, Taken-refused, Taken-unprinted}
+use Rattle.command.proofs.Named.{Named, plus_none}
+use Rattle.command.proofs.Reading.{known}
+use Rattle.command.proofs.Starting.{before_end, counts_none, counts_on, no_more}
+use Rattle.command.proofs.Refused.{Does-printed, Does-refused, Does-unprinted, counts-replicate, refused_by, unprinted}
+use Rattle.command.proofs.Refused.{unread_by}
+use Rattle.command.proofs.Tagging.{Taken, Taken-refused}
 
--- ---- the next part of a feed
-
--- a part was taken, or there was none
-pub part_taken : (known : Option (List ℕ)) (first room : ℕ) (name : Text) (found : Option PartValue)
-    → MatchOption found ((0 < first) × IsAtEnd known) (λ part. (part.first_chunk ≡ first)
-    × IfSome known (λ x. IsValueOf hash_parameters part x))
-    → IfSome known (λ x. length x ≤ 1024 * room)
-    → IfSome known (λ x. let r : Result (Option PartValue) Fault = Ok found in TakesPart first room name x r)
-part_taken None first room name found made few = tt
-part_taken (Some x) first room name None made few = (few, made)
-part_taken (Some x) first room name (Some part) made few = (few, made)
-
--- a feed was not read to its end, or has too much
-pub part_untaken : (known : Option (List ℕ)) (first room : ℕ) (name : Bor Text) (fault : SourceFault) (f : Fault)
-    → f ≡ of_source fault name
-    → (fault ≡ source.TooLong → IsLongerThan known (min (1024 * room) (2 ^ 64 - 1 - 1024 * first)))
-    → IfSome known (λ x. let r : Result (Option PartValue) Fault = Err f in TakesPart first room name.now x r)
-part_untaken None first room name fault f is long = tt
-part_untaken (Some x) first room name source.Read f is long = inl (ap trouble_of is)
-part_untaken (Some x) first room name source.TooLong f is long = inr (ap trouble_of is, long refl)
-
-none_left : (m : List ℕ) (after : Option (List ℕ)) → Gives (Some m) after → IsAtEnd after → after ≡ Some []
-none_left m None gave end = absurd gave.1
-none_left m (Some left) gave end = ap Some end
-
-nothing_taken : (k : ℕ) (m : List ℕ) → 0 < k → take k m ≡ [] → m ≡ []
-nothing_taken k m some none =
-    let size = length-take k m in let zero = ap length none in nil_from_length m (omega (arith, some, size, zero))
-
--- so many chunks of a feed were asked for
-chunks_taken : (first n : ℕ) (limit : Option ℕ) (name : Text) (m : List ℕ) (after : Option (List ℕ))
-    (r : Result (Option PartValue) Fault) → IsLimit (Some n) limit → 1 ≤ n → Gives (Some m) after
-    → OnOk r (LeavesBehind limit (Some m) after) → IfSome (up_to limit (Some m)) (λ x. TakesPart first n name x r)
-    → TakesChunks first n name m after r
-chunks_taken first n (Some k) name m after (Ok None) is some gave left taken =
-    (taken.1.0, nothing_taken k m (omega (arith, is.1, some)) taken.1.1)
-chunks_taken first n (Some k) name m after (Ok (Some part)) is some gave left taken =
-    let same : k ≡ 1024 * n = is.1 in
-    (taken.1.0, rw same at taken.1.1, rw same at left)
-chunks_taken first n None name m after (Ok None) is some gave left taken = taken.1
-chunks_taken first n None name m after (Ok (Some part)) is some gave left taken =
-    let all : take (1024 * n) m ≡ m = take_all (1024 * n) m taken.0 in
-    let size = length-drop (1024 * n) m in
-    let few = taken.0 in
-    let none : drop (1024 * n) m ≡ [] = nil_from_length _ (omega (arith, size, few)) in
-    (taken.1.0, rw all taken.1.1, rw none (none_left m after gave left))
-chunks_taken first n limit name m after (Err f) is some gave left taken = on limit is taken
-  where
-    on : (limit : Option ℕ) → IsLimit (Some n) limit
-        → IfSome (up_to limit (Some m)) (λ x. let r : Result (Option PartValue) Fault = Err f in
-        TakesPart first n name x r)
-        → (let r : Result (Option PartValue) Fault = Err f in TakesChunks first n name m after r)
-    on None is (inl p) = inl p
-    on None is (inr p) =
-        let long : 2 ^ 64 ≤ 1024 * n = too_long_for_a_number n is in
-        let more = p.1 in inr (p.0, omega (arith, long, more))
-    on (Some k) is (inl p) = inl p
-    on (Some k) is (inr p) =
-        let size = length-take k m in
-        let same = is.1 in
-        let more = p.1 in inr (p.0, omega (arith, size, same, more))
-
-pub chunks_known : (coming after : Option (List ℕ)) (first n : ℕ) (limit : Option ℕ) (name : Text)
-    (r : Result (Option PartValue) Fault) → IsLimit (Some n) limit → 1 ≤ n → Gives coming after
-    → OnOk r (LeavesBehind limit coming after) → IfSome (up_to limit coming) (λ x. TakesPart first n name x r)
-    → IfSome coming (λ m. TakesChunks first n name m after r)
-chunks_known None after first n limit name r is some gave left taken = tt
-chunks_known (Some m) after first n limit name r is some gave left taken =
-    chunks_taken first n limit name m after r is some gave left taken
-
--- ---- the parts so far
+-- ---- the parts
 
 -- the line of the part of this number
 abbrev pub each_line : ℕ → List ℕ → ℕ → Text
 each_line n m i = line_of (n * i) (take (1024 * n) (drop (1024 * (n * i)) m)) ++ 10 ∷ []
-
--- those of the parts from one on
-abbrev pub each_from : ℕ → List ℕ → ℕ → Text
-each_from n m i = flat_map (each_line n m) (range_with_len i (part_count n m - i))
-
-each_all : (n : ℕ) (m : List ℕ) → lines_of all_parts n m ≡ each_from n m 0
-each_all n m = let same : part_count n m - 0 ≡ part_count n m = omega arith in
-    ap (flat_map (each_line n m)) (every-all (numbers_of n m)) ∙ rw same refl
-
-each_next : (n : ℕ) (m : List ℕ) (i : ℕ) → i < part_count n m
-    → each_from n m i ≡ each_line n m i ++ each_from n m (i + 1)
-each_next n m i more =
-    let next : part_count n m - i ≡ suc (part_count n m - (i + 1)) = omega (arith, more) in rw next refl
-
-each_none : (n : ℕ) (m : List ℕ) (i : ℕ) → part_count n m ≤ i → each_from n m i ≡ []
-each_none n m i end = let none : part_count n m - i ≡ 0 = omega (arith, end) in rw none refl
-
--- so many whole parts were printed, and all behind them is still to come
-pub record EachSoFar (n : ℕ) (m : List ℕ) (i : ℕ) (now : Option (List ℕ)) (old new : Shown) : Type 0 where
-  pub left : now ≡ Some (drop (1024 * (n * i)) m)
-  pub whole : 1024 * (n * i) ≤ length m
-  pub written : Writing old new (lines_of all_parts n m) (each_from n m i)
-
-pub each_start : (n : ℕ) (coming : Option (List ℕ)) (old : Shown)
-    → IfSome coming (λ m. EachSoFar n m 0 coming old old)
-each_start n None old = tt
-each_start n (Some m) old = let none : 0 ≡ 1024 * (n * 0) = omega arith in record {
-  left = ap (λ (k : ℕ). Some (drop k m)) none;
-  whole = omega arith;
-  written = record { front = []; whole = each_all n m; done = (refl, Appends-nil old.contents) };
-}
 
 -- the line that is written of a part is that of its bytes
 line_is : (first : ℕ) (part : PartValue) (x : List ℕ) → part.first_chunk ≡ first → IsValueOf hash_parameters part x
@@ -189,259 +91,384 @@ module _ (n i : ℕ) (m : List ℕ) (part : PartValue) (some : 1 ≤ n) (within 
     pub part_line_is : told_line part ≡ each_line n m i
     part_line_is = line_is (n * i) part _ is.0 is.1
 
-module _ (n : ℕ) (name : Text) (first i : ℕ) (coming now after : Option (List ℕ)) (old mid : Shown) (some : 1 ≤ n)
-    (is : first ≡ n * i) (within : first < 2 ^ 54) (so : IfSome coming (λ m. EachSoFar n m i now old mid)) where
-  -- what an answer says of the next part
-  abbrev pub Next : Result (Option PartValue) Fault → Type 0
-  Next r = IfSome now (λ m. TakesChunks first n name m after r)
+-- ---- the parts of a share, from one of them on
 
-  -- a read failed, or there is too much
-  pub each_stopped : (f : Fault) (r : Result ℕ Fault) → IsErrAnd r (λ g. g ≡ f) → Next (Err f)
-      → IfSome coming (λ m. PrintsLines all_parts n name m r old mid)
-  each_stopped f r stopped next = on coming so
-    where
-      why : (m : List ℕ) (t : Trouble) → 1024 * (n * i) ≤ length m
-          → (t ≡ cannot_read name) ⊎ ((t ≡ too_long name)
-          × (2 ^ 64 - 1 < 1024 * first + length (drop (1024 * (n * i)) m)))
-          → MayRefuse (2 ^ 64 - 1) name (Some m) t
-      why m t whole (inl p) = inr (inl p)
-      why m t whole (inr p) =
-          let size = length-drop (1024 * (n * i)) m in let more = p.1 in
-          inr (inr (p.0, omega (arith, size, more, whole, is)))
+-- their numbers, where so many others stand between two
+abbrev pub own : ℕ → ℕ → List ℕ → ℕ → List ℕ
+own o n m i = every o 0 (range_with_len i (part_count n m - i))
 
-      on : (coming : Option (List ℕ)) → IfSome coming (λ m. EachSoFar n m i now old mid)
-          → IfSome coming (λ m. PrintsLines all_parts n name m r old mid)
-      on None so = tt
-      on (Some m) so =
-          let e = err_from_is_err_and r stopped in
-          rw (e.1, e.2) (inr (
-            so.written.front,
-            (each_from n m i, so.written.whole),
-            so.written.done,
-            why m (trouble_of f) so.whole (rw so.left at next),
-          ))
+-- their lines
+abbrev pub own_lines : ℕ → ℕ → List ℕ → ℕ → Text
+own_lines o n m i = flat_map (each_line n m) (own o n m i)
 
-  -- there is no more
-  pub each_ended : Next (Ok None) → IfSome coming (λ m. PrintsLines all_parts n name m (Ok 0) old mid)
-  each_ended next = on coming so
-    where
-      on : (coming : Option (List ℕ)) → IfSome coming (λ m. EachSoFar n m i now old mid)
-          → IfSome coming (λ m. let r : Result ℕ Fault = Ok 0 in PrintsLines all_parts n name m r old mid)
-      on None so = tt
-      on (Some m) so =
-          let end : (0 < first) × (drop (1024 * (n * i)) m ≡ []) = rw so.left at next in
-          let size = length-drop (1024 * (n * i)) m in
-          let zero = ap length end.1 in
-          let later : 0 < n * i = (let some = end.0 in omega (arith, is, some)) in
-          let none : length m ≤ 1024 * (n * i) = omega (arith, size, zero) in
-          let few = counts_none n i m some none in
-          let number : 1 ≤ i = one_of i later in (
-            refl,
-            omega (arith, none, is, within),
-            Writing-end old mid (lines_of all_parts n m) (rw (each_none n m i (omega (arith, few, number))) at
-                so.written),
-          )
-        where
-          one_of : (i : ℕ) → 0 < n * i → 1 ≤ i
-          one_of zero later = absurd (omega (arith, later))
-          one_of (suc k) later = omega arith
+own_first : (s : Share) (n : ℕ) (m : List ℕ) → every s.others s.waiting (numbers_of n m) ≡ own s.others n m s.waiting
+own_first s n m =
+    let at : 0 + s.waiting ≡ s.waiting = omega arith in
+    every-from s.others s.waiting 0 (part_count n m)
+    ∙ ap (λ a. every s.others 0 (range_with_len a (part_count n m - s.waiting))) at
 
-  module _ (part : PartValue) (next : Next (Ok (Some part))) where
-    -- it is that of its number, and all behind it is still to come
-    here : (m : List ℕ) → EachSoFar n m i now old mid → IsPart n i m part
-        × (after ≡ Some (drop (1024 * n) (drop (1024 * (n * i)) m)))
-    here m so = let it = rw so.left at next in ((it.0 ∙ is, it.1), it.2)
+own_next : (o n : ℕ) (m : List ℕ) (i : ℕ) → i < part_count n m → own o n m i ≡ i ∷ own o n m (i + 1 + o)
+own_next o n m i there =
+    let next : part_count n m - i ≡ suc (part_count n m - (i + 1)) = omega (arith, there) in
+    let left : part_count n m - (i + 1) - o ≡ part_count n m - (i + 1 + o) = omega arith in
+    ap (λ c. every o 0 (range_with_len i c)) next
+    ∙ ap (λ ys. i ∷ ys) (every-from o o (i + 1) (part_count n m - (i + 1))
+    ∙ ap (λ c. every o 0 (range_with_len (i + 1 + o) c)) left)
 
-    at_place : n * i < 2 ^ 54
-    at_place = omega (arith, is, within)
+own_none : (o n : ℕ) (m : List ℕ) (i : ℕ) → part_count n m ≤ i → own o n m i ≡ []
+own_none o n m i end =
+    let none : part_count n m - i ≡ 0 = omega (arith, end) in ap (λ c. every o 0 (range_with_len i c)) none
 
-    -- its line is the next
-    next_is : (m : List ℕ) → EachSoFar n m i now old mid
-        → each_from n m i ≡ told_line part ++ each_from n m (i + 1)
-    next_is m so =
-        let it = (here m so).0 in
-        each_next n m i (part_there n i m part some at_place it)
-        ∙ ap (λ (l : Text). l ++ each_from n m (i + 1)) (sym (part_line_is n i m part some at_place it))
+-- a number that does not fit a `u64` is that of no part, and neither is the greatest of them
+few_parts : (n : ℕ) (m : List ℕ) → part_count n m ≤ 2 ^ 64 - 1
+few_parts n m =
+    let x : ℕ = min (length m) (2 ^ 64 - 1) - 1 in
+    let less : x / (1024 * n) ≤ x = div-le_self x (1024 * n) in
+    omega (arith, less)
 
-    pub each_unwritten : (new : Shown) (r : Result ℕ Fault) → IsErrAnd r (λ g. g ≡ CannotWrite)
-        → Failed mid new (told_line part) → IfSome coming (λ m. PrintsLines all_parts n name m r old new)
-    each_unwritten new r stopped failed = on coming so
-      where
-        on : (coming : Option (List ℕ)) → IfSome coming (λ m. EachSoFar n m i now old mid)
-            → IfSome coming (λ m. PrintsLines all_parts n name m r old new)
-        on None so = tt
-        on (Some m) so =
-            let e = err_from_is_err_and r stopped in
-            rw e.1 (inl (
-              ap trouble_of e.2,
-              Writing-failed old mid new (lines_of all_parts n m) (each_from n m i)
-                  (told_line part) (each_from n m (i + 1)) (next_is m so) so.written failed,
-            ))
+own_stopping : (o n : ℕ) (m : List ℕ) (i j : ℕ) → j ≡ min (min (i + o) (2 ^ 64 - 1) + 1) (2 ^ 64 - 1)
+    → own o n m (i + 1 + o) ≡ own o n m j
+own_stopping o n m i j is =
+    let few = few_parts n m in
+    elim (cases_lt (i + 1 + o) (2 ^ 64)) [
+      | inl fits ↦ let same : i + 1 + o ≡ j = omega (arith, is, fits) in ap (own o n m) same
+      | inr more ↦ own_none o n m (i + 1 + o) (omega (arith, few, more))
+          ∙ sym (own_none o n m j (omega (arith, few, is, more)))
+    ]
 
-    written : (new : Shown) (m : List ℕ) → EachSoFar n m i now old mid → Done mid new (told_line part)
-        → Writing old new (lines_of all_parts n m) (each_from n m (i + 1))
-    written new m so done = Writing-step old mid new (lines_of all_parts n m) (each_from n m i) (told_line part)
-        (each_from n m (i + 1)) (next_is m so) so.written done
+-- ---- the lines so far
 
-    -- it is not full, so it is the last
-    pub each_last : (new : Shown) → part.len / 1024 < n → Done mid new (told_line part)
-        → IfSome coming (λ m. let r : Result ℕ Fault = Ok 0 in PrintsLines all_parts n name m r old new)
-    each_last new short done = on coming so
-      where
-        on : (coming : Option (List ℕ)) → IfSome coming (λ m. EachSoFar n m i now old mid)
-            → IfSome coming (λ m. let r : Result ℕ Fault = Ok 0 in PrintsLines all_parts n name m r old new)
-        on None so = tt
-        on (Some m) so =
-            let size = part_sizes n i m part some at_place (here m so).0 in
-            let len = size.0 in
-            let limit = size.1 in
-            let whole = so.whole in
-            let none : length m ≤ 1024 * (n * (i + 1)) = omega (arith, len, short, whole) in
-            let few = counts_none n (i + 1) m some none in (
-              refl,
-              omega (arith, len, limit, short, whole),
-              Writing-end old new (lines_of all_parts n m) (rw (each_none n m (i + 1) (omega (arith, few))) at
-                  (written new m so done)),
-            )
+-- the parts that are left to a share from one on
+abbrev pub left_of : ℕ → ℕ → Option (List ℕ) → ℕ → List ℕ
+left_of o n content i = option_map_or (λ m. own o n m i) content []
 
-    -- it is full, and there may be one behind it
-    pub each_more : (new : Shown) → n ≤ part.len / 1024 → Done mid new (told_line part)
-        → IfSome coming (λ m. EachSoFar n m (i + 1) after old new)
-    each_more new full done = on coming so
-      where
-        on : (coming : Option (List ℕ)) → IfSome coming (λ m. EachSoFar n m i now old mid)
-            → IfSome coming (λ m. EachSoFar n m (i + 1) after old new)
-        on None so = tt
-        on (Some m) so =
-            let it = here m so in
-            let len = (part_sizes n i m part some at_place it.0).0 in
-            let whole = so.whole in
-            let at : 1024 * (n * i) + 1024 * n ≡ 1024 * (n * (i + 1)) = omega arith in
-            record {
-              left = it.1 ∙ ap Some (drop-drop (1024 * n) (1024 * (n * i)) m ∙ ap (λ (k : ℕ). drop k m) at);
-              whole = omega (arith, len, full, whole);
-              written = written new m so done;
-            }
+-- of some content the lines of the parts before one were printed, and one file opened for each, and none failed; nothing
+-- was printed without
+pub record EachSoFar (s : Share) (n : ℕ) (content : Option (List ℕ)) (i : ℕ) (gives : ℕ → Type 0) (old new : Shown)
+    (k l u v : ℕ) : Type 0 where
+  pub at : gives (1024 * (n * i))
+  pub some : 1 ≤ n
+  pub near : s.others ≡ 0 → i < (2 ^ 54 - 1) / n + 1
+  pub written : MatchOption content (new ≡ old) (λ m. Writing old new (lines_of s n m) (own_lines s.others n m i))
+  pub opened : l + length (left_of s.others n content i)
+      ≤ k + length (every s.others s.waiting (part_numbers n content))
+  pub quiet : v ≡ u
 
--- the first chunk of the next part, where a part is full
-pub next_first : (n first len : ℕ) → 1 ≤ n → n ≤ len / 1024 → 1024 * first + len ≤ 2 ^ 64 - 1 → first + n < 2 ^ 54
-next_first n first len some full limit = omega (arith, full, limit)
+-- what may be asked for next, where it is what follows or anything may be
+pub go_to : (gives : ℕ → Type 0) (others i j : ℕ) (any : Bool) → (others ≡ 0) ⊎ (any ≡ true)
+    → (any ≡ true → gives i → gives j) → gives i → (others ≡ 0 → i ≡ j) → gives j
+go_to gives others i j any (inl none) moves at same = subst gives (same none) at
+go_to gives others i j any (inr is) moves at same = moves is at
 
--- ---- what a name gives
-
-module _ (n : ℕ) (name : Text) (first : Option (List ℕ)) (tree : Option Files) (r : Result ℕ Fault) (old new : Shown)
+pub each_start : (s : Share) (n : ℕ) (content : Option (List ℕ)) (gives : ℕ → Type 0) (old : Shown) (k u : ℕ)
+    (any : Bool) → 1 ≤ n → s.waiting ≤ s.others → (s.others ≡ 0) ⊎ (any ≡ true)
+    → ((a b : ℕ) → any ≡ true → gives a → gives b) → gives 0
+    → EachSoFar s n content s.waiting gives old old k k u u
+each_start s n content gives old k u any some within share moves at = record {
+  at = go_to gives s.others 0 (1024 * (n * s.waiting)) any share (moves 0 (1024 * (n * s.waiting))) at (λ alone.
+      subst (λ (w : ℕ). 0 ≡ 1024 * (n * w)) (sym (first alone)) (omega arith));
+  some = some;
+  near = λ alone. let zero = first alone in omega (arith, zero);
+  written = written content;
+  opened = opened content;
+  quiet = refl;
+}
   where
-    -- what is to be shown of it
-    abbrev pub Printed : Type 0
-    Printed = IfSome first (λ input. IfSome tree (λ files. PrintsParts all_parts n name (content_of name input files) r
-        old new))
+    first : s.others ≡ 0 → s.waiting ≡ 0
+    first alone = omega (arith, alone, within)
 
-    pub parts_of_input : is_input name ≡ true → IfSome first (λ m. PrintsLines all_parts n name m r old new) → Printed
-    parts_of_input is printed = on first tree printed
+    written : (content : Option (List ℕ)) → MatchOption content (old ≡ old)
+        (λ m. Writing old old (lines_of s n m) (own_lines s.others n m s.waiting))
+    written None = refl
+    written (Some m) = record {
+      front = [];
+      whole = ap (flat_map (each_line n m)) (own_first s n m);
+      done = (refl, Appends-nil old.contents);
+    }
+
+    opened : (content : Option (List ℕ)) → k + length (left_of s.others n content s.waiting)
+        ≤ k + length (every s.others s.waiting (part_numbers n content))
+    opened None = omega arith
+    opened (Some m) = let same = ap length (own_first s n m) in omega (arith, same)
+
+few_numbers : (n i : ℕ) → 1 ≤ n → n * i < 2 ^ 54 → i < 2 ^ 54
+few_numbers zero i some within = absurd (omega (arith, some))
+few_numbers (suc k) i some within = omega (arith, within)
+
+-- the bytes that were asked for are those of the part
+chunks_few : (n : ℕ) (limit : Option ℕ) (m : List ℕ) → IsLimit (Some n) limit
+    → length (first_bytes limit m) ≤ 1024 * n → first_bytes limit m ≡ take (1024 * n) m
+chunks_few n (Some k) m is few = ap (λ (j : ℕ). take j m) is.1
+chunks_few n None m is few = sym (take_all (1024 * n) m few)
+
+chunks_many : (n first : ℕ) (limit : Option ℕ) (m : List ℕ) → IsLimit (Some n) limit
+    → min (1024 * n) (2 ^ 64 - 1 - 1024 * first) < length (first_bytes limit m)
+    → 2 ^ 64 - 1 - 1024 * first < length m
+chunks_many n first (Some k) m is more =
+    let size = length-take k m in let same = is.1 in omega (arith, size, same, more)
+chunks_many n first None m is more = let long = too_long_for_a_number n is in omega (arith, long, more)
+
+chunks_end : (n i : ℕ) (limit : Option ℕ) → IsLimit (Some n) limit
+    → after_part (n * i) n limit ≡ 1024 * (n * (i + 1))
+chunks_end n i None is = let at : after_part (n * i) n None ≡ 1024 * (n * i) + 1024 * n = refl in omega (arith, at)
+chunks_end n i (Some k) is =
+    let at : after_part (n * i) n (Some k) ≡ 1024 * (n * i) + k = refl in let same = is.1 in omega (arith, at, same)
+
+-- beyond the last place of a part anything may be asked for, since there are other shares
+pub each_far : {s : Share} {n : ℕ} {content : Option (List ℕ)} {i : ℕ} {gives : ℕ → Type 0} {old mid : Shown}
+    {k l u v : ℕ} → EachSoFar s n content i gives old mid k l u v → (j : ℕ) (any : Bool)
+    → (s.others ≡ 0) ⊎ (any ≡ true) → (any ≡ true → gives (1024 * (n * i)) → gives j)
+    → (2 ^ 54 - 1) / n + 1 ≤ i → gives j
+each_far so j any (inl alone) moves end = let near = so.near alone in absurd (omega (arith, near, end))
+each_far so j any (inr is) moves end = moves is so.at
+
+module _ {s : Share} {n : ℕ} {content : Option (List ℕ)} {i : ℕ} {gives : ℕ → Type 0} {old mid : Shown}
+    {k l u v : ℕ} (so : EachSoFar s n content i gives old mid k l u v) (name : Text) (h w : ℕ) (one : h ≤ l + 1) where
+  -- what is to be shown of an answer
+  abbrev pub Says : Result ℕ Fault → Shown → Type 0
+  Says r new = PrintsEach s n name content r old new k h u w
+
+  few_opens : h ≤ k + (length (every s.others s.waiting (part_numbers n content)) + 1)
+  few_opens = let few = so.opened in omega (arith, few, one)
+
+  -- a run was done, and so many reads or opens failed
+  each_by : (r : Result ℕ Fault) (new : Shown) (run : Run) (lost : ℕ) → EachOf s n name content run → Does run r old new
+      → run.notes ≡ [] → counts run.failures ≡ failures_from (is_input name) lost → w ≡ count_after v lost → Says r new
+  each_by r new run lost is does quiet sum counted = record {
+    printed = record {
+      run = run;
+      is_run = is;
+      does = does;
+      quiet = quiet;
+      listed = 0;
+      lost = failures_from (is_input name) lost;
+      sum = sum ∙ plus_none (failures_from (is_input name) lost);
+      list = omega arith;
+      counted = (lost, refl, rw so.quiet at counted);
+    };
+    opened = few_opens;
+  }
+
+  -- the content was not had, or there is too much
+  each_refused : (f : Fault) → MayRefuse (2 ^ 64 - 1) name content (trouble_of f)
+      → w ≡ count_after v (failed_reads content (trouble_of f)) → Says (Err f) mid
+  each_refused f may lost = on content refl so.written
+    where
+      b : Bool
+      b = is_input name
+
+      t : Trouble
+      t = trouble_of f
+
+      on : (c : Option (List ℕ)) → content ≡ c
+          → MatchOption c (mid ≡ old) (λ m. Writing old mid (lines_of s n m) (own_lines s.others n m i))
+          → Says (Err f) mid
+      on None is none = each_by (Err f) mid (refusal b content t) (failed_reads content t)
+          (λ input files same. inl (rw same (unread_by b name content t (why (rw is at may))))) (Does-refused t _ f (Err f) old mid refl refl none) refl
+          (counts-replicate _ b) lost
+        where
+          why : MayRefuse (2 ^ 64 - 1) name None t → MayFail name (λ _. ⊥) t
+          why (inl p) = inl p
+          why (inr (inl p)) = inr (inl p)
+          why (inr (inr p)) = absurd p.1
+      on (Some m) is written =
+          let stop : Run = refusal b (Some m) t in
+          let refused = refused_by (2 ^ 64 - 1) b name (Some m) t (rw is at may) in
+          each_by (Err f) mid (record stop { text = written.front }) (failed_reads (Some m) t) (λ input files same. inr
+          (rw (same ∙ is) (inr (inr (written.front, stop, (own_lines s.others n m i, written.whole), refused, refl)))))
+          (record { ending = refl; out = written.done; cut = λ e. cc }) refl (counts-replicate _ b) (rw is at lost)
+
+  none_lost : (b : Bool) → counts [] ≡ failures_from b 0
+  none_lost true = refl
+  none_lost false = refl
+
+  -- all its lines were printed
+  each_done : (new : Shown) (m : List ℕ) → content ≡ Some m → length m ≤ 2 ^ 64 - 1 → Writing old new (lines_of s n m) []
+      → w ≡ count_after v 0 → Says (Ok 0) new
+  each_done new m is few written none = each_by (Ok 0) new (prints (lines_of s n m) 0) 0
+      (λ input files same. inr (rw (same ∙ is) (inl (few, refl))))
+      (Does-printed (lines_of s n m) 0 old new (Writing-end old new (lines_of s n m) written)) refl
+      (none_lost (is_input name)) none
+
+  -- a write of them failed
+  each_cut : (new : Shown) (m : List ℕ) → content ≡ Some m → Failed old new (lines_of s n m) → w ≡ count_after v 0
+      → Says (Err CannotWrite) new
+  each_cut new m is failed none = each_by (Err CannotWrite) new (unprinted (lines_of s n m)) 0
+      (λ input files same. inr (rw (same ∙ is) (inr (inl refl))))
+      (Does-unprinted (lines_of s n m) [] CannotWrite old new refl failed) refl (none_lost (is_input name)) none
+
+  -- beyond the last place of a part
+  pub each_end : (b : Bor Text) (r : Result ℕ Fault) → b.now ≡ name → (2 ^ 54 - 1) / n + 1 ≤ i
+      → EndsAt 0 (2 ^ 64 - 1) name (too_long b.now) content r v w → Says r mid
+  each_end b (Err f) same end (inl (may, lost)) = each_refused f (why may) lost
+    where
+      why : MayFail name (λ _. ⊥) (trouble_of f) → MayRefuse (2 ^ 64 - 1) name content (trouble_of f)
+      why (inl p) = inl p
+      why (inr (inl p)) = inr (inl p)
+      why (inr (inr p)) = absurd p
+  each_end b (Err f) same end (inr (is, longer, quiet)) = each_refused f
+      (inr (inr (is ∙ ap too_long same, longer))) (rw is quiet)
+  each_end b (Ok status) same end (is, whole, quiet) = rw is (on content whole refl)
+    where
+      on : (c : Option (List ℕ)) → IsSomeAnd c (λ m. length m ≤ 2 ^ 64 - 1) → content ≡ c → Says (Ok 0) mid
+      on None whole is = absurd whole
+      on (Some m) whole is =
+          let x : ℕ = min (length m) (2 ^ 64 - 1) - 1 in
+          let few : x / (1024 * n) ≤ (2 ^ 54 - 1) / n = no_more n x so.some (omega arith) in
+          let left : own s.others n m i ≡ [] = own_none s.others n m i (omega (arith, few, end)) in
+          each_done mid m is whole (rw left at (rw is at so.written)) quiet
+
+  module _ (limit : Option ℕ) (is_limit : IsLimit (Some n) limit) (below : i < (2 ^ 54 - 1) / n + 1) where
+    within : n * i < 2 ^ 54
+    within = before_end n i below
+
+    -- what an answer says of the part of this number
+    abbrev pub Takes : Result (Option PartValue) Fault → Type 0
+    Takes r = TakesAt (n * i) n limit name content r
+
+    pub each_stopped : (f : Fault) (r : Result ℕ Fault) → IsErrAnd r (λ g. g ≡ f) → Takes (Err f)
+        → w ≡ count_after v (failed_reads content (trouble_of f)) → Says r mid
+    each_stopped f r stopped takes lost =
+        let e = err_from_is_err_and r stopped in rw (e.1, e.2) (each_refused f (why takes) lost)
       where
-        on : (first : Option (List ℕ)) (tree : Option Files) → IfSome first
-            (λ m. PrintsLines all_parts n name m r old new)
-            → IfSome first (λ input. IfSome tree (λ files. PrintsParts all_parts n name (content_of name input files) r
-            old new))
-        on None tree printed = tt
-        on (Some input) None printed = tt
-        on (Some input) (Some files) printed = rw is (inl (input, refl, printed))
+        why : Takes (Err f) → MayRefuse (2 ^ 64 - 1) name content (trouble_of f)
+        why (inr (inl p)) = inl p
+        why (inr (inr (inl p))) = inr (inl p)
+        why (inr (inr (inr p))) = absurd p
+        why (inl (m, is, inl p)) = inr (inl p)
+        why (inl (m, is, inr p)) =
+            let rest = length-drop (1024 * (n * i)) m in
+            let more = chunks_many n (n * i) limit (drop (1024 * (n * i)) m) is_limit p.1 in
+            inr (inr (p.0, rw is (omega (arith, rest, more, within))))
 
-    pub parts_of_file : (coming : Option (List ℕ)) → is_input name ≡ false
-        → IfSome tree (λ files. (m : List ℕ) × (files name ≡ Some m) × (coming ≡ Some m))
-        → IfSome coming (λ m. PrintsLines all_parts n name m r old new) → Printed
-    parts_of_file coming is opened printed = on first tree opened
+    -- there is none
+    pub each_ended : Takes (Ok None) → w ≡ count_after v 0 → Says (Ok 0) mid
+    each_ended (inr e) none = absurd e
+    each_ended (inl (m, is, (fits, it))) none =
+        let rest = length-drop (1024 * (n * i)) m in
+        let nothing = ap length (sym (chunks_few n limit (drop (1024 * (n * i)) m) is_limit fits) ∙ it.1) in
+        let size = length-take (1024 * n) (drop (1024 * (n * i)) m) in
+        let some = so.some in
+        let end : length m ≤ 1024 * (n * i) = omega (arith, rest, nothing, size, some) in
+        let few = counts_none n i m some end in
+        let number : 1 ≤ i = one_of i it.0 in
+        each_done mid m is (omega (arith, end, within)) (rw (own_none s.others n m i (omega (arith, few, number))) at
+        (rw is at so.written)) none
       where
-        on : (first : Option (List ℕ)) (tree : Option Files)
-            → IfSome tree (λ files. (m : List ℕ) × (files name ≡ Some m) × (coming ≡ Some m))
-            → IfSome first (λ input. IfSome tree (λ files. PrintsParts all_parts n name (content_of name input files) r
-            old new))
-        on None tree opened = tt
-        on (Some input) None opened = tt
-        on (Some input) (Some files) (m, content, at) = rw is (inl (m, content, rw at at printed))
+        one_of : (i : ℕ) → 0 < n * i → 1 ≤ i
+        one_of zero later = absurd (omega (arith, later))
+        one_of (suc k) later = omega arith
 
-    pub parts_unopened : is_input name ≡ false → IfSome tree (λ files. MatchResult r (λ _. ⊥)
-        (λ fault. MayRefuse 0 name (files name) (trouble_of fault) × (trouble_of fault ≡ too_long name → ⊥)))
-        → new ≡ old → Printed
-    parts_unopened is may none = on first tree may
-      where
-        why : (answer : Result ℕ Fault) (content : Option (List ℕ)) → MatchResult answer (λ _. ⊥)
-            (λ fault. MayRefuse 0 name content (trouble_of fault) × (trouble_of fault ≡ too_long name → ⊥))
-            → MatchResult answer (λ _. ⊥) (λ fault. MayFail name (λ _. ⊥) (trouble_of fault))
-        why (Ok s) content may = may
-        why (Err f) content (inl p, other) = inl p
-        why (Err f) content (inr (inl p), other) = inr (inl p)
-        why (Err f) content (inr (inr p), other) = absurd (other p.0)
+    module _ (part : PartValue) (takes : Takes (Ok (Some part))) (none : w ≡ count_after v 0) where
+      -- it is that of its number
+      found : (m : List ℕ) × (content ≡ Some m) × IsPart n i m part
+      found = on takes
+        where
+          on : Takes (Ok (Some part)) → (m : List ℕ) × (content ≡ Some m) × IsPart n i m part
+          on (inr e) = absurd e
+          on (inl (m, is, (fits, it))) =
+              (m, is, (it.0, rw (chunks_few n limit (drop (1024 * (n * i)) m) is_limit fits) at it.1))
 
-        on : (first : Option (List ℕ)) (tree : Option Files) → IfSome tree (λ files. MatchResult r (λ _. ⊥)
-            (λ fault. MayRefuse 0 name (files name) (trouble_of fault) × (trouble_of fault ≡ too_long name → ⊥)))
-            → IfSome first (λ input. IfSome tree (λ files. PrintsParts all_parts n name (content_of name input files) r
-            old new))
-        on None tree may = tt
-        on (Some input) None may = tt
-        on (Some input) (Some files) may = rw is (inr (why r (files name) may, none))
+      abbrev m : List ℕ
+      m = found.0
+
+      abbrev next : ℕ
+      next = i + 1 + s.others
+
+      next_is : own s.others n m i ≡ i ∷ own s.others n m next
+      next_is = own_next s.others n m i (part_there n i m part so.some within found.2)
+
+      -- its line is the next
+      line_next : own_lines s.others n m i ≡ told_line part ++ own_lines s.others n m next
+      line_next = ap (flat_map (each_line n m)) next_is ∙ ap (λ (t : Text). t ++ own_lines s.others n m next)
+          (sym (part_line_is n i m part so.some within found.2))
+
+      before : Writing old mid (lines_of s n m) (own_lines s.others n m i)
+      before = rw found.1 at so.written
+
+      pub each_unwritten : (new : Shown) (r : Result ℕ Fault) → IsErrAnd r (λ g. g ≡ CannotWrite)
+          → Failed mid new (told_line part) → Says r new
+      each_unwritten new r stopped failed =
+          let e = err_from_is_err_and r stopped in
+          rw (e.1, e.2) (each_cut new m found.1 (Writing-failed old mid new (lines_of s n m) (own_lines s.others n m i)
+          (told_line part) (own_lines s.others n m next) line_next before failed) none)
+
+      written : (new : Shown) → Done mid new (told_line part)
+          → Writing old new (lines_of s n m) (own_lines s.others n m next)
+      written new done = Writing-step old mid new (lines_of s n m) (own_lines s.others n m i) (told_line part)
+          (own_lines s.others n m next) line_next before done
+
+      -- it is not full, so it is the last
+      pub each_last : (new : Shown) → part.len / 1024 < n → Done mid new (told_line part) → Says (Ok 0) new
+      each_last new short done =
+          let size = part_sizes n i m part so.some within found.2 in
+          let len = size.0 in
+          let limit = size.1 in
+          let few : length m ≤ 1024 * (n * i) + part.len = omega (arith, len, short) in
+          let count = counts_none n (i + 1) m so.some (omega (arith, few, short)) in
+          each_done new m found.1 (omega (arith, few, limit)) (rw (own_none s.others n m next (omega (arith, count))) at
+          (written new done)) none
+
+      -- there may be one behind it
+      pub each_more : (new : Shown) (j : ℕ) (any : Bool) (then_gives : ℕ → Type 0)
+          → (s.others ≡ 0) ⊎ (any ≡ true) → ((a b : ℕ) → any ≡ true → then_gives a → then_gives b)
+          → then_gives (after_part (n * i) n limit) → j ≡ min (min (i + s.others) (2 ^ 64 - 1) + 1) (2 ^ 64 - 1)
+          → n ≤ part.len / 1024 → Done mid new (told_line part)
+          → EachSoFar s n content j then_gives old new k h u w
+      each_more new j any then_gives share moves at is full done =
+          let some = so.some in
+          let same = own_stopping s.others n m i j is in
+          let most = (part_sizes n i m part some within found.2).1 in
+          let few = so.opened in
+          let quiet = so.quiet in
+          let number = few_numbers n i some within in
+          let one_more : s.others ≡ 0 → j ≡ i + 1 = λ alone. omega (arith, is, alone, number) in
+          let last : i + 1 ≤ (2 ^ 54 - 1) / n = le-div (i + 1) (2 ^ 54 - 1) n some (omega (arith, full, most)) in
+          let now = ap (λ c. length (left_of s.others n c i)) found.1 ∙ ap length next_is in
+          let then = ap (λ c. length (left_of s.others n c j)) found.1 ∙ ap length (sym same) in
+          record {
+            at = go_to then_gives s.others (after_part (n * i) n limit) (1024 * (n * j)) any share
+                (moves (after_part (n * i) n limit) (1024 * (n * j))) at
+                (λ alone. chunks_end n i limit is_limit ∙ ap (λ (x : ℕ). 1024 * (n * x)) (sym (one_more alone)));
+            some = some;
+            near = λ alone. let next = one_more alone in omega (arith, next, last);
+            written = rw found.1 (rw same at (written new done));
+            opened = omega (arith, few, now, then, one);
+            quiet = omega (arith, none, quiet);
+          }
 
 -- ---- the run
 
--- a beginning was printed, and then a trouble told
-Does-begun : (front : Text) (failures : List Bool) (f : Fault) (old new : Shown) → Done old new front
-    → (let r : Result ℕ Fault = Err f in
-    Does (record (stops (shown (trouble_of f))) { text = front; failures = failures }) r old new)
-Does-begun front failures f old new done = record { ending = refl; out = done; cut = λ whole. cc }
+-- why the content was not had
+pub each_unread : (s : Share) (n : ℕ) (name : Text) (b : Bool) (content : Option (List ℕ)) (t : Trouble)
+    → b ≡ is_input name → MayFail name (λ _. ⊥) t → EachOf s n name content (refusal b content t)
+each_unread s n name b content t same may = λ input files at.
+    rw same (inl (rw at (unread_by (is_input name) name content t may)))
 
-each_taken : (s : Share) (n : ℕ) (name : Text) (input : List ℕ) (files : Files) (answer : Result ℕ Fault)
-    (old new : Shown)
-    (i j u v : ℕ) → PrintsParts s n name (content_of name input files) answer old new
-    → Counted (failed (is_input name) (content_of name input files) answer) i j u v
-    → Taken (EachRuns s n name files input) answer old new i j u v
-each_taken s n name input files (Ok k) old new i j u v (inl (m, is, p)) counted =
-    rw p.0 (Taken-printed (EachRuns s n name files input) (lines_of s n m) 0 old new i j u v
-    (inr (rw is (inl (p.1, refl)))) p.2 (Counted-quiet (is_input name) i j u v counted))
-each_taken s n name input files (Ok k) old new i j u v (inr p) counted = absurd p.0
-each_taken s n name input files (Err f) old new i j u v (inl (m, is, inl p)) counted =
-    Taken-unprinted (EachRuns s n name files input) (lines_of s n m) f old new i j u v
-    (inr (rw is (inr (inl refl)))) p.0 p.1 (Counted-told (is_input name) (content_of name input files) (trouble_of f)
-    i j u v (λ e. let heavy = ap status_of p.0 in omega (arith, e, heavy)) counted)
-each_taken s n name input files (Err f) old new i j u v (inl (m, is, inr (front, begins, done, may))) counted =
-    let stop : Run = refusal (is_input name) (Some m) (trouble_of f) in (
-      record stop { text = front },
-      inr (rw is (inr (inr (
-        front,
-        stop,
-        begins,
-        refused_by (2 ^ 64 - 1) (is_input name) name (Some m) (trouble_of f)
-            may,
-        refl,
-      )))),
-      Does-begun front stop.failures f old new done,
-      refl,
-      Counted-refusal (is_input name) (Some m) (trouble_of f) i j u v (rw is at counted),
-    )
-each_taken s n name input files (Err f) old new i j u v (inr p) counted =
-    Taken-refused (EachRuns s n name files input) (is_input name) (content_of name input files) f (Err f) old new i j u
-    v
-    (inl (unread_by (is_input name) name (content_of name input files) (trouble_of f) p.0)) refl p.1 counted
+module _ (s : Share) (n : ℕ) (name : Text) (first : Option (List ℕ)) (tree : Option Files) (r : Result ℕ Fault)
+    (old new : Shown) where
+  -- what is to be shown of it
+  abbrev pub Each : (i j u v : ℕ) → Type 0
+  Each i j u v = IfSome first (λ input. IfSome tree (λ files. Taken (EachRuns s n name files input) r old new i j u v))
 
-pub each_run : (s : Share) (n : ℕ) (name : Text) (first : Option (List ℕ)) (tree : Option Files)
-    (answer : Result ℕ Fault)
-    (old new : Shown) (i j u v : ℕ)
-    → IfSome first (λ input. IfSome tree (λ files.
-    PrintsParts s n name (content_of name input files) answer old new))
-    → IfSome first (λ input. IfSome tree (λ files.
-    Counted (failed (is_input name) (content_of name input files) answer) i j u v))
-    → IfSome first (λ input. IfSome tree (λ files. Taken (EachRuns s n name files input) answer old new i j u v))
-each_run s n name None tree answer old new i j u v printed counted = tt
-each_run s n name (Some input) None answer old new i j u v printed counted = tt
-each_run s n name (Some input) (Some files) answer old new i j u v printed counted =
-    each_taken s n name input files answer old new i j u v printed counted
+  pub each_run : (i j u v : ℕ) → Named (EachOf s n name) name first tree r old new 0 0 i j u v → Each i j u v
+  each_run i j u v named = known first (λ input f. known tree (λ files t. taken input files (rw t at (rw f at named))))
+    where
+      taken : (input : List ℕ) (files : Files) → DoesBeside (EachOf s n name (content_of name input files)) r old new 0 0
+          (λ f. Counted f i j u v) → Taken (EachRuns s n name files input) r old new i j u v
+      taken input files d =
+          let listed = d.list in
+          let none : d.listed ≡ 0 = omega (arith, listed) in
+          let sum = d.sum ∙ ap (λ (k : ℕ). plus (failures_from false k) d.lost) none ∙ sym (plus_none d.lost) in
+          (d.run, d.is_run input files refl, d.does, d.quiet, subst (λ (f : Failures). Counted f i j u v) (sym sum) d.counted)
 
--- the same where all parts were printed, which is that share
-pub each_as : (s : Share) → s ≡ all_parts → (n : ℕ) (name : Text) (first : Option (List ℕ)) (tree : Option Files)
-    (answer : Result ℕ Fault) (old new : Shown) (i j u v : ℕ)
-    → IfSome first (λ input. IfSome tree (λ files.
-    PrintsParts all_parts n name (content_of name input files) answer old new))
-    → IfSome first (λ input. IfSome tree (λ files.
-    Counted (failed (is_input name) (content_of name input files) answer) i j u v))
-    → IfSome first (λ input. IfSome tree (λ files. Taken (EachRuns s n name files input) answer old new i j u v))
-each_as s is n name first tree answer old new i j u v printed counted =
-    rw is (each_run all_parts n name first tree answer old new i j u v printed counted)
+  -- memory ran out before
+  pub each_starved : (i u : ℕ) → IsErrAnd r (λ g. g ≡ OutOfMemory) → new ≡ old → Each i i u u
+  each_starved i u stopped none = known first (λ input q. known tree (λ files t.
+      Taken-refused (EachRuns s n name files input) (is_input name) (content_of name input files) OutOfMemory r old new
+      i i u u (inl (unread_by (is_input name) name (content_of name input files) out_of_memory (inl refl))) stopped none
+      (nothing (is_input name))))
+    where
+      nothing : (b : Bool) → Counted (failures_from b 0) i i u u
+      nothing true = (omega arith, omega arith)
+      nothing false = (omega arith, omega arith)

@@ -22,11 +22,11 @@ pub mod Deriving
 pub mod CutParts
 pub mod Starting
 pub mod Turns
+pub mod TakenParts
+pub mod Named
 pub mod EachPart
 pub mod VerifiedParts
 pub mod VerifiedNames
-pub mod OwnParts
-pub mod OwnVerdicts
 pub mod SharedParts
 pub mod Listing
 pub mod Reporting

@@ -47,7 +47,7 @@ use Rattle.command.proofs.Refused.{Counted-after, Counted-none, Counted-quiet, D
 use Rattle.command.proofs.Refused.{Counted-as, Counted-refusal, counts-replicate, pair, refused_by, same_reads}
 use Rattle.command.proofs.Refused.{unread_by}
 use Rattle.command.proofs.Reporting.{status_light}
-use Rattle.command.proofs.VerifiedNames.{unopened}
+use Rattle.command.proofs.TakenParts.{unopened}
 
 -- ---- the lines of a report
 

@@ -1,24 +1,17 @@
 -- What a share takes of things that come one after another.
-use Rattle.std.proofs.Common.{◌≡◌, ◌∙◌, ℕ, ◌+◌, ◌-◌, ◌≤◌, zero, suc, List, [], ◌∷◌, ◌++◌, length, ap, ap₂, refl, arith}
-use Rattle.std.proofs.Common.{◌<◌, false, true}
+use Rattle.std.proofs.Common.{◌≡◌, ◌∙◌, ℕ, ◌+◌, ◌-◌, ◌≤◌, zero, suc, List, [], ◌∷◌, ◌++◌, length, ap, refl, arith, ◌<◌}
+use Rattle.std.proofs.Common.{false, true}
 use Rattle.std.proofs.lemmas.Bool.Decides.{nat_tests}
 use Rattle.std.specs.List.{range_with_len}
 use Rattle.std.specs.Prelude.{nat_lt}
-use Rattle.hashes.specs.declared.share.Share.{Share}
 use Rattle.sumlist.specs.Shared.{every}
 use Rattle.task.specs.declared.sharing.SharedFile.{SharedFile}
 use Rattle.command.specs.Lines.{is_input}
-use Rattle.command.specs.inside.Cutting.{all_parts}
 
 -- where there are no other shares, that is all
 pub every-all : {A : Type 0} (xs : List A) → every 0 0 xs ≡ xs
 every-all [] = refl
 every-all (x ∷ xs) = ap (λ ys. x ∷ ys) (every-all xs)
-
--- such a share passes nothing over
-pub is_all : (s : Share) → s.others ≡ 0 → s.waiting ≤ s.others → s ≡ all_parts
-is_all s none within = ap₂ (λ i j. let t : Share = record { others = i; waiting = j } in t) none
-    (omega (arith, none, within))
 
 -- a file of which there are other shares is not standard input
 pub not_input : (file : SharedFile) → 0 < file.share.others → is_input file.name.now ≡ false
@@ -32,9 +25,11 @@ waits n k [] = k
 waits n zero (x ∷ xs) = waits n n xs
 waits n (suc k) (x ∷ xs) = waits n k xs
 
-pub waits-all : {A : Type 0} (xs : List A) → waits 0 0 xs ≡ 0
-waits-all [] = refl
-waits-all (x ∷ xs) = waits-all xs
+-- where there are no other shares, it passes over none
+pub waits-none : {A : Type 0} (xs : List A) (n k : ℕ) → n ≡ 0 → k ≡ 0 → waits n k xs ≡ 0
+waits-none [] n k p q = q
+waits-none (x ∷ xs) n zero p q = waits-none xs n n p p
+waits-none (x ∷ xs) n (suc k) p q = absurd (cc)
 
 -- the next is its own
 pub every-more : {A : Type 0} (n k : ℕ) (xs : List A) (x : A) → waits n k xs ≡ 0

@@ -10,6 +10,7 @@ pub mod Making
 pub mod Keys
 pub mod Rules
 pub mod Cutting
+pub mod Places
 pub mod Listing
 pub mod Joining
 pub mod Verifying

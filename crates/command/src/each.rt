@@ -1,20 +1,18 @@
-// The command `part` with `--each`: the lines of all parts of a file.
+// The command `part` with `--each`: the lines of the parts of a file.
 
-ghost use Rattle.std.specs.Prelude.{◌≡◌, ℕ, ◌%◌, ◌*◌, ◌^◌, ◌≤◌, ◌⊎◌, [], Some, true, length, IfOk, IfSome, IsErrOf};
-ghost use Rattle.source.specs.Counts.{count_after};
+ghost use Rattle.std.specs.Prelude.{◌≡◌, ℕ, ◌*◌, ◌^◌, ◌≤◌, ◌⊎◌, [], List, Option, Some, true, length, IsErrOf};
 ghost use Rattle.command.specs.Cutting.{EachRuns};
-ghost use Rattle.command.specs.Lines.{is_input, opens_of, part_opens};
-ghost use Rattle.command.specs.inside.Cutting.{PrintsLines, PrintsParts, TakesChunks, all_parts, part_numbers};
-ghost use Rattle.command.specs.inside.Reading.{failed};
+ghost use Rattle.command.specs.Lines.{opens_of, part_opens};
+ghost use Rattle.command.specs.inside.Cutting.{PrintsEach, part_numbers};
 ghost use Rattle.command.specs.inside.Seen.{DoesRun, OpensAtMost};
 ghost use Rattle.command.specs.inside.Streams.{IfContent, SameStreams};
-ghost use Rattle.command.specs.inside.Troubles.{Counted};
 ghost use Rattle.task.specs.inside.Possible.{IsPartLength};
 
-use crate::cutting::{chunk_bytes, next_part, room_for_run};
+use crate::cutting::{chunk_bytes, room_for_run};
 use crate::fault::Fault;
+use crate::places::{AtPlaces, Going, Places, end_at};
 use crate::session::{Session, Streams, open_file};
-use b3::{CHUNK_LEN, PartValue};
+use b3::{CHUNK_LEN, MOST_CHUNKS};
 use partlist::write_part;
 use source::{Feed, Sink};
 use sumlist::Tree;
@@ -45,58 +43,65 @@ impl<'i, 't, 'o, L: Feed, T: Tree, W: Sink> Session<'i, 't, 'o, L, T, W> {
         ensures unwritten { file.entry.share.others ≡ 0 → IsErrOf result Fault.OutOfMemory
             → self.new.out.now ≡ self.old.out.now }
     {
-        if file.share.others == 0 {
-            return self.print_all_parts(parts.chunks, file.name);
-        }
-        self.print_parts_of(parts.chunks, file)
-    }
-
-    // Prints them from the content of the name.
-    fn print_all_parts<'n>(&mut self, chunks: u64, name: &'n str) -> Result<u8, Fault<'n>>
-        requires { IsPartLength chunks }
-        ensures printed { IfContent name.entry.now (⟦<Self as Streams>⟧.seen self.old) (λ content.
-            PrintsParts all_parts chunks name.entry.now content result (W.shown self.old.out.now)
-            (W.shown self.new.out.now)) }
-        ensures counted { IfContent name.entry.now (⟦<Self as Streams>⟧.seen self.old) (λ content.
-            Counted (failed (is_input name.entry.now) content result)
-            (⟦<Self as Streams>⟧.seen self.old).input_failures (⟦<Self as Streams>⟧.seen self.new).input_failures
-            (⟦<Self as Streams>⟧.seen self.old).file_failures (⟦<Self as Streams>⟧.seen self.new).file_failures) }
-        ensures opens { OpensAtMost (opens_of name.entry.now) (⟦<Self as Streams>⟧.seen self.old)
-            (⟦<Self as Streams>⟧.seen self.new) }
-        ensures same { SameStreams self.old self.new }
-        ensures memory { IsErrOf result Fault.OutOfMemory → (T.wants_memory ≡ true) ⊎ (self.new ≡ self.old) }
-        ensures unwritten { IsErrOf result Fault.OutOfMemory → self.new.out.now ≡ self.old.out.now }
-    {
+        let chunks = parts.chunks;
         let mut run = room_for_run(self.alloc, chunks)?;
-        read_named!(
-            self,
-            name,
-            0,
-            write_parts(chunks, run.as_mut_slice(), name, self.out)
-        )
+        let run = run.as_mut_slice();
+        if file.share.others > 0 {
+            let mut places = AtPlaces { tree: self.tree };
+            return write_parts(chunks, run, file, self.out, &mut places);
+        }
+        let name = file.name;
+        read_named!(self, name, 0, write_all(chunks, run, file, self.out))
     }
 }
 
-// Writes the lines of all parts of what a feed gives, each of this many chunks.
-fn write_parts<'n, F: Feed, W: Sink>(
+// Writes the lines of all parts of what a feed gives.
+fn write_all<'n, F: Feed, W: Sink>(
     chunks: u64,
     run: &mut [u8],
-    name: &'n str,
+    file: SharedFile<'n>,
     out: &mut W,
     feed: &mut F,
 ) -> Result<u8, Fault<'n>>
     requires chunks { IsPartLength chunks }
     requires run { (e : ℕ) × (length run.old ≡ 1024 * 2 ^ e) }
     requires within { length run.old ≤ 1024 * chunks }
-    ensures printed { IfSome (F.remaining feed.old)
-        (λ m. PrintsLines all_parts chunks name.entry.now m result (W.shown out.old) (W.shown out.new)) }
-    ensures counted { F.failure_count feed.new
-        ≡ count_after (F.failure_count feed.old) (failed true (Some []) result).input }
+    requires all { file.share.others ≡ 0 }
+    ensures printed { (m : List ℕ) → F.remaining feed.old ≡ Some m
+        → PrintsEach file.entry.share chunks file.entry.name.now (Some m) result (W.shown out.old) (W.shown out.new)
+        0 0 (F.failure_count feed.old) (F.failure_count feed.new) }
     ensures memory { IsErrOf result Fault.OutOfMemory → ⊥ }
 {
-    let mut first = 0;
-    'parts: loop {
-        let Some(part) = next_chunks(first, chunks, run, name, feed)? else {
+    let mut going = Going {
+        feed,
+        has_ended: false,
+    };
+    write_parts(chunks, run, file, out, &mut going)
+}
+
+// Writes the lines of the parts that a share takes. The file ends with a part that is not full, or before a part.
+fn write_parts<'n, P: Places, W: Sink>(
+    chunks: u64,
+    run: &mut [u8],
+    file: SharedFile<'n>,
+    out: &mut W,
+    places: &mut P,
+) -> Result<u8, Fault<'n>>
+    requires chunks { IsPartLength chunks }
+    requires run { (e : ℕ) × (length run.old ≡ 1024 * 2 ^ e) }
+    requires within { length run.old ≤ 1024 * chunks }
+    requires share { (file.share.others ≡ 0) ⊎ (P.is_anywhere ≡ true) }
+    ensures printed { (content : Option (List ℕ)) → P.gives places.old 0 file.entry.name.now content
+        → PrintsEach file.entry.share chunks file.entry.name.now content result (W.shown out.old) (W.shown out.new)
+        (P.opens places.old) (P.opens places.new) (P.failures places.old) (P.failures places.new) }
+    ensures same { P.lender places.new ≡ P.lender places.old }
+    ensures memory { IsErrOf result Fault.OutOfMemory → P.wants_memory ≡ true }
+{
+    let bytes = chunk_bytes(Some(chunks));
+    let count = (MOST_CHUNKS - 1) / chunks + 1;
+    let mut number = file.share.waiting;
+    'parts: while number < count {
+        let Some(part) = places.part(chunks * number, chunks, bytes, run, file.name)? else {
             return Ok(0);
         };
         write_part(&part, out)?;
@@ -104,28 +109,7 @@ fn write_parts<'n, F: Feed, W: Sink>(
         if whole < chunks {
             return Ok(0);
         }
-        first += chunks;
+        number = number.saturating_add(file.share.others).saturating_add(1);
     }
-}
-
-/// The part of the next bytes of a feed from a chunk on, of this many chunks, or of fewer if the feed ends.
-pub(crate) fn next_chunks<'n, F: Feed>(
-    first: u64,
-    chunks: u64,
-    run: &mut [u8],
-    name: &'n str,
-    feed: &mut F,
-) -> Result<Option<PartValue>, Fault<'n>>
-    requires chunks { IsPartLength chunks }
-    requires run { (e : ℕ) × (length run.old ≡ 1024 * 2 ^ e) }
-    requires within { length run.old ≤ 1024 * chunks }
-    requires aligned { first % chunks ≡ 0 }
-    ensures part { IfSome (F.remaining feed.old)
-        (λ m. TakesChunks first chunks name.entry.now m (F.remaining feed.new) result) }
-    ensures first { IfOk result (λ found. IfSome found (λ part. part.first_chunk ≡ first)) }
-    ensures counted { F.failure_count feed.new
-        ≡ count_after (F.failure_count feed.old) (failed true (Some []) result).input }
-    ensures memory { IsErrOf result Fault.OutOfMemory → ⊥ }
-{
-    next_part(first, chunks, chunk_bytes(Some(chunks)), run, name, feed)
+    end_at(0, u64::MAX, file.name, Fault::TooLong(file.name), places)
 }

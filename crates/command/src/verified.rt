@@ -1,6 +1,6 @@
 // The command `part` with `--verify`: whether the parts that lines describe are those of a file.
 
-ghost use Rattle.std.specs.Prelude.{◌≡◌, ◌≤◌, ◌+◌, ◌*◌, ◌++◌, ◌∷◌, ℕ, [], true, length, IfOk, IfSome, IsErrOf, Some};
+ghost use Rattle.std.specs.Prelude.{◌≡◌, ◌≤◌, ◌+◌, ◌*◌, ◌++◌, ◌∷◌, ℕ, [], true, length, IfSome, IsErrOf, List, OnOk, Some};
 ghost use Rattle.std.specs.Prelude.{◌⊎◌, if◌then◌else◌, nat_lt};
 ghost use Rattle.std.specs.Fmt.{decimal};
 ghost use Rattle.std.specs.Option.{option_map_or};
@@ -9,22 +9,20 @@ ghost use Rattle.source.specs.Written.{Writes};
 ghost use Rattle.sumlist.specs.Lines.{lines};
 ghost use Rattle.sumlist.specs.Report.{verdict_text};
 ghost use Rattle.sumlist.specs.declared.verdict.Verdict.TheVariants.{Missing};
-ghost use Rattle.command.specs.Lines.{content_of, is_input, opens_of, part_opens};
+ghost use Rattle.command.specs.Lines.{content_of, opens_of, part_opens};
 ghost use Rattle.command.specs.Verifying.{VerifyRuns};
-ghost use Rattle.command.specs.inside.Cutting.{all_parts};
-ghost use Rattle.command.specs.inside.Reading.{failed};
-ghost use Rattle.command.specs.inside.Seen.{DoesRun, IfTold, OpensAtMost};
+ghost use Rattle.command.specs.inside.Reading.{behind_answer};
+ghost use Rattle.command.specs.inside.Seen.{DoesBeside, DoesRun, IfTold, OpensAtMost};
 ghost use Rattle.command.specs.inside.Streams.{SameStreams};
 ghost use Rattle.command.specs.inside.Troubles.{Counted};
-ghost use Rattle.command.specs.inside.Verifying.{ComparesFeeds, ComparesName, DoesBeside, EndsWith, IsRoomOf, Judges};
-ghost use Rattle.command.specs.inside.Verifying.{JudgesNext, is_missing, same_value, status_of};
+ghost use Rattle.command.specs.inside.Verifying.{ComparesName, ComparesParts, IsRoomOf, JudgesAt};
+ghost use Rattle.command.specs.inside.Verifying.{same_value, status_of};
 
-use crate::cutting::{RUN, next_part};
+use crate::cutting::RUN;
 use crate::digests::part_buffer;
 use crate::fault::Fault;
+use crate::places::{AtPlaces, Going, Places, end_at};
 use crate::session::{Session, Streams, open_file};
-use crate::shares::verify_parts_of;
-use crate::starts::gives_byte;
 use b3::{CHUNK_LEN, PartValue};
 use itoa::Buffer;
 use partlist::{Joiner, PartReader};
@@ -74,8 +72,8 @@ impl<'i, 't, 'o, L: Feed, T: Tree, W: Sink> Session<'i, 't, 'o, L, T, W> {
         file: SharedFile<'n>,
     ) -> Result<u8, Fault<'n>>
         requires { length run.old ≡ 1024 * RUN }
-        ensures run { IfTold (⟦<Self as Streams>⟧.seen self.old) (λ bytes files. IfSome (P.remaining list.old)
-            (λ text. DoesBeside (ComparesName file.entry.share parts.entry.now file.entry.name.now text
+        ensures run { IfSome (P.remaining list.old) (λ text. IfTold (⟦<Self as Streams>⟧.seen self.old) (λ bytes files.
+            DoesBeside (ComparesName file.entry.share parts.entry.now file.entry.name.now text
             (content_of file.entry.name.now bytes files)) result
             (⟦<Self as Streams>⟧.seen self.old).out (⟦<Self as Streams>⟧.seen self.new).out
             (P.failure_count list.old) (P.failure_count list.new)
@@ -92,88 +90,110 @@ impl<'i, 't, 'o, L: Feed, T: Tree, W: Sink> Session<'i, 't, 'o, L, T, W> {
         ensures unwritten { file.entry.share.others ≡ 0 → IsErrOf result Fault.OutOfMemory
             → self.new.out.now ≡ self.old.out.now }
     {
-        if file.share.others > 0 {
-            return verify_parts_of(run, parts, list, file, self.tree, self.out);
-        }
         let name = file.name;
-        read_named!(self, name, 0, verify_feed(run, parts, list, name, self.out))
+        if file.share.others > 0 {
+            // The file is opened before a line is read, as if all parts were compared.
+            let feed = open_file(name, 0, self.tree)?;
+            self.tree.close(feed);
+            let mut places = AtPlaces { tree: self.tree };
+            return compare_parts(run, parts, list, file, self.out, &mut places);
+        }
+        read_named!(self, name, 0, compare_all(run, parts, list, file, self.out))
     }
 }
 
-// Writes, for each part that the lines of a feed describe, whether it is that of another feed.
-fn verify_feed<'n, P: Feed, F: Feed, W: Sink>(
+// Writes this for all parts, by what a feed gives.
+fn compare_all<'n, P: Feed, F: Feed, W: Sink>(
     run: &mut [u8],
     parts: &'n str,
     list: &mut P,
-    name: &'n str,
+    file: SharedFile<'n>,
     out: &mut W,
     feed: &mut F,
 ) -> Result<u8, Fault<'n>>
-    requires { length run.old ≡ 1024 * RUN }
-    ensures compared { IfSome (P.remaining list.old) (λ text. IfSome (F.remaining feed.old) (λ m.
-        ComparesFeeds all_parts parts.entry.now name.entry.now text m result (W.shown out.old) (W.shown out.new)
-        (P.failure_count list.old) (P.failure_count list.new)
-        (F.failure_count feed.old) (F.failure_count feed.new))) }
+    requires run { length run.old ≡ 1024 * RUN }
+    requires all { file.share.others ≡ 0 }
+    ensures compared { (text m : List ℕ) → P.remaining list.old ≡ Some text → F.remaining feed.old ≡ Some m
+        → ComparesParts file.entry.share parts.entry.now file.entry.name.now text m result
+        (W.shown out.old) (W.shown out.new) (P.failure_count list.old) (P.failure_count list.new)
+        0 0 (F.failure_count feed.old) (F.failure_count feed.new) }
     ensures memory { IsErrOf result Fault.OutOfMemory → ⊥ }
 {
+    let mut going = Going {
+        feed,
+        has_ended: false,
+    };
+    compare_parts(run, parts, list, file, out, &mut going)
+}
+
+// Writes, for each part that a share takes of those that the lines of a feed describe, whether it is that of a file,
+// which has to end with the last.
+fn compare_parts<'n, L: Feed, P: Places, W: Sink>(
+    run: &mut [u8],
+    parts: &'n str,
+    list: &mut L,
+    file: SharedFile<'n>,
+    out: &mut W,
+    places: &mut P,
+) -> Result<u8, Fault<'n>>
+    requires run { length run.old ≡ 1024 * RUN }
+    requires share { (file.share.others ≡ 0) ⊎ (P.is_anywhere ≡ true) }
+    ensures compared { (text m : List ℕ) → L.remaining list.old ≡ Some text
+        → P.gives places.old 0 file.entry.name.now (Some m)
+        → ComparesParts file.entry.share parts.entry.now file.entry.name.now text m result
+        (W.shown out.old) (W.shown out.new) (L.failure_count list.old) (L.failure_count list.new)
+        (P.opens places.old) (P.opens places.new) (P.failures places.old) (P.failures places.new) }
+    ensures same { P.lender places.new ≡ P.lender places.old }
+    ensures memory { IsErrOf result Fault.OutOfMemory → P.wants_memory ≡ true }
+{
     let (mut joiner, mut reader) = (Joiner::new(), PartReader::new());
-    let (mut status, mut has_ended) = (0, false);
+    let (mut left, mut status) = (file.share, 0);
     'parts: loop {
         let told = match joiner.add_next(&mut reader, list) {
             Ok(Some(told)) => told,
-            Ok(None) if has_ended => return Ok(status),
-            Ok(None) => return status_at_end(status, name, feed),
+            Ok(None) => break,
             Err(fault) => return Err(Fault::of_join(fault, parts)),
         };
-        let verdict = next_verdict(&told, has_ended, run, name, feed)?;
-        write_told(&told, verdict, out)?;
-        status = status.max(status_of(verdict));
-        has_ended = is_missing(verdict);
+        if left.takes_next() {
+            let verdict = verdict_on(&told, run, file.name, places)?;
+            write_told(&told, verdict, out)?;
+            status = status.max(status_of(verdict));
+        }
     }
+    end_at(
+        status,
+        joiner.count(),
+        file.name,
+        Fault::BytesBehind(file.name),
+        places,
+    )
 }
 
-// The verdict on the part that is described next; nothing is read of a feed that has ended.
-fn next_verdict<'n, F: Feed>(
-    told: &PartValue,
-    has_ended: bool,
-    run: &mut [u8],
-    name: &'n str,
-    feed: &mut F,
-) -> Result<Verdict, Fault<'n>>
-    requires { length run.old ≡ 1024 * RUN }
-    ensures verdict { IfSome (F.remaining feed.old) (λ rest.
-        JudgesNext has_ended told.now name.entry.now rest (F.remaining feed.new) result) }
-    ensures counted { F.failure_count feed.new
-        ≡ count_after (F.failure_count feed.old) (failed true (Some []) result).input }
-    ensures memory { IsErrOf result Fault.OutOfMemory → ⊥ }
-{
-    if has_ended {
-        return Ok(Verdict::Missing);
-    }
-    read_verdict(told, run, name, feed)
-}
-
-/// The verdict on a part, by the next bytes of a feed.
-pub(crate) fn read_verdict<'n, F: Feed>(
+// The verdict on a part, by the bytes at its place.
+fn verdict_on<'n, P: Places>(
     told: &PartValue,
     run: &mut [u8],
     name: &'n str,
-    feed: &mut F,
+    places: &mut P,
 ) -> Result<Verdict, Fault<'n>>
     requires { length run.old ≡ 1024 * RUN }
-    ensures verdict { IfSome (F.remaining feed.old) (λ rest.
-        Judges told.now name.entry.now rest (F.remaining feed.new) result) }
-    ensures counted { F.failure_count feed.new
-        ≡ count_after (F.failure_count feed.old) (failed true (Some []) result).input }
-    ensures memory { IsErrOf result Fault.OutOfMemory → ⊥ }
+    ensures verdict { (m : List ℕ) → P.gives places.old (1024 * told.now.first_chunk) name.entry.now (Some m)
+        → JudgesAt told.now name.entry.now m result }
+    ensures left { (m : List ℕ) → P.gives places.old (1024 * told.now.first_chunk) name.entry.now (Some m)
+        → OnOk result (P.gives places.new (1024 * told.now.first_chunk + told.now.len) name.entry.now (Some m)) }
+    ensures counted { (m : List ℕ) → P.gives places.old (1024 * told.now.first_chunk) name.entry.now (Some m)
+        → P.failures places.new ≡ count_after (P.failures places.old) (behind_answer (Some m) result) }
+    ensures opens { P.opens places.new ≤ P.opens places.old + 1 }
+    ensures same { P.lender places.new ≡ P.lender places.old }
+    ensures memory { IsErrOf result Fault.OutOfMemory → P.wants_memory ≡ true }
 {
     let room = room_of(told);
     let few = CHUNK_LEN * room.min(RUN) as usize;
-    let (first, len) = (told.first_chunk(), told.len());
-    let Some(found) = next_part(first, room, Some(len), &mut run[..few], name, feed)? else {
-        return Ok(Verdict::Missing);
-    };
-    Ok(verdict_of(told, &found))
+    let run = &mut run[..few];
+    match places.part(told.first_chunk, room, Some(told.len), run, name)? {
+        Some(found) => Ok(verdict_of(told, &found)),
+        None => Ok(Verdict::Missing),
+    }
 }
 
 // The least power of two of chunks with room for a part.
@@ -198,8 +218,8 @@ fn verdict_of(told: &PartValue, found: &PartValue) -> Verdict
     }
 }
 
-/// The status of a verdict.
-pub(crate) fn status_of(verdict: Verdict) -> u8
+// The status of a verdict.
+fn status_of(verdict: Verdict) -> u8
     ensures { result ≡ status_of verdict }
 {
     match verdict {
@@ -208,33 +228,8 @@ pub(crate) fn status_of(verdict: Verdict) -> u8
     }
 }
 
-// Whether a verdict says that the bytes end before the part does.
-fn is_missing(verdict: Verdict) -> bool
-    ensures { result ≡ is_missing verdict }
-{
-    matches!(verdict, Verdict::Missing)
-}
-
-// The status of a run at the end of the lines; the feed with this name has to end too.
-fn status_at_end<'n, F: Feed>(status: u8, name: &'n str, feed: &mut F) -> Result<u8, Fault<'n>>
-    ensures end { IfSome (F.remaining feed.old) (λ rest. EndsWith status name.entry.now rest result) }
-    ensures counted { F.failure_count feed.new
-        ≡ count_after (F.failure_count feed.old) (failed true (Some []) result).input }
-    ensures memory { IsErrOf result Fault.OutOfMemory → ⊥ }
-{
-    if gives_byte(name, feed)? {
-        Err(Fault::BytesBehind(name))
-    } else {
-        Ok(status)
-    }
-}
-
-/// Writes a verdict after the numbers of its part.
-pub(crate) fn write_told<W: Sink>(
-    told: &PartValue,
-    verdict: Verdict,
-    out: &mut W,
-) -> Result<(), WriteFailed>
+// Writes a verdict after the numbers of its part.
+fn write_told<W: Sink>(told: &PartValue, verdict: Verdict, out: &mut W) -> Result<(), WriteFailed>
     ensures { Writes result (W.shown out.old) (W.shown out.new)
         (decimal told.now.first_chunk ++ 32 ∷ (decimal told.now.len ++ verdict_text verdict)) }
 {

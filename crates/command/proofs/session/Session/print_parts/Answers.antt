@@ -1,45 +1,51 @@
-use Rattle.std.proofs.Common.{arith}
-use Rattle.command.specs.Lines.{content_of}
-use Rattle.command.specs.inside.Cutting.{part_numbers}
-use Rattle.command.specs.inside.Streams.{seen_of}
-use Rattle.command.proofs.EachPart.{each_as, each_run}
-use Rattle.command.proofs.Opening.{part_opens-all, part_opens-share}
-use Rattle.command.proofs.Reading.{told_always, told_then}
-use Rattle.command.proofs.Turns.{is_all}
+use Rattle.std.proofs.Common.{arith, refl, sym}
+use Rattle.b3.proofs.Powers.{pow_from_ones}
+use Rattle.command.specs.inside.Cutting.{EachOf}
+use Rattle.command.proofs.EachPart.{each_run, each_starved, each_unread}
+use Rattle.command.proofs.Named.{of_file, of_input, of_none, of_opened}
+use Rattle.command.proofs.Turns.{not_input}
 use Rattle.command.proofs.session.Session.print_parts.Goals as goal
 
-pub returns-then-file-eq0-clause-run : goal.returns-then-file-eq0-clause-run
-returns-then-file-eq0-clause-run g c =
-    let file = c.args.file in
-    each_as file.share (is_all file.share c.if-file-eq0.true file.within) c.args.parts.chunks file.name.now _ _ _ _ _
-    _ _ _ _ c.print_all_parts.ensures.printed c.print_all_parts.ensures.counted
+pub room_for_run-requires : goal.room_for_run-requires
+room_for_run-requires g c =
+    let most = c.args.parts.most in
+    pow_from_ones 55 c.args.parts.chunks (omega (arith, most)) c.args.parts.power
 
-pub print_parts_of-requires : goal.print_parts_of-requires
-print_parts_of-requires g c = record {
-  chunks = (c.args.parts.some, c.args.parts.most, c.args.parts.power);
-  others = omega arith;
-}
+pub returns-in_err-run-clause-run : goal.returns-in_err-run-clause-run
+returns-in_err-run-clause-run g c =
+    each_starved c.args.file.share c.args.parts.chunks c.args.file.name.now _ _ _ _ _ _ _ c.from_residual.ensures.1 refl
+
+pub returns-then-file-gt0-clause-run : goal.returns-then-file-gt0-clause-run
+returns-then-file-gt0-clause-run g c =
+    let file = c.args.file in
+    let is = EachOf file.share c.args.parts.chunks file.name.now in
+    each_run file.share c.args.parts.chunks file.name.now _ _ _ _ _ _ _ _ _ (of_file is file.name.now _
+    (g.T.Tree.files c.args.self.now.tree.now) _ _ _ _ _ _ _ _ (not_input file c.if-file-gt0.true)
+    (λ content held. (c.write_parts.ensures.printed content held).printed))
+
+pub returns-then-eq-clause-run : goal.returns-then-eq-clause-run
+returns-then-eq-clause-run g c =
+    let file = c.args.file in
+    let is = EachOf file.share c.args.parts.chunks file.name.now in
+    each_run file.share c.args.parts.chunks file.name.now _ _ _ _ _ _ _ _ _ (of_input is file.name.now _ _ _ _ _ _ _ _ _
+    _ (sym c.if-eq.ensures) (λ m at. (c.write_all.ensures.printed m at).printed))
+
+pub returns-in_err-feed-clause-run : goal.returns-in_err-feed-clause-run
+returns-in_err-feed-clause-run g c =
+    let file = c.args.file in
+    let is = EachOf file.share c.args.parts.chunks file.name.now in
+    each_run file.share c.args.parts.chunks file.name.now _ _ _ _ _ _ _ _ _ (of_none is file.name.now _ _ _ _ _ _ _
+    (each_unread file.share c.args.parts.chunks file.name.now) _ _ _ c.in_err-feed.field-0.0
+    (sym c.if-eq.ensures) c.in_err-feed.ensures.opened c.in_err-feed.ensures.counted
+    c.from_residual-in_err-feed.ensures.1 refl refl)
 
 pub returns-clause-run : goal.returns-clause-run
 returns-clause-run g c =
-    each_run c.args.file.share c.args.parts.chunks c.args.file.name.now _ _ _ _ _ _ _ _ _
-    c.print_parts_of.ensures.printed c.print_parts_of.ensures.counted
-
-pub returns-then-file-eq0-clause-opens : goal.returns-then-file-eq0-clause-opens
-returns-then-file-eq0-clause-opens g c =
-    let see = seen_of g.L.Feed.remaining g.L.Feed.failure_count g.T.Tree.files g.T.Tree.failure_count
-    g.T.Tree.opens g.W.Sink.shown in
     let file = c.args.file in
-    let once = c.print_all_parts.ensures.opens in
-    told_always (see c.args.self.now) (λ bytes files.
-    let all = part_opens-all file.share file.name.now (part_numbers c.args.parts.chunks
-    (content_of file.name.now bytes files)) c.if-file-eq0.true in omega (arith, once, all))
-
-pub returns-clause-opens : goal.returns-clause-opens
-returns-clause-opens g c =
-    let see = seen_of g.L.Feed.remaining g.L.Feed.failure_count g.T.Tree.files g.T.Tree.failure_count
-    g.T.Tree.opens g.W.Sink.shown in
-    let file = c.args.file in
-    told_then (see c.args.self.now) c.print_parts_of.ensures.opens (λ bytes files most.
-    let own = part_opens-share file.share file.name.now (part_numbers c.args.parts.chunks
-    (content_of file.name.now bytes files)) (omega arith) in omega (arith, most, own))
+    let fresh = c.in_ok-feed.ensures.fresh in
+    let closed = c.close.ensures.counted in
+    let is = EachOf file.share c.args.parts.chunks file.name.now in
+    each_run file.share c.args.parts.chunks file.name.now _ _ _ _ _ _ _ _ _ (of_opened is file.name.now _ _ _ _ _ _ _ _ _
+    _ _ _ _ (g.T.F.Feed.remaining c.in_ok-feed.feed) (sym c.if-eq.ensures) c.in_ok-feed.ensures.opened
+    c.in_ok-feed.ensures.counted (λ m at held. (c.write_all-answer.ensures.printed m at).printed)
+    (λ n none p. omega (arith, none, p, fresh, closed)))
