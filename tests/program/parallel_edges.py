@@ -187,9 +187,9 @@ def late(program):
             wait_for(lambda: content("begun"))
             time.sleep(0.3)
             first = os.read(run.stdout.fileno(), MIB) if select.select([run.stdout], [], [], 0)[0] else b""
-            same(f"{words[0]}: before a stopped run", first, b"".join(whole.out.splitlines(True)[:1 + 2 * shown]))
             os.kill(int(content("begun")), signal.SIGCONT)
             out, err = run.communicate(timeout=60)
+            same(f"{words[0]}: before a stopped run", first, b"".join(whole.out.splitlines(True)[:1 + 2 * shown]))
             same(f"{words[0]}: behind it", (run.returncode, first + out, err), whole)
 
 
