@@ -15,7 +15,7 @@ use source::{Bytes, Feed};
 use std::test::Fail;
 
 // The caller of CALLING.md.
-/// The output of a message, where the lines that a feed gives tell parts that are all of its bytes.
+/// The output of a message, if the lines that a feed gives describe parts that are all of its bytes.
 fn output_of<F: Feed>(feed: &mut F, bytes: u64) -> Option<Output>
     ensures { IfSome (F.remaining feed.old) (λ text. IfSome result (λ output. (parts : List PartValue)
         × AllTell (lines text) parts × (bytes_of parts ≡ bytes)
