@@ -46,7 +46,7 @@ SHARED = (
     "cp mixed told; sums check -a sha256 0>> told",
     "cat f1 | sums check -a sha256 list-stdin /dev/stdin",
     "sums hash -a sha256 --files0-from /dev/stdin < /dev/null",
-    "sums check -a sha256 < /dev/null",
+    "sums check -a sha256 < /dev/null; sums check -a sha256 < list-stdin",
     "sums hash -a sha256 /dev/null more f1",
     "cat key > pipe & sums mac -a blake2b --key-file=pipe f1 f2 more")
 # Pipes and devices that a line of a list names: who shares the list opens none.
