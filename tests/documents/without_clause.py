@@ -29,7 +29,8 @@ def functions(lines):
     block = ""
     for at, line in enumerate(lines):
         if re.match(r"(?:unsafe )?(?:impl|trait|pub trait)\b", line):
-            block = line
+            last = next(i for i in range(at, len(lines)) if lines[i].endswith("{"))
+            block = " ".join(lines[at : last + 1])
         elif line == "}":
             block = ""
         found = FUNCTION.match(line)
