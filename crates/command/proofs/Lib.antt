@@ -4,11 +4,13 @@ pub mod Reading
 pub mod Refused
 pub mod Inputs
 pub mod Digits
-pub mod Going
+pub mod Counting
+pub mod One
+pub mod Walking
+pub mod Keeping
 pub mod Given
 pub mod Sizes
 pub mod Naming
-pub mod Shared
 pub mod Sharing
 pub mod SharedChecks
 pub mod SharedNames

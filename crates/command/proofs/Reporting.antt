@@ -1,59 +1,29 @@
--- The run of `check` over lists: what one list's run ends with, and how many files all of them open.
-use Rattle.std.proofs.Common.{◌≡◌, ◌≢◌, ◌≤◌, ◌+◌, ◌-◌, ◌^◌, ◌∙◌, ℕ, List, [], ◌∷◌, ◌++◌, Option, Some, None, Bool, true}
-use Rattle.std.proofs.Common.{false, Result, Ok, sym, ap, subst, arith, inl, inr, length, refl, if◌then◌else◌, ◌==◌}
+-- Lists that are checked, one after another.
+use Rattle.std.proofs.Common.{◌≡◌, ◌≤◌, ◌+◌, ◌∙◌, ℕ, List, [], ◌∷◌, ◌++◌, Option, Some, None, Bool, true, false, IfSome}
+use Rattle.std.proofs.Common.{Result, Ok, Err, sym, ap, subst, arith, length, refl, if◌then◌else◌, ◌==◌, append_assoc, append-nil, nat_lt}
+use Rattle.std.proofs.lemmas.List.Sums.{sum_by-append, sum_by-cons}
+use Rattle.std.proofs.lemmas.Option.{IfSome_then}
+use Rattle.std.specs.Prelude.{OnOk}
 use Rattle.std.specs.List.{slice_split, onto_first, sum_by}
-use Rattle.std.proofs.lemmas.List.Sums.{sum_by-cons}
 use Rattle.hashes.specs.declared.share.Share.{Share}
 use Rattle.request.specs.CommandLine.{Text}
+use Rattle.source.specs.Written.{Shown}
 use Rattle.sumlist.specs.Lines.{lines, without_empty_last}
-use Rattle.sumlist.specs.Report.{Files, Meaning, summary_of}
-use Rattle.sumlist.specs.Shared.{shared}
-use Rattle.sumlist.specs.Tally.{is_clean}
+use Rattle.sumlist.specs.Report.{Files, Meaning}
+use Rattle.sumlist.specs.Shared.{every}
+use Rattle.task.specs.Tasks.{these}
 use Rattle.task.specs.declared.tasks.Reporting.{Reporting}
-use Rattle.command.specs.Checking.{ListRuns}
-use Rattle.command.specs.Lines.{content_of, is_input, opens_of}
-use Rattle.command.specs.Run.{Run}
-use Rattle.command.specs.inside.Seen.{IfTold, OpensAtMost, Seen, opens_from}
+use Rattle.command.specs.Checking.{ListsRun}
+use Rattle.command.specs.Lines.{is_input}
+use Rattle.command.specs.Run.{Counted, LeftBy, TellsAll}
+use Rattle.command.specs.inside.Items.{DoesWalk, Once}
+use Rattle.command.specs.inside.Reported.{KeepsLists, OpensLists, PrintsReport, checked_of, checked_state, opens_in}
+use Rattle.command.specs.inside.Seen.{DoesRun, IfTold, OpensAtMost, Seen}
 use Rattle.command.specs.declared.fault.Fault.{Fault}
-use Rattle.command.specs.inside.Reading.{Leaves}
-use Rattle.command.proofs.Going.{told_where}
-use Rattle.command.proofs.Refused.{ends, not_both, refused_ends}
-
--- ---- one list
-
-pub status_light : (b : Bool) (s : ℕ) → s ≡ (if b then 0 else 1) → s ≢ 3
-status_light true s is e = omega (arith, is, e)
-status_light false s is e = omega (arith, is, e)
-
--- the run over a list, which has its name in its report or none
-abbrev pub list_runs : Reporting → Meaning → Bool → Files → Text → Share → List ℕ → Run → Share → Type 0
-list_runs reporting entries are_named files name share input =
-    ListRuns reporting files entries (if are_named then Some name else None) name share (content_of name input files)
-
--- a list that was read to its end does not end the run
-runs_light : (reporting : Reporting) (files : Files) (entries : Meaning) (list : Option Text) (name : Text)
-    (share : Share) (content : Option (List ℕ)) (run : Run) (behind : Share) (s : ℕ)
-    → ListRuns reporting files entries list name share content run behind → run.ending ≡ Ok s → s ≢ 3
-runs_light reporting files entries list name share None run behind s runs is e =
-    refused_ends 0 false name None run s (inl runs.0) is
-runs_light reporting files entries list name share (Some bytes) run behind s runs is e = elim runs.2 [
-  | inl p ↦
-      let own = (shared share.others share.waiting runs.0).0 in
-      let same = sym is ∙ ap ends p.0 in
-      let one : s ≡ (if is_clean (summary_of own) then 0 else 1) = cc in
-      status_light (is_clean (summary_of own)) s one e
-  | inr p ↦ elim p [
-    | inl q ↦ not_both run _ s (ap ends q.0) is
-    | inr q ↦ refused_ends (2 ^ 64 - 1) (is_input name) name (Some bytes) q.1 s q.3 (sym (ap ends q.4) ∙ is)
-  ]
-]
-
-pub list_whole : (reporting : Reporting) (entries : Meaning) (are_named : Bool) (files : Files) (name : Text)
-    (share : Share) (input : List ℕ) (run : Run) (behind : Share) (s : ℕ)
-    → list_runs reporting entries are_named files name share input run behind → run.ending ≡ Ok s → s ≢ 3
-list_whole reporting entries are_named files name share input run behind s runs is =
-    runs_light reporting files entries (if are_named then Some name else None) name share
-    (content_of name input files) run behind s runs is
+use Rattle.command.proofs.Given.{opens_some}
+use Rattle.command.proofs.One.{on_ok, once_so}
+use Rattle.command.proofs.Reading.{told_at, told_where}
+use Rattle.command.proofs.Sharing.{every_all}
 
 -- ---- what is opened
 
@@ -71,9 +41,6 @@ fewer_lines : (front left : List ℕ) → length (lines left) ≤ length (lines 
 fewer_lines [] left = omega arith
 fewer_lines (c ∷ front) left =
     omega (arith, fewer (slice_split (λ b. b == 10) (front ++ left)) (c == 10) c, fewer_lines front left)
-
-abbrev opens_in : List ℕ → Files → Text → ℕ
-opens_in bytes files name = opens_of name + opens_from lines (content_of name bytes files)
 
 fewer_opens : (files : Files) (name : Text) (front left : List ℕ)
     → opens_in left files name ≤ opens_in (front ++ left) files name
@@ -94,36 +61,96 @@ fewer_sum files (name ∷ names) front left = omega (
   fewer_sum files names front left,
 )
 
+pub lists_none : (bytes : Option (List ℕ)) (files : Option Files) (opens : ℕ)
+    → KeepsLists [] bytes bytes files files opens opens
+lists_none None files opens = (refl, tt)
+lists_none (Some bytes) None opens = (refl, tt)
+lists_none (Some bytes) (Some files) opens =
+    (refl, record { front = []; left = bytes; is = refl; split = refl; most = omega arith })
+
+pub lists_both : (x y : List Text) (bytes later last : Option (List ℕ)) (files now then_ : Option Files) (i j k : ℕ)
+    → KeepsLists x bytes later files now i j → KeepsLists y later last now then_ j k
+    → KeepsLists (x ++ y) bytes last files then_ i k
+lists_both x y None later last files now then_ i j k p q = (q.0 ∙ p.0, tt)
+lists_both x y (Some bytes) later last None now then_ i j k p q = (q.0 ∙ p.0, tt)
+lists_both x y (Some bytes) later last (Some files) now then_ i j k p q = (q.0 ∙ p.0, on p.1 (rw (p.1.is, p.0) at q.1))
+  where
+    on : (first : OpensLists x bytes files later i j) → OpensLists y first.left files last j k → OpensLists (x ++ y) bytes files last i k
+    on first next = record {
+      front = first.front ++ next.front;
+      left = next.left;
+      is = next.is;
+      split = first.split ∙ ap (λ t. first.front ++ t) next.split ∙ sym (append_assoc first.front next.front next.left);
+      most =
+          let most = first.most in
+          let more = next.most in
+          let all = sum_by-append (opens_in bytes files) x y in
+          let less : sum_by (opens_in first.left files) y ≤ sum_by (opens_in bytes files) y
+          = subst (λ b. sum_by (opens_in first.left files) y ≤ sum_by (opens_in b files) y) (sym first.split)
+          (fewer_sum files y first.front first.left) in
+          omega (arith, most, more, all, less);
+    }
+
 -- what is left of standard input is the end of it
-rest_of : {T : Type 0} (b : Bool) (r : Result T Fault) (bytes : List ℕ) (next : Option (List ℕ))
-    → Leaves b r (Some bytes) next → (left : List ℕ) × (front : List ℕ) × (next ≡ Some left) × (bytes ≡ front ++ left)
-rest_of false r bytes next leaves = (bytes, [], leaves, refl)
-rest_of true r bytes None leaves = absurd leaves.0.1
-rest_of true r bytes (Some left) leaves = (left, leaves.0.0, refl, leaves.0.1)
+rest_of : (b : Bool) (e : Result ℕ (ℕ × Text)) (bytes left : List ℕ) → LeftBy b e bytes left
+    → (front : List ℕ) × (bytes ≡ front ++ left)
+rest_of false e bytes left leaves = ([], sym leaves)
+rest_of true (Ok s) bytes left leaves = (bytes, rw leaves (sym (append-nil bytes)))
+rest_of true (Err t) bytes left leaves = leaves
 
--- so many files are opened for these lists at most
-abbrev pub OpensAll : List Text → Seen → Seen → Type 0
-OpensAll names old new = IfTold old (λ bytes files. OpensAtMost (sum_by (opens_in bytes files) names) old new)
+module _ (reporting : Reporting) (m : Meaning) (list : Option Text) (name : Text) (share behind : Share)
+    (r : Result ℕ Fault) (old new : Seen) (err_old err_new : Shown) (same : new.files ≡ old.files)
+    (printed : IfTold old (λ bytes files. PrintsReport reporting m list name share behind bytes files r old new err_old
+    err_new)) where
+  pub list_kept : IfTold old (λ bytes files. OpensAtMost (opens_in bytes files name) old new)
+      → KeepsLists (name ∷ []) old.bytes new.bytes old.files new.files old.opens new.opens
+  list_kept opened = (
+    same,
+    told_where old (λ bytes files at of.
+        let o = told_at old bytes files _ at of printed in
+        let rest = rest_of (is_input name) o.plain.ending bytes o.is_one.1.0 o.is_one.1.2 in
+        let most = told_at old bytes files _ at of opened in
+        let one = sum_by-cons (opens_in bytes files) name [] in record {
+          front = rest.0;
+          left = o.is_one.1.0;
+          is = o.is_one.1.1;
+          split = rest.1;
+          most = omega (arith, most, one);
+        }),
+  )
 
--- those for the lists that are left, and those before, are no more than those for all
-abbrev pub OpensOn : List Text → List Text → Seen → Seen → Type 0
-OpensOn all left a b = (d : Seen) → OpensAll left b d → OpensAll all a d
+  -- an item of lists that are checked
+  pub list_printed : (lists : List Text) (others : ℕ) → others ≡ 0 → list ≡ (if nat_lt 1 (length lists) then Some name else None)
+      → IfSome (checked_state share old.bytes old.files) (λ x. (i : Text) → i ≡ name → Once (λ run. (y : Share × List ℕ)
+      × (checked_of m reporting old.files lists).step x i run y × OnOk r (checked_state behind new.bytes new.files ≡ Some y)) true
+      (nat_lt 0 others) (λ f. Counted f old.input_failures new.input_failures old.file_failures new.file_failures) r old.out new.out
+      err_old err_new)
+  list_printed lists others alone called = on old.bytes refl old.files refl
+    where
+      on : (bytes : Option (List ℕ)) → old.bytes ≡ bytes → (files : Option Files) → old.files ≡ files
+          → IfSome (checked_state share bytes files) (λ x. (i : Text) → i ≡ name → Once (λ run. (y : Share × List ℕ)
+          × (checked_of m reporting files lists).step x i run y × OnOk r (checked_state behind new.bytes new.files ≡ Some y)) true
+          (nat_lt 0 others) (λ f. Counted f old.input_failures new.input_failures old.file_failures new.file_failures) r old.out new.out
+          err_old err_new)
+      on None at files of = tt
+      on (Some bytes) at None of = tt
+      on (Some bytes) at (Some files) of = λ i is. rw (is, alone) (once_so (λ run p.
+          ((behind, p.1.0), (rw (← called) p.0, p.1.2), on_ok r (rw (same, of, p.1.1) refl))) (told_at old bytes files _ at of printed))
 
-module _ (all left names : List Text) (name : Text) (a b c : Seen) (is : left ≡ name ∷ names)
-    (on : OpensOn all left a b) (here : IfTold b (λ bytes files. OpensAtMost (opens_in bytes files name) b c)) where
-  pub opens-next : {T : Type 0} (r : Result T Fault) → Leaves (is_input name) r b.bytes c.bytes → c.files ≡ b.files
-      → OpensOn all names a c
-  opens-next r leaves same d more = on d (rw is (told_where b (λ bytes files at_bytes at_files.
-      let gave : Leaves (is_input name) r (Some bytes) c.bytes = rw at_bytes at leaves in
-      let by = rest_of (is_input name) r bytes c.bytes gave in
-      let most : OpensAtMost (opens_in bytes files name) b c = rw (at_bytes, at_files) at here in
-      let rest : OpensAtMost (sum_by (opens_in by.0 files) names) c d = rw (by.2, same ∙ at_files) at more in
-      let fewer : sum_by (opens_in by.0 files) names ≤ sum_by (opens_in bytes files) names
-      = subst (λ x. sum_by (opens_in by.0 files) names ≤ sum_by (opens_in x files) names) (sym by.3)
-      (fewer_sum files names by.1 by.0) in
-      omega (arith, most, rest, fewer, sum_by-cons (opens_in bytes files) name names))))
+-- all of them
+pub lists_walked : (reporting : Reporting) (m : Meaning) (share whole : Share) (lists : List Text) (r : Result ℕ Fault)
+    (old new : Seen) (err_old err_new : Shown) → whole.others ≡ 0 → whole.waiting ≡ 0
+    → IfSome (checked_state share old.bytes old.files) (λ x. DoesWalk true (checked_of m reporting old.files lists) whole x
+    lists (λ f. Counted f old.input_failures new.input_failures old.file_failures new.file_failures) r old.out new.out
+    err_old err_new) → DoesRun (λ bytes files. ListsRun m reporting (these share) files lists bytes)
+    (λ notes. TellsAll err_old err_new notes) r old new
+lists_walked reporting m share whole lists r old new err_old err_new alone first walked = told_where old
+    (λ bytes files at of. rw (alone, first, every_all lists, at, of) at walked)
 
-  pub opens-stop : OpensAll all a c
-  opens-stop = on c (rw is (told_where b (λ bytes files at_bytes at_files.
-      let most : OpensAtMost (opens_in bytes files name) b c = rw (at_bytes, at_files) at here in
-      omega (arith, most, sum_by-cons (opens_in bytes files) name names))))
+pub lists_opened : (lists : List Text) (whole : Share) (bytes later : Option (List ℕ)) (files now : Option Files) (i j : ℕ)
+    → whole.others ≡ 0 → whole.waiting ≡ 0 → (done : List Text) × (rest : List Text)
+    × (every whole.others whole.waiting lists ≡ done ++ rest) × KeepsLists done bytes later files now i j
+    → IfSome bytes (λ bytes. IfSome files (λ files. j ≤ i + sum_by (opens_in bytes files) lists))
+lists_opened lists whole bytes later files now i j alone first (done, rest, split, kept) =
+    IfSome_then bytes kept.1 (λ b h. IfSome_then files h (λ f o.
+    opens_some (opens_in b f) lists done rest i j (sym (every_all lists) ∙ rw (alone, first) at split) o.most))

@@ -18,11 +18,11 @@ use Rattle.sumlist.proofs.InTurn.{Merged, Moves, all_own, merged, moves}
 use Rattle.sumlist.proofs.SharedTally.{bad, bad_below, bad_most, bad_own, worst}
 use Rattle.sumlist.proofs.SharedTexts.{Spoken, free_append_all, free_every, lined, lines-lined, spoken}
 use Rattle.task.specs.declared.tasks.Reporting.{Reporting}
-use Rattle.command.specs.Checking.{ListRuns, notes_of}
+use Rattle.command.specs.Checking.{ListRuns, checked, notes_of}
 use Rattle.command.specs.Laws.{ChecksAreRun}
 use Rattle.command.specs.Lines.{content_of, is_input}
-use Rattle.command.specs.Run.{IsRefused, LeftBy, Run, RunsAll, cannot_write, end_of, followed, prints}
-use Rattle.command.proofs.Going.{off_3}
+use Rattle.command.specs.Run.{IsRefused, LeftBy, Run, cannot_write, end_of, followed, prints}
+use Rattle.command.specs.Walks.{Walks, is_last}
 use Rattle.command.proofs.Sharing.{status}
 
 -- ---- runs that report nothing
@@ -51,39 +51,31 @@ quiet_ends r quiet = ends_quiet r (nil_both r.notes (end_of r.ending).1 quiet).1
 
 quiet_rest : (first rest : Run) → Quiet (followed first rest) → Ends first × Quiet rest
 quiet_rest first rest quiet =
-    let both = nil_both (followed first rest).notes (end_of (followed first rest).ending).1 quiet in
+    let both = nil_both (followed first rest).notes (end_of rest.ending).1 quiet in
     let notes = nil_both first.notes ((end_of first.ending).1 ++ rest.notes) both.0 in
     let after = nil_both (end_of first.ending).1 rest.notes notes.1 in
-    (ends_quiet first after.0, ap₂ (λ (a b : List Text). a ++ b) after.1 (last rest.ending both.1))
-  where
-    last : (e : Result ℕ (ℕ × Text)) → (end_of (result_map_both (max (status first)) (λ t. t) e)).1 ≡ []
-        → (end_of e).1 ≡ []
-    last (Ok s) none = refl
-    last (Err t) none = cc
+    (ends_quiet first after.0, ap₂ (λ (a b : List Text). a ++ b) after.1 both.1)
 
 pub stopped : (r : Run) (t : ℕ × Text) → r.ending ≡ Err t → Ends r → ⊥
 stopped r t is (s, ends) = cc
 
-followed_status : (first rest : Run) → Ends rest → status (followed first rest) ≡ max (status first) (status rest)
-followed_status first rest (s, ends) = on rest.ending ends
+-- a run and what follows it, of which the greatest status stands at the end
+abbrev and_then : Run → Run → Run
+and_then first rest = record (followed first rest) {
+  ending = result_map_both (max (status first)) (λ t. t) rest.ending;
+}
+
+then_status : (first rest : Run) → Ends rest → status (and_then first rest) ≡ max (status first) (status rest)
+then_status first rest (s, ends) = on rest.ending ends
   where
     on : (e : Result ℕ (ℕ × Text)) → e ≡ Ok s
         → (end_of (result_map_both (max (status first)) (λ t. t) e)).0 ≡ max (status first) (end_of e).0
     on (Ok r) is = refl
     on (Err t) is = cc
 
-followed_ends : (first rest : Run) → Ends rest → Ends (followed first rest)
-followed_ends first rest (s, ends) =
+then_ends : (first rest : Run) → Ends rest → Ends (and_then first rest)
+then_ends first rest (s, ends) =
     (max (status first) s, ap (result_map_both (max (status first)) (λ t. t)) ends)
-
--- where two runs end with a status, so does the last
-pub followed_last : (first rest : Run) → Ends (followed first rest) → Ends rest
-followed_last first rest (s, ends) = on rest.ending refl ends
-  where
-    on : (e : Result ℕ (ℕ × Text)) → rest.ending ≡ e → result_map_both (max (status first)) (λ t. t) e ≡ Ok s
-        → Ends rest
-    on (Ok r) is same = (r, is)
-    on (Err t) is same = cc
 
 -- the run over a name that is refused ends with a trouble
 pub refused_stops : (most : ℕ) (b : Bool) (name : Text) (content : Option Text) (stop : Run)
@@ -103,8 +95,56 @@ module _ (m : Meaning) (reporting : Reporting) (files : Files) (many : Bool) whe
   abbrev pub One : Text → Share → List ℕ → Run → Share → Type 0
   One name s input = ListRuns reporting files m (title name) name s (content_of name input files)
 
+  abbrev pub From : List Text → Share × List ℕ → ℕ → Run → Type 0
+  From lists x s run = Walks true (checked m reporting files many) false x s lists run
+
   abbrev pub Over : List Text → Share → List ℕ → Run → Type 0
-  Over lists s input run = RunsAll is_input One lists s input run
+  Over lists s input run = From lists (s, input) 0 run
+
+  -- such a run from a status on, and what it is from any other
+  record Raised (lists : List Text) (x : Share × List ℕ) (s : ℕ) (run : Run) : Type 0 where
+    pub own : ℕ
+    pub ends : run.ending ≡ Ok (max s own)
+    pub from : (t : ℕ) → From lists x t (record run { ending = Ok (max t own) })
+
+  raised : (lists : List Text) (x : Share × List ℕ) (s : ℕ) (run : Run) → From lists x s run → Ends run
+      → Raised lists x s run
+  raised [] x s run (inr b) ends = absurd b
+  raised [] x s run (inl is) ends = record {
+    own = 0;
+    ends = ap (λ (r : Run). r.ending) is ∙ ap Ok (omega arith);
+    from = λ t. inl (rw is (ap (prints []) (omega arith)));
+  }
+  raised (name ∷ lists) x s run (inl b) ends = absurd b
+  raised (name ∷ lists) x s run (inr (plain, first, y, step, same, how)) ends =
+      on (λ rest walks ends. raised lists y (max s (status first)) rest walks ends) (is_last true first.ending) refl how
+    where
+      on : ((rest : Run) → From lists y (max s (status first)) rest → Ends rest
+          → Raised lists y (max s (status first)) rest) → (b : Bool) → is_last true first.ending ≡ b
+          → MatchBool b (run ≡ first) ((rest : Run) × From lists y (max s (status first)) rest
+          × (run ≡ followed first rest)) → Raised (name ∷ lists) x s run
+      on others true last is =
+          let own = subst Ends is ends in
+          let none : is_last true first.ending ≡ false = ap (is_last true) own.1 in
+          let wrong : ⊥ = cc in absurd wrong
+      on others false light (rest, walks, is) =
+          let r = others rest walks (subst Ends is ends) in record {
+            own = max (status first) r.own;
+            ends = ap (λ (q : Run). q.ending) is ∙ r.ends ∙ ap Ok (omega arith);
+            from = λ t. inr (
+              plain,
+              first,
+              y,
+              step,
+              same,
+              rw light (
+                record rest { ending = Ok (max (max t (status first)) r.own) },
+                r.from (max t (status first)),
+                ap (λ (q : Run). record q { ending = Ok (max t (max (status first) r.own)) }) is
+                    ∙ ap (λ e. record (followed first rest) { ending = e }) (ap Ok (omega arith)),
+              ),
+            );
+          }
 
   -- what the run over a list that is read to its end leaves of standard input
   abbrev pub left_of : Text → List ℕ → List ℕ
@@ -168,34 +208,33 @@ module _ (m : Meaning) (reporting : Reporting) (files : Files) (many : Bool) whe
       pub rest : Run
       pub runs : Over lists (share_at (shared n k here.outcomes).1) (left_of name input) rest
       pub quiet : Quiet rest
-      pub is : run ≡ followed first rest
+      pub is : run ≡ and_then first rest
 
     head : (name : Text) (lists : List Text) (k : ℕ) (input : List ℕ) (run : Run) → Quiet run
         → Over (name ∷ lists) (share_at k) input run → Head name lists k input run
-    head name lists k input run quiet (first, next, one, how) = on (status first == 3) refl how
+    head name lists k input run quiet (inl b) = absurd b
+    head name lists k input run quiet (inr (plain, first, y, step, same, how)) =
+        on (is_last true first.ending) refl how
       where
-        on : (b : Bool) → (status first == 3) ≡ b → MatchBool b (run ≡ first) ((left : List ℕ)
-            × LeftBy (is_input name) first.ending input left × (rest : Run)
-            × Over lists next left rest × (run ≡ followed first rest)) → Head name lists k input run
-        on true at is =
+        on : (b : Bool) → is_last true first.ending ≡ b → MatchBool b (run ≡ first) ((rest : Run)
+            × From lists y (max 0 (status first)) rest × (run ≡ followed first rest)) → Head name lists k input run
+        on true last is =
             let ends = quiet_ends first (subst Quiet is quiet) in
-            let here = listed name (share_at k) (content_of name input files) first next ends one in
-            let three : status first ≡ 3 = grind (arith, nat_tests) in
-            let same = here.status in
-            let most = bad_most (shared n k here.outcomes).0 in
-            absurd (omega arith)
-        on false at (left, leaves, rest, runs, is) =
+            let none : is_last true first.ending ≡ false = ap (is_last true) ends.1 in
+            let wrong : ⊥ = cc in absurd wrong
+        on false light (rest, walks, is) =
             let q = quiet_rest first rest (subst Quiet is quiet) in
-            let here = listed name (share_at k) (content_of name input files) first next q.0 one in
-            let stays = left_is name input left first.ending q.0 leaves in record {
+            let here = listed name (share_at k) (content_of name input files) first y.0 q.0 (rw same step.0) in
+            let stays = left_is name input y.1 first.ending q.0 (rw same step.1) in
+            let r = raised lists y (max 0 (status first)) rest walks (quiet_ends rest q.1) in record {
               first = first;
-              next = next;
+              next = y.0;
               here = here;
-              rest = rest;
-              runs = subst (λ s. Over lists s (left_of name input) rest) here.moved
-                  (subst (λ i. Over lists next i rest) stays runs);
-              quiet = q.1;
-              is = is;
+              rest = record rest { ending = Ok (max 0 r.own) };
+              runs = subst (λ s. Over lists s (left_of name input) (record rest { ending = Ok (max 0 r.own) }))
+                  here.moved (subst (λ i. Over lists y.0 i (record rest { ending = Ok (max 0 r.own) })) stays (r.from 0));
+              quiet = ap (λ (t : List Text). t ++ []) (nil_both rest.notes (end_of rest.ending).1 q.1).0;
+              is = is ∙ ap (λ e. record (followed first rest) { ending = e }) (r.ends ∙ ap Ok (omega arith));
             }
 
     -- one run over lists, and the lines that it prints, of which each share prints its own
@@ -216,20 +255,25 @@ module _ (m : Meaning) (reporting : Reporting) (files : Files) (many : Bool) whe
     abbrev pub Did : List Text → List ℕ → (ℕ → Run) → Type 0
     Did lists input shares = (k : ℕ) → Quiet (shares k) × Over lists (share_at (min k n)) input (shares k)
 
+    nothing : (x : Share × List ℕ) (run : Run) → From [] x 0 run → run ≡ prints [] 0
+    nothing x run (inl is) = is
+    nothing x run (inr b) = absurd b
+
     none : (input : List ℕ) (shares : ℕ → Run) → Did [] input shares → Made [] input shares
-    none input shares did = record {
-      run = prints [] 0;
-      ends = (0, refl);
-      whole = refl;
-      said = [];
-      free = tt;
-      all = refl;
-      own = λ k within. ap (λ (r : Run). r.text) (did k).1;
-      below = λ k within. let same = ap status (did k).1 in omega (arith, same);
-      most = 0;
-      most_within = omega arith;
-      most_same = ap status (did 0).1;
-    }
+    none input shares did =
+        let is : (k : ℕ) → shares k ≡ prints [] 0 = λ k. nothing (share_at (min k n), input) (shares k) (did k).1 in record {
+          run = prints [] 0;
+          ends = (0, refl);
+          whole = inl refl;
+          said = [];
+          free = tt;
+          all = refl;
+          own = λ k within. ap (λ (r : Run). r.text) (is k);
+          below = λ k within. let same = ap status (is k) in omega (arith, same);
+          most = 0;
+          most_within = omega arith;
+          most_same = ap status (is 0);
+        }
 
     -- a list and others: outcomes of the whole list are merged from those of the shares
     module _ (name : Text) (lists : List Text) (input : List ℕ) (shares : ℕ → Run)
@@ -301,7 +345,7 @@ module _ (m : Meaning) (reporting : Reporting) (files : Files) (many : Bool) whe
       share_status : (k : ℕ) → k ≤ n → status (shares k) ≡ max (bad_own n k whole) (status (heads k).rest)
       share_status k within =
           let h = heads k in
-          ap status h.is ∙ followed_status h.first h.rest (quiet_ends h.rest h.quiet)
+          ap status h.is ∙ then_status h.first h.rest (quiet_ends h.rest h.quiet)
           ∙ ap (λ s. max s (status h.rest)) (h.here.status
           ∙ ap (λ (r : List Outcome × ℕ). bad r.0) (own_whole k within))
 
@@ -328,10 +372,10 @@ module _ (m : Meaning) (reporting : Reporting) (files : Files) (many : Bool) whe
       -- and the other lists
       module _ (r : Made lists (left_of name input) behind) where
         abbrev run : Run
-        run = followed all_first r.run
+        run = and_then all_first r.run
 
         run_status : status run ≡ max (bad whole) (status r.run)
-        run_status = followed_status all_first r.run r.ends ∙ ap (λ s. max s (status r.run)) first_status
+        run_status = then_status all_first r.run r.ends ∙ ap (λ s. max s (status r.run)) first_status
 
         rest_text : (k : ℕ) → k ≤ n → (heads k).rest.text ≡ lined (every n (waiting k) r.said)
         rest_text k within = ap (λ (x : Run). x.text) (sym (comes k within))
@@ -368,28 +412,31 @@ module _ (m : Meaning) (reporting : Reporting) (files : Files) (many : Bool) whe
           | inr less ↦ highest_here less
         ]
 
-        light : status all_first ≢ 3
-        light three = omega (arith, three, first_status, bad_most whole)
-
         run_over : Over (name ∷ lists) (record { others = 0; waiting = 0 }) input run
-        run_over = (
-          all_first,
-          record { others = 0; waiting = (shared 0 0 whole).1 },
-          one_first,
-          off_3 _ _ (status all_first) light (
-            left_of name input,
-            left_by name input (status all_first),
-            r.run,
-            subst (λ w. Over lists (record { others = 0; waiting = w }) (left_of name input) r.run)
-                (sym (ap (λ (p : List Outcome × ℕ). p.1) (all_own whole))) r.whole,
-            refl,
-          ),
-        )
+        run_over =
+            let behind_it = subst (λ w. Over lists (record { others = 0; waiting = w }) (left_of name input) r.run)
+            (sym (ap (λ (p : List Outcome × ℕ). p.1) (all_own whole))) r.whole in
+            let x : Share × List ℕ = (record { others = 0; waiting = (shared 0 0 whole).1 }, left_of name input) in
+            let up = raised lists x 0 r.run behind_it r.ends in
+            let s = status all_first in
+            inr (
+              all_first,
+              all_first,
+              x,
+              (one_first, left_by name input s),
+              refl,
+              (
+                record r.run { ending = Ok (max (max 0 s) up.own) },
+                up.from (max 0 s),
+                ap (λ e. record (followed all_first r.run) { ending = e })
+                    (ap (result_map_both (max s) (λ t. t)) up.ends ∙ ap Ok (omega arith)),
+              ),
+            )
 
         together : Made (name ∷ lists) input shares
         together = record {
           run = run;
-          ends = followed_ends all_first r.run r.ends;
+          ends = then_ends all_first r.run r.ends;
           whole = run_over;
           said = spoken_here.said ++ r.said;
           free = free_append_all spoken_here.said r.said spoken_here.free r.free;

@@ -1,70 +1,127 @@
--- The runs of all shares of the names in a list are one run over all of them.
-use Rattle.std.proofs.Common.{◌≡◌, ◌∙◌, ℕ, ◌-◌, ◌^◌, ◌<◌, ◌⊎◌, List, [], ◌∷◌, ◌++◌, append-nil}
-use Rattle.std.proofs.Common.{false, Some, Result, Ok, Err, ap, sym, subst, refl, inl, inr}
+-- The runs of all shares of names, given or in a list, are one run over all of them.
+use Rattle.std.proofs.Common.{◌≡◌, ◌∙◌, ◌==◌, ℕ, ◌-◌, ◌^◌, ◌<◌, ◌≤◌, List, [], ◌∷◌, length}
+use Rattle.std.proofs.Common.{Bool, true, false, Some, None, Option, Result, Ok, Err, ap, sym, subst, refl, arith, inl, inr}
+use Rattle.std.proofs.lemmas.Bool.Decides.{nat_tests}
 use Rattle.std.proofs.lemmas.List.FromFn.{length-enumerate_from}
-use Rattle.std.specs.Prelude.{MatchResult}
-use Rattle.std.specs.List.{enumerate_from, list_any}
+use Rattle.std.specs.Prelude.{◌||◌, IsSomeAnd, MatchBool, ⊤, codes, max}
+use Rattle.std.specs.List.{AllByRecursion, enumerate_from, list_any}
 use Rattle.hashes.specs.declared.share.Share.{Share}
 use Rattle.request.specs.CommandLine.{Text}
 use Rattle.sumlist.specs.Naming.{names}
 use Rattle.sumlist.specs.Report.{Files}
-use Rattle.command.specs.Hashing.{LinesListed, NameRuns}
-use Rattle.command.specs.Laws.{AreShares, ListedSharesAreRun}
-use Rattle.command.specs.Lines.{LineRule, is_input}
-use Rattle.command.specs.Run.{IsRefused, Run, followed}
-use Rattle.command.proofs.SharedChecks.{Ends, followed_last, refused_stops}
-use Rattle.command.proofs.Sharing.{Over, are_shares, bare, made, status, together, together_ends}
+use Rattle.command.specs.Hashing.{given, listed}
+use Rattle.command.specs.Keying.{LineRuns, answer}
+use Rattle.command.specs.Laws.{AreShares, ListedSharesAreRun, SharesAreRun}
+use Rattle.command.specs.Lines.{LineRule, content_of, is_input}
+use Rattle.command.specs.Run.{IsRefused, Prints, Run, end_of, followed, of_name, stops}
+use Rattle.command.specs.Walks.{Walks, has_no_line, is_last}
+use Rattle.command.proofs.Sharing.{IsFree, status, walk_is_shared}
 
--- the run of a name in a list that has status 1 prints nothing
-pub bare_listed : (l : LineRule) (files : Files) (name : ℕ × Text) (input : List ℕ) (r : Run)
-    → NameRuns l files name input r → status r ≡ 1 → r.text ≡ []
-bare_listed l files name input r (inl (is, runs)) one = bare l files name.1 [] r runs one
-bare_listed l files name input r (inr (none, is)) one = ap (λ (x : Run). x.text) is
+-- a name that is passed over prints nothing
+bare_print : (text : Text) (r : Run) → Prints text 0 r → has_no_line true r.ending ≡ true → r.text ≡ []
+bare_print text r (inl is) none = let no : ⊥ = cc in absurd no
+bare_print text r (inr is) none = let no : ⊥ = cc in absurd no
 
-none_is_input : {A : Type 0} (xs : List A) → list_any (λ x. false) xs ≡ false
-none_is_input [] = refl
-none_is_input (x ∷ xs) = none_is_input xs
+bare : (l : LineRule) (files : Files) (name : Text) (input : List ℕ) (r : Run)
+    → LineRuns None l name name input files r → has_no_line true r.ending ≡ true → r.text ≡ []
+bare l files name input r (inl p) none = ap (λ (x : Run). x.text) p.1
+bare l files name input r (inr (fits, inl (inl (inl p)))) none = ap (λ (x : Run). x.text) p
+bare l files name input r (inr (fits, inl (inl (inr p)))) none = ap (λ (x : Run). x.text) p
+bare l files name input r (inr (fits, inl (inr p))) none = on (content_of name input files) p
+  where
+    on : (content : Option (List ℕ)) → IsSomeAnd content (λ m. (l.limit < length m)
+        × (r ≡ stops (of_name name (codes ": too long\n")))) → r.text ≡ []
+    on None p = absurd p
+    on (Some m) p = ap (λ (x : Run). x.text) p.1
+bare l files name input r (inr (fits, inr p)) none = on (content_of name input files) p
+  where
+    on : (content : Option (List ℕ)) → IsSomeAnd content (λ m. (length m ≤ l.limit)
+        × Prints (answer None l name (l.bytes m)).0 0 r) → r.text ≡ []
+    on None p = absurd p
+    on (Some m) p = bare_print (l.text name (l.bytes m)) r p.1 none
 
-module _ (l : LineRule) (files : Files) (list : Text) (bytes : List ℕ) (n : ℕ) (more : 0 < n) where
-  abbrev pub OverListed : Share → Run → Type 0
-  OverListed s =
-      Over (λ x. false) (NameRuns l files) (bare_listed l files) [] n more s (enumerate_from 1 (names bytes))
+-- ---- given names
 
-  -- a run over the names of a list that ends with a status has read it to its end
-  read_all : (s : Share) (r : Run) → Ends r → LinesListed s l files list (Some bytes) r → OverListed s r
-  read_all s r (e, ends) (taken, after, cut, first, runs, how) = on first.ending refl how
-    where
-      on : (ending : Result ℕ (ℕ × Text)) → first.ending ≡ ending → MatchResult ending
-          (λ x. ((after ≡ []) × (r ≡ first)) ⊎ ((last : Run)
-          × IsRefused (2 ^ 64 - 1) (is_input list) list (Some bytes) last × (r ≡ followed first last)))
-          (λ x. r ≡ first) → OverListed s r
-      on (Ok x) is (inl (none, same)) =
-          let all : names bytes ≡ taken = cut ∙ ap (λ (t : List Text). taken ++ t) none ∙ append-nil taken in
-          rw (all, same) runs
-      on (Ok x) is (inr (last, refused, same)) =
-          let both : Ends (followed first last) = (e, sym (ap (λ (x : Run). x.ending) same) ∙ ends) in
-          absurd (refused_stops (2 ^ 64 - 1) (is_input list) list (Some bytes) last refused
-          (followed_last first last both))
-      on (Err t) is same =
-          let wrong = sym (sym (ap (λ (x : Run). x.ending) same) ∙ ends) ∙ is in cc
+given_free : (l : LineRule) (files : Files) → IsFree true (given l files) (λ name. is_input name ≡ false)
+given_free l files = record {
+  free = λ x name run y away step z. let here = rw away at step.0 in (z, rw away (here, refl));
+  bare = λ x name run y step none. bare l files name x run step.0 none;
+  broken = λ run s b ends. b;
+  quiet = λ x status run s e ends. e;
+  ends = λ x status. refl;
+}
+
+away : (found : List Text) → list_any is_input found ≡ false → AllByRecursion (λ name. is_input name ≡ false) found
+away [] none = tt
+away (name ∷ found) none =
+    let here = neither (is_input name) (list_any is_input found) none in (here.0, away found here.1)
+  where
+    neither : (a b : Bool) → (a || b) ≡ false → (a ≡ false) × (b ≡ false)
+    neither true b h = let wrong : ⊥ = cc in absurd wrong
+    neither false b h = (refl, h)
+
+-- a run over them that ends with a trouble has status 3
+heavy : (e : Result ℕ (ℕ × Text)) (r : Run) → r.ending ≡ e → is_last true e ≡ true → status r ≡ 3
+heavy (Ok s) r is last = let no : ⊥ = cc in absurd no
+heavy (Err t) r is last = let same : t.0 ≡ 3 = grind (arith, nat_tests) in rw is same
+
+given_ends : (l : LineRule) (files : Files) (shared : Bool) (x : List ℕ) (s : ℕ) (found : List Text) (run : Run)
+    → Walks true (given l files) shared x s found run → status run ≤ 1 → run.ending ≡ Ok (status run)
+given_ends l files shared x s [] run (inl e) few = rw e refl
+given_ends l files shared x s [] run (inr b) few = absurd b
+given_ends l files shared x s (name ∷ found) run (inl b) few = absurd b
+given_ends l files shared x s (name ∷ found) run (inr (r, first, y, step, in_share, how)) few =
+    on (λ rest walks own. given_ends l files shared y (max s (status first)) found rest walks own)
+    (is_last true first.ending) refl how
+  where
+    on : ((rest : Run) → Walks true (given l files) shared y (max s (status first)) found rest → status rest ≤ 1
+        → rest.ending ≡ Ok (status rest)) → (b : Bool) → is_last true first.ending ≡ b → MatchBool b (run ≡ first)
+        ((rest : Run) × Walks true (given l files) shared y (max s (status first)) found rest
+        × (run ≡ followed first rest)) → run.ending ≡ Ok (status run)
+    on then true last same =
+        let three : status run ≡ 3 = ap status same ∙ heavy first.ending first refl last in
+        absurd (omega (arith, three, few))
+    on then false light (rest, walks, same) =
+        let own : status run ≡ status rest = ap status same in
+        ap (λ (q : Run). q.ending) same ∙ then rest walks (omega (arith, own, few)) ∙ ap Ok (sym own)
+
+pub shares_are_run : SharesAreRun
+shares_are_run l files found input n shares more none did =
+    walk_is_shared true (given l files) (λ name. is_input name ≡ false) (given_free l files) input found
+    (away found none) n shares (λ k. status (shares k)) more (λ k within. let d = did k within in
+    (d.1, given_ends l files _ input 0 _ (shares k) d.1 d.0))
+
+-- ---- names in a list
+
+refused_ends : (most : ℕ) (from_input : Bool) (name : Text) (m : List ℕ) (r : Run) (s : ℕ)
+    → IsRefused most from_input name (Some m) r → r.ending ≡ Ok s → ⊥
+refused_ends most from_input name m r s (inl (inl p)) ends = cc
+refused_ends most from_input name m r s (inl (inr p)) ends = cc
+refused_ends most from_input name m r s (inr p) ends = let stopped = p.1 in cc
+
+listed_free : (l : LineRule) (files : Files) (list : Text) (bytes : List ℕ)
+    → IsFree true (listed l files list bytes) (λ _. ⊤)
+listed_free l files list bytes = record {
+  free = λ x i run y any step z. (tt, step);
+  bare = λ x i run y step none. on i run step none;
+  broken = refused_ends (2 ^ 64 - 1) (is_input list) list bytes;
+  quiet = λ x status run s e ends. e;
+  ends = λ x status. refl;
+}
+  where
+    on : (i : ℕ × Text) (run : Run) → (listed l files list bytes).step tt i run tt
+        → has_no_line true run.ending ≡ true → run.text ≡ []
+    on i run (inl (is, runs)) none = bare l files i.1 [] run runs none
+    on i run (inr (not_one, is)) none = ap (λ (x : Run). x.text) is
+
+any : {A : Type 0} (xs : List A) → AllByRecursion (λ x. ⊤) xs
+any [] = tt
+any (x ∷ xs) = (tt, any xs)
 
 pub listed_shares_are_run : ListedSharesAreRun
 listed_shares_are_run l files list bytes n shares more did =
     let all = enumerate_from 1 (names bytes) in
-    let m = made (λ x. false) (NameRuns l files) (bare_listed l files) [] n more all shares (none_is_input all)
-    (λ k within. let (s, few, ends, runs) = did k within in (
-      read_all l files list bytes n more (record { others = n; waiting = k }) (shares k) (s, ends) runs,
-      rw ends few,
-    )) in (
-      together m.ones,
-      (
-        names bytes,
-        [],
-        sym (append-nil (names bytes)),
-        together m.ones,
-        m.whole,
-        rw (together_ends m.ones) (inl (refl, refl)),
-      ),
-      subst (λ count. AreShares n shares count (together m.ones)) (m.count ∙ length-enumerate_from 1 (names bytes))
-          (are_shares n shares m.ones m.bare m.each),
-    )
+    let (run, walks, are) = walk_is_shared true (listed l files list bytes) (λ _. ⊤) (listed_free l files list bytes) tt
+    all (any all) n shares (λ k. status (shares k)) more (λ k within.
+    let (s, few, ends, runs) = did k within in (runs, ends ∙ ap Ok (sym (ap (λ e. (end_of e).0) ends)))) in
+    (run, walks, subst (λ count. AreShares n shares count run) (length-enumerate_from 1 (names bytes)) are)

@@ -1,11 +1,11 @@
 -- The run of `check` with `--told`: lists are read beside their report.
 use Rattle.std.proofs.Common.{◌≡◌, ◌∙◌, ℕ, ◌+◌, ◌-◌, ◌^◌, ◌<◌, ◌≤◌, List, [], ◌∷◌, ◌++◌, length, length-append}
 use Rattle.std.proofs.Common.{Option, Some, None, Bool, true, false, Result, Ok, Err, IfSome, refl, sym, ap, subst}
-use Rattle.std.proofs.Common.{◌⊎◌, append-nil, arith, inl, inr, max}
+use Rattle.std.proofs.Common.{◌⊎◌, append-nil, arith, inl, inr, replicate}
 use Rattle.std.proofs.lemmas.Bool.Decides.{nat_tests}
 use Rattle.std.proofs.lemmas.Option.{IfSome_then}
 use Rattle.std.proofs.lemmas.Result.{err_from_is_err_and}
-use Rattle.std.specs.Prelude.{◌==◌, IsErrAnd, IsErrOf, IsSomeAnd, MatchResult, OnOk, codes, fold, if◌then◌else◌, nat_lt}
+use Rattle.std.specs.Prelude.{◌==◌, IsErrAnd, IsErrOf, IsSomeAnd, MatchResult, OnOk, codes, fold, if◌then◌else◌, nat_le, nat_lt}
 use Rattle.std.specs.Borrow.{Bor}
 use Rattle.std.specs.Fmt.{decimal}
 use Rattle.std.specs.Io.KnownBytes.{Consumes, IsAtEnd}
@@ -28,25 +28,30 @@ use Rattle.sumlist.specs.declared.verdict.Verdict.TheVariants as verdict
 use Rattle.sumlist.specs.inside.Telling.{ListBeside}
 use Rattle.task.specs.Tasks.{in_file}
 use Rattle.task.specs.declared.tasks.Reporting.{Reporting}
-use Rattle.command.specs.Checking.{ListsRun, ListsTold, ends_at, notes_of}
-use Rattle.command.specs.Lines.{content_of, is_input}
-use Rattle.command.specs.Run.{Run, TellsAll, followed, prints, stops}
+use Rattle.command.specs.Checking.{Beside, ListsRun, notes_of}
+use Rattle.command.specs.Lines.{content_of, is_input, opens_of}
+use Rattle.command.specs.Run.{Run, TellsAll, prints, stops}
 use Rattle.command.specs.inside.Faults.{of_tell}
 use Rattle.command.specs.inside.Reading.{Leaves, failed}
+use Rattle.command.specs.inside.Items.{Breaks, DoesWalk, Once}
+use Rattle.hashes.specs.declared.share.Share.{Share}
 use Rattle.command.specs.inside.Seen.{Does, IfTold, Seen}
-use Rattle.command.specs.inside.Told.{CountsList, HasRoom, IsOther, IsSummed, MayStop, RunsTold, SumsUp, TellsList}
-use Rattle.command.specs.inside.Told.{TellsLists}
+use Rattle.command.specs.inside.Told.{CountsList, HasRoom, IsOther, IsSummed, MayStop, ReportCounted, SumsUp}
+use Rattle.command.specs.inside.Told.{TellsList, by_report_of, roomy, told_state}
 use Rattle.command.specs.inside.Troubles.{Counted, MayRefuse, Trouble, counts, failed_reads, failures_from}
 use Rattle.command.specs.inside.Troubles.{cannot_read, no_failures, other_line, plus, refusal, shown, too_long}
 use Rattle.command.specs.inside.Troubles.{trouble_of}
 use Rattle.command.specs.declared.fault.Fault.{Fault}
-use Rattle.command.proofs.Going.{follows, raised, raised_none, raised_twice, told_where}
+use Rattle.command.proofs.One.{once_done, once_last}
 use Rattle.command.proofs.Listing.{long_list, plus-none, refuse-few}
-use Rattle.command.proofs.Reading.{told_always, told_then}
-use Rattle.command.proofs.Refused.{Counted-after, Counted-none, Counted-quiet, Does-printed, Does-refused}
+use Rattle.command.proofs.Reading.{told_then}
+use Rattle.command.proofs.Given.{opens_some}
+use Rattle.command.proofs.Sharing.{every_all}
+use Rattle.std.specs.List.{sum_by}
+use Rattle.sumlist.specs.Shared.{every}
+use Rattle.command.proofs.Refused.{Counted-none, Does-refused}
 use Rattle.command.proofs.Refused.{Counted-as, Counted-refusal, counts-replicate, pair, refused_by, same_reads}
 use Rattle.command.proofs.Refused.{unread_by}
-use Rattle.command.proofs.Reporting.{status_light}
 use Rattle.command.proofs.TakenParts.{unopened}
 
 -- ---- the lines of a report
@@ -310,6 +315,9 @@ some_is : {X : Type 0} {P : X → Type 0} (o : Option X) → IsSomeAnd o P → (
 some_is None p = absurd p
 some_is (Some x) p = (x, refl, p)
 
+and_some : {X : Type 0} (o : Option X) (x : X) (P : X → Type 0) → o ≡ Some x → P x → IsSomeAnd o P
+and_some o x P is p = rw is p
+
 -- why a report is not read on, by all of it
 stopped : (report : Text) (n : ℕ) (t : Trouble) (whole left : Text) → HasRoom whole left n → MayStop report left n t
     → MayRefuse (2 ^ 64 - 1) report (Some whole) t
@@ -328,292 +336,255 @@ plus-file : (b : Bool) (k : ℕ) → failures_from false k ≡ plus (failures_fr
 plus-file true k = pair (omega arith) (omega arith)
 plus-file false k = pair (omega arith) (omega arith)
 
-module _ (reporting : Reporting) (m : Meaning) (are_named : Bool) (report : Text) where
-  abbrev title : Text → Option Text
-  title name = if are_named then Some name else None
+-- ---- what is seen of lists beside their report
 
-  module _ (name : Text) (names : List Text) (left rest : Option Text) (n next : ℕ) (b c : Seen)
-      (err_old err_mid : Shown) (x y : ℕ) (out : c.out ≡ b.out) where
-    abbrev pub Listed : Result ℕ Fault → Type 0
-    Listed r = TellsList reporting m (title name) report left n rest next name r b c err_old err_mid x y
+fits : (n m : ℕ) → n ≤ m → nat_le n m ≡ true
+fits n m less = grind (arith, nat_tests)
 
-    -- a list that was summed up, and those after it
-    pub tells-more : (s : ℕ) (r : Result ℕ Fault) (d : Seen) (err_new : Shown) (z : ℕ) → Listed (Ok s)
-        → (let one : Result ℕ Fault = Ok s in Leaves (is_input name) one b.bytes c.bytes) → c.files ≡ b.files
-        → TellsLists reporting m are_named report rest next names r c d err_mid err_new y z
-        → TellsLists reporting m are_named report left n (name ∷ names) (raised s r) b d err_old err_new x z
-    tells-more s r d err_new z list gave kept later = told_where b (λ bytes files at_bytes at_files.
-        IfSome_then left (rw (at_bytes, at_files) at list) (λ text list whole is room.
-        on list.0 text bytes files whole list.1 list.2 (rw at_bytes at gave) (kept ∙ at_files) is room))
+-- where all is told
+pub told_known : (report : Text) (left : Option Text) (n : ℕ) (bytes : Option (List ℕ)) (files : Option Files)
+    (P : Beside → Type 0) → ((text m : List ℕ) (f : Files) (whole : Text) → left ≡ Some text → bytes ≡ Some m
+    → files ≡ Some f → f report ≡ Some whole → HasRoom whole text n
+    → P (record { left = text; number = n; input = m })) → IfSome (told_state report left n bytes files) P
+told_known report None n bytes files P holds = tt
+told_known report (Some left) n None files P holds = tt
+told_known report (Some left) n (Some bytes) None P holds = tt
+told_known report (Some left) n (Some bytes) (Some files) P holds = on (files report) refl
+  where
+    on : (content : Option Text) → files report ≡ content → IfSome (roomy left n bytes content) P
+    on None is = tt
+    on (Some whole) is = by (nat_le (n + length left) (length whole + 1)) refl
       where
-        one : (t : Summary) (text : Text) (bytes : List ℕ) (files : Files) (whole bs : List ℕ)
-            → content_of name bytes files ≡ Some bs → IsSummed m (title name) bs text n rest next t
-            → CountsList name b c 0 → y ≡ x → (let e : Result ℕ Fault = Ok s in e) ≡ Ok (if is_clean t then 0 else 1)
-            → TellsAll err_old err_mid (notes_of reporting m (title name) name t)
-            → c.bytes ≡ Some (if is_input name then [] else bytes) → c.files ≡ Some files
-            → files report ≡ Some whole → HasRoom whole text n
-            → RunsTold reporting m are_named files report n text (name ∷ names) bytes (raised s r) b d err_old err_new
-            x z
-        one t text bytes files whole bs content it counted same status tells now_bytes now_files is room =
-            let few = lines_few (title name) it.outcomes in
-            let split = it.split in
-            let next_is = it.next_is in
-            let longer = length-append (report_from (title name) 1 it.outcomes) it.behind in
-            let roomy : HasRoom whole it.behind next = omega (arith, few, ap length split, next_is, longer, room) in
-            let last = (rw (now_bytes, now_files, it.rest_is) at later) whole is roomy in
-            let first : Run = record (prints [] (if is_clean t then 0 else 1)) {
-              notes = notes_of reporting m (title name) name t;
-            } in
-            let as_status : s ≡ (if is_clean t then 0 else 1) = cc in
-            let it_does : Does first (Ok s) b.out c.out = record {
-              ending = ap Ok (sym as_status);
-              out = rw out (refl, Appends-nil b.out.contents);
-              cut = λ e. cc;
-            } in
-            let both = follows first (Ok s) b.out c.out err_old err_mid err_mid it_does tells s
-            (λ k ends. let same : k ≡ (if is_clean t then 0 else 1) = cc in status_light (is_clean t) k same)
-            (refl, refl) last.0 r d.out err_new last.2 last.3 in
-            let none = Counted-quiet (is_input name) _ _ _ _ counted in (
-              followed first last.0,
-              inr (inr (rw content (
-                it.outcomes,
-                lines bs,
-                [],
-                sym (append-nil (lines bs)),
-                it.possible,
-                (
-                  it.behind,
-                  it.split,
-                  inl (
-                    refl,
-                    last.0,
-                    ap (λ (u : Summary). followed (record (prints [] (if is_clean u then 0 else 1)) {
-                      notes = notes_of reporting m (title name) name u;
-                    }) last.0) it.same,
-                    subst (λ k. ListsTold reporting m are_named files report k it.behind names
-                        (if is_input name then [] else bytes) last.0) it.next_is last.1,
-                  ),
-                ),
-              ))),
-              both.does_both,
-              both.tells_both,
-              last.4,
-              last.5,
-              last.6,
-              Counted-after last.4 b.input_failures c.input_failures d.input_failures b.file_failures
-                  c.file_failures d.file_failures (omega (arith, none.0)) none.1 last.7,
-              subst (λ k. z ≡ count_after k last.5) same last.8,
-            )
+        by : (b : Bool) → nat_le (n + length left) (length whole + 1) ≡ b
+            → IfSome (if b then Some (record { left = left; number = n; input = bytes }) else None) P
+        by false few = tt
+        by true few = holds left bytes files whole refl refl refl is (grind (arith, nat_tests))
 
-        on : (answer : Result Summary Fault) (text : Text) (bytes : List ℕ) (files : Files) (whole : List ℕ)
-            → SumsUp m (title name) report text n rest next name (content_of name bytes files) answer x y
-            (CountsList name b c)
-            → MatchResult answer (λ t. ((let e : Result ℕ Fault = Ok s in e) ≡ Ok (if is_clean t then 0 else 1))
-            × TellsAll err_old err_mid (notes_of reporting m (title name) name t))
-            (λ f. ((let e : Result ℕ Fault = Ok s in e) ≡ Err f) × (err_mid ≡ err_old))
-            → (let one : Result ℕ Fault = Ok s in Leaves (is_input name) one (Some bytes) c.bytes)
-            → c.files ≡ Some files → files report ≡ Some whole → HasRoom whole text n
-            → RunsTold reporting m are_named files report n text (name ∷ names) bytes (raised s r) b d err_old err_new
-            x z
-        on (Err f) text bytes files whole sums how gave now_files is room = absurd (let no = how.0 in cc)
-        on (Ok t) text bytes files whole (summed, counted, same) how gave now_files is room =
-            let found = some_is (content_of name bytes files) summed in
-            one t text bytes files whole found.0 found.1 found.2 counted same how.0 how.1
-            (left_by (is_input name) s bytes c.bytes gave) now_files is room
+known_told : (report text m : List ℕ) (f : Files) (whole : Text) (left : Option Text) (n : ℕ) (bytes : Option (List ℕ))
+    (files : Option Files) → left ≡ Some text → bytes ≡ Some m → files ≡ Some f → f report ≡ Some whole
+    → HasRoom whole text n → told_state report left n bytes files ≡ Some (record { left = text; number = n; input = m })
+known_told report text m f whole left n bytes files is at of readable room =
+    rw (is, at, of, readable, fits (n + length text) (length whole + 1) room) refl
 
-    -- one that ends the run
-    pub tells-stop : (f : Fault) → Listed (Err f)
-        → TellsLists reporting m are_named report left n (name ∷ names) (Err f) b c err_old err_mid x y
-    tells-stop f list = told_where b (λ bytes files at_bytes at_files.
-        IfSome_then left (rw (at_bytes, at_files) at list) (λ text list whole is room.
-        on list.0 text bytes files whole list.1 list.2 is room))
+-- ---- the run of one list
+
+module _ (reporting : Reporting) (m : Meaning) (lists : List Text) (report name : Text) (title : Option Text)
+    (called : title ≡ (if nat_lt 1 (length lists) then Some name else None)) (left rest : Option Text) (n next : ℕ)
+    (shared : Bool) (r : Result ℕ Fault) (b c : Seen) (err_old err_new : Shown) (x y : ℕ) where
+  -- what was done of it, from a state on
+  abbrev pub ToldOnce : Beside → Type 0
+  ToldOnce z = Once (λ run. (w : Beside) × (by_report_of m reporting b.files lists report).step z name run w
+      × OnOk r (told_state report rest next c.bytes c.files ≡ Some w)) false shared (λ failures. ReportCounted failures
+      b.input_failures c.input_failures b.file_failures c.file_failures x y) r b.out c.out err_old err_new
+
+  module _ (text bytes : List ℕ) (files : Files) (whole : Text) (of : b.files ≡ Some files) (is : files report ≡ Some whole)
+      (room : HasRoom whole text n) (out : c.out ≡ b.out) where
+    abbrev here : Beside
+    here = record { left = text; number = n; input = bytes }
+
+    -- it was summed up
+    summed : (t : Summary) (bs : List ℕ) → content_of name bytes files ≡ Some bs → IsSummed m title bs text n rest next t
+        → CountsList name b c 0 → y ≡ x → r ≡ Ok (if is_clean t then 0 else 1)
+        → TellsAll err_old err_new (notes_of reporting m title name t)
+        → c.bytes ≡ Some (if is_input name then [] else bytes) → c.files ≡ b.files → ToldOnce here
+    summed t bs content it counted same answered tells now_bytes now_files =
+        let few = lines_few title it.outcomes in
+        let next_is = it.next_is in
+        let longer = length-append (report_from title 1 it.outcomes) it.behind in
+        let cut = ap length it.split in
+        let roomy_still : HasRoom whole it.behind next = omega (arith, few, cut, next_is, longer, room) in
+        let first : Run = record (prints [] (if is_clean t then 0 else 1)) {
+          notes = notes_of reporting m title name t;
+        } in
+        let one : (w : Beside) × (by_report_of m reporting b.files lists report).step here name first w
+        × (told_state report rest next c.bytes c.files ≡ Some w) = (
+          record { left = it.behind; number = next; input = if is_input name then [] else bytes },
+          inr (inr (rw (of, content) (
+            it.outcomes,
+            lines bs,
+            [],
+            sym (append-nil (lines bs)),
+            it.possible,
+            rw (← called) (
+              it.behind,
+              it.split,
+              inl (
+                refl,
+                ap (λ (u : Summary). record (prints [] (if is_clean u then 0 else 1)) {
+                  notes = notes_of reporting m title name u;
+                }) it.same,
+                ap (λ k. record { left = it.behind; number = k; input = if is_input name then [] else bytes }) it.next_is,
+              ),
+            ),
+          ))),
+          known_told report it.behind (if is_input name then [] else bytes) files whole rest next c.bytes c.files it.rest_is
+              now_bytes (now_files ∙ of) is roomy_still,
+        ) in
+        rw answered (once_done first b.out c.out err_old err_new one
+        (failures_from (is_input name) 0, 0, nothing (is_input name), counted, omega (arith, same)) tells false shared
+        (if is_clean t then 0 else 1)
+        (record { ending = refl; out = rw out (refl, Appends-nil b.out.contents); cut = λ e. cc }))
       where
-        stop : (t : Trouble) (failures : List Bool) → trouble_of f ≡ t
-            → (let e : Result ℕ Fault = Err f in Does (record (stops (shown t)) { failures = failures }) e b.out c.out)
-        stop t failures is = Does-refused t failures f (Err f) b.out c.out refl is out
-
-        nothing : (b : Bool) → counts [] ≡ plus (failures_from b 0) (failures_from false 0)
+        nothing : (i : Bool) → counts [] ≡ plus (failures_from i 0) (failures_from false 0)
         nothing true = refl
         nothing false = refl
 
-        beyond : (text : Text) (bytes : List ℕ) (files : Files) (bs : List ℕ) (t : Trouble)
-            → content_of name bytes files ≡ Some bs → IsOther m (title name) report bs text n t → trouble_of f ≡ t
-            → err_mid ≡ err_old → CountsList name b c 0 → y ≡ x
-            → RunsTold reporting m are_named files report n text (name ∷ names) bytes (Err f) b c err_old err_mid x y
-        beyond text bytes files bs t content it is quiet counted same =
-            let line = n + (length it.outcomes - (summary_of it.outcomes).skipped) in (
-              ends_at report line,
-              inr (inr (rw content (
-                it.outcomes,
-                it.before,
-                it.line ∷ it.others,
-                it.cut,
-                it.possible,
-                (it.behind, it.split, inr (it.line, it.others, refl, refl, it.other)),
-              ))),
-              stop (other_line report line) [] (is ∙ it.is),
-              quiet,
-              failures_from (is_input name) 0,
-              0,
-              nothing (is_input name),
-              counted,
-              omega (arith, same),
-            )
+    -- or a fault ended the run
+    module _ (f : Fault) (answered : r ≡ Err f) (quiet : err_new ≡ err_old) where
+      ended : (failures : List Bool) → (w : Beside) × (by_report_of m reporting b.files lists report).step here name
+          (record (stops (shown (trouble_of f))) { failures = failures }) w → ReportCounted failures b.input_failures
+          c.input_failures b.file_failures c.file_failures x y → ToldOnce here
+      ended failures one counted =
+          let run : Run = record (stops (shown (trouble_of f))) { failures = failures } in
+          rw (answered, quiet) (once_last run b.out c.out err_old err_old (one.0, one.1, tt) counted refl f
+          (record { ending = refl; out = rw out (refl, Appends-nil b.out.contents); cut = λ e. cc }) false shared refl)
 
-        on : (answer : Result Summary Fault) (text : Text) (bytes : List ℕ) (files : Files) (whole : List ℕ)
-            → SumsUp m (title name) report text n rest next name (content_of name bytes files) answer x y
-            (CountsList name b c)
-            → MatchResult answer (λ t. ((let e : Result ℕ Fault = Err f in e) ≡ Ok (if is_clean t then 0 else 1))
-            × TellsAll err_old err_mid (notes_of reporting m (title name) name t))
-            (λ g. ((let e : Result ℕ Fault = Err f in e) ≡ Err g) × (err_mid ≡ err_old))
-            → files report ≡ Some whole → HasRoom whole text n
-            → RunsTold reporting m are_named files report n text (name ∷ names) bytes (Err f) b c err_old err_mid x y
-        on (Ok t) text bytes files whole sums how is room = absurd (let no = how.0 in cc)
-        on (Err g) text bytes files whole (inl (may, counted, same)) how is room =
-            let same_fault = how.0 in
-            let fault : g ≡ f = cc in
-            let t = trouble_of g in
-            let content = content_of name bytes files in (
-              refusal (is_input name) content t,
-              inl (refused_by (2 ^ 64 - 1) (is_input name) name content t may),
-              stop t _ (ap trouble_of (sym fault)),
-              how.1,
-              failures_from (is_input name) (failed_reads content t),
-              0,
-              counts-replicate (failed_reads content t) (is_input name)
-                  ∙ plus-none (failures_from (is_input name) (failed_reads content t)) false,
-              counted,
-              omega (arith, same),
-            )
-        on (Err g) text bytes files whole (inr (inl (may, counted, same))) how is room =
-            let same_fault = how.0 in
-            let fault : g ≡ f = cc in
-            let t = trouble_of g in
-            let k = failed_reads (Some whole) t in (
-              refusal false (Some whole) t,
-              inr (inl (rw is (refused_by (2 ^ 64 - 1) false report (Some whole) t
-                  (stopped report n t whole text room may)))),
-              stop t _ (ap trouble_of (sym fault)),
-              how.1,
-              failures_from (is_input name) 0,
-              k,
-              counts-replicate k false ∙ plus-file (is_input name) k,
-              counted,
-              rw (same_reads whole t) same,
-            )
-        on (Err g) text bytes files whole (inr (inr (other, counted, same))) how is room =
-            let same_fault = how.0 in
-            let fault : g ≡ f = cc in
-            let found = some_is (content_of name bytes files) other in
-            beyond text bytes files found.0 (trouble_of g) found.1 found.2 (ap trouble_of (sym fault)) how.1 counted
-            same
+      unread : MayRefuse (2 ^ 64 - 1) name (content_of name bytes files) (trouble_of f)
+          → CountsList name b c (failed_reads (content_of name bytes files) (trouble_of f)) → y ≡ x → ToldOnce here
+      unread may counted same = let content = content_of name bytes files in let t = trouble_of f in
+          ended (replicate (failed_reads content t) (is_input name))
+          (here, inl (rw of (refused_by (2 ^ 64 - 1) (is_input name) name content t may))) (
+            failures_from (is_input name) (failed_reads content t),
+            0,
+            counts-replicate (failed_reads content t) (is_input name)
+                ∙ plus-none (failures_from (is_input name) (failed_reads content t)) false,
+            counted,
+            omega (arith, same),
+          )
 
-  -- ---- after the last list
+      unreported : MayStop report text n (trouble_of f) → CountsList name b c 0
+          → y ≡ count_after x (failed_reads (Some []) (trouble_of f)) → ToldOnce here
+      unreported may counted read = let t = trouble_of f in let k = failed_reads (Some whole) t in
+          let stop = refused_by (2 ^ 64 - 1) false report (Some whole) t (stopped report n t whole text room may) in
+          ended (replicate k false) (here, inr (inl (rw (of, is) stop))) (
+            failures_from (is_input name) 0,
+            k,
+            counts-replicate k false ∙ plus-file (is_input name) k,
+            counted,
+            rw (same_reads whole t) read,
+          )
 
-  module _ (left : Option Text) (n : ℕ) (b : Seen) (err : Shown) (x y : ℕ) where
-    pub tells-end : IfSome left (λ text. text ≡ []) → y ≡ count_after x 0
-        → TellsLists reporting m are_named report left n [] (Ok 0) b b err err x y
-    tells-end none same = told_always b (λ bytes files. IfSome_then left none (λ text empty whole is room. (
-      prints [] 0,
-      inr (rw empty refl),
-      Does-printed [] 0 b.out b.out (refl, Appends-nil b.out.contents),
-      refl,
-      no_failures,
-      0,
-      refl,
-      Counted-none b.input_failures _ b.file_failures _ refl (omega arith),
-      same,
-    )))
+      other : (bs : List ℕ) → content_of name bytes files ≡ Some bs → IsOther m title report bs text n (trouble_of f)
+          → CountsList name b c 0 → y ≡ x → ToldOnce here
+      other bs content it counted same = ended [] (
+        here,
+        inr (inr (rw (of, content) (
+          it.outcomes,
+          it.before,
+          it.line ∷ it.others,
+          it.cut,
+          it.possible,
+          rw (← called) (
+            it.behind,
+            it.split,
+            inr (it.line, it.others, refl, rw it.is refl, it.other),
+          ),
+        ))),
+      ) (failures_from (is_input name) 0, 0, nothing (is_input name), counted, omega (arith, same))
+        where
+          nothing : (i : Bool) → counts [] ≡ plus (failures_from i 0) (failures_from false 0)
+          nothing true = refl
+          nothing false = refl
 
-    pub tells-beyond : (f : Fault) → IfSome left (λ text. (trouble_of f ≡ cannot_read report)
-        ⊎ ((0 < length text) × (trouble_of f ≡ other_line report n)))
-        → y ≡ count_after x (failed_reads (Some []) (trouble_of f))
-        → TellsLists reporting m are_named report left n [] (Err f) b b err err x y
-    tells-beyond f how counted = told_always b (λ bytes files. IfSome_then left how (λ text one whole is room.
-        on text bytes files whole is one))
-      where
-        some : (k : ℕ) → 0 < k → (k == 0) ≡ false
-        some k more = grind (arith, nat_tests)
+  -- by what was answered
+  pub list_told : TellsList reporting m title report left n rest next name r b c err_old err_new x y
+      → Leaves (is_input name) r b.bytes c.bytes → c.files ≡ b.files → c.out ≡ b.out
+      → IfSome (told_state report left n b.bytes b.files) (λ z. (i : Text) → i ≡ name → Once (λ run. (w : Beside)
+      × (by_report_of m reporting b.files lists report).step z i run w
+      × OnOk r (told_state report rest next c.bytes c.files ≡ Some w)) false shared (λ failures. ReportCounted failures
+      b.input_failures c.input_failures b.file_failures c.file_failures x y) r b.out c.out err_old err_new)
+  list_told list gave kept out = told_known report left n b.bytes b.files _ (λ text bytes files whole has at of is room.
+      λ i named. let (answer, sums, how) = at_told left text bytes files has at of list in
+      rw named (on text bytes files whole of is room at answer sums how))
+    where
+      at_told : (o : Option Text) (text bytes : List ℕ) (files : Files) → o ≡ Some text → b.bytes ≡ Some bytes
+          → b.files ≡ Some files → TellsList reporting m title report o n rest next name r b c err_old err_new x y
+          → (answer : Result Summary Fault)
+          × SumsUp m title report text n rest next name (content_of name bytes files) answer x y (CountsList name b c)
+          × MatchResult answer (λ t. (r ≡ Ok (if is_clean t then 0 else 1))
+          × TellsAll err_old err_new (notes_of reporting m title name t)) (λ f. (r ≡ Err f) × (err_new ≡ err_old))
+      at_told o text bytes files has at of list = rw (at, of, has) at list
 
-        on : (text : Text) (bytes : List ℕ) (files : Files) (whole : Text) → files report ≡ Some whole
-            → (trouble_of f ≡ cannot_read report) ⊎ ((0 < length text) × (trouble_of f ≡ other_line report n))
-            → RunsTold reporting m are_named files report n text [] bytes (Err f) b b err err x y
-        on text bytes files whole is (inl t) = (
-          refusal false (Some whole) (cannot_read report),
-          inl (rw is (unread_by false report (Some whole) (cannot_read report) (inr (inl refl)))),
-          Does-refused (cannot_read report) _ f (Err f) b.out b.out refl t refl,
+      on : (text bytes : List ℕ) (files : Files) (whole : Text) → b.files ≡ Some files → files report ≡ Some whole
+          → HasRoom whole text n → b.bytes ≡ Some bytes → (answer : Result Summary Fault)
+          → SumsUp m title report text n rest next name (content_of name bytes files) answer x y (CountsList name b c)
+          → MatchResult answer (λ t. (r ≡ Ok (if is_clean t then 0 else 1))
+          × TellsAll err_old err_new (notes_of reporting m title name t)) (λ f. (r ≡ Err f) × (err_new ≡ err_old))
+          → ToldOnce (record { left = text; number = n; input = bytes })
+      on text bytes files whole of is room at (Ok t) (sums, counted, same) (answered, tells) =
+          let found = some_is (content_of name bytes files) sums in
+          let gave_it : (let e : Result ℕ Fault = Ok (if is_clean t then 0 else 1) in
+          Leaves (is_input name) e (Some bytes) c.bytes) = rw (answered, at) at gave in
+          summed text bytes files whole of is room out t found.0 found.1 found.2 counted same answered tells
+          (left_by (is_input name) (if is_clean t then 0 else 1) bytes c.bytes gave_it) kept
+      on text bytes files whole of is room at (Err f) (inl (may, counted, same)) (answered, quiet) =
+          unread text bytes files whole of is room out f answered quiet may counted same
+      on text bytes files whole of is room at (Err f) (inr (inl (may, counted, same))) (answered, quiet) =
+          unreported text bytes files whole of is room out f answered quiet may counted same
+      on text bytes files whole of is room at (Err f) (inr (inr (beyond, counted, same))) (answered, quiet) =
+          let found = some_is (content_of name bytes files) beyond in
+          other text bytes files whole of is room out f answered quiet found.0 found.1 found.2 counted same
+
+-- ---- after the last list
+
+module _ (reporting : Reporting) (m : Meaning) (lists : List Text) (report : Text) (left : Option Text) (n status : ℕ)
+    (b : Seen) (x y : ℕ) where
+  -- nothing is left of the report
+  pub report_ended : IfSome left (λ text. text ≡ []) → y ≡ count_after x 0
+      → IfSome (told_state report left n b.bytes b.files) (λ z. (by_report_of m reporting b.files lists report).ending z
+      status (prints [] status) × ReportCounted [] b.input_failures b.input_failures b.file_failures b.file_failures x y)
+  report_ended none same = told_known report left n b.bytes b.files _ (λ text bytes files whole has at of is room.
+      let empty : text ≡ [] = rw has at none in (
+        inr (rw empty refl),
+        (
+          no_failures,
+          0,
           refl,
+          Counted-none b.input_failures _ b.file_failures _ refl (omega arith),
+          same,
+        ),
+      ))
+
+  -- or its next line is that of no entry, or cannot be read
+  pub report_goes_on : (f : Fault) → IfSome left (λ text. (trouble_of f ≡ cannot_read report)
+      ⊎ ((0 < length text) × (trouble_of f ≡ other_line report n)))
+      → y ≡ count_after x (failed_reads (Some []) (trouble_of f))
+      → IfSome (told_state report left n b.bytes b.files) (λ z. Breaks ((by_report_of m reporting b.files lists
+      report).ending z status) f (λ failures. ReportCounted failures b.input_failures b.input_failures b.file_failures
+      b.file_failures x y))
+  report_goes_on f how counted = told_known report left n b.bytes b.files _ (λ text bytes files whole has at of is room.
+      on bytes text files whole of is (rw has at how))
+    where
+      some : (k : ℕ) → 0 < k → (k == 0) ≡ false
+      some k more = grind (arith, nat_tests)
+
+      on : (input : List ℕ) (text : Text) (files : Files) (whole : Text) → b.files ≡ Some files → files report ≡ Some whole
+          → (trouble_of f ≡ cannot_read report) ⊎ ((0 < length text) × (trouble_of f ≡ other_line report n))
+          → Breaks ((by_report_of m reporting b.files lists report).ending
+          (record { left = text; number = n; input = input }) status) f (λ failures. ReportCounted failures
+          b.input_failures b.input_failures b.file_failures b.file_failures x y)
+      on input text files whole of is (inl t) = (
+        false ∷ [],
+        inl (rw (of, is, t) (unread_by false report (Some whole) (cannot_read report) (inr (inl refl)))),
+        (
           failures_from false 0,
           1,
           counts-replicate 1 false ∙ plus-file false 1,
           Counted-none b.input_failures _ b.file_failures _ refl (omega arith),
           rw t at counted,
-        )
-        on text bytes files whole is (inr (more, t)) = (
-          ends_at report n,
-          inr (rw (some (length text) more) refl),
-          Does-refused (other_line report n) [] f (Err f) b.out b.out refl t refl,
-          refl,
+        ),
+      )
+      on input text files whole of is (inr (more, t)) = (
+        [],
+        inr (rw (some (length text) more, t) refl),
+        (
           no_failures,
           0,
           refl,
           Counted-none b.input_failures _ b.file_failures _ refl (omega arith),
           rw t at counted,
-        )
-
-  -- ---- the loop
-
-  -- what is left to be gone through completes all of it
-  abbrev pub Goes : List Text → Option Text → ℕ → List Text → Option Text → ℕ → ℕ → Seen → Seen → Shown → Shown → ℕ
-      → ℕ → Type 0
-  Goes all whole k names left n status a b err_old err_mid x y = (r : Result ℕ Fault) (d : Seen) (err_new : Shown)
-      (z : ℕ) → TellsLists reporting m are_named report left n names r b d err_mid err_new y z
-      → TellsLists reporting m are_named report whole k all (raised status r) a d err_old err_new x z
-
-  pub goes-start : (all : List Text) (left : Option Text) (n : ℕ) (a : Seen) (err : Shown) (x : ℕ)
-      → Goes all left n all left n 0 a a err err x x
-  goes-start all left n a err x r d err_new z q =
-      subst (λ t. TellsLists reporting m are_named report left n all t a d err err_new x z) (raised_none r) q
-
-  module _ (all : List Text) (whole : Option Text) (k : ℕ) (names : List Text) (left : Option Text) (n status : ℕ)
-      (a b : Seen) (err_old err_mid : Shown) (x y : ℕ)
-      (goes : Goes all whole k names left n status a b err_old err_mid x y) where
-    module _ (more : List Text) (name : Text) (rest : Option Text) (next : ℕ) (c : Seen) (err_next : Shown) (z : ℕ)
-        (is : names ≡ name ∷ more) (out : c.out ≡ b.out) where
-      pub goes-next : (s after : ℕ) → after ≡ max status s
-          → Listed name names left rest n next b c err_mid err_next y z out (Ok s)
-          → (let one : Result ℕ Fault = Ok s in Leaves (is_input name) one b.bytes c.bytes) → c.files ≡ b.files
-          → Goes all whole k more rest next after a c err_old err_next x z
-      goes-next s after most list gave kept r d err_new w q =
-          subst (λ t. TellsLists reporting m are_named report whole k all t a d err_old err_new x w)
-          (raised_twice status s after r most)
-          (goes (raised s r) d err_new w (rw is (tells-more name more left rest n next b c err_mid err_next y z out s r
-          d err_new w list gave kept q)))
-
-      pub goes-stop : (f : Fault) (answer : Result ℕ Fault) → IsErrAnd answer (λ g. g ≡ f)
-          → Listed name names left rest n next b c err_mid err_next y z out (Err f)
-          → TellsLists reporting m are_named report whole k all answer a c err_old err_next x z
-      goes-stop f answer stopped list =
-          let e = err_from_is_err_and answer stopped in
-          rw (e.1, e.2) (goes (Err f) c err_next z (rw is
-          (tells-stop name more left rest n next b c err_mid err_next y z out f list)))
-
-    pub goes-end : (z : ℕ) → names ≡ [] → IfSome left (λ text. text ≡ []) → z ≡ count_after y 0
-        → TellsLists reporting m are_named report whole k all (Ok status) a b err_old err_mid x z
-    goes-end z none empty same =
-        let last : max status 0 ≡ status = omega arith in
-        subst (λ s. let r : Result ℕ Fault = Ok s in
-        TellsLists reporting m are_named report whole k all r a b err_old err_mid x z) last
-        (goes (Ok 0) b err_mid z (rw none (tells-end left n b err_mid y z empty same)))
-
-    pub goes-beyond : (z : ℕ) (f : Fault) (answer : Result ℕ Fault) → names ≡ [] → IsErrAnd answer (λ g. g ≡ f)
-        → IfSome left (λ text. (trouble_of f ≡ cannot_read report)
-        ⊎ ((0 < length text) × (trouble_of f ≡ other_line report n)))
-        → z ≡ count_after y (failed_reads (Some []) (trouble_of f))
-        → TellsLists reporting m are_named report whole k all answer a b err_old err_mid x z
-    goes-beyond z f answer none stopped how counted =
-        let e = err_from_is_err_and answer stopped in
-        rw (e.1, e.2) (goes (Err f) b err_mid z (rw none (tells-beyond left n b err_mid y z f how counted)))
+        ),
+      )
 
 -- ---- the report
 
@@ -644,38 +615,42 @@ module _ (reporting : Reporting) (m : Meaning) (report : Text) (names : List Tex
 
   -- it was opened, read beside the lists, and closed
   pub report_read : {F : Type 0} (remaining : F → Option (List ℕ)) (feed : F) (tree : Option Files)
-      (left : Option Text) (b d : Seen) (x y u v : ℕ)
+      (left : Option Text) (b d : Seen) (share : Share) (x y u v : ℕ) → share.others ≡ 0 → share.waiting ≡ 0
       → IfSome tree (λ files. (whole : List ℕ) × (files report ≡ Some whole) × (remaining feed ≡ Some whole))
       → b.files ≡ tree → IfSome tree (λ files. b.file_failures ≡ count_after u 0) → left ≡ remaining feed → x ≡ 0
-      → TellsLists reporting m (nat_lt 1 (length names)) report left 1 names r b d err_old err_new x y
+      → IfSome (told_state report left 1 b.bytes b.files) (λ z. DoesWalk false
+      (by_report_of m reporting b.files names report) share z names (λ failures. ReportCounted failures
+      b.input_failures d.input_failures b.file_failures d.file_failures x y) r b.out d.out err_old err_new)
       → v ≡ count_after d.file_failures y
       → Reported b.bytes tree b.out d.out b.input_failures d.input_failures u v
-  report_read remaining feed tree left b d x y u v opened kept counted is fresh lists closed =
-      on b.bytes tree opened counted (rw kept at lists)
+  report_read remaining feed tree left b d share x y u v alone first opened kept counted is fresh lists closed =
+      on b.bytes tree refl kept opened counted
     where
-      one : (bytes : List ℕ) (files : Files) (whole : Text) → files report ≡ Some whole
-          → b.file_failures ≡ count_after u 0
-          → RunsTold reporting m (nat_lt 1 (length names)) files report 1 whole names bytes r b d err_old err_new x y
-          → Reported (Some bytes) (Some files) b.out d.out b.input_failures d.input_failures u v
-      one bytes files whole is counted ran =
-          let none = ran.7 in
-          let more = ran.8 in (
-            ran.0,
-            inr (rw is ran.1),
-            ran.2,
-            ran.3,
-            Counted-as _ _ _ _ _ _ ran.6
-                (omega (arith, none.0), omega (arith, counted, none.1, more, fresh, closed)),
-          )
-
-      on : (first : Option (List ℕ)) (tree : Option Files)
+      on : (first : Option (List ℕ)) (tree : Option Files) → b.bytes ≡ first → b.files ≡ tree
           → IfSome tree (λ files. (whole : List ℕ) × (files report ≡ Some whole) × (remaining feed ≡ Some whole))
           → IfSome tree (λ files. b.file_failures ≡ count_after u 0)
-          → IfSome first (λ bytes. IfSome tree (λ files. IfSome left (λ text. (whole : Text)
-          → files report ≡ Some whole → HasRoom whole text 1 → RunsTold reporting m (nat_lt 1 (length names)) files
-          report 1 text names bytes r b d err_old err_new x y)))
           → Reported first tree b.out d.out b.input_failures d.input_failures u v
-      on None tree opened counted lists = tt
-      on (Some bytes) None opened counted lists = tt
-      on (Some bytes) (Some files) opened counted lists =
-          one bytes files opened.0 opened.1 counted ((rw (is ∙ opened.2) at lists) opened.0 opened.1 (omega arith))
+      on None tree at of opened counted = tt
+      on (Some bytes) None at of opened counted = tt
+      on (Some bytes) (Some files) at of (whole, readable, all) counted =
+          let state = known_told report whole bytes files whole left 1 b.bytes b.files (is ∙ all) at of readable
+          (omega arith) in
+          let (run, walks, does, tells, (own, k, are, (read, opened), last)) = rw (alone, first, of, every_all names) at
+          (rw state at lists) in (
+            run,
+            inr (and_some (files report) whole _ readable walks),
+            does,
+            tells,
+            Counted-as _ _ _ _ _ _ are (
+              omega (arith, read),
+              omega (arith, counted, opened, last, fresh, closed),
+            ),
+          )
+
+-- files that were opened for lists and their report, by what is opened for some of the lists
+pub report_opened : (lists : List Text) (share : Share) (i j k l : ℕ) → share.others ≡ 0 → share.waiting ≡ 0
+    → (done : List Text) × (rest : List Text) × (every share.others share.waiting lists ≡ done ++ rest)
+    × (k ≤ j + sum_by opens_of done) → j ≤ i + 1 → l ≤ k → l ≤ i + (1 + sum_by opens_of lists)
+report_opened lists share i j k l alone first (done, rest, split, most) begun closed =
+    let all = opens_some opens_of lists done rest j k (sym (every_all lists) ∙ rw (alone, first) at split) most in
+    omega (arith, all, begun, closed)

@@ -1,6 +1,7 @@
 -- Worked values of the visible form of names, of where parts begin, and of the run over one list and those behind it,
 -- computed: a wrong escape, digit or class of characters does not check, nor a part too many or too few.
-use Rattle.std.proofs.Common.{◌≡◌, ℕ, ◌^◌, List, [], ◌∷◌, ◌++◌, None, Some, Err, true, refl, codes, replicate}
+use Rattle.std.proofs.Common.{◌≡◌, ℕ, ◌^◌, List, [], ◌∷◌, ◌++◌, None, Some, Err, true, refl, codes, inl, inr, replicate, suc}
+use Rattle.std.specs.Prelude.{◌+◌, ◌==◌, if◌then◌else◌}
 use Rattle.std.specs.Char.{encode_utf8}
 use Rattle.std.specs.Fmt.{digits}
 use Rattle.std.specs.Str.{chars}
@@ -15,6 +16,7 @@ use Rattle.sumlist.specs.declared.verdict.Verdict.TheVariants.{Differs, Missing}
 use Rattle.command.specs.inside.Faults.{hinted, noted}
 use Rattle.command.specs.Run.{Run, end_of, followed, of_name, prints, stops}
 use Rattle.command.specs.Visible.{visible}
+use Rattle.command.specs.Walks.{Walk, WalksShare}
 
 -- LF, CR, a backslash, ESC, TAB and DEL
 visible_controls : visible (97 ∷ 10 ∷ 13 ∷ 92 ∷ 27 ∷ 9 ∷ 127 ∷ 98 ∷ []) ≡ codes "a\\n\\r\\\\\\x1b\\x09\\x7fb"
@@ -74,7 +76,7 @@ followed_example : (let numbers : Summary = record no_lines { malformed = 1; for
     let list : Run = record (prints (report_from (Some (codes "l")) 1 (foreign (Digest 64) ∷ [])) 1) {
       notes = noted (record { is_summed = true }) (Some (codes "l")) numbers ++ hinted (codes "l") (unkeyed None)
           numbers;
-    } in followed (stops (of_name (codes "none") (codes ": cannot read\n"))) (followed list (prints [] 0)))
+    } in followed (stops (of_name (codes "none") (codes ": cannot read\n"))) (followed list (prints [] 1)))
     ≡ record (prints (codes "l: line 1: MALFORMED\n") 1) {
       notes = codes "sums: none: cannot read\n"
           ∷ codes "sums: l: 0 OK, 0 failed, 0 missing, 0 unreadable, 0 too long, 1 malformed, 0 skipped\n"
@@ -82,6 +84,52 @@ followed_example : (let numbers : Summary = record no_lines { malformed = 1; for
     }
 unfolding visible chars digits encode_utf8 report_from
 followed_example = refl
+
+-- numbers are gone through, of which 8 is passed over
+abbrev numbered : Walk ℕ ℕ
+numbered = record {
+  step = λ x i run y. (run ≡ (if i == 8 then stops (1, codes "8\n") else prints ((48 + i) ∷ []) 0)) × (y ≡ suc x);
+  broken = λ _. ⊥;
+  ending = λ x status run. run ≡ prints [] status;
+}
+
+-- all of them, and the second half, where an empty line stands for it
+walk_of_all : WalksShare true numbered (record { others = 0; waiting = 0 }) 0 (7 ∷ 8 ∷ 9 ∷ [])
+    (record (prints (codes "79") 1) { notes = codes "sums: 8\n" ∷ [] })
+walk_of_all = inr (
+  _,
+  _,
+  1,
+  (refl, refl),
+  refl,
+  (
+    _,
+    inr (
+      _,
+      _,
+      2,
+      (refl, refl),
+      refl,
+      (
+        _,
+        inr (
+          _,
+          _,
+          3,
+          (refl, refl),
+          refl,
+          (_, inl refl, refl),
+        ),
+        refl,
+      ),
+    ),
+    refl,
+  ),
+)
+
+walk_of_share : WalksShare true numbered (record { others = 1; waiting = 1 }) 0 (7 ∷ 8 ∷ 9 ∷ [])
+    (record (prints (codes "\n") 1) { notes = codes "sums: 8\n" ∷ [] })
+walk_of_share = inr (_, _, 1, (refl, refl), inl refl, (_, inl refl, refl))
 
 -- skipped lines alone are no entries, and beside a malformed line nothing is told of that
 hinted_example : hinted (codes "-") (unkeyed None) (summary_of (skipped ∷ [])) ≡ codes "sums: -: no entries\n" ∷ []

@@ -14,6 +14,7 @@ pub mod Places
 pub mod Listing
 pub mod Joining
 pub mod Verifying
+pub mod Items
 pub mod Hashed
 pub mod Reported
 pub mod Told

@@ -45,6 +45,7 @@ mod cutting;
 mod digests;
 mod each;
 mod fault;
+mod items;
 mod joining;
 mod keying;
 mod keys;

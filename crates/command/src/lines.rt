@@ -1,27 +1,30 @@
 // The commands `hash` and `mac`: the digest of each file, or its tag under a key, as a line of a list, or
 // whether that of one is the one that is wanted.
 
-ghost use Rattle.std.specs.Prelude.{◌≡◌, ◌+◌, ◌⊎◌, [], false, map, true};
+ghost use Rattle.std.specs.Prelude.{◌≡◌, ◌≤◌, ◌+◌, ◌⊎◌, ℕ, List, [], false, map, nat_lt, true, ⊤};
 ghost use Rattle.std.specs.Prelude.{IfOk, IfSome, IsErr, IsErrOf, MatchResult, None, Some, length, option_map, vec_len};
 ghost use Rattle.std.specs.List.{sum_by};
 ghost use Rattle.source.specs.Counts.{count_after};
 ghost use Rattle.source.specs.Written.{Writes};
+ghost use Rattle.request.specs.CommandLine.{Text};
 ghost use Rattle.sumlist.specs.Shared.{every};
 ghost use Rattle.task.specs.inside.Views.{sum_shown};
 ghost use Rattle.command.specs.Hashing.{LinesGiven};
 ghost use Rattle.command.specs.Keying.{LineRuns, SumRuns};
-ghost use Rattle.command.specs.Lines.{FitsPlace, key_opens, opens_of};
-ghost use Rattle.command.specs.Run.{TellsAll};
-ghost use Rattle.command.specs.inside.Hashed.{PassesOver, PrintsName, Settles};
+ghost use Rattle.command.specs.Lines.{FitsPlace, is_input, key_opens, opens_of};
+ghost use Rattle.command.specs.Run.{Counted, TellsAll};
+ghost use Rattle.command.specs.inside.Hashed.{PrintsName, given_of, given_state};
+ghost use Rattle.command.specs.inside.Items.{names_left};
 ghost use Rattle.command.specs.inside.Keys.{HasBytes, PrintsAnswer, made_bytes};
 ghost use Rattle.command.specs.inside.Reading.{Leaves, Reads, failed};
 ghost use Rattle.command.specs.inside.Rules.{IsRoomFor, IsSized, TakesRoom, WantsRoom, line_by};
-ghost use Rattle.command.specs.inside.Seen.{DoesRun, OpensAtMost};
+ghost use Rattle.command.specs.inside.Seen.{DoesRun, IfTold, OpensAtMost};
 ghost use Rattle.command.specs.inside.Streams.{AfterReading, IfContent, SameStreams};
 ghost use Rattle.command.specs.declared.fault.Fault.TheVariants.{BadName};
 
 use crate::digests::{digest_of_feed, listable, part_buffer};
-use crate::fault::{Fault, tell};
+use crate::fault::Fault;
+use crate::items::{Items, Names, pass_over, walk};
 use crate::keying::rule_of;
 use crate::making::{Made, is_made, write_beside};
 use crate::output::named;
@@ -29,10 +32,75 @@ use crate::rule::Rule;
 use crate::session::{Session, Streams, open_file};
 use crate::tags::{tag_digits, tag_of_feed};
 use crate::verifying::{print_verdict, slice_of};
-use source::{Feed, Sink, WriteFailed, write_all};
+use source::{Feed, Sink, WriteFailed};
 use std::alloc::{AllocError, Global};
 use sumlist::{Share, Tree, write_tagged_line};
 use task::{Form, Sum};
+
+// Names that the words give, and the rule of their lines.
+#[derive(Drop)]
+struct Given<'i, 't, 'r, 'a, 'n, L: Feed, T: Tree> {
+    alloc: Global,
+    input: &'i mut L,
+    tree: &'t mut T,
+    rule: &'r Rule,
+    names: Names<'a, 'n>,
+}
+
+impl<'i, 't, 'r, 'a, 'n, L: Feed, T: Tree> Items<'n> for Given<'i, 't, 'r, 'a, 'n, L, T> {
+    ghost State = { List ℕ };
+
+    ghost Item = { Text };
+
+    ghost walk = { λ s. given_of (line_by s.rule.now) (T.files s.tree.now) };
+
+    ghost state = { λ s. given_state (L.remaining s.input.now) (T.files s.tree.now) };
+
+    ghost items = { λ s. Some (names_left s.names) };
+
+    ghost at = { λ s i. i ≡ s.names.name.now };
+
+    ghost most = { λ s. length (names_left s.names) };
+
+    ghost counted = { λ f a b. Counted f (L.failure_count a.input.now) (L.failure_count b.input.now)
+        (T.failure_count a.tree.now) (T.failure_count b.tree.now) };
+
+    ghost same = { λ a b. (b.rule ≡ a.rule) × (b.input.ghost_name ≡ a.input.ghost_name)
+        × (b.tree.ghost_name ≡ a.tree.ghost_name) × (T.files b.tree.now ≡ T.files a.tree.now) };
+
+    ghost keeps = { λ i a b. T.opens b.tree.now ≤ T.opens a.tree.now + sum_by opens_of i };
+
+    ghost wants = { λ s. TakesRoom s.rule.now ⊎ (T.wants_memory ≡ true) };
+
+    ghost GOES_ON = { true };
+
+    ghost takes = { λ _. ⊤ };
+
+    fn next(&mut self) -> Result<bool, Fault<'n>> {
+        Ok(self.names.next())
+    }
+
+    fn print<W: Sink, E: Sink>(
+        &mut self,
+        share: Share,
+        out: &mut W,
+        err: &mut E,
+    ) -> Result<u8, Fault<'n>> {
+        let mut session = Session {
+            alloc: self.alloc,
+            input: self.input,
+            tree: self.tree,
+            out,
+        };
+        session.print_one(self.rule, self.names.name, share, err)
+    }
+
+    fn end(&mut self, status: u8) -> Result<u8, Fault<'n>> {
+        Ok(status)
+    }
+
+    fn laws(&self) {}
+}
 
 impl<'i, 't, 'o, L: Feed, T: Tree, W: Sink> Session<'i, 't, 'o, L, T, W> {
     /// Prints the line of each file in a share of them, and goes on with the next after a file that can't be
@@ -60,7 +128,14 @@ impl<'i, 't, 'o, L: Feed, T: Tree, W: Sink> Session<'i, 't, 'o, L, T, W> {
             → WantsRoom sum.entry ⊎ (T.wants_memory ≡ true) }
     {
         let rule = rule_of(self.alloc, sum, self.tree)?;
-        self.print_each(&rule, names, share, err)
+        let mut given = Given {
+            alloc: self.alloc,
+            input: self.input,
+            tree: self.tree,
+            rule: &rule,
+            names: Names::new(names),
+        };
+        walk(&mut given, share, self.out, err)
     }
 
     /// Prints the line of a file under a name, or where a digest or tag is wanted whether it is the file's,
@@ -88,36 +163,7 @@ impl<'i, 't, 'o, L: Feed, T: Tree, W: Sink> Session<'i, 't, 'o, L, T, W> {
         self.print_compared(&rule, slice_of(&wanted), name, file)
     }
 
-    // Prints the line of each file in a share of them by a rule.
-    fn print_each<'n, E: Sink>(
-        &mut self,
-        rule: &Rule,
-        names: &[&'n str],
-        share: Share,
-        err: &mut E,
-    ) -> Result<u8, Fault<'n>>
-        ensures run { DoesRun (λ bytes files.
-            LinesGiven share (line_by rule.now) files (map (λ n. n.now) names.entry.now) bytes)
-            (λ notes. TellsAll (E.shown err.old) (E.shown err.new) notes)
-            result (⟦<Self as Streams>⟧.seen self.old) (⟦<Self as Streams>⟧.seen self.new) }
-        ensures opens { OpensAtMost
-            (sum_by opens_of (every share.others share.waiting (map (λ n. n.now) names.entry.now)))
-            (⟦<Self as Streams>⟧.seen self.old) (⟦<Self as Streams>⟧.seen self.new) }
-        ensures same { SameStreams self.old self.new }
-        ensures memory { IsErrOf result Fault.OutOfMemory
-            → TakesRoom rule.now ⊎ (T.wants_memory ≡ true) }
-    {
-        let mut left = share;
-        let mut status: u8 = 0;
-        for name in names {
-            if left.takes_next() {
-                status = status.max(self.print_one(rule, name, share, err)?);
-            }
-        }
-        Ok(status)
-    }
-
-    /// Prints the line of a file, or tells why it has none, and answers the status of either. Only a
+    /// Prints the line of a file, or reports why it has none, and answers the status of either. Only a
     /// failed write and want of memory end a run.
     pub(crate) fn print_one<'f, E: Sink>(
         &mut self,
@@ -126,9 +172,13 @@ impl<'i, 't, 'o, L: Feed, T: Tree, W: Sink> Session<'i, 't, 'o, L, T, W> {
         share: Share,
         err: &mut E,
     ) -> Result<u8, Fault<'f>>
-        ensures name { PrintsName share (line_by rule.now) name.entry.now result
+        ensures name { IfTold (⟦<Self as Streams>⟧.seen self.old) (λ bytes files. PrintsName
+            (nat_lt 0 share.others) (line_by rule.now) name.entry.now bytes files result
             (⟦<Self as Streams>⟧.seen self.old) (⟦<Self as Streams>⟧.seen self.new)
-            (E.shown err.old) (E.shown err.new) }
+            (E.shown err.old) (E.shown err.new)) }
+        ensures gave { is_input name.entry.now ≡ false
+            → (⟦<Self as Streams>⟧.seen self.new).bytes ≡ (⟦<Self as Streams>⟧.seen self.old).bytes }
+        ensures files { (⟦<Self as Streams>⟧.seen self.new).files ≡ (⟦<Self as Streams>⟧.seen self.old).files }
         ensures opens { OpensAtMost (opens_of name.entry.now) (⟦<Self as Streams>⟧.seen self.old)
             (⟦<Self as Streams>⟧.seen self.new) }
         ensures same { SameStreams self.old self.new }
@@ -137,7 +187,7 @@ impl<'i, 't, 'o, L: Feed, T: Tree, W: Sink> Session<'i, 't, 'o, L, T, W> {
     {
         match self.print_compared(rule, None, name, name) {
             Ok(status) => Ok(status),
-            Err(fault) => settle(err, pass_over(share, fault, self.out)),
+            Err(fault) => pass_over(share, fault, self.out, err),
         }
     }
 
@@ -231,33 +281,6 @@ fn made_of_feed<'n, F: Feed>(
     match made {
         Ok(made) => Ok(made),
         Err(fault) => Err(Fault::of_source(fault, name)),
-    }
-}
-
-/// Hands on the fault of a name. Where there are other shares, an empty line stands for the one of the name,
-/// so that each name of a share has one: the fault is `CannotWrite` where that is not written.
-pub(crate) fn pass_over<'f, W: Sink>(share: Share, fault: Fault<'f>, out: &mut W) -> Fault<'f>
-    ensures passes { PassesOver share fault.entry result (W.shown out.old) (W.shown out.new) }
-    ensures memory { result ≡ Fault.OutOfMemory → fault.entry ≡ Fault.OutOfMemory }
-{
-    if share.others == 0 || fault.status() != 1 {
-        return fault;
-    }
-    match write_all(out, b"\n") {
-        Ok(()) => fault,
-        Err(WriteFailed) => Fault::CannotWrite,
-    }
-}
-
-/// Tells the fault of a file, and answers its status. Two faults end a run, and name no file.
-pub(crate) fn settle<'f, E: Sink>(err: &mut E, fault: Fault<'_>) -> Result<u8, Fault<'f>>
-    ensures settles { Settles fault.entry result (E.shown err.old) (E.shown err.new) }
-    ensures memory { IsErrOf result Fault.OutOfMemory → fault.entry ≡ Fault.OutOfMemory }
-{
-    match fault {
-        Fault::CannotWrite => Err(Fault::CannotWrite),
-        Fault::OutOfMemory => Err(Fault::OutOfMemory),
-        fault => Ok(tell(err, fault)),
     }
 }
 

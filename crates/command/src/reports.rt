@@ -1,7 +1,7 @@
 // The command `check`: the reports on lists.
 
 ghost use Rattle.std.specs.Prelude.{◌≡◌, ◌==◌, ◌≤◌, ◌+◌, ◌++◌, ◌∷◌, [], map, IfSome, MatchOption, Some, codes, true};
-ghost use Rattle.std.specs.Prelude.{MatchResult, None, false, ℕ, if◌then◌else◌, option_map};
+ghost use Rattle.std.specs.Prelude.{List, MatchResult, None, false, ℕ, if◌then◌else◌, length, option_map, ⊤};
 ghost use Rattle.std.specs.List.{sum_by};
 ghost use Rattle.source.specs.Counts.{count_after};
 ghost use Rattle.source.specs.Written.{Shown, Writes};
@@ -14,21 +14,24 @@ ghost use Rattle.command.specs.Checking as spec;
 ghost use Rattle.command.specs.Checking.{ListRuns, ListsRun, notes_of};
 ghost use Rattle.command.specs.Visible.{visible};
 ghost use Rattle.command.specs.Lines.{content_of, is_input, opens_of};
-ghost use Rattle.command.specs.Run.{TellsAll};
+ghost use Rattle.command.specs.Run.{Counted, TellsAll};
+ghost use Rattle.request.specs.CommandLine.{Text};
+ghost use Rattle.hashes.specs.declared.share.Share.{Share};
 ghost use Rattle.command.specs.inside.Faults.{graded, heading, hinted, of_check, remarks};
 ghost use Rattle.command.specs.inside.Messages.{message_text};
 ghost use Rattle.command.specs.inside.Listing.{ListTaken};
 ghost use Rattle.command.specs.inside.Reading.{Leaves, failed};
 ghost use Rattle.command.specs.inside.Keys.{key_content};
-ghost use Rattle.command.specs.inside.Reported.{PrintsReport};
+ghost use Rattle.command.specs.inside.Items.{names_left};
+ghost use Rattle.command.specs.inside.Reported.{KeepsLists, PrintsReport, checked_of, checked_state};
 ghost use Rattle.command.specs.inside.Rules.{EntriesRun, HasRule, MayRefuseSum, entries_opens, keyed_line, meaning};
 ghost use Rattle.command.specs.inside.Seen.{IfTold, OpensAtMost, DoesRun, opens_from, source_opens};
 ghost use Rattle.command.specs.inside.Troubles.{trouble_of};
 ghost use Rattle.command.specs.inside.Streams.{SameStreams};
 
 use crate::fault::{Fault, Message, write_message};
+use crate::items::{Items, Names, pass_over, walk};
 use crate::keying::keyed_of;
-use crate::lines::settle;
 use crate::rule::ShortKeyed;
 use crate::session::{Session, Streams, open_file};
 use crate::visible::write_visible;
@@ -109,18 +112,19 @@ impl<'i, 't, 'o, L: Feed, T: Tree, W: Sink> Session<'i, 't, 'o, L, T, W> {
             (⟦<Self as Streams>⟧.seen self.old) (⟦<Self as Streams>⟧.seen self.new)) }
         ensures same { SameStreams self.old self.new }
     {
-        let are_named = lists.len() > 1;
-        let mut left = share;
-        let mut status: u8 = 0;
-        for name in lists {
-            let title = title_of(are_named, name);
-            let of_one = self.print_report(entries, title, reporting, name, &mut left, err)?;
-            status = status.max(of_one);
-        }
-        Ok(status)
+        let mut checked = Checked {
+            alloc: self.alloc,
+            input: self.input,
+            tree: self.tree,
+            entries,
+            reporting,
+            lists: Names::new(lists),
+            share,
+        };
+        walk(&mut checked, Share::whole(), self.out, err)
     }
 
-    // Prints the report of a list, or tells why it was not read to its end, and answers the status of
+    // Prints the report of a list, or reports why it was not read to its end, and answers the status of
     // either.
     fn print_report<'f, E: Sink>(
         &mut self,
@@ -131,10 +135,11 @@ impl<'i, 't, 'o, L: Feed, T: Tree, W: Sink> Session<'i, 't, 'o, L, T, W> {
         share: &mut Share,
         err: &mut E,
     ) -> Result<u8, Fault<'f>>
-        ensures report { PrintsReport reporting (meaning entries.now)
-            (option_map (λ n. n.now) title.entry) name.entry.now share.old share.new result
-            (⟦<Self as Streams>⟧.seen self.old) (⟦<Self as Streams>⟧.seen self.new)
-            (E.shown err.old) (E.shown err.new) }
+        ensures report { IfTold (⟦<Self as Streams>⟧.seen self.old) (λ bytes files. PrintsReport reporting
+            (meaning entries.now) (option_map (λ n. n.now) title.entry) name.entry.now share.old share.new bytes files
+            result (⟦<Self as Streams>⟧.seen self.old) (⟦<Self as Streams>⟧.seen self.new)
+            (E.shown err.old) (E.shown err.new)) }
+        ensures files { (⟦<Self as Streams>⟧.seen self.new).files ≡ (⟦<Self as Streams>⟧.seen self.old).files }
         ensures opens { IfTold (⟦<Self as Streams>⟧.seen self.old) (λ bytes files. OpensAtMost
             (opens_of name.entry.now + opens_from lines (content_of name.entry.now bytes files))
             (⟦<Self as Streams>⟧.seen self.old) (⟦<Self as Streams>⟧.seen self.new)) }
@@ -148,7 +153,7 @@ impl<'i, 't, 'o, L: Feed, T: Tree, W: Sink> Session<'i, 't, 'o, L, T, W> {
                 }
                 Ok(status_of(&summary))
             }
-            Err(fault) => settle(err, fault),
+            Err(fault) => pass_over(Share::whole(), fault, self.out, err),
         }
     }
 
@@ -191,12 +196,10 @@ impl<'i, 't, 'o, L: Feed, T: Tree, W: Sink> Session<'i, 't, 'o, L, T, W> {
             (meaning entries.now) result)
             → IfTold (⟦<Self as Streams>⟧.seen self.old) (λ bytes files. ListTaken
             (λ run. ListRuns reporting files (meaning entries.now) (option_map (λ n. n.now) title.entry)
-            name.entry.now share.old (Some bytes) run share.new)
-            name.entry.now bytes (graded result)
+            name.entry.now share.old (Some bytes) run share.new) name.entry.now (graded result)
             (W.shown self.old.out.now) (W.shown self.new.out.now) before after
+            (L.failure_count self.old.input.now) (L.failure_count self.new.input.now)
             (T.failure_count self.old.tree.now) (T.failure_count self.new.tree.now)) }
-        ensures counted { IfSome (L.remaining self.old.input.now) (λ bytes. L.failure_count self.new.input.now
-            ≡ count_after (L.failure_count self.old.input.now) (failed true (Some bytes) result).input) }
         ensures gave { Leaves true result (L.remaining self.old.input.now) (L.remaining self.new.input.now) }
         ensures files { T.files self.new.tree.now ≡ T.files self.old.tree.now }
         ensures opens { IfTold (⟦<Self as Streams>⟧.seen self.old) (λ bytes _. OpensAtMost
@@ -208,6 +211,84 @@ impl<'i, 't, 'o, L: Feed, T: Tree, W: Sink> Session<'i, 't, 'o, L, T, W> {
         );
         settled(answer, name)
     }
+}
+
+// Lists that are checked, with the share of the entries to come.
+#[derive(Drop)]
+struct Checked<'i, 't, 'e, 'k, 'a, 'n, L: Feed, T: Tree> {
+    alloc: Global,
+    input: &'i mut L,
+    tree: &'t mut T,
+    entries: &'e sumlist::Entries<'k, ShortKeyed>,
+    reporting: Reporting,
+    lists: Names<'a, 'n>,
+    share: Share,
+}
+
+impl<'i, 't, 'e, 'k, 'a, 'n, L: Feed, T: Tree> Items<'n> for Checked<'i, 't, 'e, 'k, 'a, 'n, L, T> {
+    ghost State = { Share × List ℕ };
+
+    ghost Item = { Text };
+
+    ghost walk = { λ s. checked_of (meaning s.entries.now) s.reporting (T.files s.tree.now)
+        (map (λ n. n.now) s.lists.names.now) };
+
+    ghost state = { λ s. checked_state s.share (L.remaining s.input.now) (T.files s.tree.now) };
+
+    ghost items = { λ s. Some (names_left s.lists) };
+
+    ghost at = { λ s i. i ≡ s.lists.name.now };
+
+    ghost most = { λ s. length (names_left s.lists) };
+
+    ghost counted = { λ f a b. Counted f (L.failure_count a.input.now) (L.failure_count b.input.now)
+        (T.failure_count a.tree.now) (T.failure_count b.tree.now) };
+
+    ghost same = { λ a b. (b.entries ≡ a.entries) × (b.reporting ≡ a.reporting) × (b.lists.names ≡ a.lists.names)
+        × (T.files b.tree.now ≡ T.files a.tree.now) × (b.input.ghost_name ≡ a.input.ghost_name)
+        × (b.tree.ghost_name ≡ a.tree.ghost_name) };
+
+    ghost keeps = { λ i a b. KeepsLists i (L.remaining a.input.now) (L.remaining b.input.now) (T.files a.tree.now)
+        (T.files b.tree.now) (T.opens a.tree.now) (T.opens b.tree.now) };
+
+    ghost wants = { λ _. ⊤ };
+
+    ghost GOES_ON = { true };
+
+    ghost takes = { λ share. share.others ≡ 0 };
+
+    fn next(&mut self) -> Result<bool, Fault<'n>> {
+        Ok(self.lists.next())
+    }
+
+    fn print<W: Sink, E: Sink>(
+        &mut self,
+        _share: Share,
+        out: &mut W,
+        err: &mut E,
+    ) -> Result<u8, Fault<'n>> {
+        let title = title_of(self.lists.are_several(), self.lists.name);
+        let mut session = Session {
+            alloc: self.alloc,
+            input: self.input,
+            tree: self.tree,
+            out,
+        };
+        session.print_report(
+            self.entries,
+            title,
+            self.reporting,
+            self.lists.name,
+            &mut self.share,
+            err,
+        )
+    }
+
+    fn end(&mut self, status: u8) -> Result<u8, Fault<'n>> {
+        Ok(status)
+    }
+
+    fn laws(&self) {}
 }
 
 // The keyed function of the tags in lists, with its key.

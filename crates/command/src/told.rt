@@ -1,12 +1,13 @@
 // The command `check` with `--told`: what a report on lists does not say.
 
 ghost use Rattle.std.specs.Prelude.{◌≡◌, ◌≤◌, ◌<◌, ◌+◌, ◌⊎◌, [], IfSome, MatchResult, Ok, Some};
-ghost use Rattle.std.specs.Prelude.{length, map, nat_lt, option_map, true};
+ghost use Rattle.std.specs.Prelude.{false, length, map, option_map, true, ⊤};
+ghost use Rattle.request.specs.CommandLine.{Text};
 ghost use Rattle.std.specs.List.{sum_by};
 ghost use Rattle.source.specs.Counts.{count_after};
 ghost use Rattle.sumlist.specs.inside.Telling.{left};
 ghost use Rattle.task.specs.Tasks.{in_file};
-ghost use Rattle.command.specs.Checking.{ListsRun};
+ghost use Rattle.command.specs.Checking.{Beside, ListsRun};
 ghost use Rattle.command.specs.Lines.{content_of, is_input, opens_of};
 ghost use Rattle.command.specs.Run.{TellsAll};
 ghost use Rattle.command.specs.inside.Faults.{of_tell};
@@ -14,16 +15,19 @@ ghost use Rattle.command.specs.inside.Reading.{Leaves, failed};
 ghost use Rattle.command.specs.inside.Rules.{EntriesRun, entries_opens, meaning};
 ghost use Rattle.command.specs.inside.Seen.{DoesRun, IfTold, OpensAtMost};
 ghost use Rattle.command.specs.inside.Streams.{SameStreams};
-ghost use Rattle.command.specs.inside.Told.{CountsList, KeepsReport, SumsUp, TellsList, TellsLists};
+ghost use Rattle.command.specs.inside.Items.{names_left};
+ghost use Rattle.command.specs.inside.Told.{CountsList, KeepsReport, ReportCounted, SumsUp, TellsList};
+ghost use Rattle.command.specs.inside.Told.{by_report_of, told_state};
 ghost use Rattle.command.specs.inside.Troubles.{cannot_read, other_line, trouble_of};
 
 use crate::fault::Fault;
+use crate::items::{Items, Names, walk};
 use crate::reports::{remark, short_keyed, status_of, title_of};
 use crate::rule::ShortKeyed;
 use crate::session::{Session, Streams, open_file};
 use source::{Feed, Sink};
 use std::alloc::Global;
-use sumlist::{ReportReader, Summary, TellFault, Tree, tell_list};
+use sumlist::{ReportReader, Share, Summary, TellFault, Tree, tell_list};
 use task::{Entries, Reporting};
 
 impl<'i, 't, 'o, L: Feed, T: Tree, W: Sink> Session<'i, 't, 'o, L, T, W> {
@@ -90,46 +94,23 @@ impl<'i, 't, 'o, L: Feed, T: Tree, W: Sink> Session<'i, 't, 'o, L, T, W> {
         ensures same { SameStreams self.old self.new }
     {
         let mut feed = open_file(report, 0, self.tree)?;
-        let mut told = Telling {
+        let mut lists = ByReport {
             alloc: self.alloc,
-            entries,
-            report: ReportReader::new(&mut feed),
-            name: report,
-            next: 1,
+            input: self.input,
+            tree: self.tree,
+            told: Telling {
+                alloc: self.alloc,
+                entries,
+                report: ReportReader::new(&mut feed),
+                name: report,
+                next: 1,
+            },
+            reporting,
+            lists: Names::new(lists),
         };
-        let answer = self.tell_each(&mut told, reporting, lists, err);
+        let answer = walk(&mut lists, Share::whole(), self.out, err);
         self.tree.close(feed);
         answer
-    }
-
-    // Reports on each list by its lines in the report.
-    fn tell_each<'n, F: Feed, E: Sink>(
-        &mut self,
-        told: &mut Telling<'_, '_, '_, 'n, F>,
-        reporting: Reporting,
-        lists: &[&'n str],
-        err: &mut E,
-    ) -> Result<u8, Fault<'n>>
-        ensures run { TellsLists reporting (meaning told.old.entries.now)
-            (nat_lt 1 (length (map (λ n. n.now) lists.entry.now))) told.old.name.now
-            (left F.remaining told.old.report) told.old.next (map (λ n. n.now) lists.entry.now) result
-            (⟦<Self as Streams>⟧.seen self.old) (⟦<Self as Streams>⟧.seen self.new)
-            (E.shown err.old) (E.shown err.new)
-            (F.failure_count told.old.report.feed.now) (F.failure_count told.new.report.feed.now) }
-        ensures files { (⟦<Self as Streams>⟧.seen self.new).files ≡ (⟦<Self as Streams>⟧.seen self.old).files }
-        ensures opens { OpensAtMost (sum_by opens_of (map (λ n. n.now) lists.entry.now))
-            (⟦<Self as Streams>⟧.seen self.old) (⟦<Self as Streams>⟧.seen self.new) }
-        ensures same { SameStreams self.old self.new
-            × (told.new.report.feed.ghost_name ≡ told.old.report.feed.ghost_name) }
-    {
-        let are_named = lists.len() > 1;
-        let mut status: u8 = 0;
-        for name in lists {
-            let title = title_of(are_named, name);
-            status = status.max(self.tell_one(told, title, reporting, name, err)?);
-        }
-        told.end()?;
-        Ok(status)
     }
 
     // Reports on the list of this name, and answers its status.
@@ -185,6 +166,81 @@ impl<'i, 't, 'o, L: Feed, T: Tree, W: Sink> Session<'i, 't, 'o, L, T, W> {
     }
 }
 
+// Lists whose verdicts are taken from a report.
+#[derive(Drop)]
+struct ByReport<'i, 't, 'e, 'k, 'f, 'a, 'n, L: Feed, T: Tree, F: Feed> {
+    alloc: Global,
+    input: &'i mut L,
+    tree: &'t mut T,
+    told: Telling<'e, 'k, 'f, 'n, F>,
+    reporting: Reporting,
+    lists: Names<'a, 'n>,
+}
+
+impl<'i, 't, 'e, 'k, 'f, 'a, 'n, L: Feed, T: Tree, F: Feed> Items<'n>
+    for ByReport<'i, 't, 'e, 'k, 'f, 'a, 'n, L, T, F> {
+    ghost State = { Beside };
+
+    ghost Item = { Text };
+
+    ghost walk = { λ s. by_report_of (meaning s.told.entries.now) s.reporting (T.files s.tree.now)
+        (map (λ n. n.now) s.lists.names.now) s.told.name.now };
+
+    ghost state = { λ s. told_state s.told.name.now (left F.remaining s.told.report) s.told.next
+        (L.remaining s.input.now) (T.files s.tree.now) };
+
+    ghost items = { λ s. Some (names_left s.lists) };
+
+    ghost at = { λ s i. i ≡ s.lists.name.now };
+
+    ghost most = { λ s. length (names_left s.lists) };
+
+    ghost counted = { λ f a b. ReportCounted f (L.failure_count a.input.now) (L.failure_count b.input.now)
+        (T.failure_count a.tree.now) (T.failure_count b.tree.now)
+        (F.failure_count a.told.report.feed.now) (F.failure_count b.told.report.feed.now) };
+
+    ghost same = { λ a b. (b.told.entries ≡ a.told.entries) × (b.reporting ≡ a.reporting)
+        × (b.lists.names ≡ a.lists.names) × (T.files b.tree.now ≡ T.files a.tree.now)
+        × (b.told.name ≡ a.told.name) × (b.input.ghost_name ≡ a.input.ghost_name)
+        × (b.tree.ghost_name ≡ a.tree.ghost_name)
+        × (b.told.report.feed.ghost_name ≡ a.told.report.feed.ghost_name) };
+
+    ghost keeps = { λ i a b. T.opens b.tree.now ≤ T.opens a.tree.now + sum_by opens_of i };
+
+    ghost wants = { λ _. ⊤ };
+
+    ghost GOES_ON = { false };
+
+    ghost takes = { λ _. ⊤ };
+
+    fn next(&mut self) -> Result<bool, Fault<'n>> {
+        Ok(self.lists.next())
+    }
+
+    fn print<W: Sink, E: Sink>(
+        &mut self,
+        _share: Share,
+        out: &mut W,
+        err: &mut E,
+    ) -> Result<u8, Fault<'n>> {
+        let title = title_of(self.lists.are_several(), self.lists.name);
+        let mut session = Session {
+            alloc: self.alloc,
+            input: self.input,
+            tree: self.tree,
+            out,
+        };
+        session.tell_one(&mut self.told, title, self.reporting, self.lists.name, err)
+    }
+
+    fn end(&mut self, status: u8) -> Result<u8, Fault<'n>> {
+        self.told.end()?;
+        Ok(status)
+    }
+
+    fn laws(&self) {}
+}
+
 // Lists that are read beside their report.
 #[derive(Drop)]
 struct Telling<'e, 'k, 'f, 'n, F: Feed> {
@@ -205,6 +261,7 @@ impl<'e, 'k, 'f, 'n, F: Feed> Telling<'e, 'k, 'f, 'n, F> {
             ⊎ ((0 < length text) × (trouble_of fault ≡ other_line self.old.name.now self.old.next)))) }
         ensures counted { F.failure_count self.new.report.feed.now
             ≡ count_after (F.failure_count self.old.report.feed.now) (failed true (Some []) result).input }
+        ensures kept { (self.new.name ≡ self.old.name) × (self.new.entries ≡ self.old.entries) }
         ensures same { self.new.report.feed.ghost_name ≡ self.old.report.feed.ghost_name }
     {
         match self.report.has_more() {

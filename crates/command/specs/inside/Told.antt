@@ -1,5 +1,5 @@
 -- What the reading of lists beside their report came to, by the answers of functions.
-use Rattle.std.specs.Prelude.{◌⊎◌, ◌≡◌, ◌≤◌, ◌<◌, ℕ, ◌+◌, ◌-◌, ◌^◌, Bool, false, List, [], ◌∷◌, ◌++◌, Option, Some}
+use Rattle.std.specs.Prelude.{◌⊎◌, ◌≡◌, ◌≤◌, ◌<◌, ℕ, ◌+◌, ◌-◌, ◌^◌, Bool, false, List, [], ◌∷◌, ◌++◌, Option, None, Some, nat_le, nat_lt}
 use Rattle.std.specs.Prelude.{IfSome, IsSomeAnd, MatchResult, Result, Ok, Err, if◌then◌else◌, length}
 use Rattle.std.specs.List.{AllZip}
 use Rattle.request.specs.CommandLine.{Text}
@@ -10,10 +10,13 @@ use Rattle.sumlist.specs.Report.{Files, IsPossible, Meaning, Outcome, report_fro
 use Rattle.sumlist.specs.Tally.{is_clean}
 use Rattle.sumlist.specs.declared.summary.Summary.{Summary}
 use Rattle.task.specs.declared.tasks.Reporting.{Reporting}
-use Rattle.command.specs.Checking.{ListsTold, notes_of}
+use Rattle.command.specs.Checking.{Beside, by_report, notes_of}
 use Rattle.command.specs.Lines.{content_of, is_input}
-use Rattle.command.specs.Run.{Run, TellsAll}
-use Rattle.command.specs.inside.Seen.{Does, IfTold, Seen}
+use Rattle.command.specs.Run.{TellsAll}
+use Rattle.command.specs.Walks.{Walk}
+use Rattle.command.specs.inside.Hashed.{files_of}
+use Rattle.command.specs.inside.Items.{DoesWalk}
+use Rattle.command.specs.inside.Seen.{IfTold, Seen}
 use Rattle.command.specs.inside.Troubles.{Counted, Failures, MayFail, MayRefuse, Trouble, counts, failed_reads}
 use Rattle.command.specs.inside.Troubles.{failures_from, other_line, plus, too_long, trouble_of}
 use Rattle.command.specs.declared.fault.Fault.{Fault}
@@ -86,19 +89,24 @@ pub record KeepsReport {F : Type 0} (old new : Telling F) (a b : Seen) : Type 0 
   pub files : b.files ≡ a.files
   pub out : b.out ≡ a.out
 
--- the run over these lists beside what is left of their report was done; of its failures some are reads of the report
-abbrev pub RunsTold : Reporting → Meaning → Bool → Files → Text → ℕ → Text → List Text → List ℕ → Result ℕ Fault → Seen
-    → Seen → Shown → Shown → ℕ → ℕ → Type 0
-RunsTold reporting m are_named files report n left names bytes r old new err_old err_new x y = (run : Run)
-    × ListsTold reporting m are_named files report n left names bytes run × Does run r old.out new.out
-    × TellsAll err_old err_new run.notes × (own : Failures) × (failed : ℕ)
-    × (counts run.failures ≡ plus own (failures_from false failed))
-    × Counted own old.input_failures new.input_failures old.file_failures new.file_failures
-    × (y ≡ count_after x failed)
+-- lists beside their report
+abbrev pub by_report_of : Meaning → Reporting → Option Files → List Text → Text → Walk Beside Text
+by_report_of m reporting files lists report = by_report m reporting (files_of files) (nat_lt 1 (length lists)) report
 
--- the same where the bytes, the files and the report are told
-abbrev pub TellsLists : Reporting → Meaning → Bool → Text → Option Text → ℕ → List Text → Result ℕ Fault → Seen → Seen
-    → Shown → Shown → ℕ → ℕ → Type 0
-TellsLists reporting m are_named report left n names r old new err_old err_new x y = IfTold old (λ bytes files.
-    IfSome left (λ text. (whole : Text) → files report ≡ Some whole → HasRoom whole text n
-    → RunsTold reporting m are_named files report n text names bytes r old new err_old err_new x y))
+-- what is left of the report, of these bytes, before the line of this number, if each line before had a byte
+abbrev pub roomy : Text → ℕ → List ℕ → Option Text → Option Beside
+roomy left n bytes None = None
+roomy left n bytes (Some whole) = if nat_le (n + length left) (length whole + 1)
+    then Some (record { left = left; number = n; input = bytes }) else None
+
+-- and of standard input, where all of that is told
+abbrev pub told_state : Text → Option Text → ℕ → Option (List ℕ) → Option Files → Option Beside
+told_state report None n bytes files = None
+told_state report (Some left) n None files = None
+told_state report (Some left) n (Some bytes) None = None
+told_state report (Some left) n (Some bytes) (Some files) = roomy left n bytes (files report)
+
+-- standard input, files and the report have counted these failures
+abbrev pub ReportCounted : List Bool → (i j u v x y : ℕ) → Type 0
+ReportCounted failures i j u v x y = (own : Failures) × (of_report : ℕ)
+    × (counts failures ≡ plus own (failures_from false of_report)) × Counted own i j u v × (y ≡ count_after x of_report)

@@ -1,5 +1,4 @@
-use Rattle.command.proofs.SharedNames.{listed_shares_are_run}
-use Rattle.command.proofs.Sharing.{shares_are_run}
+use Rattle.command.proofs.SharedNames.{listed_shares_are_run, shares_are_run}
 use Rattle.command.proofs.laws.share_laws.Goals as goal
 
 pub returns-clause-given : goal.returns-clause-given

@@ -3,7 +3,7 @@ use Rattle.sumlist.specs.Lines.{lines}
 use Rattle.std.specs.Prelude.{◌==◌, option_map}
 use Rattle.command.specs.Checking.{ListRuns}
 use Rattle.command.specs.inside.Rules.{meaning}
-use Rattle.command.proofs.Listing.{graded-counted, graded-stops, refused_list, report_file, report_input}
+use Rattle.command.proofs.Listing.{graded-stops, refused_list, report_file, report_input}
 use Rattle.command.proofs.Listing.{report_refused, stops-quiet}
 use Rattle.command.proofs.Opening.{opens_of_file, opens_of_input, opens_of_none}
 use Rattle.command.proofs.session.Session.check_named.Goals as goal
@@ -15,7 +15,7 @@ returns-then-eq-clause-run g c reporting before after told =
     ListRuns reporting files (meaning c.args.entries.now)
     (option_map (λ n. n.now) c.args.title) name c.args.share.now content run c.check_input.new.share)
     _ _ _ _ _ _ _ _ _ _ _ (sym c.eq.ensures ∙ c.if-eq.true)
-    (c.check_input.ensures.list reporting before after told) (graded-counted _ _ _ _ c.check_input.ensures.counted)
+    (c.check_input.ensures.list reporting before after told)
 
 pub returns-in_err-feed-clause-run : goal.returns-in_err-feed-clause-run
 returns-in_err-feed-clause-run g c reporting before after told =
@@ -41,7 +41,7 @@ returns-clause-run g c reporting before after told =
     _ _ g.T.F.Feed.remaining c.in_ok-feed.feed _ _ _ _ _ _ _ _ _ _ _ _ _
     (sym c.eq.ensures ∙ c.if-eq.false) c.in_ok-feed.ensures.opened c.open_file.ensures.kept
     c.in_ok-feed.ensures.counted (c.check_input-answer.ensures.list reporting before after told)
-    c.in_ok-feed.ensures.fresh (graded-counted _ _ _ _ c.check_input-answer.ensures.counted)
+    c.in_ok-feed.ensures.fresh
     (rw (c.feed-3-1.given.1 (sym c.check_input-answer.ensures.same.input)) at c.close.ensures.counted)
 
 pub returns-then-eq-clause-opens : goal.returns-then-eq-clause-opens

@@ -2,6 +2,8 @@ use Rattle.std.proofs.Common.{map, refl}
 use Rattle.command.specs.Hashing.{LinesGiven}
 use Rattle.command.specs.Run.{TellsAll}
 use Rattle.command.specs.inside.Rules.{line_by}
+use Rattle.command.specs.inside.Seen.{Seen}
+use Rattle.command.proofs.Given.{given_walked}
 use Rattle.command.proofs.Tagging.{sum_had, sum_refused}
 use Rattle.command.proofs.session.Session.print_lines.Goals as goal
 use Rattle.task.specs.inside.Views.{sum_shown}
@@ -15,9 +17,26 @@ returns-in_err-rule-clause-run g c =
 
 pub returns-clause-run : goal.returns-clause-run
 returns-clause-run g c =
+    let names = map (λ n. n.now) c.args.names.now in
+    let old : Seen = record {
+      bytes = g.L.Feed.remaining c.args.self.now.input.now;
+      files = g.T.Tree.files c.rule_of.new.tree;
+      input_failures = g.L.Feed.failure_count c.args.self.now.input.now;
+      file_failures = g.T.Tree.failure_count c.rule_of.new.tree;
+      opens = g.T.Tree.opens c.rule_of.new.tree;
+      out = g.W.Sink.shown c.args.self.now.out.now;
+    } in
+    let new : Seen = record {
+      bytes = g.L.Feed.remaining c.walk.new.items.input.now;
+      files = g.T.Tree.files c.walk.new.items.tree.now;
+      input_failures = g.L.Feed.failure_count c.walk.new.items.input.now;
+      file_failures = g.T.Tree.failure_count c.walk.new.items.tree.now;
+      opens = g.T.Tree.opens c.walk.new.items.tree.now;
+      out = g.W.Sink.shown c.walk.new.out;
+    } in
     sum_had (sum_shown c.args.sum)
-    (λ l bytes files. LinesGiven c.args.share l files (map (λ n. n.now) c.args.names.now) bytes)
-    (TellsAll (g.E.Sink.shown c.args.err.now) (g.E.Sink.shown c.print_each.new.err)) _ _ _ _
+    (λ l bytes files. LinesGiven c.args.share l files names bytes)
+    (TellsAll (g.E.Sink.shown c.args.err.now) (g.E.Sink.shown c.walk.new.err)) _ _ _ _
     (line_by c.in_ok-rule.rule) _ _ _ _ _ _ _ _ _ _
     refl c.rule_of.ensures.files refl refl c.in_ok-rule.ensures.rule c.in_ok-rule.ensures.counted
-    c.print_each.ensures.run
+    (given_walked (line_by c.in_ok-rule.rule) c.args.share names _ old new _ _ (rw c.new.ensures.left at c.walk.ensures.run))

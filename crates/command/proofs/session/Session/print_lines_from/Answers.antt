@@ -6,8 +6,8 @@ use Rattle.command.specs.Lines.{content_of, opens_of}
 use Rattle.command.specs.Run.{TellsAll}
 use Rattle.command.specs.inside.Rules.{line_by}
 use Rattle.command.specs.inside.Seen.{opens_from}
-use Rattle.command.proofs.Listing.{report_refused}
-use Rattle.command.proofs.Naming.{IsRun, names_of_file, names_of_input, refused_names}
+use Rattle.command.proofs.Listing.{report_file, report_input, report_refused}
+use Rattle.command.proofs.Naming.{refused_names}
 use Rattle.command.proofs.Opening.{opens_behind, opens_key, opens_of_file, opens_of_input, opens_of_none}
 use Rattle.command.proofs.Tagging.{sum_had, sum_refused}
 use Rattle.command.proofs.session.Session.print_lines_from.Goals as goal
@@ -27,7 +27,8 @@ returns-then-eq-clause-run g c =
     (TellsAll (g.E.Sink.shown c.args.err.now) (g.E.Sink.shown c.print_names.new.err)) _ _ _ _
     (line_by c.in_ok-rule.rule) _ _ _ _ _ _ _ _ _ _
     refl c.rule_of.ensures.files refl refl c.in_ok-rule.ensures.rule c.in_ok-rule.ensures.counted
-    (names_of_input c.args.share (line_by c.in_ok-rule.rule) c.args.list.now _ _ _ _ _ _ _ _ _ _ _
+    (report_input c.args.list.now (λ files content run.
+    LinesListed c.args.share (line_by c.in_ok-rule.rule) files c.args.list.now content run) _ _ _ _ _ _ _ _ _ _ _
     (sym c.eq.ensures ∙ c.if-eq.true) c.print_names.ensures.run)
 
 pub returns-in_err-feed-clause-run : goal.returns-in_err-feed-clause-run
@@ -40,7 +41,7 @@ returns-in_err-feed-clause-run g c =
     (λ l bytes files. LinesListed c.args.share l files list (content_of list bytes files))
     (TellsAll err err) _ _ _ _ l _ _ _ _ _ _ _ _ _ _
     refl c.rule_of.ensures.files refl refl c.in_ok-rule.ensures.rule c.in_ok-rule.ensures.counted
-    (report_refused list (IsRun c.args.share l list) err err g.T.F.Feed.remaining _ _ _ _ _ _ _ _ is
+    (report_refused list (λ files content run. LinesListed c.args.share l files list content run) err err g.T.F.Feed.remaining _ _ _ _ _ _ _ _ is
     (λ files content t may other. refused_names c.args.share l files list content t may other is)
     c.from_residual-in_err-feed.ensures.1 c.in_err-feed.ensures.opened c.in_err-feed.ensures.counted refl)
 
@@ -51,8 +52,9 @@ returns-clause-run g c =
     (TellsAll (g.E.Sink.shown c.args.err.now) (g.E.Sink.shown c.print_names-answer.new.err)) _ _ _ _
     (line_by c.in_ok-rule.rule) _ _ _ _ _ _ _ _ _ _
     refl c.rule_of.ensures.files refl refl c.in_ok-rule.ensures.rule c.in_ok-rule.ensures.counted
-    (names_of_file c.args.share (line_by c.in_ok-rule.rule) c.args.list.now _ _ g.T.F.Feed.remaining c.in_ok-feed.feed
-    _ _ _ _ _ _ _ _ _ _ _ _ _ (sym c.eq.ensures ∙ c.if-eq.false) c.in_ok-feed.ensures.opened
+    (report_file c.args.list.now (λ files content run.
+    LinesListed c.args.share (line_by c.in_ok-rule.rule) files c.args.list.now content run) _ _ g.T.F.Feed.remaining
+    c.in_ok-feed.feed _ _ _ _ _ _ _ _ _ _ _ _ _ (sym c.eq.ensures ∙ c.if-eq.false) c.in_ok-feed.ensures.opened
     c.open_file.ensures.kept c.in_ok-feed.ensures.counted c.print_names-answer.ensures.run
     c.in_ok-feed.ensures.fresh
     (rw (c.feed-3-1.given.1 (sym c.print_names-answer.ensures.same.input)) at c.close.ensures.counted))

@@ -1,18 +1,22 @@
 use Rattle.std.proofs.Common.{◌≡◌, Err, Ok, Result, arith, false, if◌then◌else◌, refl}
 use Rattle.std.proofs.lemmas.Bool.Decides.{nat_tests}
 use Rattle.std.specs.Prelude.{[], ◌==◌, option_map}
-use Rattle.sumlist.specs.Tally.{is_clean}
 use Rattle.sumlist.specs.declared.summary.Summary.{Summary}
 use Rattle.command.specs.Checking.{notes_of}
+use Rattle.command.specs.Lines.{is_input}
 use Rattle.command.specs.Run.{TellsAll}
 use Rattle.command.specs.inside.Rules.{meaning}
+use Rattle.command.specs.inside.Streams.{seen_of}
 use Rattle.command.specs.declared.fault.Fault.{Fault}
+use Rattle.command.proofs.Given.{reads_done, reads_passed}
 use Rattle.command.proofs.Listing.{graded-leaves}
 use Rattle.command.proofs.session.Session.print_report.Goals as goal
 use Rattle.command.proofs.session.Session.print_report.Goals.{else-is_alone, then-is_alone}
 
 pub returns-after-is_alone-clause-report : goal.returns-after-is_alone-clause-report
 returns-after-is_alone-clause-report g c =
+    let see = seen_of g.L.Feed.remaining g.L.Feed.failure_count g.T.Tree.files g.T.Tree.failure_count
+    g.T.Tree.opens g.W.Sink.shown in
     let r : Result Summary Fault = Ok c.in-Ok.summary in
     let told : TellsAll (g.E.Sink.shown c.args.err.now) (g.E.Sink.shown c.if-is_alone.err)
     (if c.args.share.now.others == 0 then notes_of c.args.reporting (meaning c.args.entries.now)
@@ -23,21 +27,15 @@ returns-after-is_alone-clause-report g c =
           let shared : (c.args.share.now.others == 0) ≡ false = grind (arith, nat_tests, other) in
           rw (shared, w.err-is) refl
     ] in
-    record {
-      answer = Ok (if is_clean c.in-Ok.summary then 0 else 1);
-      err_mid = g.E.Sink.shown c.if-is_alone.err;
-      run = c.in-Ok.ensures.run c.args.reporting (g.E.Sink.shown c.args.err.now) _ told;
-      gave = graded-leaves _ r _ _ c.in-Ok.ensures.gave;
-      files = c.in-Ok.ensures.files;
-      answers = (c.status_of.ensures, refl);
-    }
+    rw c.status_of.ensures (reads_done _ (is_input c.args.name.now) false (see c.args.self.now)
+    (see c.check_named.new.self) _ _ _ (c.in-Ok.ensures.run c.args.reporting (g.E.Sink.shown c.args.err.now) _ told)
+    (graded-leaves _ r _ _ c.in-Ok.ensures.gave))
 
 pub returns-in-Err-clause-report : goal.returns-in-Err-clause-report
-returns-in-Err-clause-report g c = record {
-  answer = Err c.in-Err.fault;
-  err_mid = _;
-  run = c.in-Err.ensures.run c.args.reporting (g.E.Sink.shown c.args.err.now) _ refl;
-  gave = let r : Result Summary Fault = Err c.in-Err.fault in graded-leaves _ r _ _ c.in-Err.ensures.gave;
-  files = c.in-Err.ensures.files;
-  answers = c.settle.ensures.settles;
-}
+returns-in-Err-clause-report g c =
+    let see = seen_of g.L.Feed.remaining g.L.Feed.failure_count g.T.Tree.files g.T.Tree.failure_count
+    g.T.Tree.opens g.W.Sink.shown in
+    let r : Result Summary Fault = Err c.in-Err.fault in
+    reads_passed _ (is_input c.args.name.now) false (see c.args.self.now) (see c.check_named.new.self) _ _ c.in-Err.fault _
+    _ _ (c.in-Err.ensures.run c.args.reporting (g.E.Sink.shown c.args.err.now) _ refl)
+    (graded-leaves _ r _ _ c.in-Err.ensures.gave) (rw c.whole.ensures.others at c.pass_over.ensures.passes)

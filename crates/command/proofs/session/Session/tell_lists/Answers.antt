@@ -2,7 +2,7 @@ use Rattle.std.proofs.Common.{map, refl, sym, ◌∙◌}
 use Rattle.command.specs.inside.Rules.{meaning}
 use Rattle.command.specs.inside.Seen.{Seen}
 use Rattle.command.specs.inside.Streams.{seen_of}
-use Rattle.command.proofs.ToldLists.{report_none, report_read}
+use Rattle.command.proofs.ToldLists.{report_none, report_opened, report_read}
 use Rattle.command.proofs.session.Session.tell_lists.Goals as goal
 
 pub returns-in_err-feed-clause-run : goal.returns-in_err-feed-clause-run
@@ -20,8 +20,21 @@ returns-clause-run g c =
       file_failures = g.T.Tree.failure_count c.open_file.new.tree;
       opens = g.T.Tree.opens c.open_file.new.tree;
     } in
+    let new : Seen = record {
+      bytes = g.L.Feed.remaining c.walk-answer.new.items.input.now;
+      files = g.T.Tree.files c.walk-answer.new.items.tree.now;
+      input_failures = g.L.Feed.failure_count c.walk-answer.new.items.input.now;
+      file_failures = g.T.Tree.failure_count c.walk-answer.new.items.tree.now;
+      opens = g.T.Tree.opens c.walk-answer.new.items.tree.now;
+      out = g.W.Sink.shown c.walk-answer.new.out;
+    } in
     report_read c.args.reporting (meaning c.args.entries.now) c.args.report.now (map (λ n. n.now) c.args.lists.now) _
-    _ _ g.T.F.Feed.remaining c.in_ok-feed.feed _ _ before (see c.tell_each-answer.new.self)
-    _ _ _ _ c.in_ok-feed.ensures.opened c.open_file.ensures.kept c.in_ok-feed.ensures.counted
-    c.new.ensures.left (c.new.ensures.counted ∙ c.in_ok-feed.ensures.fresh) c.tell_each-answer.ensures.run
-    (rw (c.feed-3-1.given.1 (sym (c.tell_each-answer.ensures.same.1 ∙ c.new.ensures.same))) at c.close.ensures.counted)
+    _ _ g.T.F.Feed.remaining c.in_ok-feed.feed _ _ before new c.whole.result
+    _ _ _ _ c.whole.ensures.others c.whole.ensures.waiting c.in_ok-feed.ensures.opened c.open_file.ensures.kept c.in_ok-feed.ensures.counted
+    c.new.ensures.left (c.new.ensures.counted ∙ c.in_ok-feed.ensures.fresh) (rw (c.new-2.ensures.left, c.new-2.ensures.names) at c.walk-answer.ensures.run)
+    (rw (c.feed-3-1.given.1 (sym (c.walk-answer.ensures.same.7 ∙ c.new.ensures.same))) at c.close.ensures.counted)
+
+pub returns-clause-opens : goal.returns-clause-opens
+returns-clause-opens g c = report_opened (map (λ n. n.now) c.args.lists.now) c.whole.result _ _ _ _
+    c.whole.ensures.others c.whole.ensures.waiting (rw c.new-2.ensures.left at c.walk-answer.ensures.kept)
+    c.open_file.ensures.opens c.close.ensures.opened
