@@ -450,6 +450,12 @@ def signed(bench, text):
         write(folder, "SHA256SUMS.asc", other)
         got = bench.run(text, folder)
         same((got[0] > 0, got[1]), (True, b""), name)
+    # a signature of another file writes no list: one from before must not be checked
+    write(folder, "SHA256SUMS", "# a list\n")
+    same(bench.run("gpg --batch --quiet --yes --armor --detach-sign SHA256SUMS", folder)[0], 0, "status of signing")
+    write(folder, "LIST", listed)
+    got = bench.run(text, folder)
+    same((got[0] > 0, got[1]), (True, b""), "a signature beside another list")
 
 
 def signed_beside(bench, text):
