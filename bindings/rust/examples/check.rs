@@ -1,6 +1,6 @@
 // SPDX-License-Identifier: MIT OR Apache-2.0
 //! Checks the files of a list that is named as a program of coreutils names it, or of b3sum, beside the list:
-//! SUMS_HASH_LIB_DIR=$PWD/lib cargo run --example check SHA256SUMS
+//! cargo run --features bundled --example check SHA256SUMS
 
 use std::error::Error;
 use std::path::Path;

@@ -1,5 +1,5 @@
 // SPDX-License-Identifier: MIT OR Apache-2.0
-//! Prints digests of "abc" and a tag: SUMS_HASH_LIB_DIR=$PWD/lib cargo run --example digests
+//! Prints digests of "abc" and a tag: cargo run --features bundled --example digests
 
 use sums_hash::{Blake2b, Blake3, Refusal};
 

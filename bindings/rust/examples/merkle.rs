@@ -1,7 +1,7 @@
 // SPDX-License-Identifier: MIT OR Apache-2.0
 //! Prints the root of a file's Merkle tree as BitTorrent v2 has it (BEP 52, "pieces root"). The leaves are the SHA-256
 //! digests of blocks of 16 KiB, and each node above is that of its two:
-//! SUMS_HASH_LIB_DIR=$PWD/lib cargo run --example merkle FILE
+//! cargo run --features bundled --example merkle FILE
 
 use std::error::Error;
 
