@@ -40,8 +40,9 @@ fn main(rt: HostRuntime) -> ExitCode {
     }
 }
 
-// Runs with a line buffer before each of the two streams: whole lines go out, each in one write. Both buffers
-// are made before anything is read. Each erases the line of `--progress`.
+// Runs with a line buffer before each of the two streams: whole lines go out, each in one write, since several runs may
+// write into one file or pipe. Both buffers are made before anything is read, and hold the longest line, some 640 KiB;
+// only BLAKE3's long outputs take several writes. Each erases the line of `--progress`.
 fn run_lines(rt: &HostRuntime) -> io::Result<u8> {
     let _held = closed_streams(rt)?;
     let progress = Progress::new(*rt);
@@ -57,8 +58,10 @@ fn run_lines(rt: &HostRuntime) -> io::Result<u8> {
     Ok(status)
 }
 
-// Opens a folder in place of each of the three streams that is closed. Like the closed stream, it can be
-// neither read nor written, and no file that is opened later takes its number.
+// Opens a folder in place of each of the three streams that is closed. The system gives a file that it opens the lowest
+// free number: if standard input is closed, the first file would be read as standard input too. Like the closed stream, a
+// folder can be neither read nor written, not even as /dev/stdin, whereas the null device would be an empty file. If `/`
+// cannot be opened, a closed stream is not held.
 fn closed_streams(rt: &HostRuntime) -> io::Result<Vec<File>> {
     let mut held = Vec::new(rt.alloc());
     for _ in 0..3 {
