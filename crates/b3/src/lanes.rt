@@ -1,4 +1,8 @@
 // Eight chunks at once, and the subtrees over them (the BLAKE3 paper, section 5.3).
+//
+// One chunk at a time has a fifth of the speed of the C library with AVX2. So eight whole chunks go side by
+// side in eight lanes, three or four as two pairs or in four lanes, and two in the halves of rows, each way
+// with its proof. The chunk that may be the last stays open, so outputs are those of the plain rule.
 
 ghost use Rattle.std.specs.Prelude.{◌≡◌, ℕ, ◌+◌, ◌-◌, ◌*◌, ◌<◌, ◌≤◌, ◌^◌, ◌++◌, [], length, slice_index};
 ghost use Rattle.std.specs.Prelude.{slice_index_or};

@@ -91,6 +91,9 @@ impl Mode {
     }
 }
 
+// The state of a part of one block holds the key, so `Debug` of a mode and of a part is written by hand and
+// shows no key, with a clause on what it writes. No contract of std can say what is written before a write
+// fails.
 impl Debug for Mode {
     ghost use Rattle.b3.specs.Parts.{mode_name};
     ghost use Rattle.std.specs.Fmt.{DisplaysOnOk, WritesStyledOnOk};

@@ -1,4 +1,7 @@
 // The chaining values of BLAKE2b and BLAKE2s (RFC 7693, section 3).
+//
+// The definitions are over a `Variant`, and the streaming hasher is generic over the chaining value; only G
+// and the compression of words are a macro.
 
 ghost use Rattle.std.specs.Prelude.{◌≡◌, ◌≤◌, ◌<◌, ◌*◌, ◌-◌, ◌^◌, ℕ, List, length, take};
 ghost use Rattle.std.proofs.Common.{rules};

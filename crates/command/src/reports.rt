@@ -362,6 +362,13 @@ fn write_note<E: Sink>(
 }
 
 // What the report of a list does not say.
+//
+// Without `-a`, or with one of another length, a good list has malformed lines alone. A message on standard
+// error says so, once for each list. The first malformed line with a known look decides: that of MD5, SHA-1,
+// a byte order mark or digits alone, by its bytes, or of an entry of another hash. BLAKE2b has digests of
+// each length, so one more reading decides that. Lines that are all `FAILED` get a message under each `-a`,
+// though the files may be damaged. Malformed lines are read twice, and a list with several faults gets one
+// message.
 fn hint_of<'n>(
     name: &'n str,
     entries: &sumlist::Entries<'_, ShortKeyed>,

@@ -1,5 +1,11 @@
 //! The rounds of BLAKE2 and BLAKE3 on several inputs side by side: each word is a vector with one lane for
 //! each input.
+//!
+//! The toolchain takes no number of lanes as a parameter, its macros write no clauses, and its gate refuses an
+//! `impl` that a macro wrote. So a trait, `WordLanes`, says what sums, xors and turns do in each lane, and the
+//! rounds are written once over it. BLAKE3 puts halves of four G's side by side; BLAKE2 takes one G after
+//! another, which is faster below x86-64-v3. Loads, transposes and first working words are still written once
+//! for each vector.
 
 ghost use Rattle.std.specs.Prelude.{◌≡◌, ℕ, ◌<◌, ◌^◌, [], List, bit_xor, map, slice_index, take};
 ghost use Rattle.words.specs.Blake2.{blake2s, folded_halves, rounds};
