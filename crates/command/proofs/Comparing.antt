@@ -1,7 +1,6 @@
 -- The bytes of an output beside other bytes, piece by piece.
 use Rattle.std.proofs.Common.{◌≡◌, ◌≢◌, ◌∙◌, ℕ, ◌+◌, ◌++◌, ◌∷◌, List, [], length, ap, ap₂, arith, drop, length-append}
-use Rattle.std.proofs.Common.{refl}
-use Rattle.std.proofs.Common.{sym, take}
+use Rattle.std.proofs.Common.{refl, sym, take}
 use Rattle.std.specs.Prelude.{◌↔◌, ◌==◌, false, true}
 use Rattle.std.proofs.lemmas.Bool.Decides.{nat_tests}
 use Rattle.std.proofs.lemmas.List.{drop_at, take_at}

@@ -1,12 +1,18 @@
 -- Failures that are counted one after another.
-use Rattle.std.proofs.Common.{◌≡◌, ◌∙◌, ◌+◌, ◌++◌, ℕ, List, [], Option, None, Some, IfSome, Bool, true, false, arith, refl, ap₂, cond, not}
+use Rattle.std.proofs.Common.{◌≡◌, ◌∙◌, ◌+◌, ◌++◌, ℕ, List, [], Option, None, Some, IfSome, Bool, true, false, arith}
+use Rattle.std.proofs.Common.{refl, ap₂, cond, not, replicate}
+use Rattle.source.specs.Counts.{count_after}
 use Rattle.std.proofs.lemmas.List.Sums.{sum_by-append}
 use Rattle.command.specs.Checking.{Beside}
 use Rattle.command.specs.Run.{Counted}
 use Rattle.command.specs.inside.Hashed.{ListCounted}
 use Rattle.command.specs.inside.Told.{ReportCounted}
-use Rattle.command.specs.inside.Troubles.{counts, failures_from, no_failures, plus}
-use Rattle.command.proofs.Refused.{pair}
+use Rattle.command.specs.inside.Troubles.{Failures, counts, failures_from, no_failures, plus}
+use Rattle.command.proofs.Refused.{counts-replicate, pair}
+
+pub plus-none : (f : Failures) (from_input : Bool) → f ≡ plus f (failures_from from_input 0)
+plus-none f true = pair (omega arith) (omega arith)
+plus-none f false = pair (omega arith) (omega arith)
 
 pub counts-append : (xs ys : List Bool) → counts (xs ++ ys) ≡ plus (counts xs) (counts ys)
 counts-append xs ys = pair (sum_by-append (λ (b : Bool). cond b 1 0) xs ys)
@@ -34,6 +40,32 @@ list_counted_more from_input f g i j k u v w (m, n, is, a, b) (o, p, are, c, d) 
         (plus (failures_from false p) (failures_from b o)) ≡ plus (failures_from false (n + p)) (failures_from b (m + o))
     joined true = pair (omega arith) (omega arith)
     joined false = pair (omega arith) (omega arith)
+
+-- failed reads of the list, or of files
+pub list_counted : (from_input : Bool) (k i j u v : ℕ) → j ≡ count_after i k → v ≡ u
+    → ListCounted from_input (replicate k from_input) i j u v
+list_counted from_input k i j u v read same =
+    (k, 0, counts-replicate k from_input ∙ pair (omega arith) (omega arith), read, omega (arith, same))
+
+pub files_counted : (from_input : Bool) (k i j u v : ℕ) → j ≡ i → v ≡ count_after u k
+    → ListCounted from_input (replicate k false) i j u v
+files_counted from_input k i j u v same read =
+    (0, k, counts-replicate k false ∙ plus-none (failures_from false k) from_input, omega (arith, same), read)
+
+-- the failures of a list and those of its report, where the list is standard input, or a file that was closed
+pub input_counted : (f : List Bool) (i j u v x y : ℕ) → v ≡ u → ListCounted true f i j x y → ReportCounted f i j u v x y
+input_counted f i j u v x y same (k, n, are, read, report) =
+    (failures_from true k, n, are ∙ pair (omega arith) (omega arith), (read, omega (arith, same)), report)
+
+pub file_counted : (f : List Bool) (i j g h u v w x y : ℕ) → h ≡ g → v ≡ count_after u 0 → i ≡ 0 → w ≡ count_after v j
+    → ListCounted false f i j x y → ReportCounted f g h u w x y
+file_counted f i j g h u v w x y same opened fresh closed (k, n, are, read, report) = (
+  failures_from false k,
+  n,
+  are ∙ pair (omega arith) (omega arith),
+  (omega (arith, same), omega (arith, opened, fresh, closed, read)),
+  report,
+)
 
 pub report_counted_more : (f g : List Bool) (i j k u v w x y z : ℕ) → ReportCounted f i j u v x y
     → ReportCounted g j k v w y z → ReportCounted (f ++ g) i k u w x z

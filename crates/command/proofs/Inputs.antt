@@ -1,7 +1,6 @@
 -- What was made and counted where standard input or a file was read.
-use Rattle.std.proofs.Common.{◌≡◌, ◌∙◌, ℕ, Bool, true, false, List, [], Option, Some, None, IfSome, Result, Ok, Err, sym, ap}
-use Rattle.std.proofs.Common.{subst}
-use Rattle.std.proofs.Common.{arith, if◌then◌else◌}
+use Rattle.std.proofs.Common.{◌≡◌, ◌∙◌, ℕ, Bool, true, false, List, [], Option, Some, None, IfSome, Result, Ok, Err}
+use Rattle.std.proofs.Common.{sym, ap, subst, arith, if◌then◌else◌}
 use Rattle.request.specs.CommandLine.{Text}
 use Rattle.source.specs.Counts.{count_after}
 use Rattle.sumlist.specs.Report.{Files}

@@ -1,6 +1,6 @@
 -- The account of a walk.
-use Rattle.std.proofs.Common.{◌≡◌, ◌≢◌, ◌∙◌, ℕ, ◌-◌, List, [], ◌∷◌, ◌++◌, Option, Some, None, Ok, IfSome, true}
-use Rattle.std.proofs.Common.{refl, ap, sym, subst, append-nil, append_assoc}
+use Rattle.std.proofs.Common.{◌≡◌, ◌≢◌, ◌∙◌, ℕ, ◌-◌, List, [], ◌∷◌, ◌++◌, Option, Some, None, Ok, IfSome, true, refl}
+use Rattle.std.proofs.Common.{ap, sym, subst, append-nil, append_assoc}
 use Rattle.std.proofs.lemmas.Option.{IfSome_then}
 use Rattle.hashes.specs.declared.share.Share.{Share}
 use Rattle.sumlist.specs.Shared.{every}

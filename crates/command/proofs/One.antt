@@ -3,23 +3,15 @@ use Rattle.std.proofs.Common.{◌≡◌, ◌≢◌, ◌∙◌, ℕ, List, [], �
 use Rattle.std.proofs.Common.{refl, sym, ap, arith, inl, inr, ◌==◌, subst, not}
 use Rattle.std.proofs.lemmas.Bool.Decides.{nat_tests}
 use Rattle.std.proofs.lemmas.Result.{err_from_is_err_and}
-use Rattle.std.specs.Prelude.{◌&&◌, ◌||◌, IsErrAnd, MatchBool, MatchResult, OnOk, if◌then◌else◌}
+use Rattle.std.specs.Prelude.{◌&&◌, ◌||◌, IsErrAnd, MatchBool, OnOk}
 use Rattle.source.specs.Written.{Done, Failed, Shown}
 use Rattle.source.proofs.Writing.{Done-after, Failed-after}
 use Rattle.command.specs.Run.{Run, Tells, TellsAll, cannot_write, end_of}
-use Rattle.command.specs.Walks.{InShare, has_no_line, is_last}
 use Rattle.command.specs.inside.Items.{Once, Passes, Reports}
 use Rattle.command.specs.inside.Seen.{Does}
-use Rattle.command.specs.inside.Troubles.{shown, status_of, told, trouble_of}
+use Rattle.command.specs.inside.Troubles.{status_of, told, trouble_of}
 use Rattle.command.specs.declared.fault.Fault.{Fault}
-use Rattle.command.specs.declared.fault.Fault.TheVariants.{CannotWrite}
 use Rattle.command.proofs.Telling.{TellsAll-append, TellsAll-one}
-
-is_1 : (n : ℕ) → (n == 1) ≡ true → n ≡ 1
-is_1 n h = grind (arith, nat_tests)
-
-is_3 : (n : ℕ) → (n == 3) ≡ true → n ≡ 3
-is_3 n h = grind (arith, nat_tests)
 
 not_3 : (n : ℕ) → (n == 3) ≡ false → n ≢ 3
 not_3 n h = grind (arith, nat_tests)

@@ -52,10 +52,6 @@ module _ (given : List (Bor Text)) (i : ℕ) (d : Bor Text) (within : i < length
 
 -- ---- the parts of a file
 
-pub part_opens-all : {A : Type 0} (s : Share) (name : Text) (xs : List A) → s.others ≡ 0
-    → part_opens s name xs ≡ opens_of name
-part_opens-all s name xs none = rw none refl
-
 pub part_opens-share : {A : Type 0} (s : Share) (name : Text) (xs : List A) → 0 < s.others
     → part_opens s name xs ≡ length (every s.others s.waiting xs) + 2
 part_opens-share s name xs some =

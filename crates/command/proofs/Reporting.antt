@@ -1,6 +1,7 @@
 -- Lists that are checked, one after another.
 use Rattle.std.proofs.Common.{◌≡◌, ◌≤◌, ◌+◌, ◌∙◌, ℕ, List, [], ◌∷◌, ◌++◌, Option, Some, None, Bool, true, false, IfSome}
-use Rattle.std.proofs.Common.{Result, Ok, Err, sym, ap, subst, arith, length, refl, if◌then◌else◌, ◌==◌, append_assoc, append-nil, nat_lt}
+use Rattle.std.proofs.Common.{Result, Ok, Err, sym, ap, subst, arith, length, refl, if◌then◌else◌, ◌==◌, append_assoc}
+use Rattle.std.proofs.Common.{append-nil, nat_lt}
 use Rattle.std.proofs.lemmas.List.Sums.{sum_by-append, sum_by-cons}
 use Rattle.std.proofs.lemmas.Option.{IfSome_then}
 use Rattle.std.specs.Prelude.{OnOk}
@@ -15,15 +16,15 @@ use Rattle.task.specs.Tasks.{these}
 use Rattle.task.specs.declared.tasks.Reporting.{Reporting}
 use Rattle.command.specs.Checking.{ListsRun}
 use Rattle.command.specs.Lines.{is_input}
-use Rattle.command.specs.Run.{Counted, LeftBy, TellsAll}
+use Rattle.command.specs.Run.{LeftBy, TellsAll}
 use Rattle.command.specs.inside.Items.{DoesWalk, Once}
 use Rattle.command.specs.inside.Reported.{KeepsLists, OpensLists, PrintsReport, checked_of, checked_state, opens_in}
-use Rattle.command.specs.inside.Seen.{DoesRun, IfTold, OpensAtMost, Seen}
+use Rattle.command.specs.inside.Seen.{DoesRun, IfTold, OpensAtMost, Seen, CountedOf}
 use Rattle.command.specs.declared.fault.Fault.{Fault}
 use Rattle.command.proofs.Given.{opens_some}
 use Rattle.command.proofs.One.{on_ok, once_so}
 use Rattle.command.proofs.Reading.{told_at, told_where}
-use Rattle.command.proofs.Sharing.{every_all}
+use Rattle.command.proofs.Turns.{every-all}
 
 -- ---- what is opened
 
@@ -123,14 +124,14 @@ module _ (reporting : Reporting) (m : Meaning) (list : Option Text) (name : Text
   pub list_printed : (lists : List Text) (others : ℕ) → others ≡ 0 → list ≡ (if nat_lt 1 (length lists) then Some name else None)
       → IfSome (checked_state share old.bytes old.files) (λ x. (i : Text) → i ≡ name → Once (λ run. (y : Share × List ℕ)
       × (checked_of m reporting old.files lists).step x i run y × OnOk r (checked_state behind new.bytes new.files ≡ Some y)) true
-      (nat_lt 0 others) (λ f. Counted f old.input_failures new.input_failures old.file_failures new.file_failures) r old.out new.out
+      (nat_lt 0 others) (CountedOf old new) r old.out new.out
       err_old err_new)
   list_printed lists others alone called = on old.bytes refl old.files refl
     where
       on : (bytes : Option (List ℕ)) → old.bytes ≡ bytes → (files : Option Files) → old.files ≡ files
           → IfSome (checked_state share bytes files) (λ x. (i : Text) → i ≡ name → Once (λ run. (y : Share × List ℕ)
           × (checked_of m reporting files lists).step x i run y × OnOk r (checked_state behind new.bytes new.files ≡ Some y)) true
-          (nat_lt 0 others) (λ f. Counted f old.input_failures new.input_failures old.file_failures new.file_failures) r old.out new.out
+          (nat_lt 0 others) (CountedOf old new) r old.out new.out
           err_old err_new)
       on None at files of = tt
       on (Some bytes) at None of = tt
@@ -141,11 +142,11 @@ module _ (reporting : Reporting) (m : Meaning) (list : Option Text) (name : Text
 pub lists_walked : (reporting : Reporting) (m : Meaning) (share whole : Share) (lists : List Text) (r : Result ℕ Fault)
     (old new : Seen) (err_old err_new : Shown) → whole.others ≡ 0 → whole.waiting ≡ 0
     → IfSome (checked_state share old.bytes old.files) (λ x. DoesWalk true (checked_of m reporting old.files lists) whole x
-    lists (λ f. Counted f old.input_failures new.input_failures old.file_failures new.file_failures) r old.out new.out
+    lists (CountedOf old new) r old.out new.out
     err_old err_new) → DoesRun (λ bytes files. ListsRun m reporting (these share) files lists bytes)
     (λ notes. TellsAll err_old err_new notes) r old new
 lists_walked reporting m share whole lists r old new err_old err_new alone first walked = told_where old
-    (λ bytes files at of. rw (alone, first, every_all lists, at, of) at walked)
+    (λ bytes files at of. rw (alone, first, every-all lists, at, of) at walked)
 
 pub lists_opened : (lists : List Text) (whole : Share) (bytes later : Option (List ℕ)) (files now : Option Files) (i j : ℕ)
     → whole.others ≡ 0 → whole.waiting ≡ 0 → (done : List Text) × (rest : List Text)
@@ -153,4 +154,4 @@ pub lists_opened : (lists : List Text) (whole : Share) (bytes later : Option (Li
     → IfSome bytes (λ bytes. IfSome files (λ files. j ≤ i + sum_by (opens_in bytes files) lists))
 lists_opened lists whole bytes later files now i j alone first (done, rest, split, kept) =
     IfSome_then bytes kept.1 (λ b h. IfSome_then files h (λ f o.
-    opens_some (opens_in b f) lists done rest i j (sym (every_all lists) ∙ rw (alone, first) at split) o.most))
+    opens_some (opens_in b f) lists done rest i j (sym (every-all lists) ∙ rw (alone, first) at split) o.most))

@@ -1,9 +1,8 @@
 -- The runs of all shares of a check are one run.
-use Rattle.std.proofs.Common.{◌≡◌, ◌≢◌, ◌∙◌, ◌==◌, ◌++◌, ℕ, ◌-◌, ◌^◌, ◌<◌, ◌≤◌, min, max, List, [], ◌∷◌, length, ap}
-use Rattle.std.proofs.Common.{ap₂, sym, refl, subst, arith, inl, inr}
-use Rattle.std.proofs.Common.{Bool, true, false, if◌then◌else◌, Option, Some, None, Result, Ok, Err, nat_lt}
+use Rattle.std.proofs.Common.{◌≡◌, ◌∙◌, ◌++◌, ℕ, ◌-◌, ◌^◌, ◌<◌, ◌≤◌, min, max, List, [], ◌∷◌, length, ap, ap₂, sym}
+use Rattle.std.proofs.Common.{refl, subst, arith, inl, inr, Bool, true, false, if◌then◌else◌, Option, Some, None}
+use Rattle.std.proofs.Common.{Result, Ok, Err, nat_lt}
 use Rattle.std.proofs.lemmas.Bool.{cases_lt}
-use Rattle.std.proofs.lemmas.Bool.Decides.{nat_tests}
 use Rattle.std.specs.List.{AllByRecursion}
 use Rattle.std.specs.Prelude.{MatchBool, replicate}
 use Rattle.std.specs.Result.{result_map_both}
@@ -15,7 +14,7 @@ use Rattle.sumlist.specs.Shared.{every, shared}
 use Rattle.sumlist.specs.Tally.{is_clean}
 use Rattle.sumlist.specs.inside.Cut.{HasNo}
 use Rattle.sumlist.proofs.InTurn.{Merged, Moves, all_own, merged, moves}
-use Rattle.sumlist.proofs.SharedTally.{bad, bad_below, bad_most, bad_own, worst}
+use Rattle.sumlist.proofs.SharedTally.{bad, bad_below, bad_own, worst}
 use Rattle.sumlist.proofs.SharedTexts.{Spoken, free_append_all, free_every, lined, lines-lined, spoken}
 use Rattle.task.specs.declared.tasks.Reporting.{Reporting}
 use Rattle.command.specs.Checking.{ListRuns, checked, notes_of}

@@ -1,9 +1,7 @@
 -- The runs of all shares of the parts of a file are one run.
 use Rattle.std.proofs.Common.{◌≡◌, ◌∙◌, ◌++◌, ◌-◌, ◌*◌, ◌^◌, ◌≤◌, ℕ, zero, suc, max, List, [], ◌∷◌, length, map, ap}
-use Rattle.std.proofs.Common.{ap₂, sym}
-use Rattle.std.proofs.Common.{refl, subst, arith, inl, inr, append-nil}
-use Rattle.std.proofs.Common.{Bool, true, false, if◌then◌else◌, Option, Some, None, Err, codes, decimal, drop, nat_lt}
-use Rattle.std.proofs.Common.{take}
+use Rattle.std.proofs.Common.{ap₂, sym, refl, subst, arith, inl, inr, append-nil, Bool, true, false, if◌then◌else◌}
+use Rattle.std.proofs.Common.{Option, Some, None, Err, codes, decimal, drop, nat_lt, take}
 use Rattle.std.proofs.lemmas.Bool.Decides.{nat_tests}
 use Rattle.std.proofs.lemmas.List.Elements.{All-weaker}
 use Rattle.std.proofs.lemmas.Option.{same_Some}
@@ -21,8 +19,8 @@ use Rattle.partlist.proofs.Pieces.{word_bytes-bytes}
 use Rattle.partlist.specs.Joined.{AllTell, AreInRow, TellsPart, bytes_of}
 use Rattle.partlist.specs.PartLine.{line_of}
 use Rattle.source.specs.Written.{Begins}
-use Rattle.sumlist.proofs.SharedTexts.{Line, decimal_free, free_append, free_every, line_after, line_end, lined}
-use Rattle.sumlist.proofs.SharedTexts.{lines-lined, literal}
+use Rattle.sumlist.proofs.SharedTexts.{Line, decimal_free, free_append, line_after, line_end, lined, lines-lined}
+use Rattle.sumlist.proofs.SharedTexts.{literal}
 use Rattle.sumlist.proofs.Shares.{every-map}
 use Rattle.sumlist.proofs.Words.{InWord, digits_word}
 use Rattle.sumlist.specs.Lines.{lines}

@@ -1,7 +1,7 @@
 -- The runs of all shares of a walk are one walk over all items.
-use Rattle.std.proofs.Common.{◌≡◌, ◌∙◌, ◌==◌, ℕ, ◌<◌, ◌≤◌, List, [], ◌∷◌, ◌++◌, length, map, max, suc, zero}
-use Rattle.std.proofs.Common.{Bool, true, false, Some, None, Ok, Err, ap, ap₂, sym, subst, refl, arith}
-use Rattle.std.proofs.Common.{append_assoc, inl, inr, nat_lt}
+use Rattle.std.proofs.Common.{◌≡◌, ◌∙◌, ◌==◌, ℕ, ◌<◌, ◌≤◌, List, [], ◌∷◌, ◌++◌, length, map, max, suc, zero, Bool, true}
+use Rattle.std.proofs.Common.{false, Some, None, Ok, Err, ap, ap₂, sym, subst, refl, arith, append_assoc, inl, inr}
+use Rattle.std.proofs.Common.{nat_lt}
 use Rattle.std.proofs.lemmas.Bool.Decides.{nat_tests}
 use Rattle.std.proofs.lemmas.List.{length-map}
 use Rattle.std.proofs.lemmas.Slice.Zip.{AllZip-long}
@@ -13,6 +13,7 @@ use Rattle.sumlist.proofs.Shares.{every-map}
 use Rattle.command.specs.Laws.{AreShares}
 use Rattle.command.specs.Run.{Run, cannot_write, end_of, followed, prints}
 use Rattle.command.specs.Walks.{InShare, Walk, Walks, WalksShare, is_last, has_no_line}
+use Rattle.command.proofs.Turns.{every-all}
 
 abbrev pub status : Run → ℕ
 status r = (end_of r.ending).0
@@ -88,10 +89,6 @@ all_every : {A : Type 0} (P : A → Type 0) (n k : ℕ) (xs : List A) → AllByR
 all_every P n k [] all = tt
 all_every P n zero (x ∷ xs) (here, all) = (here, all_every P n n xs all)
 all_every P n (suc k) (x ∷ xs) (here, all) = all_every P n k xs all
-
-pub every_all : {A : Type 0} (xs : List A) → every 0 0 xs ≡ xs
-every_all [] = refl
-every_all (x ∷ xs) = ap (λ ys. x ∷ ys) (every_all xs)
 
 -- ---- the greatest status
 
@@ -327,7 +324,7 @@ module _ {S I : Type 0} (goes_on : Bool) (w : Walk S I) (P : I → Type 0) (plai
       let status_is : (k : ℕ) → k ≤ n → status (shares k) ≡ max 0 (highest (every n k runs))
       = λ k within. ap status (is k within) ∙ ap (λ e. (end_of e).0) (joined_ending goes_on true 0 (every n k runs)) in (
         whole,
-        rw (every_all items) (gather goes_on w P plain x 0 items runs turn.each),
+        rw (every-all items) (gather goes_on w P plain x 0 items runs turn.each),
         (
           map (said_of goes_on) runs,
           length-map runs (said_of goes_on) ∙ AllZip-long (Did goes_on w P plain) items runs turn.each,

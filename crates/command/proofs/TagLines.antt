@@ -1,21 +1,18 @@
 -- The lines that are printed of tags are a list of them, each of which is OK.
-use Rattle.std.proofs.Common.{◌≡◌, ◌∙◌, ℕ, ◌*◌, ◌≤◌, List, [], ◌∷◌, ◌++◌, length, Option, Some, None, ap, false, inl}
-use Rattle.std.proofs.Common.{refl}
-use Rattle.std.specs.Prelude.{All, IsSomeAnd, flat_map, map}
+use Rattle.std.proofs.Common.{◌≡◌, ◌∙◌, ℕ, ◌*◌, ◌≤◌, List, [], ◌∷◌, ◌++◌, length, Option, Some, None, ap, false, refl}
 use Rattle.std.proofs.Common.{append_assoc}
+use Rattle.std.specs.Prelude.{All, IsSomeAnd, flat_map, map}
 use Rattle.std.proofs.lemmas.List.Elements.{All-head, All-tail}
 use Rattle.hashes.specs.declared.alg.Alg.TheVariants.{Blake2b}
 use Rattle.request.specs.CommandLine.{Text}
 use Rattle.sumlist.specs.Entry.{IsEntry, Listing, written_line}
 use Rattle.sumlist.specs.Lines.{lines}
-use Rattle.sumlist.specs.Report.{AllAllowed, Allowed, Files, keyed, told}
+use Rattle.sumlist.specs.Report.{AllAllowed, Files, keyed, told}
 use Rattle.sumlist.specs.declared.verdict.Verdict.TheVariants.{Matches}
 use Rattle.sumlist.proofs.Cutting.{HasNo-from_none, lines-ended}
 use Rattle.sumlist.proofs.Deciding.{matches}
 use Rattle.sumlist.proofs.Spelling.{written_spells, written_untagged}
-use Rattle.task.specs.declared.tagging.Mac.{Mac}
 use Rattle.task.specs.declared.tagging.Mac.TheVariants as mac
-use Rattle.command.specs.Keying.{mac_line}
 use Rattle.command.specs.Laws.{IsTagged, TagsAreOk, line_of_file}
 use Rattle.command.specs.Lines.{LineRule, line_beside, tag_line}
 

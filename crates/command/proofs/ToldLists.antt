@@ -1,11 +1,9 @@
 -- The run of `check` with `--told`: lists are read beside their report.
-use Rattle.std.proofs.Common.{◌≡◌, ◌∙◌, ℕ, ◌+◌, ◌-◌, ◌^◌, ◌<◌, ◌≤◌, List, [], ◌∷◌, ◌++◌, length, length-append}
-use Rattle.std.proofs.Common.{Option, Some, None, Bool, true, false, Result, Ok, Err, IfSome, refl, sym, ap, subst}
-use Rattle.std.proofs.Common.{◌⊎◌, append-nil, arith, inl, inr, replicate}
+use Rattle.std.proofs.Common.{◌≡◌, ◌∙◌, ℕ, ◌+◌, ◌-◌, ◌^◌, ◌<◌, ◌≤◌, List, [], ◌∷◌, ◌++◌, length, length-append, Option}
+use Rattle.std.proofs.Common.{Some, None, Bool, true, false, Result, Ok, Err, IfSome, refl, sym, ap, ◌⊎◌, arith, inl}
+use Rattle.std.proofs.Common.{inr}
 use Rattle.std.proofs.lemmas.Bool.Decides.{nat_tests}
-use Rattle.std.proofs.lemmas.Option.{IfSome_then}
-use Rattle.std.proofs.lemmas.Result.{err_from_is_err_and}
-use Rattle.std.specs.Prelude.{◌==◌, IsErrAnd, IsErrOf, IsSomeAnd, MatchResult, OnOk, codes, fold, if◌then◌else◌, nat_le, nat_lt}
+use Rattle.std.specs.Prelude.{◌==◌, IsErrAnd, IsErrOf, IsSomeAnd, OnOk, codes, fold, if◌then◌else◌, nat_le, nat_lt}
 use Rattle.std.specs.Borrow.{Bor}
 use Rattle.std.specs.Fmt.{decimal}
 use Rattle.std.specs.Io.KnownBytes.{Consumes, IsAtEnd}
@@ -16,7 +14,6 @@ use Rattle.source.specs.Pumped.{Gives}
 use Rattle.source.specs.Written.{Shown}
 use Rattle.sumlist.specs.Checked.{CountsOnly}
 use Rattle.sumlist.specs.Escape.{escaped}
-use Rattle.sumlist.specs.Lines.{lines}
 use Rattle.sumlist.specs.Report.{Files, Meaning, Outcome, foreign, malformed, report_from, skipped, summary_of, text}
 use Rattle.sumlist.specs.Report.{told, verdict_text, with_line}
 use Rattle.sumlist.specs.Tally.{is_clean}
@@ -28,31 +25,31 @@ use Rattle.sumlist.specs.declared.verdict.Verdict.TheVariants as verdict
 use Rattle.sumlist.specs.inside.Telling.{ListBeside}
 use Rattle.task.specs.Tasks.{in_file}
 use Rattle.task.specs.declared.tasks.Reporting.{Reporting}
-use Rattle.command.specs.Checking.{Beside, ListsRun, notes_of}
+use Rattle.command.specs.Checking.{Beside, ListsRun, ends_at, notes_of}
 use Rattle.command.specs.Lines.{content_of, is_input, opens_of}
 use Rattle.command.specs.Run.{Run, TellsAll, prints, stops}
-use Rattle.command.specs.inside.Faults.{of_tell}
-use Rattle.command.specs.inside.Reading.{Leaves, failed}
+use Rattle.command.specs.inside.Faults.{graded, of_tell, remarks}
+use Rattle.command.specs.inside.Hashed.{ListCounted}
+use Rattle.command.specs.inside.Reading.{Leaves}
 use Rattle.command.specs.inside.Items.{Breaks, DoesWalk, Once}
 use Rattle.hashes.specs.declared.share.Share.{Share}
-use Rattle.command.specs.inside.Seen.{Does, IfTold, Seen}
-use Rattle.command.specs.inside.Told.{CountsList, HasRoom, IsOther, IsSummed, MayStop, ReportCounted, SumsUp}
-use Rattle.command.specs.inside.Told.{TellsList, by_report_of, roomy, told_state}
-use Rattle.command.specs.inside.Troubles.{Counted, MayRefuse, Trouble, counts, failed_reads, failures_from}
-use Rattle.command.specs.inside.Troubles.{cannot_read, no_failures, other_line, plus, refusal, shown, too_long}
-use Rattle.command.specs.inside.Troubles.{trouble_of}
+use Rattle.command.specs.inside.Seen.{Does, Seen}
+use Rattle.command.specs.inside.Troubles.{Counted, MayRefuse, counts, failed_reads, failures_from, cannot_read}
+use Rattle.command.specs.inside.Troubles.{no_failures, other_line, plus, refusal, shown, too_long, trouble_of}
 use Rattle.command.specs.declared.fault.Fault.{Fault}
+use Rattle.command.specs.declared.fault.Fault.TheVariants.{CannotRead, OtherLine, OutOfMemory, TooLong}
 use Rattle.command.proofs.One.{once_done, once_last}
-use Rattle.command.proofs.Listing.{long_list, plus-none, refuse-few}
-use Rattle.command.proofs.Reading.{told_then}
+use Rattle.command.proofs.Counting.{file_counted, files_counted, input_counted, list_counted, plus-none}
+use Rattle.command.proofs.Listing.{long_list, refuse-few}
 use Rattle.command.proofs.Given.{opens_some}
-use Rattle.command.proofs.Sharing.{every_all}
+use Rattle.command.proofs.Turns.{every-all}
 use Rattle.std.specs.List.{sum_by}
 use Rattle.sumlist.specs.Shared.{every}
-use Rattle.command.proofs.Refused.{Counted-none, Does-refused}
-use Rattle.command.proofs.Refused.{Counted-as, Counted-refusal, counts-replicate, pair, refused_by, same_reads}
-use Rattle.command.proofs.Refused.{unread_by}
+use Rattle.command.proofs.Refused.{not_both, refused_ends, Counted-none, Does-refused, Counted-as, Counted-refusal}
+use Rattle.command.proofs.Refused.{counts-replicate, pair, refused_by, unread_by}
 use Rattle.command.proofs.TakenParts.{unopened}
+use Rattle.command.specs.inside.Told.{BesideRuns, HasRoom, IsTold, ReportCounted, ToldOver, by_report_of, roomy, ReportOf}
+use Rattle.command.specs.inside.Told.{told_state}
 
 -- ---- the lines of a report
 
@@ -100,35 +97,23 @@ lines_some title k (foreign l ∷ os) s =
     foreign_as : (title : Option Text) → text title k (foreign l) ≡ text title k malformed
     foreign_as None = refl
     foreign_as (Some title) = refl
-lines_some title k (told name v ∷ os) s = on v (λ after. lines_some title (k + 1) os after)
-  where
-    one : (v : Verdict) (after : Summary) → after.skipped ≡ s.skipped
-        → length os + after.skipped ≤ length (report_from title (k + 1) os) + (fold with_line after os).skipped
-        → length (told name v ∷ os) + s.skipped
-        ≤ length (report_from title k (told name v ∷ os)) + (fold with_line after os).skipped
-    one v after same rest = omega (
+lines_some title k (told name v ∷ os) s =
+    let rest = lines_some title (k + 1) os (with_line s (told name v)) in
+    omega (
       arith,
-      same,
+      same v,
       rest,
       verdict_some v,
       length-append (text title k (told name v)) (report_from title (k + 1) os),
       length-append (escaped name) (verdict_text v),
     )
-
-    on : (v : Verdict) → ((after : Summary)
-        → length os + after.skipped ≤ length (report_from title (k + 1) os) + (fold with_line after os).skipped)
-        → length (told name v ∷ os) + s.skipped
-        ≤ length (report_from title k (told name v ∷ os)) + (fold with_line s (told name v ∷ os)).skipped
-    on verdict.Matches rest = let after = with_line s (told name verdict.Matches) in
-        one verdict.Matches after refl (rest after)
-    on verdict.Differs rest = let after = with_line s (told name verdict.Differs) in
-        one verdict.Differs after refl (rest after)
-    on verdict.Missing rest = let after = with_line s (told name verdict.Missing) in
-        one verdict.Missing after refl (rest after)
-    on verdict.Unreadable rest = let after = with_line s (told name verdict.Unreadable) in
-        one verdict.Unreadable after refl (rest after)
-    on verdict.TooLong rest = let after = with_line s (told name verdict.TooLong) in
-        one verdict.TooLong after refl (rest after)
+  where
+    same : (v : Verdict) → (with_line s (told name v)).skipped ≡ s.skipped
+    same verdict.Matches = refl
+    same verdict.Differs = refl
+    same verdict.Missing = refl
+    same verdict.Unreadable = refl
+    same verdict.TooLong = refl
 
 lines_few : (title : Option Text) (os : List Outcome)
     → length os - (summary_of os).skipped ≤ length (report_from title 1 os)
@@ -137,70 +122,87 @@ lines_few title os = let most = lines_some title 1 os (summary_of []) in omega (
 
 -- ---- one list that a feed gives
 
-module _ (m : Meaning) (title : Option Text) (name report : Bor Text) (bytes left : List ℕ) (n next : ℕ)
-    (rest : Option (List ℕ)) (i j x y : ℕ) where
-  sums_up : (answer : Result Summary TellFault) → ListBeside m title bytes left n next rest answer
+module _ (reporting : Reporting) (m : Meaning) (title : Option Text) (name report : Bor Text) (bytes left whole : List ℕ)
+    (n next : ℕ) (rest : Option Text) (before after : Shown) (i j x y : ℕ) (room : HasRoom whole left n) where
+  abbrev pub Fed : Result ℕ Fault → Type 0
+  Fed r = IsTold (BesideRuns reporting m title name.now report.now (Some bytes) whole left n rest next) r before after
+      (λ f. ListCounted (is_input name.now) f i j x y)
+
+  -- a fault ended it
+  stops_by : (f : Fault) (failures : List Bool) (is : BesideRuns reporting m title name.now report.now (Some bytes) whole
+      left n rest next (record (stops (shown (trouble_of f))) { failures = failures })) → after ≡ before
+      → ListCounted (is_input name.now) failures i j x y → Fed (Err f)
+  stops_by f failures is quiet counted = record {
+    run = record (stops (shown (trouble_of f))) { failures = failures };
+    is_run = is;
+    does = λ out. Does-refused (trouble_of f) failures f (Err f) out out refl refl refl;
+    notes = quiet;
+    counts = counted;
+  }
+
+  unread : (f : Fault) → MayRefuse (2 ^ 64 - 1) name.now (Some bytes) (trouble_of f) → after ≡ before
+      → j ≡ count_after i (failed_reads (Some bytes) (trouble_of f)) → y ≡ x → Fed (Err f)
+  unread f may quiet read same = stops_by f _ (inl (refused_by (2 ^ 64 - 1) (is_input name.now) name.now (Some bytes)
+      (trouble_of f) may)) quiet (list_counted (is_input name.now) _ i j x y read same)
+
+  unreported : (f : Fault) → MayRefuse (2 ^ 64 - 1) report.now (Some whole) (trouble_of f) → after ≡ before → j ≡ i
+      → y ≡ count_after x (failed_reads (Some whole) (trouble_of f)) → Fed (Err f)
+  unreported f may quiet same read = stops_by f _ (inr (inl (refused_by (2 ^ 64 - 1) false report.now (Some whole)
+      (trouble_of f) may))) quiet (files_counted (is_input name.now) _ i j x y same read)
+
+  fed : (answer : Result Summary TellFault) → ListBeside m title bytes left n next rest answer
       → CountsOnly tell.ListRead answer i j → CountsOnly tell.ReportRead answer x y
       → (answer ≡ Err tell.ListTooLong → 2 ^ 64 - 1 < length bytes)
-      → SumsUp m title report.now left n rest next name.now (Some bytes) (of_tell answer name report next) x y
-      (λ failed. j ≡ count_after i failed)
-  sums_up (Ok s) (os, before, after, cut, possible, behind, split, count, (none, same, rest_is)) reads more long = (
-    record {
-      outcomes = os;
-      possible = rw (cut ∙ ap (λ a. before ++ a) none ∙ append-nil before) possible;
-      same = same;
-      behind = behind;
-      split = split;
-      rest_is = rest_is;
-      next_is = count;
-    },
-    omega (arith, reads.1 (λ e. cc)),
-    more.1 (λ e. cc),
-  )
-  sums_up (Err tell.ListRead) beside reads more long = inl (inr (inl refl), reads.0 refl, more.1 (λ e. cc))
-  sums_up (Err tell.ListTooLong) beside reads more long =
-      inl (inr (inr (refl, long refl)), omega (arith, reads.1 (λ e. cc)), more.1 (λ e. cc))
-  sums_up (Err tell.ReportRead) beside reads more long =
-      inr (inl (inr (inl refl), omega (arith, reads.1 (λ e. cc)), more.0 refl))
-  sums_up (Err tell.ReportTooLong) (os, before, after, cut, possible, behind, split, count, many) reads more long =
-      inr (inl (
-        inr (inr (refl, λ whole room. omega (arith, room, many))),
-        omega (arith, reads.1 (λ e. cc)),
-        omega (arith, more.1 (λ e. cc)),
-      ))
-  sums_up (Err tell.OtherLine) (os, before, after, cut, possible, behind, split, count, (line, others, is, other)) reads
-      more long = inr (inr (
-        record {
-          outcomes = os;
-          before = before;
-          line = line;
-          others = others;
-          cut = cut ∙ ap (λ a. before ++ a) is;
-          possible = possible;
-          behind = behind;
-          split = split;
-          other = other;
-          is = ap (other_line report.now) count;
-        },
-        omega (arith, reads.1 (λ e. cc)),
-        more.1 (λ e. cc),
-      ))
-  sums_up (Err tell.OutOfMemory) beside reads more long =
-      inl (inl refl, omega (arith, reads.1 (λ e. cc)), more.1 (λ e. cc))
+      → TellsAll before after (remarks true reporting title name.now m (of_tell answer name report next))
+      → Fed (graded (of_tell answer name report next))
+  fed (Ok s) (os, front, end, cut, possible, behind, split, count, (none, same, rest_is)) reads more long said = record {
+    run = record (prints [] (if is_clean s then 0 else 1)) { notes = notes_of reporting m title name.now s };
+    is_run = inr (inr (os, front, end, cut, possible, behind, split, inl (none, rw same refl, rest_is, count)));
+    does = λ out. record { ending = refl; out = (refl, Appends-nil out.contents); cut = λ e. cc };
+    notes = said;
+    counts = files_counted (is_input name.now) 0 i j x y (reads.1 (λ e. cc)) (let same = more.1 (λ e. cc) in omega (arith, same));
+  }
+  fed (Err tell.ListRead) beside reads more long said =
+      unread (CannotRead name) (inr (inl refl)) said (reads.0 refl) (more.1 (λ e. cc))
+  fed (Err tell.ListTooLong) beside reads more long said = let none = reads.1 (λ e. cc) in
+      unread (TooLong name) (inr (inr (refl, long refl))) said (omega (arith, none)) (more.1 (λ e. cc))
+  fed (Err tell.OutOfMemory) beside reads more long said = let none = reads.1 (λ e. cc) in
+      unread OutOfMemory (inl refl) said (omega (arith, none)) (more.1 (λ e. cc))
+  fed (Err tell.ReportRead) beside reads more long said =
+      unreported (CannotRead report) (inr (inl refl)) said (reads.1 (λ e. cc)) (more.0 refl)
+  fed (Err tell.ReportTooLong) (os, front, end, cut, possible, behind, split, count, many) reads more long said =
+      let none = more.1 (λ e. cc) in unreported (TooLong report) (inr (inr (refl, omega (arith, room, many)))) said
+      (reads.1 (λ e. cc)) (omega (arith, none))
+  fed (Err tell.OtherLine) (os, front, end, cut, possible, behind, split, count, (line, others, is, other)) reads more long
+      said = let none = more.1 (λ e. cc) in
+      stops_by (OtherLine report next) [] (inr (inr (
+        os,
+        front,
+        end,
+        cut,
+        possible,
+        behind,
+        split,
+        inr (line, others, is, ap (λ k. ends_at report.now k) count, other),
+      ))) said
+      (files_counted (is_input name.now) 0 i j x y (reads.1 (λ e. cc)) (omega (arith, none)))
 
-pub feed_sums : (m : Meaning) (title : Option Text) (name report : Bor Text) (coming now left : Option (List ℕ))
-    (n next : ℕ) (rest : Option (List ℕ)) (i j x y : ℕ) (answer : Result Summary TellFault)
-    → IfSome coming (λ bytes. IfSome left (λ text. ListBeside m title bytes text n next rest answer))
+pub feed_told : (reporting : Reporting) (m : Meaning) (title : Option Text) (name report : Bor Text)
+    (first now left rest : Option (List ℕ)) (n next : ℕ) (before after : Shown) (i j x y : ℕ)
+    (answer : Result Summary TellFault)
+    → IfSome first (λ bytes. IfSome left (λ text. ListBeside m title bytes text n next rest answer))
     → CountsOnly tell.ListRead answer i j → CountsOnly tell.ReportRead answer x y
-    → IfSome coming (λ _. (given : List ℕ) × Consumes coming now given
+    → IfSome first (λ _. (given : List ℕ) × Consumes first now given
     × (IsErrOf answer tell.ListTooLong → 2 ^ 64 - 1 < length given))
-    → IfSome coming (λ bytes. IfSome left (λ text. SumsUp m title report.now text n rest next name.now (Some bytes)
-    (of_tell answer name report next) x y (λ failed. j ≡ count_after i failed)))
-feed_sums m title name report None now left n next rest i j x y answer beside reads more gave = tt
-feed_sums m title name report (Some bytes) now None n next rest i j x y answer beside reads more gave = tt
-feed_sums m title name report (Some bytes) now (Some text) n next rest i j x y answer beside reads more gave =
-    sums_up m title name report bytes text n next rest i j x y answer beside reads more
-    (λ is. long_list bytes gave.0 now gave.1 (gave.2 is))
+    → TellsAll before after (remarks true reporting title name.now m (of_tell answer name report next))
+    → (bytes coming whole : List ℕ) → first ≡ Some bytes → left ≡ Some coming → (room : HasRoom whole coming n)
+    → Fed reporting m title name report bytes coming whole n next rest before after i j x y room
+    (graded (of_tell answer name report next))
+feed_told reporting m title name report first now left rest n next before after i j x y answer beside reads more gave said
+    bytes coming whole at has room =
+    let given = rw at at gave in
+    fed reporting m title name report bytes coming whole n next rest before after i j x y room answer
+    (rw (at, has) at beside) reads more (λ is. long_list bytes given.0 now given.1 (given.2 is)) said
 
 pub feed_left : (old new : Option (List ℕ)) (answer : Result Summary TellFault) (name report : Bor Text) (n : ℕ)
     (P : List ℕ → Type 0) → IfSome old (λ _. (given : List ℕ) × Consumes old new given × P given)
@@ -224,90 +226,59 @@ feed_left old new answer name report n P gave end = (given old gave, at_end answ
 
 -- ---- one list by its name
 
-module _ (m : Meaning) (title : Option Text) (report left : Text) (n : ℕ) (rest : Option Text) (next : ℕ)
-    (name : Text) (content : Option (List ℕ)) (x y : ℕ) (P Q : ℕ → Type 0) (turn : (k : ℕ) → P k → Q k) where
-  sums_as : (r : Result Summary Fault) → SumsUp m title report left n rest next name content r x y P
-      → SumsUp m title report left n rest next name content r x y Q
-  sums_as (Ok s) (summed, counted, same) = (summed, turn 0 counted, same)
-  sums_as (Err f) (inl (may, counted, same)) = inl (may, turn (failed_reads content (trouble_of f)) counted, same)
-  sums_as (Err f) (inr (inl (may, counted, same))) = inr (inl (may, turn 0 counted, same))
-  sums_as (Err f) (inr (inr (other, counted, same))) = inr (inr (other, turn 0 counted, same))
+-- the same run, of whose failures more is known
+told_as : {is : Run → Type 0} {r : Result ℕ Fault} {before after : Shown} {P Q : List Bool → Type 0}
+    → IsTold is r before after P → ((f : List Bool) → P f → Q f) → IsTold is r before after Q
+told_as t so =
+    record { run = t.run; is_run = t.is_run; does = t.does; notes = t.notes; counts = so t.run.failures t.counts }
 
-module _ (m : Meaning) (title : Option Text) (report : Text) (left : Option Text) (n : ℕ) (rest : Option Text)
-    (next : ℕ) (name : Text) (r : Result Summary Fault) (x y : ℕ) where
-  abbrev pub Sums : Option (List ℕ) → (ℕ → Type 0) → Type 0
-  Sums content failed =
-      IfSome left (λ text. SumsUp m title report text n rest next name content r x y failed)
+module _ (reporting : Reporting) (m : Meaning) (title : Option Text) (name report : Text) (left : Option Text) (n : ℕ)
+    (rest : Option Text) (next : ℕ) (r : Result ℕ Fault) (b c : Seen) (before after : Shown) (x y : ℕ) where
+  abbrev pub Over : Type 0
+  Over = ToldOver reporting m title name report left n rest next r b c before after x y
 
-  abbrev pub Named : Option (List ℕ) → Option Files → (i j u v : ℕ) → Type 0
-  Named first tree i j u v = IfSome first (λ bytes. IfSome tree (λ files. Sums (content_of name bytes files)
-      (λ failed. Counted (failures_from (is_input name) failed) i j u v)))
-
-  abbrev pub Fed : Option (List ℕ) → (i j : ℕ) → Type 0
-  Fed coming i j = IfSome coming (λ bytes. Sums (Some bytes) (λ failed. j ≡ count_after i failed))
+  abbrev pub FedBy : Option (List ℕ) → ℕ → ℕ → Type 0
+  FedBy first i j = (bytes coming whole : List ℕ) → first ≡ Some bytes → left ≡ Some coming → HasRoom whole coming n
+      → IsTold (BesideRuns reporting m title name report (Some bytes) whole coming n rest next) r before after
+      (λ f. ListCounted (is_input name) f i j x y)
 
   -- the list is standard input
-  pub named_input : (first : Option (List ℕ)) (tree : Option Files) (i j u v : ℕ) → is_input name ≡ true
-      → Fed first i j → v ≡ u → Named first tree i j u v
-  named_input None tree i j u v is fed same = tt
-  named_input (Some bytes) None i j u v is fed same = tt
-  named_input (Some bytes) (Some files) i j u v is fed same = rw is (IfSome_then left fed (λ text sums.
-      sums_as m title report text n rest next name (Some bytes) x y (λ k. j ≡ count_after i k)
-      (λ k. Counted (failures_from true k) i j u v) (λ k counted. (counted, omega (arith, same))) r sums))
+  pub named_input : is_input name ≡ true → FedBy b.bytes b.input_failures c.input_failures
+      → c.file_failures ≡ b.file_failures → Over
+  named_input is fed same = λ bytes coming whole files at of has room. rw is (told_as (fed bytes coming whole at has room)
+      (λ f counted. input_counted f _ _ _ _ _ _ same (rw is at counted)))
 
   -- it is a file that was opened, and closed
-  pub named_file : {F : Type 0} (remaining : F → Option (List ℕ)) (feed : F) (first : Option (List ℕ))
-      (tree : Option Files) (h i j u v w : ℕ) → is_input name ≡ false
-      → IfSome tree (λ files. (bytes : List ℕ) × (files name ≡ Some bytes) × (remaining feed ≡ Some bytes))
-      → IfSome tree (λ files. v ≡ count_after u 0) → Fed (remaining feed) i j → i ≡ 0 → w ≡ count_after v j
-      → Named first tree h h u w
-  named_file remaining feed None tree h i j u v w is opened counted fed fresh closed = tt
-  named_file remaining feed (Some input) None h i j u v w is opened counted fed fresh closed = tt
-  named_file remaining feed (Some input) (Some files) h i j u v w is opened counted fed fresh closed =
-      let sums : Sums (Some opened.0) (λ failed. j ≡ count_after i failed) = rw opened.2 at fed in
-      rw (is, opened.1) (IfSome_then left sums (λ text sums.
-      sums_as m title report text n rest next name (Some opened.0) x y (λ k. j ≡ count_after i k)
-      (λ k. Counted (failures_from false k) h h u w)
-      (λ k read. (omega arith, omega (arith, counted, read, fresh, closed))) r sums))
+  pub named_file : {F : Type 0} (remaining : F → Option (List ℕ)) (feed : F) (i j v : ℕ) → is_input name ≡ false
+      → IfSome b.files (λ files. (bytes : List ℕ) × (files name ≡ Some bytes) × (remaining feed ≡ Some bytes))
+      → IfSome b.files (λ files. v ≡ count_after b.file_failures 0) → FedBy (remaining feed) i j → i ≡ 0
+      → c.file_failures ≡ count_after v j → c.input_failures ≡ b.input_failures → Over
+  named_file remaining feed i j v is opened counted fed fresh closed same = λ bytes coming whole files at of has room.
+      let it = rw of at opened in let first = rw of at counted in
+      rw (is, it.1) (told_as (fed it.0 coming whole it.2 has room) (λ f read. file_counted f i j _ _ _ v _ x y same first
+      fresh closed (rw is at read)))
 
   -- it is a file that did not open
-  pub named_none : (first : Option (List ℕ)) (tree : Option Files) (f : Fault) (h u v : ℕ) → is_input name ≡ false
-      → IsErrAnd r (λ g. g ≡ f)
-      → IfSome tree (λ files. MayRefuse 0 name (files name) (trouble_of f)
-      × (trouble_of f ≡ too_long name → ⊥))
-      → IfSome tree (λ files. v ≡ count_after u (failed_reads (files name) (trouble_of f))) → y ≡ x
-      → Named first tree h h u v
-  named_none None tree f h u v is stop may counted same = tt
-  named_none (Some bytes) None f h u v is stop may counted same = tt
-  named_none (Some bytes) (Some files) f h u v is stop may counted same =
-      let e = err_from_is_err_and r stop in
-      rw (is, e.1, e.2) (always left (λ text.
-      inl (refuse-few (files name) name (trouble_of f) may.0 may.1, (omega arith, counted), same)))
-    where
-      always : (o : Option Text) {P : Text → Type 0} → ((text : Text) → P text) → IfSome o P
-      always None holds = tt
-      always (Some text) holds = holds text
-
--- ---- the notes of a list, and its status
-
-module _ (reporting : Reporting) (m : Meaning) (title : Option Text) (report : Text) (left : Option Text) (n : ℕ)
-    (rest : Option Text) (next : ℕ) (name : Text) (b c : Seen) (err_old err_new : Shown) (x y : ℕ) where
-  abbrev pub Summed : Result Summary Fault → Type 0
-  Summed answer = IfTold b (λ bytes files. IfSome left (λ text. SumsUp m title report text n rest next name
-      (content_of name bytes files) answer x y (CountsList name b c)))
-
-  pub list_noted : (s : Summary) → Summed (Ok s) → TellsAll err_old err_new (notes_of reporting m title name s)
-      → TellsList reporting m title report left n rest next name (Ok (if is_clean s then 0 else 1)) b c err_old err_new
-      x y
-  list_noted s summed noted = told_then b summed (λ bytes files one. IfSome_then left one (λ text sums.
-      (Ok s, sums, (refl, noted))))
-
-  pub list_stopped : (f : Fault) (r : Result ℕ Fault) → Summed (Err f) → IsErrAnd r (λ g. g ≡ f)
-      → err_new ≡ err_old → TellsList reporting m title report left n rest next name r b c err_old err_new x y
-  list_stopped f r summed stop quiet =
-      let e = err_from_is_err_and r stop in
-      told_then b summed (λ bytes files one. IfSome_then left one (λ text sums.
-      (Err f, sums, (e.1 ∙ ap Err e.2, quiet))))
+  pub named_none : (f : Fault) → is_input name ≡ false → IsErrAnd r (λ g. g ≡ f)
+      → IfSome b.files (λ files. MayRefuse 0 name (files name) (trouble_of f) × (trouble_of f ≡ too_long name → ⊥))
+      → IfSome b.files (λ files. c.file_failures ≡ count_after b.file_failures (failed_reads (files name) (trouble_of f)))
+      → after ≡ before → c.input_failures ≡ b.input_failures → y ≡ x → Over
+  named_none f is stop may counted quiet unread same = λ bytes coming whole files at of has room.
+      let why = rw of at may in let lost = rw of at counted in let t = trouble_of f in
+      let many = failed_reads (files name) t in rw is (record {
+        run = refusal false (files name) t;
+        is_run = inl (rw is (refused_by (2 ^ 64 - 1) false name (files name) t
+            (refuse-few (files name) name t why.0 why.1)));
+        does = λ out. Does-refused t _ f r out out stop refl refl;
+        notes = quiet;
+        counts = (
+          failures_from false many,
+          0,
+          counts-replicate many false ∙ plus-none (failures_from false many) false,
+          (omega (arith, unread), lost),
+          omega (arith, same),
+        );
+      })
 
 -- ---- the run over lists
 
@@ -317,13 +288,6 @@ some_is (Some x) p = (x, refl, p)
 
 and_some : {X : Type 0} (o : Option X) (x : X) (P : X → Type 0) → o ≡ Some x → P x → IsSomeAnd o P
 and_some o x P is p = rw is p
-
--- why a report is not read on, by all of it
-stopped : (report : Text) (n : ℕ) (t : Trouble) (whole left : Text) → HasRoom whole left n → MayStop report left n t
-    → MayRefuse (2 ^ 64 - 1) report (Some whole) t
-stopped report n t whole left room (inl p) = inl p
-stopped report n t whole left room (inr (inl p)) = inr (inl p)
-stopped report n t whole left room (inr (inr p)) = inr (inr (p.0, p.1 whole room))
 
 -- what a list that was read to its end leaves of standard input
 left_by : (b : Bool) (s : ℕ) (bytes : List ℕ) (now : Option (List ℕ))
@@ -371,176 +335,110 @@ known_told report text m f whole left n bytes files is at of readable room =
 module _ (reporting : Reporting) (m : Meaning) (lists : List Text) (report name : Text) (title : Option Text)
     (called : title ≡ (if nat_lt 1 (length lists) then Some name else None)) (left rest : Option Text) (n next : ℕ)
     (shared : Bool) (r : Result ℕ Fault) (b c : Seen) (err_old err_new : Shown) (x y : ℕ) where
-  -- what was done of it, from a state on
-  abbrev pub ToldOnce : Beside → Type 0
-  ToldOnce z = Once (λ run. (w : Beside) × (by_report_of m reporting b.files lists report).step z name run w
-      × OnOk r (told_state report rest next c.bytes c.files ≡ Some w)) false shared (λ failures. ReportCounted failures
-      b.input_failures c.input_failures b.file_failures c.file_failures x y) r b.out c.out err_old err_new
+  -- the run of a list is a step of the walk, and it is known what is behind it if it ends with a status
+  abbrev Stepped : Beside → Run → Type 0
+  Stepped z run = (w : Beside) × (by_report_of m reporting b.files lists report).step z name run w
+      × ((s : ℕ) → run.ending ≡ Ok s → c.bytes ≡ Some (if is_input name then [] else z.input) → c.files ≡ b.files
+      → told_state report rest next c.bytes c.files ≡ Some w)
 
-  module _ (text bytes : List ℕ) (files : Files) (whole : Text) (of : b.files ≡ Some files) (is : files report ≡ Some whole)
-      (room : HasRoom whole text n) (out : c.out ≡ b.out) where
-    abbrev here : Beside
-    here = record { left = text; number = n; input = bytes }
+  stepped : (coming bytes whole : List ℕ) (files : Files) → b.files ≡ Some files → files report ≡ Some whole
+      → HasRoom whole coming n → (run : Run)
+      → BesideRuns reporting m title name report (content_of name bytes files) whole coming n rest next run
+      → Stepped (record { left = coming; number = n; input = bytes }) run
+  stepped coming bytes whole files of is room run runs = on (content_of name bytes files) refl runs
+    where
+      here : Beside
+      here = record { left = coming; number = n; input = bytes }
 
-    -- it was summed up
-    summed : (t : Summary) (bs : List ℕ) → content_of name bytes files ≡ Some bs → IsSummed m title bs text n rest next t
-        → CountsList name b c 0 → y ≡ x → r ≡ Ok (if is_clean t then 0 else 1)
-        → TellsAll err_old err_new (notes_of reporting m title name t)
-        → c.bytes ≡ Some (if is_input name then [] else bytes) → c.files ≡ b.files → ToldOnce here
-    summed t bs content it counted same answered tells now_bytes now_files =
-        let few = lines_few title it.outcomes in
-        let next_is = it.next_is in
-        let longer = length-append (report_from title 1 it.outcomes) it.behind in
-        let cut = ap length it.split in
-        let roomy_still : HasRoom whole it.behind next = omega (arith, few, cut, next_is, longer, room) in
-        let first : Run = record (prints [] (if is_clean t then 0 else 1)) {
-          notes = notes_of reporting m title name t;
-        } in
-        let one : (w : Beside) × (by_report_of m reporting b.files lists report).step here name first w
-        × (told_state report rest next c.bytes c.files ≡ Some w) = (
-          record { left = it.behind; number = next; input = if is_input name then [] else bytes },
-          inr (inr (rw (of, content) (
-            it.outcomes,
-            lines bs,
-            [],
-            sym (append-nil (lines bs)),
-            it.possible,
-            rw (← called) (
-              it.behind,
-              it.split,
-              inl (
-                refl,
-                ap (λ (u : Summary). record (prints [] (if is_clean u then 0 else 1)) {
-                  notes = notes_of reporting m title name u;
-                }) it.same,
-                ap (λ k. record { left = it.behind; number = k; input = if is_input name then [] else bytes }) it.next_is,
-              ),
-            ),
-          ))),
-          known_told report it.behind (if is_input name then [] else bytes) files whole rest next c.bytes c.files it.rest_is
-              now_bytes (now_files ∙ of) is roomy_still,
-        ) in
-        rw answered (once_done first b.out c.out err_old err_new one
-        (failures_from (is_input name) 0, 0, nothing (is_input name), counted, omega (arith, same)) tells false shared
-        (if is_clean t then 0 else 1)
-        (record { ending = refl; out = rw out (refl, Appends-nil b.out.contents); cut = λ e. cc }))
-      where
-        nothing : (i : Bool) → counts [] ≡ plus (failures_from i 0) (failures_from false 0)
-        nothing true = refl
-        nothing false = refl
-
-    -- or a fault ended the run
-    module _ (f : Fault) (answered : r ≡ Err f) (quiet : err_new ≡ err_old) where
-      ended : (failures : List Bool) → (w : Beside) × (by_report_of m reporting b.files lists report).step here name
-          (record (stops (shown (trouble_of f))) { failures = failures }) w → ReportCounted failures b.input_failures
-          c.input_failures b.file_failures c.file_failures x y → ToldOnce here
-      ended failures one counted =
-          let run : Run = record (stops (shown (trouble_of f))) { failures = failures } in
-          rw (answered, quiet) (once_last run b.out c.out err_old err_old (one.0, one.1, tt) counted refl f
-          (record { ending = refl; out = rw out (refl, Appends-nil b.out.contents); cut = λ e. cc }) false shared refl)
-
-      unread : MayRefuse (2 ^ 64 - 1) name (content_of name bytes files) (trouble_of f)
-          → CountsList name b c (failed_reads (content_of name bytes files) (trouble_of f)) → y ≡ x → ToldOnce here
-      unread may counted same = let content = content_of name bytes files in let t = trouble_of f in
-          ended (replicate (failed_reads content t) (is_input name))
-          (here, inl (rw of (refused_by (2 ^ 64 - 1) (is_input name) name content t may))) (
-            failures_from (is_input name) (failed_reads content t),
-            0,
-            counts-replicate (failed_reads content t) (is_input name)
-                ∙ plus-none (failures_from (is_input name) (failed_reads content t)) false,
-            counted,
-            omega (arith, same),
-          )
-
-      unreported : MayStop report text n (trouble_of f) → CountsList name b c 0
-          → y ≡ count_after x (failed_reads (Some []) (trouble_of f)) → ToldOnce here
-      unreported may counted read = let t = trouble_of f in let k = failed_reads (Some whole) t in
-          let stop = refused_by (2 ^ 64 - 1) false report (Some whole) t (stopped report n t whole text room may) in
-          ended (replicate k false) (here, inr (inl (rw (of, is) stop))) (
-            failures_from (is_input name) 0,
-            k,
-            counts-replicate k false ∙ plus-file (is_input name) k,
-            counted,
-            rw (same_reads whole t) read,
-          )
-
-      other : (bs : List ℕ) → content_of name bytes files ≡ Some bs → IsOther m title report bs text n (trouble_of f)
-          → CountsList name b c 0 → y ≡ x → ToldOnce here
-      other bs content it counted same = ended [] (
+      on : (content : Option (List ℕ)) → content_of name bytes files ≡ content
+          → BesideRuns reporting m title name report content whole coming n rest next run → Stepped here run
+      on content at (inl p) = (
         here,
-        inr (inr (rw (of, content) (
-          it.outcomes,
-          it.before,
-          it.line ∷ it.others,
-          it.cut,
-          it.possible,
-          rw (← called) (
-            it.behind,
-            it.split,
-            inr (it.line, it.others, refl, rw it.is refl, it.other),
-          ),
-        ))),
-      ) (failures_from (is_input name) 0, 0, nothing (is_input name), counted, omega (arith, same))
-        where
-          nothing : (i : Bool) → counts [] ≡ plus (failures_from i 0) (failures_from false 0)
-          nothing true = refl
-          nothing false = refl
+        inl (rw (of, at) p),
+        λ s ends. absurd (refused_ends (2 ^ 64 - 1) (is_input name) name content run s p ends),
+      )
+      on content at (inr (inl p)) = (
+        here,
+        inr (inl (rw (of, is) p)),
+        λ s ends. absurd (refused_ends (2 ^ 64 - 1) false report (Some whole) run s p ends),
+      )
+      on None at (inr (inr p)) = absurd p
+      on (Some m) at (inr (inr (os, front, after, cut, possible, behind, split, inl (none, is_run, rest_is, next_is)))) =
+          let few = lines_few title os in
+          let longer = length-append (report_from title 1 os) behind in
+          let long = ap length split in
+          let over : List ℕ = if is_input name then [] else bytes in (
+            record { left = behind; number = next; input = over },
+            inr (inr (rw (of, at) (
+              os,
+              front,
+              after,
+              cut,
+              possible,
+              rw (← called) (
+                behind,
+                split,
+                inl (none, is_run, ap (λ k. record { left = behind; number = k; input = over }) next_is),
+              ),
+            ))),
+            λ s ends now still. known_told report behind over files whole rest next c.bytes c.files rest_is now
+                (still ∙ of) is (omega (arith, few, longer, long, next_is, room)),
+          )
+      on (Some m) at (inr (inr (os, front, after, cut, possible, behind, split, inr (line, others, more, is_run, other))))
+          = (
+            here,
+            inr (inr (rw (of, at) (
+              os,
+              front,
+              after,
+              cut,
+              possible,
+              rw (← called) (
+                behind,
+                split,
+                inr (line, others, more, is_run, other),
+              ),
+            ))),
+            λ s ends. absurd (not_both run _ s (ap (λ (q : Run). q.ending) is_run) ends),
+          )
 
-  -- by what was answered
-  pub list_told : TellsList reporting m title report left n rest next name r b c err_old err_new x y
+  -- what was done of it
+  pub list_told : ToldOver reporting m title name report left n rest next r b c err_old err_new x y
       → Leaves (is_input name) r b.bytes c.bytes → c.files ≡ b.files → c.out ≡ b.out
       → IfSome (told_state report left n b.bytes b.files) (λ z. (i : Text) → i ≡ name → Once (λ run. (w : Beside)
       × (by_report_of m reporting b.files lists report).step z i run w
-      × OnOk r (told_state report rest next c.bytes c.files ≡ Some w)) false shared (λ failures. ReportCounted failures
-      b.input_failures c.input_failures b.file_failures c.file_failures x y) r b.out c.out err_old err_new)
-  list_told list gave kept out = told_known report left n b.bytes b.files _ (λ text bytes files whole has at of is room.
-      λ i named. let (answer, sums, how) = at_told left text bytes files has at of list in
-      rw named (on text bytes files whole of is room at answer sums how))
+      × OnOk r (told_state report rest next c.bytes c.files ≡ Some w)) false shared (ReportOf b c x y) r b.out c.out err_old err_new)
+  list_told read gave kept out = told_known report left n b.bytes b.files _ (λ coming bytes files whole has at of is room.
+      λ i named. let t = read bytes coming whole files at of has room in
+      rw (named, out) (on (record { left = coming; number = n; input = bytes }) r t
+      (stepped coming bytes whole files of is room t.run t.is_run) (rw at at gave)))
     where
-      at_told : (o : Option Text) (text bytes : List ℕ) (files : Files) → o ≡ Some text → b.bytes ≡ Some bytes
-          → b.files ≡ Some files → TellsList reporting m title report o n rest next name r b c err_old err_new x y
-          → (answer : Result Summary Fault)
-          × SumsUp m title report text n rest next name (content_of name bytes files) answer x y (CountsList name b c)
-          × MatchResult answer (λ t. (r ≡ Ok (if is_clean t then 0 else 1))
-          × TellsAll err_old err_new (notes_of reporting m title name t)) (λ f. (r ≡ Err f) × (err_new ≡ err_old))
-      at_told o text bytes files has at of list = rw (at, of, has) at list
-
-      on : (text bytes : List ℕ) (files : Files) (whole : Text) → b.files ≡ Some files → files report ≡ Some whole
-          → HasRoom whole text n → b.bytes ≡ Some bytes → (answer : Result Summary Fault)
-          → SumsUp m title report text n rest next name (content_of name bytes files) answer x y (CountsList name b c)
-          → MatchResult answer (λ t. (r ≡ Ok (if is_clean t then 0 else 1))
-          × TellsAll err_old err_new (notes_of reporting m title name t)) (λ f. (r ≡ Err f) × (err_new ≡ err_old))
-          → ToldOnce (record { left = text; number = n; input = bytes })
-      on text bytes files whole of is room at (Ok t) (sums, counted, same) (answered, tells) =
-          let found = some_is (content_of name bytes files) sums in
-          let gave_it : (let e : Result ℕ Fault = Ok (if is_clean t then 0 else 1) in
-          Leaves (is_input name) e (Some bytes) c.bytes) = rw (answered, at) at gave in
-          summed text bytes files whole of is room out t found.0 found.1 found.2 counted same answered tells
-          (left_by (is_input name) (if is_clean t then 0 else 1) bytes c.bytes gave_it) kept
-      on text bytes files whole of is room at (Err f) (inl (may, counted, same)) (answered, quiet) =
-          unread text bytes files whole of is room out f answered quiet may counted same
-      on text bytes files whole of is room at (Err f) (inr (inl (may, counted, same))) (answered, quiet) =
-          unreported text bytes files whole of is room out f answered quiet may counted same
-      on text bytes files whole of is room at (Err f) (inr (inr (beyond, counted, same))) (answered, quiet) =
-          let found = some_is (content_of name bytes files) beyond in
-          other text bytes files whole of is room out f answered quiet found.0 found.1 found.2 counted same
+      on : (z : Beside) (q : Result ℕ Fault) {is : Run → Type 0} (t : IsTold is q err_old err_new (ReportOf b c x y))
+          → Stepped z t.run → Leaves (is_input name) q (Some z.input) c.bytes → Once (λ run. (w : Beside)
+          × (by_report_of m reporting b.files lists report).step z name run w
+          × OnOk q (told_state report rest next c.bytes c.files ≡ Some w)) false shared (ReportOf b c x y) q b.out b.out err_old err_new
+      on z (Ok s) t (w, step, known) gave = once_done t.run b.out b.out err_old err_new
+          (w, step, known s (t.does b.out).ending (left_by (is_input name) s z.input c.bytes gave) kept) t.counts t.notes
+          false shared s (t.does b.out)
+      on z (Err f) t (w, step, known) gave =
+          once_last t.run b.out b.out err_old err_new (w, step, tt) t.counts t.notes f (t.does b.out) false shared refl
 
 -- ---- after the last list
 
 module _ (reporting : Reporting) (m : Meaning) (lists : List Text) (report : Text) (left : Option Text) (n status : ℕ)
-    (b : Seen) (x y : ℕ) where
+    (first : Option (List ℕ)) (tree : Option Files) (i u x y : ℕ) where
   -- nothing is left of the report
   pub report_ended : IfSome left (λ text. text ≡ []) → y ≡ count_after x 0
-      → IfSome (told_state report left n b.bytes b.files) (λ z. (by_report_of m reporting b.files lists report).ending z
-      status (prints [] status) × ReportCounted [] b.input_failures b.input_failures b.file_failures b.file_failures x y)
-  report_ended none same = told_known report left n b.bytes b.files _ (λ text bytes files whole has at of is room.
+      → IfSome (told_state report left n first tree) (λ z. (by_report_of m reporting tree lists report).ending z
+      status (prints [] status) × ReportCounted [] i i u u x y)
+  report_ended none same = told_known report left n first tree _ (λ text bytes files whole has at of is room.
       let empty : text ≡ [] = rw has at none in (
         inr (rw empty refl),
         (
           no_failures,
           0,
           refl,
-          Counted-none b.input_failures _ b.file_failures _ refl (omega arith),
+          Counted-none i _ u _ refl (omega arith),
           same,
         ),
       ))
@@ -549,20 +447,20 @@ module _ (reporting : Reporting) (m : Meaning) (lists : List Text) (report : Tex
   pub report_goes_on : (f : Fault) → IfSome left (λ text. (trouble_of f ≡ cannot_read report)
       ⊎ ((0 < length text) × (trouble_of f ≡ other_line report n)))
       → y ≡ count_after x (failed_reads (Some []) (trouble_of f))
-      → IfSome (told_state report left n b.bytes b.files) (λ z. Breaks ((by_report_of m reporting b.files lists
-      report).ending z status) f (λ failures. ReportCounted failures b.input_failures b.input_failures b.file_failures
-      b.file_failures x y))
-  report_goes_on f how counted = told_known report left n b.bytes b.files _ (λ text bytes files whole has at of is room.
+      → IfSome (told_state report left n first tree) (λ z. Breaks ((by_report_of m reporting tree lists
+      report).ending z status) f (λ failures. ReportCounted failures i i u
+      u x y))
+  report_goes_on f how counted = told_known report left n first tree _ (λ text bytes files whole has at of is room.
       on bytes text files whole of is (rw has at how))
     where
       some : (k : ℕ) → 0 < k → (k == 0) ≡ false
       some k more = grind (arith, nat_tests)
 
-      on : (input : List ℕ) (text : Text) (files : Files) (whole : Text) → b.files ≡ Some files → files report ≡ Some whole
+      on : (input : List ℕ) (text : Text) (files : Files) (whole : Text) → tree ≡ Some files → files report ≡ Some whole
           → (trouble_of f ≡ cannot_read report) ⊎ ((0 < length text) × (trouble_of f ≡ other_line report n))
-          → Breaks ((by_report_of m reporting b.files lists report).ending
+          → Breaks ((by_report_of m reporting tree lists report).ending
           (record { left = text; number = n; input = input }) status) f (λ failures. ReportCounted failures
-          b.input_failures b.input_failures b.file_failures b.file_failures x y)
+          i i u u x y)
       on input text files whole of is (inl t) = (
         false ∷ [],
         inl (rw (of, is, t) (unread_by false report (Some whole) (cannot_read report) (inr (inl refl)))),
@@ -570,7 +468,7 @@ module _ (reporting : Reporting) (m : Meaning) (lists : List Text) (report : Tex
           failures_from false 0,
           1,
           counts-replicate 1 false ∙ plus-file false 1,
-          Counted-none b.input_failures _ b.file_failures _ refl (omega arith),
+          Counted-none i _ u _ refl (omega arith),
           rw t at counted,
         ),
       )
@@ -581,7 +479,7 @@ module _ (reporting : Reporting) (m : Meaning) (lists : List Text) (report : Tex
           no_failures,
           0,
           refl,
-          Counted-none b.input_failures _ b.file_failures _ refl (omega arith),
+          Counted-none i _ u _ refl (omega arith),
           rw t at counted,
         ),
       )
@@ -619,8 +517,7 @@ module _ (reporting : Reporting) (m : Meaning) (report : Text) (names : List Tex
       → IfSome tree (λ files. (whole : List ℕ) × (files report ≡ Some whole) × (remaining feed ≡ Some whole))
       → b.files ≡ tree → IfSome tree (λ files. b.file_failures ≡ count_after u 0) → left ≡ remaining feed → x ≡ 0
       → IfSome (told_state report left 1 b.bytes b.files) (λ z. DoesWalk false
-      (by_report_of m reporting b.files names report) share z names (λ failures. ReportCounted failures
-      b.input_failures d.input_failures b.file_failures d.file_failures x y) r b.out d.out err_old err_new)
+      (by_report_of m reporting b.files names report) share z names (ReportOf b d x y) r b.out d.out err_old err_new)
       → v ≡ count_after d.file_failures y
       → Reported b.bytes tree b.out d.out b.input_failures d.input_failures u v
   report_read remaining feed tree left b d share x y u v alone first opened kept counted is fresh lists closed =
@@ -635,7 +532,7 @@ module _ (reporting : Reporting) (m : Meaning) (report : Text) (names : List Tex
       on (Some bytes) (Some files) at of (whole, readable, all) counted =
           let state = known_told report whole bytes files whole left 1 b.bytes b.files (is ∙ all) at of readable
           (omega arith) in
-          let (run, walks, does, tells, (own, k, are, (read, opened), last)) = rw (alone, first, of, every_all names) at
+          let (run, walks, does, tells, (own, k, are, (read, opened), last)) = rw (alone, first, of, every-all names) at
           (rw state at lists) in (
             run,
             inr (and_some (files report) whole _ readable walks),
@@ -652,5 +549,5 @@ pub report_opened : (lists : List Text) (share : Share) (i j k l : ℕ) → shar
     → (done : List Text) × (rest : List Text) × (every share.others share.waiting lists ≡ done ++ rest)
     × (k ≤ j + sum_by opens_of done) → j ≤ i + 1 → l ≤ k → l ≤ i + (1 + sum_by opens_of lists)
 report_opened lists share i j k l alone first (done, rest, split, most) begun closed =
-    let all = opens_some opens_of lists done rest j k (sym (every_all lists) ∙ rw (alone, first) at split) most in
+    let all = opens_some opens_of lists done rest j k (sym (every-all lists) ∙ rw (alone, first) at split) most in
     omega (arith, all, begun, closed)

@@ -1,6 +1,7 @@
 -- Worked values of the visible form of names, of where parts begin, and of the run over one list and those behind it,
 -- computed: a wrong escape, digit or class of characters does not check, nor a part too many or too few.
-use Rattle.std.proofs.Common.{◌≡◌, ℕ, ◌^◌, List, [], ◌∷◌, ◌++◌, None, Some, Err, true, refl, codes, inl, inr, replicate, suc}
+use Rattle.std.proofs.Common.{◌≡◌, ℕ, ◌^◌, List, [], ◌∷◌, ◌++◌, None, Some, Err, true, refl, codes, inl, inr, replicate}
+use Rattle.std.proofs.Common.{suc}
 use Rattle.std.specs.Prelude.{◌+◌, ◌==◌, if◌then◌else◌}
 use Rattle.std.specs.Char.{encode_utf8}
 use Rattle.std.specs.Fmt.{digits}

@@ -1,5 +1,6 @@
 -- The run of `part --verify` by what names give.
-use Rattle.std.proofs.Common.{◌≡◌, ℕ, List, drop, Option, Some, Bool, IfSome, Result, refl, sym, subst, arith, false, inl, inr}
+use Rattle.std.proofs.Common.{◌≡◌, ℕ, List, drop, Option, Some, Bool, IfSome, Result, refl, sym, subst, arith, false}
+use Rattle.std.proofs.Common.{inl, inr}
 use Rattle.std.specs.Prelude.{IsErrAnd}
 use Rattle.hashes.specs.declared.share.Share.{Share}
 use Rattle.request.specs.CommandLine.{Text}
@@ -9,8 +10,8 @@ use Rattle.sumlist.specs.Report.{Files}
 use Rattle.command.specs.Lines.{content_of, is_input}
 use Rattle.command.specs.Verifying.{VerifyRuns}
 use Rattle.command.specs.inside.Seen.{DoesBeside}
-use Rattle.command.specs.inside.Troubles.{Counted, Failures, MayFail, MayRefuse, Trouble, failures_of, refusal, too_long}
-use Rattle.command.specs.inside.Troubles.{trouble_of}
+use Rattle.command.specs.inside.Troubles.{Counted, Failures, MayFail, MayRefuse, Trouble, failures_of, refusal}
+use Rattle.command.specs.inside.Troubles.{too_long, trouble_of}
 use Rattle.command.specs.inside.Verifying.{ComparesName}
 use Rattle.command.specs.declared.fault.Fault.{Fault}
 use Rattle.command.specs.declared.fault.Fault.TheVariants.{OutOfMemory}

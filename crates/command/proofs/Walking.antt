@@ -1,18 +1,18 @@
 -- How far a walk has come, and what is done of it behind the next item.
-use Rattle.std.proofs.Common.{◌≡◌, ◌≢◌, ◌∙◌, ℕ, ◌-◌, List, [], ◌∷◌, ◌++◌, Bool, true, false, Option, Some, None}
-use Rattle.std.proofs.Common.{Result, Ok, Err, IfSome, refl, sym, subst, arith, inl, inr, max, append_assoc, nat_lt}
-use Rattle.std.proofs.Common.{◌==◌, if◌then◌else◌}
+use Rattle.std.proofs.Common.{◌≡◌, ◌≢◌, ◌∙◌, ℕ, ◌-◌, List, [], ◌∷◌, ◌++◌, Bool, true, false, Option, Some, None, Result}
+use Rattle.std.proofs.Common.{Ok, Err, IfSome, refl, sym, subst, arith, inl, inr, max, append_assoc, nat_lt, ◌==◌}
+use Rattle.std.proofs.Common.{if◌then◌else◌}
 use Rattle.std.proofs.KnownBytes.{Appends-nil}
 use Rattle.std.proofs.lemmas.Bool.Decides.{nat_tests}
 use Rattle.std.proofs.lemmas.Option.{IfSome_then}
-use Rattle.std.specs.Prelude.{MatchBool, MatchResult, OnOk}
+use Rattle.std.specs.Prelude.{MatchBool, OnOk}
 use Rattle.hashes.specs.declared.share.Share.{Share}
 use Rattle.source.specs.Written.{Done, Failed, Shown}
 use Rattle.source.proofs.Writing.{Done-after, Failed-after}
 use Rattle.sumlist.specs.Shared.{every}
 use Rattle.sumlist.proofs.Shares.{every-later}
 use Rattle.command.specs.Run.{Run, TellsAll, end_of, followed, prints, stops}
-use Rattle.command.specs.Walks.{Walk, Walks, WalksShare}
+use Rattle.command.specs.Walks.{Walk, Walks}
 use Rattle.command.specs.inside.Items.{Breaks, DoesWalk, EndsBy, Follows, Halts, MovesOn, Once}
 use Rattle.command.specs.inside.Seen.{Does}
 use Rattle.command.specs.inside.Troubles.{shown, trouble_of}

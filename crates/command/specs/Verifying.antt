@@ -1,6 +1,6 @@
 -- The run of `part --verify`: the lines of parts and the bytes of a file, side by side.
-use Rattle.std.specs.Prelude.{◌⊎◌, ◌≡◌, ℕ, ◌+◌, ◌*◌, List, [], ◌∷◌, ◌++◌, drop, fold, length, max, take}
-use Rattle.std.specs.Prelude.{IsSomeAnd, Some, codes, false, if◌then◌else◌, nat_lt}
+use Rattle.std.specs.Prelude.{◌⊎◌, ◌≡◌, ℕ, ◌+◌, ◌*◌, List, [], ◌∷◌, ◌++◌, drop, fold, length, max, take, IsSomeAnd}
+use Rattle.std.specs.Prelude.{Some, codes, false, if◌then◌else◌, nat_lt}
 use Rattle.std.specs.Fmt.{decimal}
 use Rattle.std.specs.List.{flat_map}
 use Rattle.std.specs.Str.{bytes_eq}

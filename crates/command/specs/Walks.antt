@@ -1,6 +1,6 @@
 -- A run over items, one after another, and over a share of them.
-use Rattle.std.specs.Prelude.{◌⊎◌, ◌≡◌, ℕ, ◌==◌, ◌&&◌, ◌||◌, Bool, false, List, [], ◌∷◌, ◌++◌, MatchBool}
-use Rattle.std.specs.Prelude.{Ok, Err, Result, max, nat_lt, not}
+use Rattle.std.specs.Prelude.{◌⊎◌, ◌≡◌, ℕ, ◌==◌, ◌&&◌, ◌||◌, Bool, false, List, [], ◌∷◌, ◌++◌, MatchBool, Ok, Err}
+use Rattle.std.specs.Prelude.{Result, max, nat_lt, not}
 use Rattle.hashes.specs.declared.share.Share.{Share}
 use Rattle.request.specs.CommandLine.{Text}
 use Rattle.sumlist.specs.Shared.{every}

@@ -2,16 +2,15 @@
 
 ghost use Rattle.std.specs.Prelude.{◌≡◌, ◌==◌, ◌≤◌, ◌+◌, ◌++◌, ◌∷◌, [], map, IfSome, MatchOption, Some, codes, true};
 ghost use Rattle.std.specs.Prelude.{List, MatchResult, None, false, ℕ, if◌then◌else◌, length, option_map, ⊤};
-ghost use Rattle.std.specs.List.{sum_by};
 ghost use Rattle.source.specs.Counts.{count_after};
 ghost use Rattle.source.specs.Written.{Shown, Writes};
 ghost use Rattle.sumlist.specs.Lines.{lines};
 ghost use Rattle.sumlist.specs.Report.{unkeyed};
 ghost use Rattle.sumlist.specs.Tally.{is_clean, summary_text};
 ghost use Rattle.task.specs.Tasks.{tags, these};
-ghost use Rattle.task.specs.inside.Views.{key_shown};
+ghost use Rattle.task.specs.inside.Views.{key_shown, verdicts_shown};
 ghost use Rattle.command.specs.Checking as spec;
-ghost use Rattle.command.specs.Checking.{ListRuns, ListsRun, notes_of};
+ghost use Rattle.command.specs.Checking.{ListRuns, ListsRun, list_opens, notes_of};
 ghost use Rattle.command.specs.Visible.{visible};
 ghost use Rattle.command.specs.Lines.{content_of, is_input, opens_of};
 ghost use Rattle.command.specs.Run.{Counted, TellsAll};
@@ -38,7 +37,7 @@ use crate::visible::write_visible;
 use source::{Feed, Sink, WriteFailed, write_all};
 use std::alloc::Global;
 use sumlist::{CheckFault, Kind, Look, Share, Summary, Tree, check_list, write_summary};
-use task::{Entries, Key, Reporting, ShortMac, Tagging};
+use task::{Entries, Key, Reporting, ShortMac, Tagging, Verdicts};
 
 impl<'i, 't, 'o, L: Feed, T: Tree, W: Sink> Session<'i, 't, 'o, L, T, W> {
     /// Prints the report of a share of each list, and goes on with the next after a list that can't be read to its
@@ -50,46 +49,62 @@ impl<'i, 't, 'o, L: Feed, T: Tree, W: Sink> Session<'i, 't, 'o, L, T, W> {
     /// as those of another hash are, or MISSING. Answers 0 where every line of the share is OK, else 1. Then come the
     /// faults `CannotWrite` and `OutOfMemory`, after which no further list is read; what was written before is a
     /// beginning of the reports.
+    ///
+    /// With the report of a run that printed it, reports on `err` what that run reported, and answers its status, and
+    /// opens no file of a list. The faults that end it are `CannotRead` and `TooLong` of a list or of the report,
+    /// `OtherLine` for the first line of the report that is not that of its entry, and `OutOfMemory`.
     pub fn print_reports<'n, E: Sink>(
         &mut self,
         entries: Entries<'n>,
         reporting: Reporting,
-        share: Share,
+        verdicts: Verdicts<'n>,
         lists: &[&'n str],
         err: &mut E,
     ) -> Result<u8, Fault<'n>>
-        ensures run { DoesRun (λ bytes files. EntriesRun entries.entry reporting (these share) files
+        ensures run { DoesRun (λ bytes files. EntriesRun entries.entry reporting (verdicts_shown verdicts.entry) files
             (map (λ n. n.now) lists.entry.now) bytes)
             (λ notes. TellsAll (E.shown err.old) (E.shown err.new) notes)
             result (⟦<Self as Streams>⟧.seen self.old) (⟦<Self as Streams>⟧.seen self.new) }
         ensures opens { IfTold (⟦<Self as Streams>⟧.seen self.old) (λ bytes files. OpensAtMost
             (entries_opens entries.entry
-            + sum_by (λ name. opens_of name + opens_from lines (content_of name bytes files))
-            (map (λ n. n.now) lists.entry.now))
+            + list_opens (verdicts_shown verdicts.entry) (map (λ n. n.now) lists.entry.now) files bytes)
             (⟦<Self as Streams>⟧.seen self.old) (⟦<Self as Streams>⟧.seen self.new)) }
         ensures same { SameStreams self.old self.new }
     {
         match entries {
             Entries::Digests(kind) => {
-                self.print_lists(
-                    &sumlist::Entries::Digests(kind),
-                    reporting,
-                    share,
-                    lists,
-                    err,
-                )
+                let entries = sumlist::Entries::Digests(kind);
+                self.print_by(&entries, reporting, verdicts, lists, err)
             }
             Entries::Tags(short, key) => {
                 let keyed = short_keyed(self.alloc, short, key, self.tree)?;
-                let length = short.mac.tag_len() as usize;
-                self.print_lists(
-                    &sumlist::Entries::Tags(length, &keyed),
-                    reporting,
-                    share,
-                    lists,
-                    err,
-                )
+                let entries = sumlist::Entries::Tags(short.mac.tag_len() as usize, &keyed);
+                self.print_by(&entries, reporting, verdicts, lists, err)
             }
+        }
+    }
+
+    // Prints this of lists whose entries are these.
+    fn print_by<'n, E: Sink>(
+        &mut self,
+        entries: &sumlist::Entries<'_, ShortKeyed>,
+        reporting: Reporting,
+        verdicts: Verdicts<'n>,
+        lists: &[&'n str],
+        err: &mut E,
+    ) -> Result<u8, Fault<'n>>
+        ensures run { DoesRun (λ bytes files. ListsRun (meaning entries.now) reporting (verdicts_shown verdicts.entry)
+            files (map (λ n. n.now) lists.entry.now) bytes)
+            (λ notes. TellsAll (E.shown err.old) (E.shown err.new) notes)
+            result (⟦<Self as Streams>⟧.seen self.old) (⟦<Self as Streams>⟧.seen self.new) }
+        ensures opens { IfTold (⟦<Self as Streams>⟧.seen self.old) (λ bytes files. OpensAtMost
+            (list_opens (verdicts_shown verdicts.entry) (map (λ n. n.now) lists.entry.now) files bytes)
+            (⟦<Self as Streams>⟧.seen self.old) (⟦<Self as Streams>⟧.seen self.new)) }
+        ensures same { SameStreams self.old self.new }
+    {
+        match verdicts {
+            Verdicts::Files(share) => self.print_lists(entries, reporting, share, lists, err),
+            Verdicts::Report(name) => self.tell_lists(entries, reporting, name, lists, err),
         }
     }
 
@@ -107,8 +122,7 @@ impl<'i, 't, 'o, L: Feed, T: Tree, W: Sink> Session<'i, 't, 'o, L, T, W> {
             (λ notes. TellsAll (E.shown err.old) (E.shown err.new) notes)
             result (⟦<Self as Streams>⟧.seen self.old) (⟦<Self as Streams>⟧.seen self.new) }
         ensures opens { IfTold (⟦<Self as Streams>⟧.seen self.old) (λ bytes files. OpensAtMost
-            (sum_by (λ name. opens_of name + opens_from lines (content_of name bytes files))
-            (map (λ n. n.now) lists.entry.now))
+            (list_opens (these share) (map (λ n. n.now) lists.entry.now) files bytes)
             (⟦<Self as Streams>⟧.seen self.old) (⟦<Self as Streams>⟧.seen self.new)) }
         ensures same { SameStreams self.old self.new }
     {

@@ -1,83 +1,41 @@
 // The command `check` with `--told`: what a report on lists does not say.
 
-ghost use Rattle.std.specs.Prelude.{◌≡◌, ◌≤◌, ◌<◌, ◌+◌, ◌⊎◌, [], IfSome, MatchResult, Ok, Some};
+ghost use Rattle.std.specs.Prelude.{◌≡◌, ◌≤◌, ◌<◌, ◌+◌, ◌⊎◌, [], IfSome, List, MatchResult, Ok, Some, ℕ};
 ghost use Rattle.std.specs.Prelude.{false, length, map, option_map, true, ⊤};
 ghost use Rattle.request.specs.CommandLine.{Text};
 ghost use Rattle.std.specs.List.{sum_by};
 ghost use Rattle.source.specs.Counts.{count_after};
+ghost use Rattle.source.specs.Written.{Shown};
 ghost use Rattle.sumlist.specs.inside.Telling.{left};
 ghost use Rattle.task.specs.Tasks.{in_file};
 ghost use Rattle.command.specs.Checking.{Beside, ListsRun};
-ghost use Rattle.command.specs.Lines.{content_of, is_input, opens_of};
+ghost use Rattle.command.specs.Lines.{is_input, opens_of};
 ghost use Rattle.command.specs.Run.{TellsAll};
-ghost use Rattle.command.specs.inside.Faults.{of_tell};
+ghost use Rattle.command.specs.inside.Faults.{graded, of_tell, remarks};
 ghost use Rattle.command.specs.inside.Reading.{Leaves, failed};
-ghost use Rattle.command.specs.inside.Rules.{EntriesRun, entries_opens, meaning};
-ghost use Rattle.command.specs.inside.Seen.{DoesRun, IfTold, OpensAtMost};
+ghost use Rattle.command.specs.inside.Rules.{meaning};
+ghost use Rattle.command.specs.inside.Seen.{DoesRun, OpensAtMost};
 ghost use Rattle.command.specs.inside.Streams.{SameStreams};
+ghost use Rattle.command.specs.inside.Hashed.{ListCounted};
 ghost use Rattle.command.specs.inside.Items.{names_left};
-ghost use Rattle.command.specs.inside.Told.{CountsList, KeepsReport, ReportCounted, SumsUp, TellsList};
+ghost use Rattle.command.specs.inside.Told.{BesideRuns, HasRoom, IsTold, KeepsReport, ReportCounted, ToldOver};
 ghost use Rattle.command.specs.inside.Told.{by_report_of, told_state};
 ghost use Rattle.command.specs.inside.Troubles.{cannot_read, other_line, trouble_of};
 
 use crate::fault::Fault;
 use crate::items::{Items, Names, walk};
-use crate::reports::{remark, short_keyed, status_of, title_of};
+use crate::reports::{remark, status_of, title_of};
 use crate::rule::ShortKeyed;
 use crate::session::{Session, Streams, open_file};
 use source::{Feed, Sink};
 use std::alloc::Global;
 use sumlist::{ReportReader, Share, Summary, TellFault, Tree, tell_list};
-use task::{Entries, Reporting};
+use task::Reporting;
 
 impl<'i, 't, 'o, L: Feed, T: Tree, W: Sink> Session<'i, 't, 'o, L, T, W> {
-    /// Reports on `err` of each list what the run reported that printed a report on them, and answers its status. The
-    /// lists and the report are read once, side by side, and no file of a list is opened. A key is read and judged
-    /// first, as for the report. The faults that end it are `CannotRead` and `TooLong` of a list or of the report,
-    /// `OtherLine` for the first line of the report that is not that of its entry, and `OutOfMemory`.
-    pub fn print_told<'n, E: Sink>(
-        &mut self,
-        entries: Entries<'n>,
-        reporting: Reporting,
-        report: &'n str,
-        lists: &[&'n str],
-        err: &mut E,
-    ) -> Result<u8, Fault<'n>>
-        ensures run { DoesRun (λ bytes files. EntriesRun entries.entry reporting (in_file report.entry.now) files
-            (map (λ n. n.now) lists.entry.now) bytes)
-            (λ notes. TellsAll (E.shown err.old) (E.shown err.new) notes)
-            result (⟦<Self as Streams>⟧.seen self.old) (⟦<Self as Streams>⟧.seen self.new) }
-        ensures opens { OpensAtMost
-            (entries_opens entries.entry + (1 + sum_by opens_of (map (λ n. n.now) lists.entry.now)))
-            (⟦<Self as Streams>⟧.seen self.old) (⟦<Self as Streams>⟧.seen self.new) }
-        ensures same { SameStreams self.old self.new }
-    {
-        match entries {
-            Entries::Digests(kind) => {
-                self.tell_lists(
-                    &sumlist::Entries::Digests(kind),
-                    reporting,
-                    report,
-                    lists,
-                    err,
-                )
-            }
-            Entries::Tags(short, key) => {
-                let keyed = short_keyed(self.alloc, short, key, self.tree)?;
-                let length = short.mac.tag_len() as usize;
-                self.tell_lists(
-                    &sumlist::Entries::Tags(length, &keyed),
-                    reporting,
-                    report,
-                    lists,
-                    err,
-                )
-            }
-        }
-    }
-
-    // Reports on lists whose entries are these, by the report of this name.
-    fn tell_lists<'n, E: Sink>(
+    /// Reports on `err` of each list what the run reported that printed the report of this name on them, and answers
+    /// its status. The lists and the report are read once, side by side, and no file of a list is opened.
+    pub(crate) fn tell_lists<'n, E: Sink>(
         &mut self,
         entries: &sumlist::Entries<'_, ShortKeyed>,
         reporting: Reporting,
@@ -122,9 +80,9 @@ impl<'i, 't, 'o, L: Feed, T: Tree, W: Sink> Session<'i, 't, 'o, L, T, W> {
         name: &'n str,
         err: &mut E,
     ) -> Result<u8, Fault<'n>>
-        ensures list { TellsList reporting (meaning told.old.entries.now) (option_map (λ n. n.now) title.entry)
-            told.old.name.now (left F.remaining told.old.report) told.old.next
-            (left F.remaining told.new.report) told.new.next name.entry.now result
+        ensures list { ToldOver reporting (meaning told.old.entries.now) (option_map (λ n. n.now) title.entry)
+            name.entry.now told.old.name.now (left F.remaining told.old.report) told.old.next
+            (left F.remaining told.new.report) told.new.next result
             (⟦<Self as Streams>⟧.seen self.old) (⟦<Self as Streams>⟧.seen self.new)
             (E.shown err.old) (E.shown err.new)
             (F.failure_count told.old.report.feed.now) (F.failure_count told.new.report.feed.now) }
@@ -148,12 +106,14 @@ impl<'i, 't, 'o, L: Feed, T: Tree, W: Sink> Session<'i, 't, 'o, L, T, W> {
         title: Option<&str>,
         name: &'n str,
     ) -> Result<Summary, Fault<'n>>
-        ensures summed { IfTold (⟦<Self as Streams>⟧.seen self.old) (λ bytes files.
-            IfSome (left F.remaining told.old.report) (λ text. SumsUp (meaning told.old.entries.now)
-            (option_map (λ n. n.now) title.entry) told.old.name.now text told.old.next
-            (left F.remaining told.new.report) told.new.next name.entry.now (content_of name.entry.now bytes files)
-            result (F.failure_count told.old.report.feed.now) (F.failure_count told.new.report.feed.now)
-            (CountsList name.entry.now (⟦<Self as Streams>⟧.seen self.old) (⟦<Self as Streams>⟧.seen self.new)))) }
+        ensures list { (reporting : Reporting) (before after : Shown) → TellsAll before after
+            (remarks true reporting (option_map (λ n. n.now) title.entry) name.entry.now
+            (meaning told.old.entries.now) result)
+            → ToldOver reporting (meaning told.old.entries.now) (option_map (λ n. n.now) title.entry)
+            name.entry.now told.old.name.now (left F.remaining told.old.report) told.old.next
+            (left F.remaining told.new.report) told.new.next (graded result)
+            (⟦<Self as Streams>⟧.seen self.old) (⟦<Self as Streams>⟧.seen self.new) before after
+            (F.failure_count told.old.report.feed.now) (F.failure_count told.new.report.feed.now) }
         ensures gave { Leaves (is_input name.entry.now) result
             (⟦<Self as Streams>⟧.seen self.old).bytes (⟦<Self as Streams>⟧.seen self.new).bytes }
         ensures kept { KeepsReport told.old told.new (⟦<Self as Streams>⟧.seen self.old)
@@ -298,11 +258,16 @@ fn tell_feed<'n, F: Feed, L: Feed>(
     name: &'n str,
     list: &mut L,
 ) -> Result<Summary, Fault<'n>>
-    ensures summed { IfSome (L.remaining list.old) (λ bytes. IfSome (left F.remaining told.old.report) (λ text.
-        SumsUp (meaning told.old.entries.now) (option_map (λ n. n.now) title.entry) told.old.name.now text
-        told.old.next (left F.remaining told.new.report) told.new.next name.entry.now (Some bytes) result
-        (F.failure_count told.old.report.feed.now) (F.failure_count told.new.report.feed.now)
-        (λ failed. L.failure_count list.new ≡ count_after (L.failure_count list.old) failed))) }
+    ensures list { (reporting : Reporting) (before after : Shown) → TellsAll before after
+        (remarks true reporting (option_map (λ n. n.now) title.entry) name.entry.now
+        (meaning told.old.entries.now) result)
+        → (bytes coming whole : List ℕ) → L.remaining list.old ≡ Some bytes
+        → left F.remaining told.old.report ≡ Some coming → HasRoom whole coming told.old.next
+        → IsTold (BesideRuns reporting (meaning told.old.entries.now) (option_map (λ n. n.now) title.entry)
+        name.entry.now told.old.name.now (Some bytes) whole coming told.old.next
+        (left F.remaining told.new.report) told.new.next) (graded result) before after
+        (λ f. ListCounted (is_input name.entry.now) f (L.failure_count list.old) (L.failure_count list.new)
+        (F.failure_count told.old.report.feed.now) (F.failure_count told.new.report.feed.now)) }
     ensures gave { Leaves true result (L.remaining list.old) (L.remaining list.new) }
     ensures kept { (told.new.name ≡ told.old.name) × (told.new.entries ≡ told.old.entries)
         × (told.new.report.feed.ghost_name ≡ told.old.report.feed.ghost_name) }

@@ -1,26 +1,23 @@
 -- A run of the program is that of its request, with the last trouble told.
 use Rattle.std.proofs.Common.{◌≡◌, ℕ, List, [], ◌∷◌, ◌++◌, Option, Some, None, Result, Ok, Err, IfOk, IfSome, refl}
 use Rattle.std.proofs.Common.{sym, ap, ◌∙◌, ◌⊎◌, ◌+◌, ◌≤◌, false, inl, inr, subst, append-nil, arith}
-use Rattle.std.specs.Prelude.{length, sum_by}
-use Rattle.std.specs.Option.{option_map_or}
 use Rattle.std.proofs.KnownBytes.{Appends-nil}
 use Rattle.hashes.specs.declared.share.Share.{Share}
 use Rattle.source.specs.Written.{Done, Failed, Shown}
-use Rattle.sumlist.specs.Lines.{lines}
 use Rattle.sumlist.specs.Report.{Files}
 use Rattle.request.specs.CommandLine.{AreRead, ErrorKind, Given, IsWrong, Text, given_of, kind_of}
 use Rattle.request.specs.inside.Reading.{IsRead}
 use Rattle.request.specs.declared.request.Request.{Request}
 use Rattle.request.specs.declared.request.WordsFault.{WordsFault}
 use Rattle.request.specs.declared.request.WordsFault.TheVariants as words_fault
-use Rattle.task.specs.Tasks.{Asked, Source, asked, in_file, these}
+use Rattle.task.specs.Tasks.{Asked, Source, asked}
 use Rattle.task.specs.declared.fault.UsageFault.{UsageFault}
 use Rattle.task.specs.declared.tasks.Entries.{Entries}
 use Rattle.task.specs.declared.tasks.Entries.TheVariants.{Digests, Tags}
 use Rattle.task.specs.declared.tasks.Reporting.{Reporting}
 use Rattle.task.specs.inside.Texts.{fault_text}
 use Rattle.task.specs.inside.Views.{entries_shown}
-use Rattle.command.specs.Lines.{content_of, opens_of}
+use Rattle.command.specs.Checking.{list_opens}
 use Rattle.command.specs.Run.{Counted, Run, Runs, Tells, TellsAll, end_of, prints, stops}
 use Rattle.command.specs.Run.{cannot_write as run_cannot_write, out_of_memory as run_out_of_memory}
 use Rattle.command.specs.inside.Rules.{EntriesRun, entries_opens}
@@ -149,25 +146,13 @@ told_check first tree (Tags short key) reporting by lists answer out_old out_new
 
 -- and open as many files
 pub check_opens : (first : Option (List ℕ)) (tree : Option Files) (entries : Entries) (reporting : Reporting)
-    (share : Share) (lists : List Text) (x y : ℕ) → IfSome first (λ bytes. IfSome tree (λ files. y ≤ x
-    + (entries_opens entries
-    + sum_by (λ list. opens_of list + length (option_map_or lines (content_of list bytes files) [])) lists)))
-    → Opens first tree (entries_shown entries reporting (these share) lists) x y
-check_opens None tree (Digests kind) reporting share lists x y most = tt
-check_opens (Some bytes) None (Digests kind) reporting share lists x y most = tt
-check_opens (Some bytes) (Some files) (Digests kind) reporting share lists x y most = omega (arith, most)
-check_opens first tree (Tags short key) reporting share lists x y most = most
-
--- lists that are read beside their report are opened once, and so is the report
-pub told_opens : (first : Option (List ℕ)) (tree : Option Files) (entries : Entries) (reporting : Reporting)
-    (report : Text) (lists : List Text) (x y : ℕ) → y ≤ x + (entries_opens entries + (1 + sum_by opens_of lists))
-    → Opens first tree (entries_shown entries reporting (in_file report) lists) x y
-told_opens first tree (Digests kind) reporting report lists x y most =
-    opens_always first tree (entries_shown (Digests kind) reporting (in_file report) lists) x y
-    (λ bytes files. omega (arith, most))
-told_opens first tree (Tags short key) reporting report lists x y most =
-    opens_always first tree (entries_shown (Tags short key) reporting (in_file report) lists) x y
-    (λ bytes files. most)
+    (by : Source Share) (lists : List Text) (x y : ℕ) → IfSome first (λ bytes. IfSome tree (λ files. y ≤ x
+    + (entries_opens entries + list_opens by lists files bytes)))
+    → Opens first tree (entries_shown entries reporting by lists) x y
+check_opens None tree (Digests kind) reporting by lists x y most = tt
+check_opens (Some bytes) None (Digests kind) reporting by lists x y most = tt
+check_opens (Some bytes) (Some files) (Digests kind) reporting by lists x y most = omega (arith, most)
+check_opens first tree (Tags short key) reporting by lists x y most = most
 
 -- the run of a task is that of the request that asks for it
 requested : (r : Given) (task : Asked) (files : Files) (bytes : List ℕ) (run : Run) → asked r ≡ Ok task

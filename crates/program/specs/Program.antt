@@ -1,16 +1,15 @@
 -- What a run of the program prints, tells and answers, by its words, standard input and files.
 use Rattle.std.specs.Prelude.{◌⊎◌, ◌≡◌, ◌≤◌, ◌+◌, ℕ, false, List, [], ◌∷◌, Ok, Err, MatchResult, length, sum_by}
 use Rattle.std.specs.Option.{option_map_or}
-use Rattle.hashes.specs.declared.share.Share.{Share}
 use Rattle.source.specs.Written.{Shown}
 use Rattle.sumlist.specs.Lines.{lines}
 use Rattle.sumlist.specs.Naming.{names}
 use Rattle.sumlist.specs.Report.{Files, keyed, unkeyed}
 use Rattle.sumlist.specs.Shared.{every}
 use Rattle.request.specs.CommandLine.{AreRead, ErrorKind, Given, IsWrong, Text}
-use Rattle.task.specs.Tasks.{Asked, Source, asked, checks, checks_tags, derives, in_file, joins, prints_line}
+use Rattle.task.specs.Tasks.{Asked, asked, checks, checks_tags, derives, in_file, joins, prints_line}
 use Rattle.task.specs.Tasks.{prints_lines, prints_part, prints_parts, prints_starts, tags, these, verifies}
-use Rattle.command.specs.Checking.{ListsRun}
+use Rattle.command.specs.Checking.{ListsRun, list_opens}
 use Rattle.command.specs.Run.{Counted, Prints, Run, Runs, out_of_memory, prints, stops}
 use Rattle.command.specs.Cutting.{EachRuns, PartRuns, StartsRuns, numbers_of}
 use Rattle.command.specs.Hashing.{LinesGiven, LinesListed}
@@ -35,12 +34,6 @@ TaskRuns (prints_starts chunks name) files input = StartsRuns chunks name files
 TaskRuns (prints_parts chunks name s) files input = EachRuns s chunks name files input
 TaskRuns (verifies parts name s) files input = VerifyRuns s parts name files input
 TaskRuns (joins stretch bytes wanted name lists) files input = JoinRuns stretch bytes wanted name lists files input
-
--- how many files are opened for lists at most: each of them, and one for each of its lines, or their report
-abbrev pub list_opens : Source Share → List Text → Files → List ℕ → ℕ
-list_opens (these share) lists files input =
-    sum_by (λ list. opens_of list + length (option_map_or lines (content_of list input files) [])) lists
-list_opens (in_file report) lists files input = 1 + sum_by opens_of lists
 
 -- how many files it opens at most: a list, and each of what it names, included; of a share its own
 abbrev pub most_opens : Asked → Files → List ℕ → ℕ

@@ -20,7 +20,7 @@ use request::{Error, Request, WordsFault, line, text_of};
 use source::{Feed, Sink, WriteFailed, write_all};
 use std::alloc::Global;
 use sumlist::Tree;
-use task::{Names, Task, TaskFault, UsageFault, Verdicts};
+use task::{Names, Task, TaskFault, UsageFault};
 
 /// Why words ask for no task.
 #[derive(Drop)]
@@ -159,14 +159,7 @@ fn do_task<'n, 'i, 't, 'o, L: Feed, T: Tree, W: Sink, E: Sink>(
             reporting,
             verdicts,
             lists,
-        } => match verdicts {
-            Verdicts::Files(share) => {
-                session.print_reports(entries, reporting, share, lists.as_slice(), err)
-            }
-            Verdicts::Report(name) => {
-                session.print_told(entries, reporting, name, lists.as_slice(), err)
-            }
-        },
+        } => session.print_reports(entries, reporting, verdicts, lists.as_slice(), err),
     }
 }
 

@@ -1,6 +1,6 @@
 -- What the methods of items did, and what the loop did of one item.
 use Rattle.std.specs.Prelude.{◌≡◌, ⊤, ℕ, Bool, false, true, List, [], ◌∷◌, ◌++◌, MatchBool, MatchResult, drop, map}
-use Rattle.std.specs.Prelude.{◌&&◌, ◌==◌, IsErrAnd, Option, Result, Some, Err, if◌then◌else◌}
+use Rattle.std.specs.Prelude.{◌&&◌, ◌==◌, IsErrAnd, Option, Result, Some, if◌then◌else◌}
 use Rattle.hashes.specs.declared.share.Share.{Share}
 use Rattle.request.specs.CommandLine.{Text}
 use Rattle.source.specs.Written.{Done, Failed, Shown}

@@ -1,8 +1,8 @@
 use Rattle.std.proofs.Common.{◌∙◌, refl, arith}
 use Rattle.std.proofs.lemmas.Result.{err_from_is_err_and}
 use Rattle.command.proofs.Keeping.{kept_end, kept_one, kept_over, kept_start, kept_stop}
-use Rattle.command.proofs.Walking.{ended, passed_over, took, walked_broken, walked_end, walked_one, walked_over, walked_start}
-use Rattle.command.proofs.Walking.{walked_stop}
+use Rattle.command.proofs.Walking.{ended, passed_over, took, walked_broken, walked_end, walked_one, walked_over}
+use Rattle.command.proofs.Walking.{walked_start, walked_stop}
 use Rattle.command.proofs.items.walk.Goals as goal
 
 pub items-init : goal.items-init

@@ -1,7 +1,6 @@
 use Rattle.std.proofs.Common.{◌+◌, ◌-◌, ◌∙◌, arith}
 use Rattle.b3.specs.inside.Output.{output_position, output_root}
-use Rattle.source.proofs.Writing.{Writing-step}
-use Rattle.source.proofs.Writing.{Writes-exit, Writing-failed}
+use Rattle.source.proofs.Writing.{Writing-step, Writes-exit, Writing-failed}
 use Rattle.command.proofs.Digits.{Writing-slice, printed-slice}
 use Rattle.command.proofs.making.write_made.Goals as goal
 

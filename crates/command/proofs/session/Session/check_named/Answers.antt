@@ -3,8 +3,7 @@ use Rattle.sumlist.specs.Lines.{lines}
 use Rattle.std.specs.Prelude.{◌==◌, option_map}
 use Rattle.command.specs.Checking.{ListRuns}
 use Rattle.command.specs.inside.Rules.{meaning}
-use Rattle.command.proofs.Listing.{graded-stops, refused_list, report_file, report_input}
-use Rattle.command.proofs.Listing.{report_refused, stops-quiet}
+use Rattle.command.proofs.Listing.{graded-stops, refused_list, report_file, report_input, report_refused, stops-quiet}
 use Rattle.command.proofs.Opening.{opens_of_file, opens_of_input, opens_of_none}
 use Rattle.command.proofs.session.Session.check_named.Goals as goal
 

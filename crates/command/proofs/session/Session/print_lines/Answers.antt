@@ -3,6 +3,7 @@ use Rattle.command.specs.Hashing.{LinesGiven}
 use Rattle.command.specs.Run.{TellsAll}
 use Rattle.command.specs.inside.Rules.{line_by}
 use Rattle.command.specs.inside.Seen.{Seen}
+use Rattle.command.specs.inside.Streams.{seen_of}
 use Rattle.command.proofs.Given.{given_walked}
 use Rattle.command.proofs.Tagging.{sum_had, sum_refused}
 use Rattle.command.proofs.session.Session.print_lines.Goals as goal
@@ -18,22 +19,14 @@ returns-in_err-rule-clause-run g c =
 pub returns-clause-run : goal.returns-clause-run
 returns-clause-run g c =
     let names = map (λ n. n.now) c.args.names.now in
-    let old : Seen = record {
-      bytes = g.L.Feed.remaining c.args.self.now.input.now;
-      files = g.T.Tree.files c.rule_of.new.tree;
-      input_failures = g.L.Feed.failure_count c.args.self.now.input.now;
-      file_failures = g.T.Tree.failure_count c.rule_of.new.tree;
-      opens = g.T.Tree.opens c.rule_of.new.tree;
-      out = g.W.Sink.shown c.args.self.now.out.now;
-    } in
-    let new : Seen = record {
-      bytes = g.L.Feed.remaining c.walk.new.items.input.now;
-      files = g.T.Tree.files c.walk.new.items.tree.now;
-      input_failures = g.L.Feed.failure_count c.walk.new.items.input.now;
-      file_failures = g.T.Tree.failure_count c.walk.new.items.tree.now;
-      opens = g.T.Tree.opens c.walk.new.items.tree.now;
-      out = g.W.Sink.shown c.walk.new.out;
-    } in
+    let see = seen_of g.L.Feed.remaining g.L.Feed.failure_count g.T.Tree.files g.T.Tree.failure_count
+    g.T.Tree.opens g.W.Sink.shown in
+    let old : Seen = see (record c.args.self.now { tree = record c.args.self.now.tree { now = c.rule_of.new.tree } }) in
+    let new : Seen = see (record c.args.self.now {
+      input = c.walk.new.items.input;
+      tree = c.walk.new.items.tree;
+      out = record c.args.self.now.out { now = c.walk.new.out };
+    }) in
     sum_had (sum_shown c.args.sum)
     (λ l bytes files. LinesGiven c.args.share l files names bytes)
     (TellsAll (g.E.Sink.shown c.args.err.now) (g.E.Sink.shown c.walk.new.err)) _ _ _ _

@@ -9,14 +9,11 @@ pub returns-clause-run : goal.returns-clause-run
 returns-clause-run g c =
     let see = seen_of g.L.Feed.remaining g.L.Feed.failure_count g.T.Tree.files g.T.Tree.failure_count
     g.T.Tree.opens g.W.Sink.shown in
-    let new : Seen = record {
-      bytes = g.L.Feed.remaining c.walk.new.items.input.now;
-      files = g.T.Tree.files c.walk.new.items.tree.now;
-      input_failures = g.L.Feed.failure_count c.walk.new.items.input.now;
-      file_failures = g.T.Tree.failure_count c.walk.new.items.tree.now;
-      opens = g.T.Tree.opens c.walk.new.items.tree.now;
-      out = g.W.Sink.shown c.walk.new.out;
-    } in
+    let new : Seen = see (record c.args.self.now {
+      input = c.walk.new.items.input;
+      tree = c.walk.new.items.tree;
+      out = record c.args.self.now.out { now = c.walk.new.out };
+    }) in
     lists_walked c.args.reporting (meaning c.args.entries.now) c.args.share c.whole.result
     (map (λ n. n.now) c.args.lists.now) _ (see c.args.self.now) new _ _ c.whole.ensures.others c.whole.ensures.waiting
     (rw (c.new.ensures.left, c.new.ensures.names) at c.walk.ensures.run)

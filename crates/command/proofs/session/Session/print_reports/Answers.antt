@@ -1,8 +1,8 @@
 use Rattle.std.proofs.Common.{false, map, refl}
 use Rattle.sumlist.specs.Report.{keyed}
-use Rattle.task.specs.Tasks.{tags, these}
+use Rattle.task.specs.Tasks.{tags}
 use Rattle.task.specs.inside.Possible.{mac_len}
-use Rattle.task.specs.inside.Views.{key_shown}
+use Rattle.task.specs.inside.Views.{key_shown, verdicts_shown}
 use Rattle.command.specs.Checking.{ListsRun}
 use Rattle.command.specs.Run.{TellsAll}
 use Rattle.command.specs.inside.Rules.{keyed_line}
@@ -13,7 +13,7 @@ pub returns-in_err-keyed-in-Tags-clause-run : goal.returns-in_err-keyed-in-Tags-
 returns-in_err-keyed-in-Tags-clause-run g c =
     let short = c.in-Tags.short in
     rw c.in-Tags.is (sum_refused (tags short.mac false (key_shown c.in-Tags.key)) (λ l bytes files.
-    ListsRun (keyed (mac_len short.mac) l.limit l.bytes) c.args.reporting (these c.args.share) files
+    ListsRun (keyed (mac_len short.mac) l.limit l.bytes) c.args.reporting (verdicts_shown c.args.verdicts) files
     (map (λ n. n.now) c.args.lists.now) bytes)
     (TellsAll (g.E.Sink.shown c.args.err.now) (g.E.Sink.shown c.args.err.now)) _ _
     c.in_err-keyed-in-Tags.field-0.0 _ _ _ _ _ _ _ c.from_residual.ensures.1 refl refl refl
@@ -23,9 +23,9 @@ pub returns-in_ok-keyed-in-Tags-clause-run : goal.returns-in_ok-keyed-in-Tags-cl
 returns-in_ok-keyed-in-Tags-clause-run g c =
     let short = c.in-Tags.short in
     rw c.in-Tags.is (sum_had (tags short.mac false (key_shown c.in-Tags.key)) (λ l bytes files.
-    ListsRun (keyed (mac_len short.mac) l.limit l.bytes) c.args.reporting (these c.args.share) files
+    ListsRun (keyed (mac_len short.mac) l.limit l.bytes) c.args.reporting (verdicts_shown c.args.verdicts) files
     (map (λ n. n.now) c.args.lists.now) bytes)
-    (TellsAll (g.E.Sink.shown c.args.err.now) (g.E.Sink.shown c.print_lists-in-Tags.new.err)) _ _ _ _
+    (TellsAll (g.E.Sink.shown c.args.err.now) (g.E.Sink.shown c.print_by-in-Tags.new.err)) _ _ _ _
     (keyed_line c.in_ok-keyed-in-Tags.keyed.keyed) _ _ _ _ _ _ _ _ _ _ refl c.short_keyed.ensures.files refl refl
     c.in_ok-keyed-in-Tags.ensures.keyed c.in_ok-keyed-in-Tags.ensures.counted
-    (rw c.tag_len-length.ensures at c.print_lists-in-Tags.ensures.run))
+    (rw c.tag_len.ensures at c.print_by-in-Tags.ensures.run))

@@ -15,19 +15,12 @@ pub returns-clause-run : goal.returns-clause-run
 returns-clause-run g c =
     let see = seen_of g.L.Feed.remaining g.L.Feed.failure_count g.T.Tree.files g.T.Tree.failure_count
     g.T.Tree.opens g.W.Sink.shown in
-    let before : Seen = record (see c.args.self.now) {
-      files = g.T.Tree.files c.open_file.new.tree;
-      file_failures = g.T.Tree.failure_count c.open_file.new.tree;
-      opens = g.T.Tree.opens c.open_file.new.tree;
-    } in
-    let new : Seen = record {
-      bytes = g.L.Feed.remaining c.walk-answer.new.items.input.now;
-      files = g.T.Tree.files c.walk-answer.new.items.tree.now;
-      input_failures = g.L.Feed.failure_count c.walk-answer.new.items.input.now;
-      file_failures = g.T.Tree.failure_count c.walk-answer.new.items.tree.now;
-      opens = g.T.Tree.opens c.walk-answer.new.items.tree.now;
-      out = g.W.Sink.shown c.walk-answer.new.out;
-    } in
+    let before : Seen = see (record c.args.self.now { tree = record c.args.self.now.tree { now = c.open_file.new.tree } }) in
+    let new : Seen = see (record c.args.self.now {
+      input = c.walk-answer.new.items.input;
+      tree = c.walk-answer.new.items.tree;
+      out = record c.args.self.now.out { now = c.walk-answer.new.out };
+    }) in
     report_read c.args.reporting (meaning c.args.entries.now) c.args.report.now (map (λ n. n.now) c.args.lists.now) _
     _ _ g.T.F.Feed.remaining c.in_ok-feed.feed _ _ before new c.whole.result
     _ _ _ _ c.whole.ensures.others c.whole.ensures.waiting c.in_ok-feed.ensures.opened c.open_file.ensures.kept c.in_ok-feed.ensures.counted

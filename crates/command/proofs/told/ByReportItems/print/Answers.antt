@@ -1,4 +1,4 @@
-use Rattle.std.proofs.Common.{map, nat_lt, refl, sym}
+use Rattle.std.proofs.Common.{map, nat_lt, sym}
 use Rattle.sumlist.specs.inside.Telling.{left}
 use Rattle.command.specs.inside.Rules.{meaning}
 use Rattle.command.specs.inside.Seen.{Seen}
@@ -10,14 +10,7 @@ pub returns-clause-printed : goal.returns-clause-printed
 returns-clause-printed g c =
     let see = seen_of g.L.Feed.remaining g.L.Feed.failure_count g.T.Tree.files g.T.Tree.failure_count
     g.T.Tree.opens g.W.Sink.shown in
-    let old : Seen = record {
-      bytes = g.L.Feed.remaining c.args.self.now.input.now;
-      files = g.T.Tree.files c.args.self.now.tree.now;
-      input_failures = g.L.Feed.failure_count c.args.self.now.input.now;
-      file_failures = g.T.Tree.failure_count c.args.self.now.tree.now;
-      opens = g.T.Tree.opens c.args.self.now.tree.now;
-      out = g.W.Sink.shown c.args.out.now;
-    } in
+    let old : Seen = see (record { alloc = c.args.self.now.alloc; input = c.args.self.now.input; tree = c.args.self.now.tree; out = c.args.out }) in
     rw (c.out-1.given.1 (sym c.tell_one.ensures.same.out), c.tell_one.ensures.kept.name) (list_told c.args.self.now.reporting
     (meaning c.args.self.now.told.entries.now) (map (λ n. n.now) c.args.self.now.lists.names.now)
     c.args.self.now.told.name.now c.args.self.now.lists.name.now _
