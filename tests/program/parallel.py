@@ -159,7 +159,7 @@ def of_lists():
         yield f"check standard input, {name}", ["check", "-a", "sha256", "--summary"], content(name)
     yield "check - and more", ["check", "-a", "sha256", "one", "-", "good"], content("mixed")
     yield "a list from itself", ["check", "-a", "sha256"], content("one") + b"0" * 64 + b"  stdin\n" + content("one")
-    for words in (["-a", "md5"], ["-l", "5"], ["--told", "good"], ["--share", "1/3"]):
+    for words in (["-a", "md5"], ["-l", "5"], ["--report", "good"], ["--share", "1/3"]):
         yield f"check with {words}", ["check", *words, "good"], b""
 
 

@@ -111,7 +111,7 @@ def changed(program):
 
 def failed(program):
     """Runs that are killed, fail, or print what they should not: the beginning of the lines, and status 3."""
-    share, told = 'case "$*" in *"--share 1/"*', 'case "$*" in *--told*'
+    share, told = 'case "$*" in *"--share 1/"*', 'case "$*" in *--report*'
     for words in HASH, CHECK:
         whole = harness.run(program, words)
         for how, text in ((f'{share}) printf "half a line"; kill -9 $$ ;; esac', b"was killed by signal 9"),
@@ -135,7 +135,7 @@ def failed(program):
                 f'{share}) set -- check --share 2/3 -a sha256 list ;; *"--share 2/"*) '
                 'set -- check --share 1/3 -a sha256 list ;; esac'):
         run = front(faulty(program, how), 3, CHECK)
-        judge(f"check: {how}", run.status == 3 or how.endswith("--told*) exit 0 ;; esac"), run)
+        judge(f"check: {how}", run.status == 3 or how.endswith("--report*) exit 0 ;; esac"), run)
     run = front(faulty(program, f"{told}) sleep 1 ;; esac"), 3, CHECK)
     same("the run that compares is late", run, whole)
     os.mkdir("cats")

@@ -20,7 +20,7 @@ FILES = ["f0", "f1", "f2", "f3", "f4", "empty", "a b", " a", "größe", "a\\b", 
 NONE = ["missing", "folder", "f0/x", "", "x" * 300, "dangling"]
 OWN = ([], ["-j2"], ["-j", "3"], 2, 3, 5)  # words of sums-parallel, or a number of shares
 WRONG = (["-x"], ["--tag=1"], ["-l"], ["--share", "0/1"], ["--help"], ["--raw"], ["--seek", "1"], ["--verify", "00"],
-         ["--name", "x"], ["-"], ["--none"], ["-l", "99999"], ["--told", "names"])
+         ["--name", "x"], ["-"], ["--none"], ["-l", "99999"], ["--report", "names"])
 
 
 def chosen(among, most):

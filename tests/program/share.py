@@ -1,6 +1,6 @@
 #!/usr/bin/env python3
 """Checks random lists, of digests and of tags under random keys, by one run and by the runs of all shares: the lines of
-these, one of each in turn, have to be the report of the one run, and `check --told` of that report what the run told.
+these, one of each in turn, have to be the report of the one run, and `check --report` of that report what the run told.
 The same report with a line added, doubled, left out or cut has to be refused at that line.
 usage: tests/program/share.py PROGRAM [RUNS] [SEED]    RUNS is 1,000 where it is not named
 """
@@ -86,7 +86,7 @@ def one_run(program, source, about, files):
         same(f"{about}, what shares tell", [share.err for share in shares], [refused] * count)
     with open("report", "wb") as file:
         file.write(whole.out)
-    told = check(program, [*words, "--summary", "--told", "report"], names)
+    told = check(program, [*words, "--summary", "--report", "report"], names)
     if refused:
         # it ends at the first list that cannot be read
         end = whole.err.index(refused) + len(refused)
@@ -97,7 +97,7 @@ def one_run(program, source, about, files):
     if number:
         with open("report", "wb") as file:
             file.write(report)
-        told = check(program, [*words, "--told", "report"], names)
+        told = check(program, [*words, "--report", "report"], names)
         last = told.err.splitlines(keepends=True)[-1:]
         same(f"{about}, a report with a fault {report}", (told.status, told.out, last),
             (1, b"", [b"sums: report: line %d: not of this list\n" % number]))

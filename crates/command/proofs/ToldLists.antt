@@ -1,4 +1,4 @@
--- The run of `check` with `--told`: lists are read beside their report.
+-- The run of `check` with `--report`: lists are read beside their report.
 use Rattle.std.proofs.Common.{◌≡◌, ◌∙◌, ℕ, ◌+◌, ◌-◌, ◌^◌, ◌<◌, ◌≤◌, List, [], ◌∷◌, ◌++◌, length, length-append, Option}
 use Rattle.std.proofs.Common.{Some, None, Bool, true, false, Result, Ok, Err, IfSome, refl, sym, ap, ◌⊎◌, arith, inl}
 use Rattle.std.proofs.Common.{inr}

@@ -1,4 +1,4 @@
-// The command `check` with `--told`: what a report on lists does not say.
+// The command `check` with `--report`: what a report on lists does not say.
 
 ghost use Rattle.std.specs.Prelude.{◌≡◌, ◌≤◌, ◌<◌, ◌+◌, ◌⊎◌, [], IfSome, List, MatchResult, Ok, Some, ℕ};
 ghost use Rattle.std.specs.Prelude.{false, length, map, option_map, true, ⊤};

@@ -27,6 +27,10 @@ letter name = record (new_rule name) { short = slice_get name 0; value_names = 1
 abbrev pub option : Text → Rule
 option name = record (new_rule name) { long = Some name; value_names = 1 }
 
+-- the same by another name too
+abbrev pub also : Text → Rule → Rule
+also name rule = record rule { aliases = name ∷ [] }
+
 -- a flag `--name`, which takes no value
 abbrev pub flag : Text → Rule
 flag name = record (new_rule name) { long = Some name; action = Some SetTrue }
@@ -70,7 +74,7 @@ commands names macs both = command (codes "hash") (required (algorithm names) �
     ∷ required (number (letter (codes "l"))) ∷ flag (codes "raw") ∷ [])
     ∷ command (codes "check") (algorithm both ∷ option (codes "key") ∷ option (codes "key-file")
     ∷ number (letter (codes "l")) ∷ flag (codes "summary") ∷ flag (codes "progress") ∷ option (codes "share")
-    ∷ option (codes "told") ∷ files ∷ [])
+    ∷ also (codes "told") (option (codes "report")) ∷ files ∷ [])
     ∷ command (codes "part") (required (algorithm names) ∷ number (option (codes "first"))
     ∷ number (option (codes "chunks")) ∷ flag (codes "list") ∷ number (option (codes "each"))
     ∷ option (codes "verify") ∷ flag (codes "progress") ∷ option (codes "share") ∷ file ∷ [])

@@ -111,15 +111,15 @@ check_share : Asks (codes "check" ∷ codes "--share=2/3" ∷ codes "l" ∷ [])
 unfolding clap_on_literals sums_app
 check_share names macs both = refl
 
-check_told : Asks (codes "check" ∷ codes "--summary" ∷ codes "--told=r" ∷ codes "l" ∷ [])
+check_report : Asks (codes "check" ∷ codes "--summary" ∷ codes "--report=r" ∷ codes "l" ∷ [])
     (Ok (checks None (record { is_summed = true }) (in_file (codes "r")) (codes "l" ∷ [])))
 unfolding clap_on_literals sums_app
-check_told names macs both = refl
+check_report names macs both = refl
 
-check_share_told : Asks (codes "check" ∷ codes "--told=r" ∷ codes "--share=0" ∷ [])
-    (Err (codes "--share: not with --told\n"))
+check_share_report : Asks (codes "check" ∷ codes "--told=r" ∷ codes "--share=0" ∷ [])
+    (Err (codes "--share: not with --report\n"))
 unfolding clap_on_literals sums_app
-check_share_told names macs both = refl
+check_share_report names macs both = refl
 
 check_long : Asks (codes "check" ∷ codes "-ablake3" ∷ codes "-l65" ∷ codes "--key=0" ∷ codes "l" ∷ [])
     (Err (codes "-l: out of range\n"))

@@ -160,8 +160,8 @@ kdf g = do
 
 -- where `check` has the verdicts from: a report, or the files of a share of the entries
 abbrev pub verdicts : Given → Result (Source Share) Text
-verdicts g = option_map_or (λ t. absent (codes ": not with --told\n") (codes "share" ∷ []) g >> Ok (in_file t))
-    (text_of (codes "told") g) (share_of (Ok tt) g >>= (λ s. Ok (these s)))
+verdicts g = option_map_or (λ t. absent (codes ": not with --report\n") (codes "share" ∷ []) g >> Ok (in_file t))
+    (text_of (codes "report") g) (share_of (Ok tt) g >>= (λ s. Ok (these s)))
 
 -- that of `check`: under a key the entries of lists are tags of at most 64 bytes; else digests, those of untagged
 -- lines by this hash, if there is one, and any other name of `-a` is one of HMAC

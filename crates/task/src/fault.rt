@@ -48,8 +48,8 @@ pub enum Setting {
     Each,
     /// `--share`.
     Share,
-    /// `--told`.
-    Told,
+    /// `--report`.
+    Report,
 }
 
 /// What is wrong with a request.
@@ -71,8 +71,8 @@ pub enum UsageFault {
     NotWithEach(Setting),
     /// It says nothing beside `--verify`.
     NotWithVerify(Setting),
-    /// It says nothing beside `--told`.
-    NotWithTold(Setting),
+    /// It says nothing beside `--report`.
+    NotWithReport(Setting),
     /// It says nothing of several files.
     OneFile(Setting),
     /// It says nothing but of standard input alone.
@@ -145,7 +145,7 @@ impl Setting {
             Setting::Starts => "--list",
             Setting::Each => "--each",
             Setting::Share => "--share",
-            Setting::Told => "--told",
+            Setting::Report => "--report",
         }
     }
 
@@ -173,7 +173,7 @@ impl Setting {
             Setting::Starts => "list",
             Setting::Each => "each",
             Setting::Share => "share",
-            Setting::Told => "told",
+            Setting::Report => "report",
         }
     }
 }
@@ -196,7 +196,7 @@ impl UsageFault {
             UsageFault::NotWithList(setting) => (setting.text(), ": not with --list\n"),
             UsageFault::NotWithEach(setting) => (setting.text(), ": not with --each\n"),
             UsageFault::NotWithVerify(setting) => (setting.text(), ": not with --verify\n"),
-            UsageFault::NotWithTold(setting) => (setting.text(), ": not with --told\n"),
+            UsageFault::NotWithReport(setting) => (setting.text(), ": not with --report\n"),
             UsageFault::OneFile(setting) => (setting.text(), ": one file only\n"),
             UsageFault::InputOnly(setting) => (setting.text(), ": standard input only\n"),
             UsageFault::FileOnly(setting) => (setting.text(), ": not of standard input\n"),

@@ -359,11 +359,11 @@ impl<'a> Verdicts<'a> {
     fn of(request: &Request<'a>) -> Result<Verdicts<'a>, UsageFault>
         ensures { seen verdicts_shown result ≡ spec.verdicts (given_of request.now) }
     {
-        let Some(report) = request.text("told") else {
+        let Some(report) = request.text("report") else {
             return Ok(Verdicts::Files(share_of_entries(request)?));
         };
         if let Some(setting) = first_given(request, &[Setting::Share]) {
-            return Err(UsageFault::NotWithTold(setting));
+            return Err(UsageFault::NotWithReport(setting));
         }
         Ok(Verdicts::Report(report))
     }

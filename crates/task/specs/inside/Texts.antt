@@ -9,7 +9,7 @@ use Rattle.task.specs.declared.fault.UsageFault.TheVariants.{InputOnly, Needed, 
 use Rattle.task.specs.declared.fault.UsageFault.TheVariants.{NotHexadecimal, NotWithRaw, NotWithTag, OneFile, OneKey}
 use Rattle.task.specs.declared.fault.UsageFault.TheVariants.{FileOnly, NoCommand, NotOfOnePart, NotWithEach}
 use Rattle.task.specs.declared.fault.UsageFault.TheVariants.{NotWithList}
-use Rattle.task.specs.declared.fault.UsageFault.TheVariants.{NotWithTold, NotWithVerify, OneSource}
+use Rattle.task.specs.declared.fault.UsageFault.TheVariants.{NotWithReport, NotWithVerify, OneSource}
 use Rattle.task.specs.declared.fault.UsageFault.TheVariants.{OutOfRange, WrongLength}
 
 -- the name of a setting, which is its id among the options and arguments of a request
@@ -33,7 +33,7 @@ setting_name setting.Name = codes "name"
 setting_name setting.Starts = codes "list"
 setting_name setting.Each = codes "each"
 setting_name setting.Share = codes "share"
-setting_name setting.Told = codes "told"
+setting_name setting.Report = codes "report"
 
 -- what a fault is told of, a setting or nothing alone, and what is said of it
 abbrev pub usage_texts : UsageFault → Text × Text
@@ -45,7 +45,7 @@ usage_texts (NotWithRaw s) = (word (setting_name s), codes ": not with --raw\n")
 usage_texts (NotWithList s) = (word (setting_name s), codes ": not with --list\n")
 usage_texts (NotWithEach s) = (word (setting_name s), codes ": not with --each\n")
 usage_texts (NotWithVerify s) = (word (setting_name s), codes ": not with --verify\n")
-usage_texts (NotWithTold s) = (word (setting_name s), codes ": not with --told\n")
+usage_texts (NotWithReport s) = (word (setting_name s), codes ": not with --report\n")
 usage_texts (OneFile s) = (word (setting_name s), codes ": one file only\n")
 usage_texts (InputOnly s) = (word (setting_name s), codes ": standard input only\n")
 usage_texts (FileOnly s) = (word (setting_name s), codes ": not of standard input\n")
