@@ -37,7 +37,8 @@ list_counted_more from_input f g i j k u v w (m, n, is, a, b) (o, p, are, c, d) 
 )
   where
     joined : (b : Bool) → plus (plus (failures_from false n) (failures_from b m))
-        (plus (failures_from false p) (failures_from b o)) ≡ plus (failures_from false (n + p)) (failures_from b (m + o))
+        (plus (failures_from false p) (failures_from b o)) ≡ plus (failures_from false (n + p))
+        (failures_from b (m + o))
     joined true = pair (omega arith) (omega arith)
     joined false = pair (omega arith) (omega arith)
 

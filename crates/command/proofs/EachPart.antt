@@ -264,7 +264,8 @@ module _ {s : Share} {n : ℕ} {content : Option (List ℕ)} {i : ℕ} {gives : 
           → MatchOption c (mid ≡ old) (λ m. Writing old mid (lines_of s n m) (own_lines s.others n m i))
           → Says (Err f) mid
       on None is none = each_by (Err f) mid (refusal b content t) (failed_reads content t)
-          (λ input files same. inl (rw same (unread_by b name content t (why (rw is at may))))) (Does-refused t _ f (Err f) old mid refl refl none) refl
+          (λ input files same. inl (rw same (unread_by b name content t (why (rw is at may)))))
+          (Does-refused t _ f (Err f) old mid refl refl none) refl
           (counts-replicate _ b) lost
         where
           why : MayRefuse (2 ^ 64 - 1) name None t → MayFail name (λ _. ⊥) t
@@ -283,7 +284,8 @@ module _ {s : Share} {n : ℕ} {content : Option (List ℕ)} {i : ℕ} {gives : 
   none_lost false = refl
 
   -- all its lines were printed
-  each_done : (new : Shown) (m : List ℕ) → content ≡ Some m → length m ≤ 2 ^ 64 - 1 → Writing old new (lines_of s n m) []
+  each_done : (new : Shown) (m : List ℕ) → content ≡ Some m → length m ≤ 2 ^ 64 - 1
+      → Writing old new (lines_of s n m) []
       → w ≡ count_after v 0 → Says (Ok 0) new
   each_done new m is few written none = each_by (Ok 0) new (prints (lines_of s n m) 0) 0
       (λ input files same. inr (rw (same ∙ is) (inl (few, refl))))
@@ -454,13 +456,20 @@ module _ (s : Share) (n : ℕ) (name : Text) (first : Option (List ℕ)) (tree :
   pub each_run : (i j u v : ℕ) → Named (EachOf s n name) name first tree r old new 0 0 i j u v → Each i j u v
   each_run i j u v named = known first (λ input f. known tree (λ files t. taken input files (rw t at (rw f at named))))
     where
-      taken : (input : List ℕ) (files : Files) → DoesBeside (EachOf s n name (content_of name input files)) r old new 0 0
+      taken : (input : List ℕ) (files : Files)
+          → DoesBeside (EachOf s n name (content_of name input files)) r old new 0 0
           (λ f. Counted f i j u v) → Taken (EachRuns s n name files input) r old new i j u v
       taken input files d =
           let listed = d.list in
           let none : d.listed ≡ 0 = omega (arith, listed) in
-          let sum = d.sum ∙ ap (λ (k : ℕ). plus (failures_from false k) d.lost) none ∙ sym (plus_none d.lost) in
-          (d.run, d.is_run input files refl, d.does, d.quiet, subst (λ (f : Failures). Counted f i j u v) (sym sum) d.counted)
+          let sum = d.sum ∙ ap (λ (k : ℕ). plus (failures_from false k) d.lost) none ∙ sym (plus_none d.lost) in (
+            d.run,
+            d.is_run input files refl,
+            d.does,
+            d.quiet,
+            subst (λ (f : Failures). Counted f i j u v)
+                (sym sum) d.counted,
+          )
 
   -- memory ran out before
   pub each_starved : (i u : ℕ) → IsErrAnd r (λ g. g ≡ OutOfMemory) → new ≡ old → Each i i u u

@@ -63,7 +63,8 @@ Counted-input T name (Some m) (Some files) r i j u v input read same =
     (of_input T m r i j u v read same))
 
 of_file : (T : Type 0) (m : List ℕ) (r : Result T Fault) (i u v w x y : ℕ) → v ≡ count_after u 0 → w ≡ 0
-    → x ≡ count_after w (failed true (Some []) r).input → y ≡ count_after v x → Counted (failed false (Some m) r) i i u y
+    → x ≡ count_after w (failed true (Some []) r).input → y ≡ count_after v x
+    → Counted (failed false (Some m) r) i i u y
 of_file T m (Ok value) i u v w x y opened fresh read closed =
     (omega arith, omega (arith, opened, fresh, read, closed))
 of_file T m (Err f) i u v w x y opened fresh read closed =

@@ -74,7 +74,8 @@ module _ {is : Run → Type 0} {counted : List Bool → Type 0} (plain : Run) (a
         → Once is true shared counted r a c d g
     once_passed shared r c g passes = on (status_by f == 3) refl passes
       where
-        answered : (status_by f == 3) ≡ false → (r : Result ℕ Fault) (line : Bool) → (shared && (status_by f == 1)) ≡ line
+        answered : (status_by f == 3) ≡ false → (r : Result ℕ Fault) (line : Bool)
+            → (shared && (status_by f == 1)) ≡ line
             → Reports line f r b c e g → Once is true shared counted r a c d g
         answered light r line at answers = by r line at answers
           where

@@ -76,7 +76,8 @@ lists_both x y None later last files now then_ i j k p q = (q.0 ∙ p.0, tt)
 lists_both x y (Some bytes) later last None now then_ i j k p q = (q.0 ∙ p.0, tt)
 lists_both x y (Some bytes) later last (Some files) now then_ i j k p q = (q.0 ∙ p.0, on p.1 (rw (p.1.is, p.0) at q.1))
   where
-    on : (first : OpensLists x bytes files later i j) → OpensLists y first.left files last j k → OpensLists (x ++ y) bytes files last i k
+    on : (first : OpensLists x bytes files later i j) → OpensLists y first.left files last j k
+        → OpensLists (x ++ y) bytes files last i k
     on first next = record {
       front = first.front ++ next.front;
       left = next.left;
@@ -121,34 +122,40 @@ module _ (reporting : Reporting) (m : Meaning) (list : Option Text) (name : Text
   )
 
   -- an item of lists that are checked
-  pub list_printed : (lists : List Text) (others : ℕ) → others ≡ 0 → list ≡ (if nat_lt 1 (length lists) then Some name else None)
+  pub list_printed : (lists : List Text) (others : ℕ) → others ≡ 0
+      → list ≡ (if nat_lt 1 (length lists) then Some name else None)
       → IfSome (checked_state share old.bytes old.files) (λ x. (i : Text) → i ≡ name → Once (λ run. (y : Share × List ℕ)
-      × (checked_of m reporting old.files lists).step x i run y × OnOk r (checked_state behind new.bytes new.files ≡ Some y)) true
+      × (checked_of m reporting old.files lists).step x i run y
+      × OnOk r (checked_state behind new.bytes new.files ≡ Some y)) true
       (nat_lt 0 others) (CountedOf old new) r old.out new.out
       err_old err_new)
   list_printed lists others alone called = on old.bytes refl old.files refl
     where
       on : (bytes : Option (List ℕ)) → old.bytes ≡ bytes → (files : Option Files) → old.files ≡ files
           → IfSome (checked_state share bytes files) (λ x. (i : Text) → i ≡ name → Once (λ run. (y : Share × List ℕ)
-          × (checked_of m reporting files lists).step x i run y × OnOk r (checked_state behind new.bytes new.files ≡ Some y)) true
+          × (checked_of m reporting files lists).step x i run y
+          × OnOk r (checked_state behind new.bytes new.files ≡ Some y)) true
           (nat_lt 0 others) (CountedOf old new) r old.out new.out
           err_old err_new)
       on None at files of = tt
       on (Some bytes) at None of = tt
       on (Some bytes) at (Some files) of = λ i is. rw (is, alone) (once_so (λ run p.
-          ((behind, p.1.0), (rw (← called) p.0, p.1.2), on_ok r (rw (same, of, p.1.1) refl))) (told_at old bytes files _ at of printed))
+          ((behind, p.1.0), (rw (← called) p.0, p.1.2), on_ok r (rw (same, of, p.1.1) refl)))
+          (told_at old bytes files _ at of printed))
 
 -- all of them
 pub lists_walked : (reporting : Reporting) (m : Meaning) (share whole : Share) (lists : List Text) (r : Result ℕ Fault)
     (old new : Seen) (err_old err_new : Shown) → whole.others ≡ 0 → whole.waiting ≡ 0
-    → IfSome (checked_state share old.bytes old.files) (λ x. DoesWalk true (checked_of m reporting old.files lists) whole x
+    → IfSome (checked_state share old.bytes old.files) (λ x. DoesWalk true
+    (checked_of m reporting old.files lists) whole x
     lists (CountedOf old new) r old.out new.out
     err_old err_new) → DoesRun (λ bytes files. ListsRun m reporting (these share) files lists bytes)
     (λ notes. TellsAll err_old err_new notes) r old new
 lists_walked reporting m share whole lists r old new err_old err_new alone first walked = told_where old
     (λ bytes files at of. rw (alone, first, every-all lists, at, of) at walked)
 
-pub lists_opened : (lists : List Text) (whole : Share) (bytes later : Option (List ℕ)) (files now : Option Files) (i j : ℕ)
+pub lists_opened : (lists : List Text) (whole : Share) (bytes later : Option (List ℕ))
+    (files now : Option Files) (i j : ℕ)
     → whole.others ≡ 0 → whole.waiting ≡ 0 → (done : List Text) × (rest : List Text)
     × (every whole.others whole.waiting lists ≡ done ++ rest) × KeepsLists done bytes later files now i j
     → IfSome bytes (λ bytes. IfSome files (λ files. j ≤ i + sum_by (opens_in bytes files) lists))

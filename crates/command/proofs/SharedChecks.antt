@@ -231,7 +231,8 @@ module _ (m : Meaning) (reporting : Reporting) (files : Files) (many : Bool) whe
               here = here;
               rest = record rest { ending = Ok (max 0 r.own) };
               runs = subst (λ s. Over lists s (left_of name input) (record rest { ending = Ok (max 0 r.own) }))
-                  here.moved (subst (λ i. Over lists y.0 i (record rest { ending = Ok (max 0 r.own) })) stays (r.from 0));
+                  here.moved (subst (λ i. Over lists y.0 i (record rest { ending = Ok (max 0 r.own) }))
+                  stays (r.from 0));
               quiet = ap (λ (t : List Text). t ++ []) (nil_both rest.notes (end_of rest.ending).1 q.1).0;
               is = is ∙ ap (λ e. record (followed first rest) { ending = e }) (r.ends ∙ ap Ok (omega arith));
             }
@@ -260,7 +261,8 @@ module _ (m : Meaning) (reporting : Reporting) (files : Files) (many : Bool) whe
 
     none : (input : List ℕ) (shares : ℕ → Run) → Did [] input shares → Made [] input shares
     none input shares did =
-        let is : (k : ℕ) → shares k ≡ prints [] 0 = λ k. nothing (share_at (min k n), input) (shares k) (did k).1 in record {
+        let is : (k : ℕ) → shares k ≡ prints [] 0 = λ k. nothing (share_at (min k n), input) (shares k)
+        (did k).1 in record {
           run = prints [] 0;
           ends = (0, refl);
           whole = inl refl;

@@ -322,7 +322,8 @@ module _ {S I : Type 0} (goes_on : Bool) (w : Walk S I) (P : I → Type 0) (plai
       let said : (k : ℕ) → map (said_of goes_on) (every n k runs) ≡ every n k (map (said_of goes_on) runs)
       = λ k. sym (every-map (said_of goes_on) n k runs) in
       let status_is : (k : ℕ) → k ≤ n → status (shares k) ≡ max 0 (highest (every n k runs))
-      = λ k within. ap status (is k within) ∙ ap (λ e. (end_of e).0) (joined_ending goes_on true 0 (every n k runs)) in (
+      = λ k within. ap status (is k within) ∙ ap (λ e. (end_of e).0)
+      (joined_ending goes_on true 0 (every n k runs)) in (
         whole,
         rw (every-all items) (gather goes_on w P plain x 0 items runs turn.each),
         (

@@ -122,14 +122,16 @@ lines_few title os = let most = lines_some title 1 os (summary_of []) in omega (
 
 -- ---- one list that a feed gives
 
-module _ (reporting : Reporting) (m : Meaning) (title : Option Text) (name report : Bor Text) (bytes left whole : List ℕ)
+module _ (reporting : Reporting) (m : Meaning) (title : Option Text) (name report : Bor Text)
+    (bytes left whole : List ℕ)
     (n next : ℕ) (rest : Option Text) (before after : Shown) (i j x y : ℕ) (room : HasRoom whole left n) where
   abbrev pub Fed : Result ℕ Fault → Type 0
   Fed r = IsTold (BesideRuns reporting m title name.now report.now (Some bytes) whole left n rest next) r before after
       (λ f. ListCounted (is_input name.now) f i j x y)
 
   -- a fault ended it
-  stops_by : (f : Fault) (failures : List Bool) (is : BesideRuns reporting m title name.now report.now (Some bytes) whole
+  stops_by : (f : Fault) (failures : List Bool) (is : BesideRuns reporting m title name.now report.now
+      (Some bytes) whole
       left n rest next (record (stops (shown (trouble_of f))) { failures = failures })) → after ≡ before
       → ListCounted (is_input name.now) failures i j x y → Fed (Err f)
   stops_by f failures is quiet counted = record {
@@ -155,13 +157,15 @@ module _ (reporting : Reporting) (m : Meaning) (title : Option Text) (name repor
       → (answer ≡ Err tell.ListTooLong → 2 ^ 64 - 1 < length bytes)
       → TellsAll before after (remarks true reporting title name.now m (of_tell answer name report next))
       → Fed (graded (of_tell answer name report next))
-  fed (Ok s) (os, front, end, cut, possible, behind, split, count, (none, same, rest_is)) reads more long said = record {
-    run = record (prints [] (if is_clean s then 0 else 1)) { notes = notes_of reporting m title name.now s };
-    is_run = inr (inr (os, front, end, cut, possible, behind, split, inl (none, rw same refl, rest_is, count)));
-    does = λ out. record { ending = refl; out = (refl, Appends-nil out.contents); cut = λ e. cc };
-    notes = said;
-    counts = files_counted (is_input name.now) 0 i j x y (reads.1 (λ e. cc)) (let same = more.1 (λ e. cc) in omega (arith, same));
-  }
+  fed (Ok s) (os, front, end, cut, possible, behind, split, count, (none, same, rest_is)) reads more long
+      said = record {
+        run = record (prints [] (if is_clean s then 0 else 1)) { notes = notes_of reporting m title name.now s };
+        is_run = inr (inr (os, front, end, cut, possible, behind, split, inl (none, rw same refl, rest_is, count)));
+        does = λ out. record { ending = refl; out = (refl, Appends-nil out.contents); cut = λ e. cc };
+        notes = said;
+        counts = files_counted (is_input name.now) 0 i j x y (reads.1 (λ e. cc))
+            (let same = more.1 (λ e. cc) in omega (arith, same));
+      }
   fed (Err tell.ListRead) beside reads more long said =
       unread (CannotRead name) (inr (inl refl)) said (reads.0 refl) (more.1 (λ e. cc))
   fed (Err tell.ListTooLong) beside reads more long said = let none = reads.1 (λ e. cc) in
@@ -173,8 +177,8 @@ module _ (reporting : Reporting) (m : Meaning) (title : Option Text) (name repor
   fed (Err tell.ReportTooLong) (os, front, end, cut, possible, behind, split, count, many) reads more long said =
       let none = more.1 (λ e. cc) in unreported (TooLong report) (inr (inr (refl, omega (arith, room, many)))) said
       (reads.1 (λ e. cc)) (omega (arith, none))
-  fed (Err tell.OtherLine) (os, front, end, cut, possible, behind, split, count, (line, others, is, other)) reads more long
-      said = let none = more.1 (λ e. cc) in
+  fed (Err tell.OtherLine) (os, front, end, cut, possible, behind, split, count, (line, others, is, other))
+      reads more long said = let none = more.1 (λ e. cc) in
       stops_by (OtherLine report next) [] (inr (inr (
         os,
         front,
@@ -245,7 +249,8 @@ module _ (reporting : Reporting) (m : Meaning) (title : Option Text) (name repor
   -- the list is standard input
   pub named_input : is_input name ≡ true → FedBy b.bytes b.input_failures c.input_failures
       → c.file_failures ≡ b.file_failures → Over
-  named_input is fed same = λ bytes coming whole files at of has room. rw is (told_as (fed bytes coming whole at has room)
+  named_input is fed same = λ bytes coming whole files at of has room. rw is
+      (told_as (fed bytes coming whole at has room)
       (λ f counted. input_counted f _ _ _ _ _ _ same (rw is at counted)))
 
   -- it is a file that was opened, and closed
@@ -255,13 +260,15 @@ module _ (reporting : Reporting) (m : Meaning) (title : Option Text) (name repor
       → c.file_failures ≡ count_after v j → c.input_failures ≡ b.input_failures → Over
   named_file remaining feed i j v is opened counted fed fresh closed same = λ bytes coming whole files at of has room.
       let it = rw of at opened in let first = rw of at counted in
-      rw (is, it.1) (told_as (fed it.0 coming whole it.2 has room) (λ f read. file_counted f i j _ _ _ v _ x y same first
+      rw (is, it.1) (told_as (fed it.0 coming whole it.2 has room)
+      (λ f read. file_counted f i j _ _ _ v _ x y same first
       fresh closed (rw is at read)))
 
   -- it is a file that did not open
   pub named_none : (f : Fault) → is_input name ≡ false → IsErrAnd r (λ g. g ≡ f)
       → IfSome b.files (λ files. MayRefuse 0 name (files name) (trouble_of f) × (trouble_of f ≡ too_long name → ⊥))
-      → IfSome b.files (λ files. c.file_failures ≡ count_after b.file_failures (failed_reads (files name) (trouble_of f)))
+      → IfSome b.files (λ files. c.file_failures ≡ count_after b.file_failures
+      (failed_reads (files name) (trouble_of f)))
       → after ≡ before → c.input_failures ≡ b.input_failures → y ≡ x → Over
   named_none f is stop may counted quiet unread same = λ bytes coming whole files at of has room.
       let why = rw of at may in let lost = rw of at counted in let t = trouble_of f in
@@ -363,7 +370,17 @@ module _ (reporting : Reporting) (m : Meaning) (lists : List Text) (report name 
         λ s ends. absurd (refused_ends (2 ^ 64 - 1) false report (Some whole) run s p ends),
       )
       on None at (inr (inr p)) = absurd p
-      on (Some m) at (inr (inr (os, front, after, cut, possible, behind, split, inl (none, is_run, rest_is, next_is)))) =
+      on (Some m) at (inr (inr (
+        os,
+        front,
+        after,
+        cut,
+        possible,
+        behind,
+        split,
+        inl
+            (none, is_run, rest_is, next_is),
+      ))) =
           let few = lines_few title os in
           let longer = length-append (report_from title 1 os) behind in
           let long = ap length split in
@@ -384,31 +401,32 @@ module _ (reporting : Reporting) (m : Meaning) (lists : List Text) (report name 
             λ s ends now still. known_told report behind over files whole rest next c.bytes c.files rest_is now
                 (still ∙ of) is (omega (arith, few, longer, long, next_is, room)),
           )
-      on (Some m) at (inr (inr (os, front, after, cut, possible, behind, split, inr (line, others, more, is_run, other))))
-          = (
-            here,
-            inr (inr (rw (of, at) (
-              os,
-              front,
-              after,
-              cut,
-              possible,
-              rw (← called) (
-                behind,
-                split,
-                inr (line, others, more, is_run, other),
-              ),
-            ))),
-            λ s ends. absurd (not_both run _ s (ap (λ (q : Run). q.ending) is_run) ends),
-          )
+      on (Some m) at (inr (inr (os, front, after, cut, possible, behind, split, inr (line, others, more, so, other)))) = (
+        here,
+        inr (inr (rw (of, at) (
+          os,
+          front,
+          after,
+          cut,
+          possible,
+          rw (← called) (
+            behind,
+            split,
+            inr (line, others, more, so, other),
+          ),
+        ))),
+        λ s ends. absurd (not_both run _ s (ap (λ (q : Run). q.ending) so) ends),
+      )
 
   -- what was done of it
   pub list_told : ToldOver reporting m title name report left n rest next r b c err_old err_new x y
       → Leaves (is_input name) r b.bytes c.bytes → c.files ≡ b.files → c.out ≡ b.out
       → IfSome (told_state report left n b.bytes b.files) (λ z. (i : Text) → i ≡ name → Once (λ run. (w : Beside)
       × (by_report_of m reporting b.files lists report).step z i run w
-      × OnOk r (told_state report rest next c.bytes c.files ≡ Some w)) false shared (ReportOf b c x y) r b.out c.out err_old err_new)
-  list_told read gave kept out = told_known report left n b.bytes b.files _ (λ coming bytes files whole has at of is room.
+      × OnOk r (told_state report rest next c.bytes c.files ≡ Some w)) false shared (ReportOf b c x y) r b.out c.out
+      err_old err_new)
+  list_told read gave kept out = told_known report left n b.bytes b.files _
+      (λ coming bytes files whole has at of is room.
       λ i named. let t = read bytes coming whole files at of has room in
       rw (named, out) (on (record { left = coming; number = n; input = bytes }) r t
       (stepped coming bytes whole files of is room t.run t.is_run) (rw at at gave)))
@@ -416,9 +434,11 @@ module _ (reporting : Reporting) (m : Meaning) (lists : List Text) (report name 
       on : (z : Beside) (q : Result ℕ Fault) {is : Run → Type 0} (t : IsTold is q err_old err_new (ReportOf b c x y))
           → Stepped z t.run → Leaves (is_input name) q (Some z.input) c.bytes → Once (λ run. (w : Beside)
           × (by_report_of m reporting b.files lists report).step z name run w
-          × OnOk q (told_state report rest next c.bytes c.files ≡ Some w)) false shared (ReportOf b c x y) q b.out b.out err_old err_new
+          × OnOk q (told_state report rest next c.bytes c.files ≡ Some w)) false shared (ReportOf b c x y) q b.out
+          b.out err_old err_new
       on z (Ok s) t (w, step, known) gave = once_done t.run b.out b.out err_old err_new
-          (w, step, known s (t.does b.out).ending (left_by (is_input name) s z.input c.bytes gave) kept) t.counts t.notes
+          (w, step, known s (t.does b.out).ending (left_by (is_input name) s z.input c.bytes gave) kept)
+          t.counts t.notes
           false shared s (t.does b.out)
       on z (Err f) t (w, step, known) gave =
           once_last t.run b.out b.out err_old err_new (w, step, tt) t.counts t.notes f (t.does b.out) false shared refl

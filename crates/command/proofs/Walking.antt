@@ -66,7 +66,8 @@ module _ {T : Type 0} {counted : List Bool → T → T → Type 0}
   module _ (shared : Bool) (x : S) where
     did_next : (i : I) (items : List I) (status : ℕ) (last : Option S) (s : ℕ) (p q t : T) (a b e f : Shown)
         (o : OneOf counted goes_on w shared x i last p q (Ok s) a b e f) (r : Result ℕ Fault) (c g : Shown)
-        → Rest counted goes_on w shared o.is_one.0 (max status s) items q t r b c f g → Rest counted goes_on w shared x status (i ∷ items) p t r a c e g
+        → Rest counted goes_on w shared o.is_one.0 (max status s) items q t r b c f g
+        → Rest counted goes_on w shared x status (i ∷ items) p t r a c e g
     did_next i items status last s p q t a b e f o r c g (rest, walks, does, tells, counts) =
         let h : Follows goes_on o.first s a b e f = o.ends in (
           followed o.first rest,
@@ -90,7 +91,8 @@ module _ {T : Type 0} {counted : List Bool → T → T → Type 0}
         )
 
     did_stop : (i : I) (items : List I) (status : ℕ) (last : Option S) (h : Fault) (p q : T) (a b e f : Shown)
-        → OneOf counted goes_on w shared x i last p q (Err h) a b e f → Rest counted goes_on w shared x status (i ∷ items) p q (Err h) a b e f
+        → OneOf counted goes_on w shared x i last p q (Err h) a b e f
+        → Rest counted goes_on w shared x status (i ∷ items) p q (Err h) a b e f
     did_stop i items status last h p q a b e f o =
         let it : Halts goes_on o.first (Err h) a b e f = o.ends in (
           o.first,
@@ -130,7 +132,8 @@ module _ {T : Type 0} {counted : List Bool → T → T → Type 0}
   -- what is done of an item and the others of its share is done of those to come
   of_share : (share : Share) (x : S) (status waiting : ℕ) (l : List I) (i : I) (after : List I) → l ≡ i ∷ after
       → waiting ≡ 0 → (p q t : T) (r : Result ℕ Fault) (a b e f : Shown) → counted [] p q
-      → Rest counted goes_on w (nat_lt 0 share.others) x status (i ∷ every share.others share.others after) q t r a b e f
+      → Rest counted goes_on w (nat_lt 0 share.others) x status
+      (i ∷ every share.others share.others after) q t r a b e f
       → Rest counted goes_on w (nat_lt 0 share.others) x status (every share.others waiting l) p t r a b e f
   of_share share x status waiting l i after is zero p q t r a b e f none (run, walks, does, tells, counts) =
       (run, rw (is, zero) walks, does, tells, more [] run.failures p q t none counts)
@@ -168,7 +171,8 @@ Ones {T} {S} {I} counted goes_on v share at later last t u r a b e f = IfSome la
 
 module _ {T S I : Type 0} {goes_on : Bool} {w : Walk S I} {counted : List Bool → T → T → Type 0} {share : Share}
     {start : Option S} {all : Option (List I)} where
-  pub walked_start : {p : T} {a e : Shown} → Walked goes_on w counted share start all start all share.waiting 0 p p a a e e
+  pub walked_start : {p : T} {a e : Shown} → Walked goes_on w counted share start all start all
+      share.waiting 0 p p a a e e
   walked_start {p} {a} {e} = record { goes = on start all }
     where
       on : (o : Option S) (l : Option (List I)) → IfSome o (λ s. IfSome l (λ i. (x : S) × (rest : List I)
@@ -184,7 +188,8 @@ module _ {T S I : Type 0} {goes_on : Bool} {w : Walk S I} {counted : List Bool �
         → DoesAll counted goes_on w share start all p t (Err h) a b e f
     walked_broken h breaks = on start all breaks so_far.goes
       where
-        on : (o : Option S) (l : Option (List I)) → IfSome o (λ _. IfSome now (λ _. Breaks w.broken h (λ f. counted f q t)))
+        on : (o : Option S) (l : Option (List I))
+            → IfSome o (λ _. IfSome now (λ _. Breaks w.broken h (λ f. counted f q t)))
             → IfSome o (λ s. IfSome l (λ l. (x : S) × (rest : List I) × (now ≡ Some x) × (items ≡ Some rest)
             × Goes goes_on w counted share s l x rest waiting status p q a b e f))
             → DoesAll counted goes_on w share o l p t (Err h) a b e f
@@ -198,7 +203,8 @@ module _ {T S I : Type 0} {goes_on : Bool} {w : Walk S I} {counted : List Bool �
         (moved : IfSome items (λ l. MovesOn l rest at (Ok found)))
         (had : IfSome now (λ x. (later ≡ Some x) × counted [] q t)) where
       pub walked_end : found ≡ false → (r : Result ℕ Fault) (u : T)
-          → IfSome later (λ x. EndsBy (w.ending x status) r (λ f. counted f t u)) → DoesAll counted goes_on w share start all p u r a b e f
+          → IfSome later (λ x. EndsBy (w.ending x status) r (λ f. counted f t u))
+          → DoesAll counted goes_on w share start all p u r a b e f
       walked_end none r u ends = then_both start all so_far.goes (λ s l (x, to_come, is, are, goes).
           let m : to_come ≡ [] = rw (are, none) at moved in
           let h : (later ≡ Some x) × counted [] q t = rw is at had in
@@ -245,7 +251,8 @@ module _ {T S I : Type 0} {goes_on : Bool} {w : Walk S I} {counted : List Bool �
           }
 
           pub walked_one : {soon : ℕ} (s : ℕ) (last : Option S) (u : T) (c g : Shown) {after : ℕ}
-              → (waiting ≡ 0) × (soon ≡ share.others) → after ≡ max status s → Ones counted goes_on v share at later last t u (Ok s) b c f g
+              → (waiting ≡ 0) × (soon ≡ share.others) → after ≡ max status s
+              → Ones counted goes_on v share at later last t u (Ok s) b c f g
               → Walked goes_on w counted share start all last rest soon after p u a c e g
           walked_one {soon} s last u c g {after} (none, is_soon) most ones = record {
             goes = then_both start all so_far.goes (λ z l (x, to_come, is, are, goes).
@@ -259,24 +266,29 @@ module _ {T S I : Type 0} {goes_on : Bool} {w : Walk S I} {counted : List Bool �
                   m.4,
                   record {
                     go = λ r v d k did.
-                        let it = did_next more goes_on w (nat_lt 0 share.others) x m.0 (every share.others share.others m.1)
+                        let it = did_next more goes_on w (nat_lt 0 share.others) x m.0
+                        (every share.others share.others m.1)
                         status last s t u v b c f g o r d k (rw (is_soon, most) at did) in
-                        goes.go r v d k (of_share more goes_on w share x status waiting to_come m.0 m.1 m.2 none q t v r b
+                        goes.go r v d k (of_share more goes_on w share x status waiting to_come m.0 m.1 m.2
+                        none q t v r b
                         d f k h.1 it);
                   },
                 ));
           }
 
-          pub walked_stop : (h : Fault) (last : Option S) (u : T) (c g : Shown) → waiting ≡ 0 → Ones counted goes_on v share at later last t u (Err h) b c f g
+          pub walked_stop : (h : Fault) (last : Option S) (u : T) (c g : Shown) → waiting ≡ 0
+              → Ones counted goes_on v share at later last t u (Err h) b c f g
               → DoesAll counted goes_on w share start all p u (Err h) a c e g
           walked_stop h last u c g none ones = then_both start all so_far.goes (λ z l (x, to_come, is, are, goes).
               let m : (i : I) × (after : List I) × (to_come ≡ i ∷ after) × at i × (rest ≡ Some after)
               = rw (are, is_found) at moved in
               let here : (later ≡ Some x) × counted [] q t = rw is at had in
               let o = of_one last u (Err h) c g ones x here.0 m.0 m.3 in
-              let it = did_stop more goes_on w (nat_lt 0 share.others) x m.0 (every share.others share.others m.1) status last h
+              let it = did_stop more goes_on w (nat_lt 0 share.others) x m.0
+              (every share.others share.others m.1) status last h
               t u b c f g o in
-              goes.go (Err h) u c g (of_share more goes_on w share x status waiting to_come m.0 m.1 m.2 none q t u (Err h)
+              goes.go (Err h) u c g (of_share more goes_on w share x status waiting to_come m.0 m.1 m.2
+              none q t u (Err h)
               b c f g here.1 it))
 
 -- an end by a walk whose ends are those of another

@@ -67,7 +67,8 @@ Passes shared fault r old new err_old err_new = let s = status_of (trouble_of fa
 -- a run over a share of items was done, but for reporting what it ends with
 abbrev pub DoesWalk : {S I : Type 0} → Bool → Walk S I → Share → S → List I → (List Bool → Type 0) → Result ℕ Fault
     → Shown → Shown → Shown → Shown → Type 0
-DoesWalk goes_on w share x items counted r old new err_old err_new = (run : Run) × WalksShare goes_on w share x items run
+DoesWalk goes_on w share x items counted r old new err_old err_new = (run : Run)
+    × WalksShare goes_on w share x items run
     × Does run r old new × TellsAll err_old err_new run.notes × counted run.failures
 
 -- the account of some of the items of a share, from the first on, was kept

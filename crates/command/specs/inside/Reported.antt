@@ -38,7 +38,8 @@ pub record OpensLists (lists : List Text) (bytes : List ℕ) (files : Files) (af
   pub most : new ≤ old + sum_by (opens_in bytes files) lists
 
 -- the same where the bytes and the files are told, and the files stay
-abbrev pub KeepsLists : List Text → (before after : Option (List ℕ)) → (files now : Option Files) → (old new : ℕ) → Type 0
+abbrev pub KeepsLists : List Text → (before after : Option (List ℕ)) → (files now : Option Files)
+    → (old new : ℕ) → Type 0
 KeepsLists lists before after files now old new = (now ≡ files)
     × IfSome before (λ bytes. IfSome files (λ files. OpensLists lists bytes files after old new))
 

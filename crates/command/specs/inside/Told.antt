@@ -39,7 +39,8 @@ BesideRuns reporting m title name report content whole left n rest next run =
     × ((o : Outcome) (end : Text) → IsPossible m line o → behind ≡ text title (length before + 1) o ++ end → ⊥))))
 
 -- a run of these was done, which prints nothing, by its answer, what was reported and the failures that were counted
-pub record IsTold (is : Run → Type 0) (r : Result ℕ Fault) (before after : Shown) (counted : List Bool → Type 0) : Type 0
+pub record IsTold (is : Run → Type 0) (r : Result ℕ Fault) (before after : Shown) (counted : List Bool
+    → Type 0) : Type 0
   where
     pub run : Run
     pub is_run : is run
@@ -61,7 +62,8 @@ abbrev pub ToldOver : Reporting → Meaning → Option Text → (name report : T
     → Result ℕ Fault → Seen → Seen → Shown → Shown → ℕ → ℕ → Type 0
 ToldOver reporting m title name report left n rest next r old new before after x y = (bytes coming whole : List ℕ)
     (files : Files) → old.bytes ≡ Some bytes → old.files ≡ Some files → left ≡ Some coming → HasRoom whole coming n
-    → IsTold (BesideRuns reporting m title name report (content_of name bytes files) whole coming n rest next) r before after
+    → IsTold (BesideRuns reporting m title name report (content_of name bytes files) whole coming n rest next)
+    r before after
     (ReportOf old new x y)
 
 -- what the reading of a list leaves as it is

@@ -10,7 +10,8 @@ pub parts-init : goal.parts-init
 parts-init g c =
     let file = c.args.file in record {
       so = λ content gives. each_start file.share c.args.chunks content
-          (λ i. g.P.Places.gives c.args.places.now i file.name.now content) _ _ _ g.P.Places.is_anywhere c.requires.chunks.0
+          (λ i. g.P.Places.gives c.args.places.now i file.name.now content) _ _ _ g.P.Places.is_anywhere
+          c.requires.chunks.0
           file.within
           c.requires.share (λ a b. g.met.P.Places.moves c.args.places.now a b file.name.now content) gives;
       same = refl;
@@ -35,7 +36,8 @@ part-requires g c =
 pub returns-in_err-part-clause-printed : goal.returns-in_err-part-clause-printed
 returns-in_err-part-clause-printed g c = λ content gives.
     let so = c.parts.invariant.so content gives in
-    each_stopped so c.args.file.name.now _ _ c.part.ensures.opens _ c.chunk_bytes-bytes.ensures (omega arith) c.in_err-part.field-0.0 _
+    each_stopped so c.args.file.name.now _ _ c.part.ensures.opens _ c.chunk_bytes-bytes.ensures (omega arith)
+    c.in_err-part.field-0.0 _
     c.from_residual.ensures.1 (c.in_err-part.ensures.part content so.at) (c.in_err-part.ensures.counted content so.at)
 
 pub returns-in_default-clause-printed : goal.returns-in_default-clause-printed
@@ -57,7 +59,8 @@ returns-then-whole-chunks-clause-printed g c = λ content gives.
     let so = c.parts.invariant.so content gives in
     let len = c.len.ensures in
     let short = c.if-whole-chunks.true in
-    each_last so c.args.file.name.now _ _ c.part.ensures.opens _ c.chunk_bytes-bytes.ensures (omega arith) c.in-Some.part
+    each_last so c.args.file.name.now _ _ c.part.ensures.opens _ c.chunk_bytes-bytes.ensures (omega arith)
+    c.in-Some.part
     (rw c.in-Some.is at (c.in_ok-part.ensures.part content so.at)) (c.in_ok-part.ensures.counted content so.at) _
     (omega (arith, len, short)) c.in_ok-write_part.ensures
 

@@ -70,7 +70,8 @@ items-preserved g c =
     let its = passed_over c.items.invariant.others c.takes_next.ensures.taken c.takes_next.ensures.waiting
     c.if-takes_next.false in record {
       others = c.takes_next.ensures.others ∙ c.items.invariant.others;
-      walked = walked_over c.laws.ensures.counted_more c.next.new.self c.items.invariant.walked (g.I.Items.state c.next.new.self)
+      walked = walked_over c.laws.ensures.counted_more c.next.new.self c.items.invariant.walked
+          (g.I.Items.state c.next.new.self)
           (g.I.Items.items c.next.new.self) (g.I.Items.at c.next.new.self) _ c.in_ok-next.ensures.moved
           c.in_ok-next.ensures.had c.if-branch.true its;
       same = c.laws.ensures.same_both _ _ _ c.items.invariant.same c.next.ensures.same;

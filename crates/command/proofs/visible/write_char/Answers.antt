@@ -18,7 +18,8 @@ layout_char : (c : ℕ) → is_special c ≡ false → is_control c ≡ false �
 layout_char c special control layout = rw (special, control, layout) refl
 
 -- the characters that are listed
-listed : (c : ℕ) → list_any (λ y. y == c) (0x061c ∷ 0x200e ∷ 0x200f ∷ 0x2028 ∷ 0x2029 ∷ 0x202a ∷ 0x202b ∷ 0x202c ∷ 0x202d
+listed : (c : ℕ) → list_any (λ y. y == c) (0x061c ∷ 0x200e ∷ 0x200f ∷ 0x2028 ∷ 0x2029 ∷ 0x202a ∷ 0x202b ∷
+    0x202c ∷ 0x202d
     ∷ 0x202e ∷ 0x2066 ∷ 0x2067 ∷ 0x2068 ∷ 0x2069 ∷ []) ≡ true → is_layout c ≡ true
 listed c any = grind (arith, nat_tests, any)
 

@@ -6,7 +6,8 @@ use Rattle.command.proofs.listed.ListedItems.next.Goals as goal
 
 pub returns-in-Err-clause-broken : goal.returns-in-Err-clause-broken
 returns-in-Err-clause-broken g c = λ start same. rw c.of_source.ensures (breaks_read c.args.self.now.list
-    start.list same.4 start.number c.args.self.now.number start.names.now c.args.self.now.names.now _ _ _ _ (line_by start.rule.now)
+    start.list same.4 start.number c.args.self.now.number start.names.now c.args.self.now.names.now _ _ _ _
+    (line_by start.rule.now)
     (g.T.Tree.files start.tree.now) same.5 _ c.in-Err.fault _ _ c.in-Err.ensures.count
     (λ none long. c.in-Err.ensures.too_long none (rw long refl)) (λ k read. (refl, list_counted _ k _ _ _ _ read refl)))
 

@@ -24,7 +24,13 @@ pub returns-clause-printed : goal.returns-clause-printed
 returns-clause-printed g c =
     let see = seen_of g.L.Feed.remaining g.L.Feed.failure_count g.T.Tree.files g.T.Tree.failure_count
     g.T.Tree.opens g.W.Sink.shown in
-    let old : Seen = see (record { alloc = c.args.self.now.alloc; input = c.args.self.now.input; tree = c.args.self.now.tree; out = c.args.out }) in
+    let old : Seen = see (record {
+      alloc = c.args.self.now.alloc;
+      input = c.args.self.now.input;
+      tree =
+          c.args.self.now.tree;
+      out = c.args.out;
+    }) in
     let gave = c.print_one.ensures.gave c.in-Some.ensures.other in
     rw (c.out-1.given.1 (sym c.print_one.ensures.same.out)) (listed_printed (nat_lt 0 c.args.share.others)
     (line_by c.args.self.now.rule.now) c.args.self.now.list c.args.self.now.number c.args.self.now.names.now old

@@ -9,7 +9,13 @@ pub returns-clause-printed : goal.returns-clause-printed
 returns-clause-printed g c =
     let see = seen_of g.L.Feed.remaining g.L.Feed.failure_count g.T.Tree.files g.T.Tree.failure_count
     g.T.Tree.opens g.W.Sink.shown in
-    let old : Seen = see (record { alloc = c.args.self.now.alloc; input = c.args.self.now.input; tree = c.args.self.now.tree; out = c.args.out }) in
+    let old : Seen = see (record {
+      alloc = c.args.self.now.alloc;
+      input = c.args.self.now.input;
+      tree =
+          c.args.self.now.tree;
+      out = c.args.out;
+    }) in
     rw (c.out-1.given.1 (sym c.print_report.ensures.same.out)) (list_printed c.args.self.now.reporting
     (meaning c.args.self.now.entries.now) _ c.args.self.now.lists.name.now c.args.self.now.share
     c.print_report.new.share _ old (see c.print_report.new.self) _ _ c.print_report.ensures.files
@@ -20,7 +26,13 @@ pub returns-clause-kept : goal.returns-clause-kept
 returns-clause-kept g c =
     let see = seen_of g.L.Feed.remaining g.L.Feed.failure_count g.T.Tree.files g.T.Tree.failure_count
     g.T.Tree.opens g.W.Sink.shown in
-    let old : Seen = see (record { alloc = c.args.self.now.alloc; input = c.args.self.now.input; tree = c.args.self.now.tree; out = c.args.out }) in λ i is. rw is (list_kept c.args.self.now.reporting
+    let old : Seen = see (record {
+      alloc = c.args.self.now.alloc;
+      input = c.args.self.now.input;
+      tree =
+          c.args.self.now.tree;
+      out = c.args.out;
+    }) in λ i is. rw is (list_kept c.args.self.now.reporting
     (meaning c.args.self.now.entries.now) _ c.args.self.now.lists.name.now c.args.self.now.share
     c.print_report.new.share _ old (see c.print_report.new.self) _ _ c.print_report.ensures.files
     c.print_report.ensures.report c.print_report.ensures.opens)

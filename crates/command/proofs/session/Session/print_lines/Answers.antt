@@ -32,4 +32,5 @@ returns-clause-run g c =
     (TellsAll (g.E.Sink.shown c.args.err.now) (g.E.Sink.shown c.walk.new.err)) _ _ _ _
     (line_by c.in_ok-rule.rule) _ _ _ _ _ _ _ _ _ _
     refl c.rule_of.ensures.files refl refl c.in_ok-rule.ensures.rule c.in_ok-rule.ensures.counted
-    (given_walked (line_by c.in_ok-rule.rule) c.args.share names _ old new _ _ (rw c.new.ensures.left at c.walk.ensures.run))
+    (given_walked (line_by c.in_ok-rule.rule) c.args.share names _ old new _ _
+    (rw c.new.ensures.left at c.walk.ensures.run))

@@ -41,7 +41,8 @@ returns-in_err-feed-clause-run g c =
     (λ l bytes files. LinesListed c.args.share l files list (content_of list bytes files))
     (TellsAll err err) _ _ _ _ l _ _ _ _ _ _ _ _ _ _
     refl c.rule_of.ensures.files refl refl c.in_ok-rule.ensures.rule c.in_ok-rule.ensures.counted
-    (report_refused list (λ files content run. LinesListed c.args.share l files list content run) err err g.T.F.Feed.remaining _ _ _ _ _ _ _ _ is
+    (report_refused list (λ files content run. LinesListed c.args.share l files list content run) err err
+    g.T.F.Feed.remaining _ _ _ _ _ _ _ _ is
     (λ files content t may other. refused_names c.args.share l files list content t may other is)
     c.from_residual-in_err-feed.ensures.1 c.in_err-feed.ensures.opened c.in_err-feed.ensures.counted refl)
 

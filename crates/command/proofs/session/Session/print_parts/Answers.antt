@@ -45,7 +45,8 @@ returns-clause-run g c =
     let fresh = c.in_ok-feed.ensures.fresh in
     let closed = c.close.ensures.counted in
     let is = EachOf file.share c.args.parts.chunks file.name.now in
-    each_run file.share c.args.parts.chunks file.name.now _ _ _ _ _ _ _ _ _ (of_opened is file.name.now _ _ _ _ _ _ _ _ _
+    each_run file.share c.args.parts.chunks file.name.now _ _ _ _ _ _ _ _ _
+    (of_opened is file.name.now _ _ _ _ _ _ _ _ _
     _ _ _ _ (g.T.F.Feed.remaining c.in_ok-feed.feed) (sym c.if-eq.ensures) c.in_ok-feed.ensures.opened
     c.in_ok-feed.ensures.counted (λ m at held. (c.write_all-answer.ensures.printed m at).printed)
     (λ n none p. omega (arith, none, p, fresh, closed)))

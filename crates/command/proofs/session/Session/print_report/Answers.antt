@@ -36,6 +36,7 @@ returns-in-Err-clause-report g c =
     let see = seen_of g.L.Feed.remaining g.L.Feed.failure_count g.T.Tree.files g.T.Tree.failure_count
     g.T.Tree.opens g.W.Sink.shown in
     let r : Result Summary Fault = Err c.in-Err.fault in
-    reads_passed _ (is_input c.args.name.now) false (see c.args.self.now) (see c.check_named.new.self) _ _ c.in-Err.fault _
+    reads_passed _ (is_input c.args.name.now) false (see c.args.self.now) (see c.check_named.new.self) _ _
+    c.in-Err.fault _
     _ _ (c.in-Err.ensures.run c.args.reporting (g.E.Sink.shown c.args.err.now) _ refl)
     (graded-leaves _ r _ _ c.in-Err.ensures.gave) (rw c.whole.ensures.others at c.pass_over.ensures.passes)

@@ -26,7 +26,8 @@ returns-then-file-gt0-clause-run g c =
     (ComparesName file.share c.args.parts.now file.name.now text) file.name.now _ _ _ _ _ _ _ _ _ _ _ _ _
     (g.T.F.Feed.remaining c.in_ok-feed.feed) (not_input file c.if-file-gt0.true) c.in_ok-feed.ensures.opened
     c.in_ok-feed.ensures.counted (λ m is held. (c.compare_parts.ensures.compared text m l (still_held
-    (c.close.ensures.kept ∙ c.in_ok-feed.ensures.kept) held)).compared) (λ n none p. omega (arith, none, p, fresh, closed)))
+    (c.close.ensures.kept ∙ c.in_ok-feed.ensures.kept) held)).compared)
+    (λ n none p. omega (arith, none, p, fresh, closed)))
 
 pub returns-then-file-gt0-clause-opens : goal.returns-then-file-gt0-clause-opens
 returns-then-file-gt0-clause-opens g c =
@@ -63,4 +64,5 @@ returns-clause-run g c =
     known (g.P.Feed.remaining c.args.list.now) (λ text l. of_opened
     (ComparesName file.share c.args.parts.now file.name.now text) file.name.now _ _ _ _ _ _ _ _ _ _ _ _ _
     (g.T.F.Feed.remaining c.in_ok-feed-2.feed) (sym c.if-eq.ensures) c.in_ok-feed-2.ensures.opened
-    c.in_ok-feed-2.ensures.counted (λ m is held. (c.compare_all-answer.ensures.compared text m l is).compared) (λ n none p. omega (arith, none, p, fresh, closed)))
+    c.in_ok-feed-2.ensures.counted (λ m is held. (c.compare_all-answer.ensures.compared text m l is).compared)
+    (λ n none p. omega (arith, none, p, fresh, closed)))
