@@ -1,7 +1,9 @@
 // The files of the system, by name.
 
 ghost use Rattle.std.specs.IoError.{error_kind};
-ghost use Rattle.std.specs.Prelude.{◌≡◌, ◌↔◌, ◌⊎◌, ◌<◌, Err, IsTrue, None, Ok, IfErr, IfOk};
+ghost use Rattle.std.specs.Io.Seek.{MovesTo};
+ghost use Rattle.std.specs.Prelude.{◌≡◌, ◌↔◌, ◌⊎◌, ◌<◌, ℕ, Err, IsTrue, None, Ok, Result, IfErr, IfOk};
+ghost use Rattle.std.specs.declared.io.ErrorKind.{ErrorKind};
 ghost use Rattle.sumlist.specs.Opening.{fault_of};
 ghost use Rattle.sumlist.specs.inside.Moved.{IsMoved};
 ghost use Rattle.either.specs.declared.Either.TheVariants.{Left};
@@ -140,15 +142,33 @@ fn is_once(is_fifo: bool, is_char_device: bool) -> bool
     is_fifo || is_char_device
 }
 
+// What can be moved to a position. No body can know the answer but by a move, since `moves` may say anything.
+trait Moves: Drop {
+    // what a move to a position may answer, and what it leaves
+    ghost moves: { Self → ℕ → Result ℕ ErrorKind → Self → Type 0 };
+
+    fn move_to(&mut self, position: u64) -> Result<u64, ErrorKind>
+        ensures { moves self.old position result self.new };
+}
+
+impl<F: Seek + Drop> Moves for F {
+    ghost moves = { λ old position answer new.
+        MovesTo (F.stream_position old) (F.stream_position new) position answer };
+
+    fn move_to(&mut self, position: u64) -> Result<u64, ErrorKind> {
+        match self.seek(SeekFrom::Start(position)) {
+            Ok(position) => Ok(position),
+            Err(error) => Err(error.kind()),
+        }
+    }
+}
+
 // What the system's open came to: the file from a position on, nothing where no file has the position, or what its
 // failure means. The beginning needs no seek, which a pipe refuses.
-fn opened_at<F: Seek + Drop>(
-    opened: io::Result<F>,
-    position: u64,
-) -> Result<Either<F, Empty>, OpenFault>
+fn opened_at<F: Moves>(opened: io::Result<F>, position: u64) -> Result<Either<F, Empty>, OpenFault>
     ensures failed { IfErr opened (λ error. result ≡ Err (fault_of (error_kind error))) }
     ensures start { IfOk opened (λ file. position ≡ 0 → result ≡ Ok (Left file)) }
-    ensures moved { IfOk opened (λ file. 0 < position → IsMoved F.stream_position file position result) }
+    ensures moved { IfOk opened (λ file. 0 < position → IsMoved F.moves file position result) }
 {
     let mut file = match opened {
         Ok(file) => file,
@@ -157,9 +177,9 @@ fn opened_at<F: Seek + Drop>(
     if position == 0 {
         return Ok(Either::Left(file));
     }
-    match file.seek(SeekFrom::Start(position)) {
+    match file.move_to(position) {
         Ok(_) => Ok(Either::Left(file)),
-        Err(error) if error.kind() == ErrorKind::InvalidInput => Ok(Either::Right(io::empty())),
+        Err(ErrorKind::InvalidInput) => Ok(Either::Right(io::empty())),
         Err(_) => Err(OpenFault::Failed),
     }
 }
