@@ -24,6 +24,15 @@ pub const LINE_UNTAGGED: u32 = 3;
 /// The line spells an entry.
 pub const LINE_ENTRY: u32 = 4;
 
+// Does nothing. Its contract gives the number of each kind of line, by which a caller in C knows it.
+fn line_kind_laws()
+    ensures none { LINE_NONE ≡ 0 }
+    ensures skipped { LINE_SKIPPED ≡ 1 }
+    ensures malformed { LINE_MALFORMED ≡ 2 }
+    ensures untagged { LINE_UNTAGGED ≡ 3 }
+    ensures entry { LINE_ENTRY ≡ 4 }
+{}
+
 /// What a line of a list says, as plain numbers of a fixed layout.
 #[repr(C)]
 #[derive(Clone, Copy)]
