@@ -37,6 +37,7 @@ pub extern "C" fn sums_list_read(state: &mut ListState, line: &mut ListLine, pie
         → result ≡ SUMS_OK → ReadsPiece kind n begun piece.now line.new }
     ensures held { (kind : Option Kind) (n : ℕ) (begun : List ℕ) → ListHolds state.old kind n begun
         → result ≡ SUMS_OK → HoldsAfter state.new kind n begun piece.now line.new }
+    ensures fits { IsBegun state.old → state.old.lines < 2 ^ 64 - 1 → result ≡ SUMS_OK }
     ensures not_begun { (result ≡ SUMS_NOT_BEGUN) ↔ (IsBegun state.old → ⊥) }
     ensures too_long { (result ≡ SUMS_INPUT_TOO_LONG) ↔ (IsBegun state.old × (state.old.lines ≡ 2 ^ 64 - 1)) }
     ensures kept { result ≢ SUMS_OK → (state.new ≡ state.old) × (line.new ≡ line.old) }
@@ -55,6 +56,7 @@ pub extern "C" fn sums_list_end(state: &mut ListState, line: &mut ListLine) -> u
         → (line.new.kind ≡ LINE_NONE) × ListHolds state.new kind n [] }
     ensures last { (kind : Option Kind) (n : ℕ) (begun : List ℕ) → ListHolds state.old kind n begun
         → begun ≢ [] → result ≡ SUMS_OK → EndsLine kind n begun line.new × ListHolds state.new kind (n + 1) [] }
+    ensures fits { IsBegun state.old → state.old.lines < 2 ^ 64 - 1 → result ≡ SUMS_OK }
     ensures not_begun { (result ≡ SUMS_NOT_BEGUN) ↔ (IsBegun state.old → ⊥) }
     ensures too_long { (result ≡ SUMS_INPUT_TOO_LONG) ↔ (IsBegun state.old × (state.old.lines ≡ 2 ^ 64 - 1)) }
     ensures kept { result ≢ SUMS_OK → (state.new ≡ state.old) × (line.new ≡ line.old) }
