@@ -418,27 +418,24 @@ module _ (reporting : Reporting) (m : Meaning) (lists : List Text) (report name 
         λ s ends. absurd (not_both run _ s (ap (λ (q : Run). q.ending) so) ends),
       )
 
-  -- what was done of it
+  -- what was done of it, from a state on
+  abbrev pub ToldOnce : Beside → Text → Result ℕ Fault → Shown → Type 0
+  ToldOnce z i q out = Once (λ run. (w : Beside) × (by_report_of m reporting b.files lists report).step z i run w
+      × OnOk q (told_state report rest next c.bytes c.files ≡ Some w)) false shared (ReportOf b c x y) q b.out out err_old
+      err_new
+
   pub list_told : ToldOver reporting m title name report left n rest next r b c err_old err_new x y
       → Leaves (is_input name) r b.bytes c.bytes → c.files ≡ b.files → c.out ≡ b.out
-      → IfSome (told_state report left n b.bytes b.files) (λ z. (i : Text) → i ≡ name → Once (λ run. (w : Beside)
-      × (by_report_of m reporting b.files lists report).step z i run w
-      × OnOk r (told_state report rest next c.bytes c.files ≡ Some w)) false shared (ReportOf b c x y) r b.out c.out
-      err_old err_new)
-  list_told read gave kept out = told_known report left n b.bytes b.files _
-      (λ coming bytes files whole has at of is room.
+      → IfSome (told_state report left n b.bytes b.files) (λ z. (i : Text) → i ≡ name → ToldOnce z i r c.out)
+  list_told read gave kept out = told_known report left n b.bytes b.files _ (λ coming bytes files whole has at of is room.
       λ i named. let t = read bytes coming whole files at of has room in
       rw (named, out) (on (record { left = coming; number = n; input = bytes }) r t
       (stepped coming bytes whole files of is room t.run t.is_run) (rw at at gave)))
     where
       on : (z : Beside) (q : Result ℕ Fault) {is : Run → Type 0} (t : IsTold is q err_old err_new (ReportOf b c x y))
-          → Stepped z t.run → Leaves (is_input name) q (Some z.input) c.bytes → Once (λ run. (w : Beside)
-          × (by_report_of m reporting b.files lists report).step z name run w
-          × OnOk q (told_state report rest next c.bytes c.files ≡ Some w)) false shared (ReportOf b c x y) q b.out
-          b.out err_old err_new
+          → Stepped z t.run → Leaves (is_input name) q (Some z.input) c.bytes → ToldOnce z name q b.out
       on z (Ok s) t (w, step, known) gave = once_done t.run b.out b.out err_old err_new
-          (w, step, known s (t.does b.out).ending (left_by (is_input name) s z.input c.bytes gave) kept)
-          t.counts t.notes
+          (w, step, known s (t.does b.out).ending (left_by (is_input name) s z.input c.bytes gave) kept) t.counts t.notes
           false shared s (t.does b.out)
       on z (Err f) t (w, step, known) gave =
           once_last t.run b.out b.out err_old err_new (w, step, tt) t.counts t.notes f (t.does b.out) false shared refl

@@ -1,40 +1,28 @@
 use Rattle.std.proofs.Common.{ap, nat_lt, refl, sym}
 use Rattle.command.specs.inside.Hashed.{listed_items}
 use Rattle.command.specs.inside.Rules.{line_by}
-use Rattle.command.specs.inside.Seen.{Seen}
-use Rattle.command.specs.inside.Streams.{seen_of}
+use Rattle.command.specs.inside.Streams.{seen_at}
 use Rattle.command.proofs.Naming.{listed_bad, listed_printed, onward_none}
 use Rattle.command.proofs.listed.ListedItems.print.Goals as goal
 
 pub returns-in_default-clause-printed : goal.returns-in_default-clause-printed
 returns-in_default-clause-printed g c =
-    let old : Seen = record {
-      bytes = g.L.Feed.remaining c.args.self.now.input.now;
-      files = g.T.Tree.files c.args.self.now.tree.now;
-      input_failures = g.L.Feed.failure_count c.args.self.now.input.now;
-      file_failures = g.T.Tree.failure_count c.args.self.now.tree.now;
-      opens = g.T.Tree.opens c.args.self.now.tree.now;
-      out = g.W.Sink.shown c.args.out.now;
-    } in
+    let at = seen_at g.L.Feed.remaining g.L.Feed.failure_count g.T.Tree.files g.T.Tree.failure_count
+    g.T.Tree.opens g.W.Sink.shown in
+    let old = at c.args.self.now.input.now c.args.self.now.tree.now c.args.out.now in
     listed_bad (nat_lt 0 c.args.share.others) (line_by c.args.self.now.rule.now) c.args.self.now.list
     c.args.self.now.number c.args.self.now.names.now old (record old { out = g.W.Sink.shown c.pass_over.new.out }) _ _ _
     c.in_default.ensures.file refl c.pass_over.ensures.passes
 
 pub returns-clause-printed : goal.returns-clause-printed
 returns-clause-printed g c =
-    let see = seen_of g.L.Feed.remaining g.L.Feed.failure_count g.T.Tree.files g.T.Tree.failure_count
+    let at = seen_at g.L.Feed.remaining g.L.Feed.failure_count g.T.Tree.files g.T.Tree.failure_count
     g.T.Tree.opens g.W.Sink.shown in
-    let old : Seen = see (record {
-      alloc = c.args.self.now.alloc;
-      input = c.args.self.now.input;
-      tree =
-          c.args.self.now.tree;
-      out = c.args.out;
-    }) in
+    let old = at c.args.self.now.input.now c.args.self.now.tree.now c.args.out.now in
     let gave = c.print_one.ensures.gave c.in-Some.ensures.other in
     rw (c.out-1.given.1 (sym c.print_one.ensures.same.out)) (listed_printed (nat_lt 0 c.args.share.others)
     (line_by c.args.self.now.rule.now) c.args.self.now.list c.args.self.now.number c.args.self.now.names.now old
-    (see c.print_one.new.self) _ _ _ c.in-Some.name.now c.in-Some.ensures.file c.print_one.ensures.files gave
+    (at c.print_one.new.self.input.now c.print_one.new.self.tree.now c.print_one.new.self.out.now) _ _ _ c.in-Some.name.now c.in-Some.ensures.file c.print_one.ensures.files gave
     c.print_one.ensures.name)
 
 pub returns-clause-items : goal.returns-clause-items

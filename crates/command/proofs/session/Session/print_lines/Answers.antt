@@ -2,8 +2,7 @@ use Rattle.std.proofs.Common.{map, refl}
 use Rattle.command.specs.Hashing.{LinesGiven}
 use Rattle.command.specs.Run.{TellsAll}
 use Rattle.command.specs.inside.Rules.{line_by}
-use Rattle.command.specs.inside.Seen.{Seen}
-use Rattle.command.specs.inside.Streams.{seen_of}
+use Rattle.command.specs.inside.Streams.{seen_at}
 use Rattle.command.proofs.Given.{given_walked}
 use Rattle.command.proofs.Tagging.{sum_had, sum_refused}
 use Rattle.command.proofs.session.Session.print_lines.Goals as goal
@@ -19,14 +18,10 @@ returns-in_err-rule-clause-run g c =
 pub returns-clause-run : goal.returns-clause-run
 returns-clause-run g c =
     let names = map (λ n. n.now) c.args.names.now in
-    let see = seen_of g.L.Feed.remaining g.L.Feed.failure_count g.T.Tree.files g.T.Tree.failure_count
+    let at = seen_at g.L.Feed.remaining g.L.Feed.failure_count g.T.Tree.files g.T.Tree.failure_count
     g.T.Tree.opens g.W.Sink.shown in
-    let old : Seen = see (record c.args.self.now { tree = record c.args.self.now.tree { now = c.rule_of.new.tree } }) in
-    let new : Seen = see (record c.args.self.now {
-      input = c.walk.new.items.input;
-      tree = c.walk.new.items.tree;
-      out = record c.args.self.now.out { now = c.walk.new.out };
-    }) in
+    let old = at c.args.self.now.input.now c.rule_of.new.tree c.args.self.now.out.now in
+    let new = at c.walk.new.items.input.now c.walk.new.items.tree.now c.walk.new.out in
     sum_had (sum_shown c.args.sum)
     (λ l bytes files. LinesGiven c.args.share l files names bytes)
     (TellsAll (g.E.Sink.shown c.args.err.now) (g.E.Sink.shown c.walk.new.err)) _ _ _ _

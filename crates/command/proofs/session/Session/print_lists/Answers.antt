@@ -1,21 +1,16 @@
 use Rattle.std.proofs.Common.{map}
 use Rattle.command.specs.inside.Rules.{meaning}
-use Rattle.command.specs.inside.Seen.{Seen}
-use Rattle.command.specs.inside.Streams.{seen_of}
+use Rattle.command.specs.inside.Streams.{seen_at}
 use Rattle.command.proofs.Reporting.{lists_opened, lists_walked}
 use Rattle.command.proofs.session.Session.print_lists.Goals as goal
 
 pub returns-clause-run : goal.returns-clause-run
 returns-clause-run g c =
-    let see = seen_of g.L.Feed.remaining g.L.Feed.failure_count g.T.Tree.files g.T.Tree.failure_count
+    let at = seen_at g.L.Feed.remaining g.L.Feed.failure_count g.T.Tree.files g.T.Tree.failure_count
     g.T.Tree.opens g.W.Sink.shown in
-    let new : Seen = see (record c.args.self.now {
-      input = c.walk.new.items.input;
-      tree = c.walk.new.items.tree;
-      out = record c.args.self.now.out { now = c.walk.new.out };
-    }) in
+    let new = at c.walk.new.items.input.now c.walk.new.items.tree.now c.walk.new.out in
     lists_walked c.args.reporting (meaning c.args.entries.now) c.args.share c.whole.result
-    (map (λ n. n.now) c.args.lists.now) _ (see c.args.self.now) new _ _ c.whole.ensures.others c.whole.ensures.waiting
+    (map (λ n. n.now) c.args.lists.now) _ (at c.args.self.now.input.now c.args.self.now.tree.now c.args.self.now.out.now) new _ _ c.whole.ensures.others c.whole.ensures.waiting
     (rw (c.new.ensures.left, c.new.ensures.names) at c.walk.ensures.run)
 
 pub returns-clause-opens : goal.returns-clause-opens

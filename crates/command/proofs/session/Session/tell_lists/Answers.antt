@@ -1,7 +1,6 @@
 use Rattle.std.proofs.Common.{map, refl, sym, ◌∙◌}
 use Rattle.command.specs.inside.Rules.{meaning}
-use Rattle.command.specs.inside.Seen.{Seen}
-use Rattle.command.specs.inside.Streams.{seen_of}
+use Rattle.command.specs.inside.Streams.{seen_at}
 use Rattle.command.proofs.ToldLists.{report_none, report_opened, report_read}
 use Rattle.command.proofs.session.Session.tell_lists.Goals as goal
 
@@ -13,17 +12,10 @@ returns-in_err-feed-clause-run g c =
 
 pub returns-clause-run : goal.returns-clause-run
 returns-clause-run g c =
-    let see = seen_of g.L.Feed.remaining g.L.Feed.failure_count g.T.Tree.files g.T.Tree.failure_count
+    let at = seen_at g.L.Feed.remaining g.L.Feed.failure_count g.T.Tree.files g.T.Tree.failure_count
     g.T.Tree.opens g.W.Sink.shown in
-    let before : Seen = see (record c.args.self.now {
-      tree = record c.args.self.now.tree
-          { now = c.open_file.new.tree };
-    }) in
-    let new : Seen = see (record c.args.self.now {
-      input = c.walk-answer.new.items.input;
-      tree = c.walk-answer.new.items.tree;
-      out = record c.args.self.now.out { now = c.walk-answer.new.out };
-    }) in
+    let before = at c.args.self.now.input.now c.open_file.new.tree c.args.self.now.out.now in
+    let new = at c.walk-answer.new.items.input.now c.walk-answer.new.items.tree.now c.walk-answer.new.out in
     report_read c.args.reporting (meaning c.args.entries.now) c.args.report.now (map (λ n. n.now) c.args.lists.now) _
     _ _ g.T.F.Feed.remaining c.in_ok-feed.feed _ _ before new c.whole.result
     _ _ _ _ c.whole.ensures.others c.whole.ensures.waiting c.in_ok-feed.ensures.opened c.open_file.ensures.kept
