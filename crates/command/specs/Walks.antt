@@ -4,7 +4,7 @@ use Rattle.std.specs.Prelude.{Result, max, nat_lt, not}
 use Rattle.hashes.specs.declared.share.Share.{Share}
 use Rattle.request.specs.CommandLine.{Text}
 use Rattle.sumlist.specs.Shared.{every}
-use Rattle.command.specs.Run.{Run, cannot_write, end_of, followed}
+use Rattle.command.specs.Run.{Run, cannot_write, end_of, followed, prints}
 
 -- how items are gone through: the run of an item in a state, and the state after it; the runs if the next item
 -- cannot be had; and those after the last item, by the status so far
@@ -12,6 +12,10 @@ pub record Walk (State Item : Type 0) : Type 1 where
   pub step : State → Item → Run → State → Type 0
   pub broken : Run → Type 0
   pub ending : State → ℕ → Run → Type 0
+
+-- items that can all be had, after which nothing more is said
+abbrev pub steps : {S I : Type 0} → (S → I → Run → S → Type 0) → Walk S I
+steps step = record { step = step; broken = λ _. ⊥; ending = λ _ status run. run ≡ prints [] status }
 
 -- whether an ending is a trouble for which an empty line stands if runs go on and there are other shares
 abbrev pub has_no_line : Bool → Result ℕ (ℕ × Text) → Bool
