@@ -1,9 +1,10 @@
 -- The outcomes of a list that its shares have in turn are outcomes of the whole list.
+use Rattle.sumlist.proofs.Common.{common_steps}
 use Rattle.std.proofs.Common.{◌≡◌, ◌∙◌, ◌==◌, ℕ, ◌≤◌, suc, zero, List, [], ◌∷◌, ap, sym, refl, subst, arith, inl, inr}
-use Rattle.std.proofs.Common.{Bool, true, false, ◌⊎◌, if◌then◌else◌}
+use Rattle.std.proofs.Common.{◌⊎◌, if◌then◌else◌}
 use Rattle.std.proofs.lemmas.Bool.Decides.{nat_tests}
 use Rattle.sumlist.specs.Line.{IsSkipped}
-use Rattle.sumlist.specs.Report.{AllAllowed, Allowed, Files, Meaning, Outcome, foreign, malformed, skipped, told}
+use Rattle.sumlist.specs.Report.{AllAllowed, Allowed, Files, Meaning, Outcome, skipped}
 use Rattle.sumlist.specs.Shared.{shared}
 use Rattle.sumlist.proofs.SharedLines.{entry_apart, own_at, passed_at, skipped_at, skipped_one}
 
@@ -21,12 +22,10 @@ pub after-within : (n j : ℕ) → j ≤ n → after n j ≤ n
 after-within n j within = grind (arith, nat_tests)
 
 pub before-within : (n k : ℕ) → k ≤ n → before n k ≤ n
-before-within n zero within = omega arith
-before-within n (suc k) within = omega (arith, within)
+before-within n k within = grind (arith, common_steps)
 
 pub after-before : (n k : ℕ) → k ≤ n → after n (before n k) ≡ k
-after-before n zero within = grind (arith, nat_tests)
-after-before n (suc k) within = grind (arith, nat_tests)
+after-before n k within = grind (arith, common_steps, nat_tests)
 
 -- ---- one outcome before others
 
@@ -44,14 +43,10 @@ skipped_before n k os = skipped_at n k os
 
 pub other_before : (n k : ℕ) (o : Outcome) (os : List Outcome) → (o ≡ skipped → ⊥)
     → shared n k (o ∷ os) ≡ put (seen n k o) (shared n (before n k) os)
-other_before n zero o os apart = own_at n o os apart
-other_before n (suc k) o os apart = passed_at n k o os apart
+other_before n k o os apart = grind (arith, common_steps, own_at, passed_at)
 
 pub is_skipped : (o : Outcome) → (o ≡ skipped) ⊎ (o ≡ skipped → ⊥)
-is_skipped skipped = inl refl
-is_skipped malformed = inr (λ e. cc)
-is_skipped (foreign l) = inr (λ e. cc)
-is_skipped (told name v) = inr (λ e. cc)
+is_skipped o = grind (arith, common_steps)
 
 -- ---- one run for all shares
 
@@ -71,8 +66,7 @@ module _ (files : Files) (m : Meaning) (n : ℕ) where
     pub same : (k : ℕ) → k ≤ n → shared n k (os k) ≡ shared n k whole
 
   none : (k : ℕ) (os : List Outcome) → AllAllowed files m [] os → shared n k os ≡ ([], k)
-  none k [] allowed = refl
-  none k (o ∷ os) allowed = absurd allowed
+  none k os allowed = grind (arith, common_steps)
 
   module _ (line : List ℕ) (lines : List (List ℕ)) where
     -- the outcome of a line before others
@@ -83,8 +77,7 @@ module _ (files : Files) (m : Meaning) (n : ℕ) where
       pub rest : AllAllowed files m lines (behind os)
 
     first_of : (os : List Outcome) → AllAllowed files m (line ∷ lines) os → First os
-    first_of [] allowed = absurd allowed
-    first_of (o ∷ os) (here, rest) = record { first = o; allowed = here; is = refl; rest = rest }
+    first_of os allowed = grind (arith)
 
     -- the line is no entry, and the same share is next
     pass : (os : ℕ → List Outcome) → Each (line ∷ lines) os → IsSkipped line
@@ -153,11 +146,7 @@ pub record Moves (n : ℕ) (os : List Outcome) : Type 0 where
   pub again : (k : ℕ) → k ≤ n → back (shared n k os).1 ≡ k
 
 pub before-after : (n j : ℕ) → j ≤ n → before n (after n j) ≡ j
-before-after n j within = on (j == n) refl
-  where
-    on : (b : Bool) → (j == n) ≡ b → before n (if b then 0 else suc j) ≡ j
-    on true is = grind (arith, nat_tests)
-    on false is = refl
+before-after n j within = grind (arith, common_steps, nat_tests)
 
 left_skipped : (n k : ℕ) (os : List Outcome) → (shared n k (skipped ∷ os)).1 ≡ (shared n k os).1
 left_skipped n k os = ap (λ (r : List Outcome × ℕ). r.1) (skipped_before n k os)
@@ -167,13 +156,7 @@ left_other : (n k : ℕ) (o : Outcome) (os : List Outcome) → (o ≡ skipped �
 left_other n k o os apart = ap (λ (r : List Outcome × ℕ). r.1) (other_before n k o os apart)
 
 moves_skipped : (n : ℕ) (os : List Outcome) → Moves n os → Moves n (skipped ∷ os)
-moves_skipped n os r = record {
-  back = r.back;
-  back_within = r.back_within;
-  within = λ k within. subst (λ w. w ≤ n) (sym (left_skipped n k os)) (r.within k within);
-  there = λ j within. left_skipped n (r.back j) os ∙ r.there j within;
-  again = λ k within. ap r.back (left_skipped n k os) ∙ r.again k within;
-}
+moves_skipped n os r = grind (arith, common_steps, left_skipped)
 
 moves_other : (n : ℕ) (o : Outcome) (os : List Outcome) → (o ≡ skipped → ⊥) → Moves n os → Moves n (o ∷ os)
 moves_other n o os apart r = record {

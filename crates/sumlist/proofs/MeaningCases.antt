@@ -1,8 +1,9 @@
 -- Each line of a list is skipped, one entry, malformed with a look, or malformed, whatever its entries are.
+use Rattle.std.proofs.Common.{arith}
 use Rattle.hashes.specs.declared.kind.Kind.TheVariants.{Blake2b}
 use Rattle.sumlist.proofs.Common.{◌≡◌, ◌∙◌, ◌⊎◌, IsEntryIn, IsForeign, IsMalformed, IsUntagged, Kind, List, Listing}
 use Rattle.sumlist.proofs.Common.{Meaning, None, Option, Some, Spells, ap, inl, inr, keyed, length, refl, sym, unkeyed}
-use Rattle.sumlist.proofs.Common.{ℕ}
+use Rattle.sumlist.proofs.Common.{ℕ, common_steps}
 use Rattle.std.specs.Prelude.{MatchOption}
 use Rattle.std.proofs.lemmas.Bool.Decides.{Decides-eqb}
 use Rattle.sumlist.specs.Line.{IsSkipped}
@@ -93,16 +94,13 @@ entry_one (unkeyed kind) line d e p q = spells_one line kind d e p q
 entry_one (keyed n limit f) line d e p q = spells_one line (Some Blake2b) d e p.1 q.1
 
 pub not_skipped : (m : Meaning) (line : List ℕ) (e : Listing) → IsEntryIn m line e → IsSkipped line → ⊥
-not_skipped (unkeyed kind) line e p s = p.not_skipped s
-not_skipped (keyed n limit f) line e p s = p.1.not_skipped s
+not_skipped m line e p s = grind (arith, common_steps)
 
 pub not_foreign : (m : Meaning) (line : List ℕ) (e : Listing) (l : Look) → IsEntryIn m line e → IsForeign m line l → ⊥
-not_foreign (unkeyed kind) line e l p u = u.1.1 e p
-not_foreign (keyed n limit f) line e l p t = p.0.0.1 t.0 t.1
+not_foreign m line e l p u = grind (arith, common_steps)
 
 pub foreign_unskipped : (m : Meaning) (line : List ℕ) (l : Look) → IsForeign m line l → IsSkipped line → ⊥
-foreign_unskipped (unkeyed kind) line l u s = u.1.0 s
-foreign_unskipped (keyed n limit f) line l t s = t.1.not_skipped s
+foreign_unskipped m line l u s = grind (arith, common_steps)
 
 pub foreign_one : (m : Meaning) (line : List ℕ) (l k : Look) → IsForeign m line l → IsForeign m line k → l ≡ k
 foreign_one (unkeyed kind) line l k p q = looks_one line (look_of line) l k p.2 q.2

@@ -3,11 +3,10 @@ use Rattle.hashes.specs.declared.alg.Alg.TheVariants.{Blake2b, Blake2s}
 use Rattle.hashes.specs.declared.alg.TheConstants.{BLAKE2B_LEN, BLAKE2S_LEN}
 use Rattle.hashes.specs.Kinds.{alg_kind}
 use Rattle.sumlist.proofs.Common.{◌⊎◌, ◌*◌, ◌++◌, ◌+◌, ◌-◌, ◌<◌, ◌∙◌, ◌∷◌, ◌≡◌, ◌≤◌, Alg, Bool, Decides, Ended, HasForm}
-use Rattle.sumlist.proofs.Common.{IsCut, IsInRange, IsLabel, IsMark, Kind, List, None, Ok, Option}
-use Rattle.sumlist.proofs.Common.{Some, [], ap}
-use Rattle.sumlist.proofs.Common.{arith, bytes_eq-Decides, closing, codes, cond, decimal, decode_of}
-use Rattle.sumlist.proofs.Common.{drop, false, false≢true, inl, inr, length, length-append, nat_tests, refl, subst}
-use Rattle.sumlist.proofs.Common.{sym, digest_len, take, take-append-drop, take-append_seam, text, true, ℕ}
+use Rattle.sumlist.proofs.Common.{IsCut, IsInRange, IsLabel, IsMark, Kind, List, None, Ok, Option, Some, [], ap}
+use Rattle.sumlist.proofs.Common.{common_steps, arith, bytes_eq-Decides, closing, codes, cond, decimal, decode_of, drop}
+use Rattle.sumlist.proofs.Common.{false≢true, inl, inr, length, length-append, nat_tests, refl, subst, sym, digest_len}
+use Rattle.sumlist.proofs.Common.{take, take-append-drop, take-append_seam, text, ℕ}
 use Rattle.std.proofs.Common.{◌==◌, suc, zero}
 use Rattle.std.proofs.Math.Seq.{drop-append-add}
 use Rattle.std.proofs.lemmas.Bool.Decides.{Decides-eqb, Decides-or}
@@ -17,15 +16,14 @@ use Rattle.std.proofs.lemmas.Option.{none-some, option_and_then_some, same_Some}
 use Rattle.std.specs.Option.{option_and_then, option_or}
 use Rattle.sumlist.specs.inside.Cut.{HasNo}
 use Rattle.sumlist.specs.inside.Labels.{IsNumbered, NotEnded, NotNamed, sized_alg}
-use Rattle.sumlist.specs.inside.Reading.{TextParts, alg_labelled, alg_told, alg_whole, bytes_told, cut}
-use Rattle.sumlist.specs.inside.Reading.{end_cut, told_at, told_by, is_mark, with_tag}
+use Rattle.sumlist.specs.inside.Reading.{TextParts, alg_labelled, alg_told, alg_whole, bytes_told, cut, end_cut}
+use Rattle.sumlist.specs.inside.Reading.{told_at, told_by, is_mark, with_tag}
 use Rattle.sumlist.proofs.Words.{NotSpace, by_label, digits_word, label_word, no_space}
 
 -- what is told by a test
 pub by_test : {A P Q : Type 0} (b : Bool) → Decides b Q → (x y z : A) → (Q → x ≡ z → P) → ((Q → ⊥) → y ≡ z → P)
     → cond b x y ≡ z → P
-by_test true d x y z met failed e = met (d.0 refl) e
-by_test false d x y z met failed e = failed (λ q. false≢true (d.1 q)) e
+by_test b d x y z met failed e = grind (arith, common_steps, false≢true)
 
 none_if : {A : Type 0} (o : Option A) → ((x : A) → o ≡ Some x → ⊥) → o ≡ None
 none_if o h = grind arith
@@ -84,10 +82,7 @@ module _ (l : List ℕ) (a : Alg) where
   number_told : (of : ℕ → Alg) (front : List ℕ) (most : ℕ)
       → ((n : ℕ) → IsNumbered l front most n → Named l (of n)) → take 8 l ≡ front
       → alg_told of (drop 8 l) most ≡ Some a → Named l a
-  number_told of front most named s e = option_and_then_some _ (bytes_told (drop 8 l) most) a e (λ n told same.
-      let parts = take-append-drop 8 l in
-      let h : IsNumbered l front most n = grind (arith, bytes_told-some (drop 8 l) most n told) in
-      subst (Named l) (same_Some (of n) a same) (named n h))
+  number_told of front most named s e = grind (arith, common_steps, option_and_then_some, take-append-drop, bytes_told-some, same_Some)
 
   pub alg_labelled-some : alg_labelled l ≡ Some a → Named l a
   alg_labelled-some e = elim (either_told (alg_whole l) _ a e) [
@@ -115,10 +110,7 @@ end_cut-some rest n p e = grind (arith, nat_tests, bytes_eq-Decides)
 
 pub end_cut-is : (rest : List ℕ) (n : ℕ) (body digits : List ℕ) → Ended rest n body digits
     → end_cut n rest ≡ Some (body, digits)
-end_cut-is rest n body digits e =
-    let size : length rest - (n + 4) ≡ length body = grind (arith, length-append body (closing digits)) in
-    rw (size, e.0, take-append_seam, drop-append-add body (closing digits) 4)
-    (grind (arith, nat_tests, bytes_eq-Decides))
+end_cut-is rest n body digits e = grind (arith, common_steps, length-append, take-append_seam, drop-append-add, nat_tests, bytes_eq-Decides)
 
 pub end_cut-none : (rest : List ℕ) (n : ℕ) → NotEnded rest n → end_cut n rest ≡ None
 end_cut-none rest n none = none_if (end_cut n rest) (λ p e. none p.0 p.1 (end_cut-some rest n p e))

@@ -1,8 +1,8 @@
 -- What a share makes of the lines of a list, one by one.
 use Rattle.hashes.specs.declared.share.Share.{Share}
 use Rattle.sumlist.proofs.Common.{◌≡◌, ℕ, List, [], ◌∷◌, Files, Meaning, Outcome, Allowed, Mark, Option}
-use Rattle.sumlist.proofs.Common.{LineChecked, Result, Ok, Appends-nil, arith, false, foreign, inl, inr}
-use Rattle.sumlist.proofs.Common.{malformed, refl, skipped, told, true, unreadable_count}
+use Rattle.sumlist.proofs.Common.{LineChecked, Result, Ok, Appends-nil, arith, false}
+use Rattle.sumlist.proofs.Common.{refl, skipped, true, unreadable_count, common_steps}
 use Rattle.std.specs.Prelude.{suc, zero}
 use Rattle.sumlist.proofs.Deciding.{settled, unreadable-cons}
 use Rattle.sumlist.proofs.MeaningCases.{foreign_unskipped, not_skipped}
@@ -20,13 +20,11 @@ skipped_at n k os = refl
 
 pub own_at : (n : ℕ) (o : Outcome) (os : List Outcome) → (o ≡ skipped → ⊥) → let rest = shared n n os in
     shared n zero (o ∷ os) ≡ (o ∷ rest.0, rest.1)
-own_at n skipped os apart = absurd (apart refl)
-own_at n o os apart = refl
+own_at n o os apart = grind (arith, common_steps)
 
 pub passed_at : (n k : ℕ) (o : Outcome) (os : List Outcome) → (o ≡ skipped → ⊥) → let rest = shared n k os in
     shared n (suc k) (o ∷ os) ≡ (skipped ∷ rest.0, rest.1)
-passed_at n k skipped os apart = absurd (apart refl)
-passed_at n k o os apart = refl
+passed_at n k o os apart = grind (arith, common_steps)
 
 -- ---- none of them is unreadable
 
@@ -54,49 +52,28 @@ shared-settled n (suc k) (o ∷ os) none =
 module _ (files : Files) (m : Meaning) (line : List ℕ) where
   -- the outcome of a line that is not skipped is another
   pub entry_apart : (o : Outcome) → Allowed files m line o → (IsSkipped line → ⊥) → o ≡ skipped → ⊥
-  entry_apart skipped allowed entry is = entry allowed
-  entry_apart o allowed entry is = grind arith
+  entry_apart o allowed entry is = grind (arith, common_steps)
 
   -- and that of one that is skipped is that
   pub skipped_one : (o : Outcome) → Allowed files m line o → IsSkipped line → o ≡ skipped
-  skipped_one skipped allowed is = refl
-  skipped_one malformed allowed is = absurd (allowed.0 is)
-  skipped_one (foreign l) allowed is = absurd (foreign_unskipped m line l allowed is)
-  skipped_one (told name v) allowed is = absurd (not_skipped m line allowed.0 allowed.1 is)
+  skipped_one o allowed is = grind (arith, common_steps, foreign_unskipped, not_skipped)
 
   -- a line that is checked
   pub shares-own : (share behind : Share) (o : Outcome) → Allowed files m line o → Passes line share behind false
       → Shares share behind o o
-  shares-own share behind o allowed (inl p) = rw (p.1, skipped_one o allowed p.0) record {
-    others = refl;
-    is = λ os. skipped_at share.others share.waiting os;
-  }
-  shares-own share behind o allowed (inr p) = rw (p.2, p.1) record {
-    others = refl;
-    is = λ os. own_at share.others o os (entry_apart o allowed p.0);
-  }
+  shares-own share behind o allowed h = grind (arith, common_steps, skipped_one, skipped_at, own_at, entry_apart)
 
   -- one that is passed over
   pub shares-passed : (share behind : Share) (o : Outcome) → Allowed files m line o → Passes line share behind true
       → Shares share behind o skipped
-  shares-passed share behind o allowed p = rw p.1 record {
-    others = refl;
-    is = λ os. passed_at behind.others behind.waiting o os (entry_apart o allowed p.0);
-  }
+  shares-passed share behind o allowed p = grind (arith, common_steps, passed_at, entry_apart)
 
   -- what was done of a line that is skipped
   pub line-skipped : (name : Option (List ℕ)) (number : ℕ) (share : Share) (count : ℕ) (old : Option (List ℕ))
       → IsSkipped line
       → (let r : Result Mark CheckFault = Ok Skipped in
       LineShared files m name share share line number r count count old old)
-  line-skipped name number share count old is = (
-    skipped,
-    skipped,
-    is,
-    shares-own share share skipped is (inl (is, refl)),
-    omega arith,
-    (refl, Appends-nil old),
-  )
+  line-skipped name number share count old is = grind (arith, common_steps, shares-own, Appends-nil)
 
   -- of one that is passed over
   pub line-passed : (name : Option (List ℕ)) (number : ℕ) (share behind : Share) (count : ℕ) (old : Option (List ℕ))

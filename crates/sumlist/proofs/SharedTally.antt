@@ -1,7 +1,7 @@
 -- A list is clean exactly if each share of it is.
-use Rattle.std.proofs.Common.{◌≡◌, ◌∙◌, ◌==◌, ◌&&◌, ℕ, ◌+◌, ◌≤◌, suc, zero, List, [], ◌∷◌, ap, sym, refl, subst}
-use Rattle.std.proofs.Common.{arith, inl, inr, max}
-use Rattle.std.proofs.Common.{Bool, true, false, if◌then◌else◌}
+use Rattle.sumlist.proofs.Common.{common_steps}
+use Rattle.std.proofs.Common.{◌≡◌, ◌∙◌, ◌==◌, ◌&&◌, ℕ, ◌+◌, ◌≤◌, List, [], ◌∷◌, ap, sym, refl, subst, arith, inl, inr}
+use Rattle.std.proofs.Common.{max, Bool, true, false, if◌then◌else◌}
 use Rattle.std.proofs.lemmas.Bool.Decides.{nat_tests}
 use Rattle.std.specs.Prelude.{fold}
 use Rattle.sumlist.specs.Report.{Outcome, no_lines, skipped, summary_of, told, with_line}
@@ -9,8 +9,8 @@ use Rattle.sumlist.specs.Shared.{shared}
 use Rattle.sumlist.specs.Tally.{is_clean}
 use Rattle.sumlist.specs.declared.summary.Summary.{Summary}
 use Rattle.sumlist.specs.declared.verdict.Verdict.TheVariants.{Matches}
-use Rattle.sumlist.proofs.InTurn.{after, after-within, before, before-after, is_skipped, other_before}
-use Rattle.sumlist.proofs.InTurn.{seen, skipped_before}
+use Rattle.sumlist.proofs.InTurn.{after, after-within, before, before-after, is_skipped, other_before, seen}
+use Rattle.sumlist.proofs.InTurn.{skipped_before}
 
 -- ---- how bad outcomes are
 
@@ -31,8 +31,7 @@ none_of : (s a : ℕ) (b : Bool) → b ≡ (s == 0) → (b && a == 0) ≡ (s + a
 none_of s a b is = grind (arith, nat_tests)
 
 clean_faults : (s : Summary) → is_clean s ≡ (faults s == 0)
-clean_faults s =
-    none_of _ s.malformed _ (none_of _ s.too_long _ (none_of _ s.unreadable _ (none_of s.failed s.missing _ refl)))
+clean_faults s = grind (arith, common_steps, none_of)
 
 faults_line : (s : Summary) (o : Outcome) → faults (with_line s o) ≡ faults s + bad_in o
 faults_line s o = grind arith
@@ -60,24 +59,13 @@ together : (o f : ℕ) → o ≤ 1 → (if o + f == 0 then 0 else 1) ≡ max o (
 together o f least = grind (arith, nat_tests)
 
 bad_cons : (o : Outcome) (os : List Outcome) → bad (o ∷ os) ≡ max (bad_in o) (bad os)
-bad_cons o os =
-    ap (λ b. if b then 0 else 1) (clean_faults (summary_of (o ∷ os)) ∙ ap (λ f. f == 0) (faults_cons o os))
-    ∙ together (bad_in o) (faults (summary_of os)) (bad_least o)
-    ∙ ap (λ b. max (bad_in o) (if b then 0 else 1)) (sym (clean_faults (summary_of os)))
+bad_cons o os = grind (arith, common_steps, clean_faults, faults_cons, together, bad_least)
 
 bad_skipped : (os : List Outcome) → bad (skipped ∷ os) ≡ bad os
 bad_skipped os = omega (arith, bad_cons skipped os)
 
 pub bad_most : (os : List Outcome) → bad os ≤ 1
-bad_most os = on (is_clean (summary_of os))
-  where
-    on : (b : Bool) → (if b then 0 else 1) ≤ 1
-    on true = omega arith
-    on false = omega arith
-
-bad_none : bad [] ≡ 0
-unfolding summary_of
-bad_none = refl
+bad_most os = grind (arith, common_steps)
 
 -- ---- those of a share
 
@@ -86,17 +74,14 @@ abbrev pub bad_own : ℕ → ℕ → List Outcome → ℕ
 bad_own n k os = bad (shared n k os).0
 
 own_skipped : (n k : ℕ) (os : List Outcome) → bad_own n k (skipped ∷ os) ≡ bad_own n k os
-own_skipped n k os = ap (λ (r : List Outcome × ℕ). bad r.0) (skipped_before n k os)
-    ∙ bad_skipped (shared n k os).0
+own_skipped n k os = grind (arith, common_steps, skipped_before, bad_skipped)
 
 own_other : (n k : ℕ) (o : Outcome) (os : List Outcome) → (o ≡ skipped → ⊥)
     → bad_own n k (o ∷ os) ≡ max (bad_in (seen n k o)) (bad_own n (before n k) os)
-own_other n k o os apart = ap (λ (r : List Outcome × ℕ). bad r.0) (other_before n k o os apart)
-    ∙ bad_cons (seen n k o) (shared n (before n k) os).0
+own_other n k o os apart = grind (arith, other_before, bad_cons, seen, before)
 
 seen_least : (n k : ℕ) (o : Outcome) → bad_in (seen n k o) ≤ bad_in o
-seen_least n zero o = omega arith
-seen_least n (suc k) o = omega arith
+seen_least n k o = grind (arith, common_steps)
 
 -- a share is no worse than all
 pub bad_below : (n k : ℕ) (os : List Outcome) → bad_own n k os ≤ bad os

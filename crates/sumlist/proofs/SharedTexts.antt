@@ -1,4 +1,5 @@
 -- The lines of a report are those of its shares, one of each in turn.
+use Rattle.sumlist.proofs.Common.{common_steps}
 use Rattle.std.proofs.Common.{◌≡◌, ◌∙◌, ◌==◌, ◌++◌, ◌+◌, ◌/◌, ◌%◌, ℕ, suc, zero, List, [], ◌∷◌, ap, sym, refl, subst}
 use Rattle.std.proofs.Common.{arith, inl, inr}
 use Rattle.std.proofs.Common.{Bool, true, false, if◌then◌else◌, Option, Some, None, append_assoc, codes, decimal}
@@ -7,7 +8,7 @@ use Rattle.std.proofs.lemmas.List.Elements.{All-append, All-cons, All-nil, All-w
 use Rattle.std.proofs.lemmas.List.Sums.{AllPass-from_list_all}
 use Rattle.std.specs.Fmt.{digit_glyph, digits, digits_onto}
 use Rattle.std.specs.List.{AllByRecursion, flat_map, list_all}
-use Rattle.std.specs.Prelude.{nat_lt, not}
+use Rattle.std.specs.Prelude.{not}
 use Rattle.sumlist.specs.Escape.{escape_of, escaped}
 use Rattle.sumlist.specs.Lines.{lines}
 use Rattle.sumlist.specs.Report.{Outcome, foreign, malformed, report_from, skipped, text, told}
@@ -21,8 +22,7 @@ use Rattle.sumlist.proofs.InTurn.{before, is_skipped, other_before, put, seen, s
 -- ---- texts without LF
 
 pub literal : (t : List ℕ) → list_all (λ c. not (c == 10)) t ≡ true → HasNo 10 t
-literal t h = All-weaker (λ c. not (c == 10) ≡ true) (λ c. (c == 10) ≡ false) (λ c p. grind (arith, nat_tests)) t
-    (AllPass-from_list_all _ t h)
+literal t h = grind (arith, common_steps, All-weaker, nat_tests, AllPass-from_list_all)
 
 free_cons : (c : ℕ) (t : List ℕ) → (c == 10) ≡ false → HasNo 10 t → HasNo 10 (c ∷ t)
 free_cons c t other free = All-cons (λ x. (x == 10) ≡ false) c t other free
@@ -34,25 +34,14 @@ free_nil : HasNo 10 []
 free_nil = All-nil (λ x. (x == 10) ≡ false)
 
 escape_free : (c : ℕ) → HasNo 10 (escape_of c)
-escape_free c = on (c == 92) (c == 10) refl (c == 13)
-  where
-    on : (a b : Bool) → (c == 10) ≡ b → (d : Bool) → HasNo 10 (if a then 92 ∷ 92 ∷ []
-        else if b then 92 ∷ 110 ∷ [] else if d then 92 ∷ 114 ∷ [] else c ∷ [])
-    on true b is d = literal (92 ∷ 92 ∷ []) refl
-    on false true is d = literal (92 ∷ 110 ∷ []) refl
-    on false false is true = literal (92 ∷ 114 ∷ []) refl
-    on false false is false = free_cons c [] is free_nil
+escape_free c = grind (arith, common_steps, literal, free_cons, free_nil)
 
 escaped_free : (name : List ℕ) → HasNo 10 (escaped name)
 escaped_free [] = free_nil
 escaped_free (c ∷ name) = free_append (escape_of c) (escaped name) (escape_free c) (escaped_free name)
 
 glyph_free : (d : ℕ) → (digit_glyph false d == 10) ≡ false
-glyph_free d = on (nat_lt d 10)
-  where
-    on : (b : Bool) → ((if b then 48 + d else 87 + d) == 10) ≡ false
-    on true = grind (arith, nat_tests)
-    on false = grind (arith, nat_tests)
+glyph_free d = grind (arith, common_steps, nat_tests)
 
 digits_free : (k n : ℕ) (after : List ℕ) → HasNo 10 after → HasNo 10 (digits_onto k 10 false n after)
 digits_free zero n after free = free
@@ -129,12 +118,7 @@ told_after list i n more r = report_from list i r.0 ++ lined (every n r.1 more)
 spoken_skipped : (list : Option (List ℕ)) (i : ℕ) (os : List Outcome) → Spoken list (i + 1) os
     → Spoken list i (skipped ∷ os)
 unfolding report_from
-spoken_skipped list i os r = record {
-  said = r.said;
-  free = r.free;
-  all = r.all;
-  own = λ n k more. r.own n k more ∙ ap (told_after list i n more) (sym (skipped_before n k os));
-}
+spoken_skipped list i os r = grind (arith, common_steps, skipped_before)
 
 spoken_other : (list : Option (List ℕ)) (i : ℕ) (o : Outcome) (os : List Outcome) → (o ≡ skipped → ⊥)
     → Spoken list (i + 1) os → Spoken list i (o ∷ os)

@@ -4,8 +4,8 @@ use Rattle.sumlist.proofs.Common.{◌≡◌, inl, inr, ◌*◌, ◌≤◌, Bool,
 use Rattle.sumlist.proofs.Common.{ap, length-append, if◌then◌else◌, ◌∙◌, eqb, arith, All-weaker, false≢true}
 use Rattle.sumlist.proofs.Common.{nat_tests, decode_of-encode_lower, length-encode_with, encode_lower, lower_digits}
 use Rattle.sumlist.proofs.Common.{Alg, Kind, Listing, IsEntry, escaped, escape_of, needs_escape}
-use Rattle.sumlist.proofs.Common.{SpellsName, HasForm, IsLine, Says, core, IsBlank, Spells, IsLabel, label_of}
-use Rattle.sumlist.proofs.Common.{closing, tagged_len, IsUntagged, None, Option, Some, sym, ℕ}
+use Rattle.sumlist.proofs.Common.{SpellsName, HasForm, Says, core, IsBlank, Spells, IsLabel, label_of}
+use Rattle.sumlist.proofs.Common.{closing, tagged_len, IsUntagged, None, Option, Some, sym, ℕ, common_steps}
 use Rattle.std.specs.Prelude.{not}
 use Rattle.std.specs.List.{list_all}
 use Rattle.std.proofs.lemmas.List.Elements.{All-contains, All-head}
@@ -35,31 +35,23 @@ abbrev Inner : List ℕ → Type 0
 Inner xs = list_all is_inner xs ≡ true
 
 word_inner : (word : List ℕ) → IsWord word → Inner word
-word_inner word w = list_all-from_AllPass is_inner word
-    (All-weaker InWord (λ c. is_inner c ≡ true) (λ c h. grind (arith, nat_tests)) word w)
+word_inner word w = grind (arith, common_steps, list_all-from_AllPass, All-weaker, InWord, nat_tests)
 
 escaped_inner : (name : List ℕ) → Inner (escaped name)
 escaped_inner [] = refl
 escaped_inner (c ∷ name) = grind (arith, nat_tests, list_all-append, escaped_inner name)
 
 core_whole : (xs : List ℕ) → Inner xs → core xs ≡ xs
-core_whole [] all = refl
-core_whole (c ∷ xs) all =
-    let last = AllPass-from_list_all is_inner (c ∷ xs) all (length xs) 0 (omega arith) in grind (arith, nat_tests)
+core_whole xs all = grind (arith, common_steps, AllPass-from_list_all, nat_tests)
 
 -- ---- a line of a word, a space, and more
 
 spells : (line : List ℕ) (kind : Option Kind) (e : Listing) → Says line kind e → IsEntry e → Inner line
     → (IsBlank line → ⊥) → length line ≤ 65536 → Spells line kind e
-spells line kind e stated i all told fits =
-    let whole = core_whole line all in
-    let free = All-contains (λ c. is_inner c ≡ true) line 10 (AllPass-from_list_all is_inner line all) in
-    let l : IsLine line = (λ c. false≢true (free c), fits) in
-    record { is_line = l; not_skipped = λ s. told (rw whole at s.1); is_entry = i; form = rw whole stated }
+spells line kind e h i all told fits = grind (arith, core_whole, All-contains, AllPass-from_list_all, false≢true)
 
 not_blank : (word rest : List ℕ) → IsWord word → IsBlank (word ++ 32 ∷ rest) → ⊥
-not_blank [] rest w b = grind arith
-not_blank (x ∷ word) rest w b = let above = (All-head InWord x word w).0 in grind arith
+not_blank word rest w b = grind (arith, common_steps, All-head, InWord)
 
 -- where such a text has a form for each body, it spells the entry whose name is the body, escaped
 module _ (e : Listing) (kind : Option Kind) (word : List ℕ) (more : List ℕ → List ℕ)
@@ -88,8 +80,7 @@ written_spells e i =
     (omega (arith, length-append {A = ℕ}, sized, i.sized.1, i.fits.within))
 
 led_inner : (b : Bool) (xs : List ℕ) → Inner xs → Inner ((if b then 92 ∷ [] else []) ++ xs)
-led_inner true xs all = all
-led_inner false xs all = all
+led_inner b xs all = grind (arith, common_steps)
 
 -- the plain line of a word without a space is no tagged one
 module _ (digits body : List ℕ) (word : IsWord digits) where

@@ -1,8 +1,8 @@
 -- A core states the entry that its reading finds, and nothing else, and the entry's tag fits its algorithm.
 use Rattle.sumlist.proofs.Common.{◌++◌, ◌∙◌, ◌∷◌, ◌≡◌, ◌≤◌, Alg, Bool, HasForm, IsBytes, IsInRange, Kind, List}
-use Rattle.sumlist.proofs.Common.{Listing, Option, Some, Says, [], ap, arith, closing, core, decode_of-ok}
+use Rattle.sumlist.proofs.Common.{Listing, Option, Some, Says, ap, arith, closing, core, decode_of-ok}
 use Rattle.sumlist.proofs.Common.{false, inl, inr, length, length-append, name_of, nat_tests, refl, subst}
-use Rattle.sumlist.proofs.Common.{sym, digest_len, text, true, ℕ}
+use Rattle.sumlist.proofs.Common.{sym, digest_len, text, true, ℕ, common_steps}
 use Rattle.std.proofs.lemmas.List.Elements.{All-head}
 use Rattle.std.proofs.lemmas.Option.{option_and_then_some, same_Some}
 use Rattle.sumlist.specs.inside.Reading.{TextParts, entry_of, told_by, is_slashed, stated, unslashed}
@@ -14,8 +14,7 @@ use Rattle.sumlist.proofs.Words.{InWord, IsWord, digits_word, label_word}
 
 form_fit : (text : List ℕ) (kind : Option Kind) (a : Alg) (t x : List ℕ) → HasForm text kind a t x
     → IsInRange a × (length t ≡ digest_len a) × IsBytes t
-form_fit text kind a t x (ds, (range, sized, is), form) =
-    let d = decode_of-ok ds t is in (range, omega (arith, sized, d.2), d.3)
+form_fit text kind a t x h = grind (arith, common_steps, decode_of-ok)
 
 pub stated_fit : (core : List ℕ) (kind : Option Kind) (e : Listing) → Says core kind e
     → IsInRange e.alg × (length e.tag ≡ digest_len e.alg) × IsBytes e.tag
@@ -23,8 +22,7 @@ stated_fit core kind e s = elim s [ inl p ↦ form_fit _ kind _ _ _ p | inr p �
 
 pub form_len : (text : List ℕ) (kind : Option Kind) (a : Alg) (t x : List ℕ) → HasForm text kind a t x
     → length x ≤ length text
-form_len text kind a t x (ds, s, inl form) = omega (arith, simp length-append at (ap length form.3))
-form_len text kind a t x (ds, s, inr form) = omega (arith, simp length-append at (ap length form.2))
+form_len text kind a t x h = grind (arith, common_steps, length-append)
 
 -- ---- the core
 
@@ -36,8 +34,7 @@ pub entry_of-name : (b : Bool) (f : TextParts) (e : Listing) → entry_of b f �
 entry_of-name b f e is = grind arith
 
 pub no_slash : (word more : List ℕ) → IsWord word → is_slashed (word ++ 32 ∷ more) ≡ false
-no_slash [] more w = refl
-no_slash (c ∷ word) more w = let first = All-head InWord c word w in grind (arith, nat_tests)
+no_slash word more w = grind (arith, common_steps, All-head, InWord, nat_tests)
 
 module _ (kind : Option Kind) where
   not_slashed : (core : List ℕ) (a : Alg) (t x : List ℕ) → HasForm core kind a t x → is_slashed core ≡ false

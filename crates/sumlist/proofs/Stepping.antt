@@ -1,10 +1,10 @@
 -- A list that is checked line by line: a line's outcome comes before those of the lines that are left.
 use Rattle.hashes.specs.declared.share.Share.{Share}
-use Rattle.sumlist.proofs.Common.{◌≡◌, ◌≤◌, ◌+◌, ◌++◌, List, [], ◌∷◌, length, lines, subst, sym, Option, None, Some}
+use Rattle.sumlist.proofs.Common.{◌≡◌, ◌≤◌, ◌+◌, ◌++◌, List, [], ◌∷◌, subst, sym, Option, None, Some}
 use Rattle.sumlist.proofs.Common.{◌∙◌, IfSome, ap, refl, IfSome_then, IsErr, Result, Err, Ok, arith, Appends-nil}
 use Rattle.sumlist.proofs.Common.{Appends-trans, AppendsPrefix, Mark, Meaning, Summary, CheckFault, Files}
 use Rattle.sumlist.proofs.Common.{IsCounted, ListChecked, MatchResult-from_err, Outcome, lines_of, no_lines}
-use Rattle.sumlist.proofs.Common.{Consumes, true, with_line, ℕ}
+use Rattle.sumlist.proofs.Common.{Consumes, true, with_line, ℕ, common_steps}
 use Rattle.std.specs.Io.KnownBytes.{IsAtEnd}
 use Rattle.std.proofs.KnownBytes.{Consumes-trans}
 use Rattle.std.proofs.lemmas.Result.{MatchResult-weaker}
@@ -23,7 +23,7 @@ use Rattle.sumlist.proofs.SharedLines.{shared-settled}
 -- ---- lines
 
 -- a name is not counted
-same_line : (s : Summary) (o : Outcome) → with_line s (outcome_of (mark_of o)) ≡ with_line s o
+pub same_line : (s : Summary) (o : Outcome) → with_line s (outcome_of (mark_of o)) ≡ with_line s o
 same_line s o = grind arith
 
 module _ {files : Files} {k : Meaning} {name : Option (List ℕ)} {share : Share} {s : Summary} {m : ℕ}
@@ -102,8 +102,7 @@ IfSome-all r h = grind arith
 pub all_read : (whole rest rest' : Option (List ℕ)) (read given : List ℕ) (P : List ℕ → Type 0)
     → Consumes whole rest read → Consumes rest rest' given → P (read ++ given)
     → IfSome whole (λ _. (all : List ℕ) × Consumes whole rest' all × P all)
-all_read whole rest rest' read given P before after h =
-    IfSome-all whole (λ _. (read ++ given, Consumes-trans _ _ _ _ _ before after, h))
+all_read whole rest rest' read given P before after h = grind (arith, common_steps, IfSome-all, Consumes-trans)
 
 -- what follows from two clauses on one value
 pub IfSome-two : {X : Type 0} {r s : Option X} {P Q R : X → Type 0} → s ≡ r → IfSome r P → IfSome s Q
@@ -113,8 +112,7 @@ IfSome-two same p q h = grind arith
 -- what holds besides after a fault
 after_fault : (r : Result Summary CheckFault) (P : Summary → Type 0) (Q R : Type 0) → (IsErr r → R)
     → MatchResult r P (λ _. Q) → MatchResult r P (λ _. R × Q)
-after_fault (Ok s) P Q R same h = h
-after_fault (Err f) P Q R same h = (same refl, h)
+after_fault r P Q R same h = grind (arith, common_steps)
 
 module _ {rest : Option (List ℕ)} {known : Option Files} {k : Meaning} {name : Option (List ℕ)} {share : Share}
     {r : Result Summary CheckFault} {n : ℕ} {c : Option (List ℕ)} where
@@ -123,8 +121,7 @@ module _ {rest : Option (List ℕ)} {known : Option Files} {k : Meaning} {name :
       → Checks rest known k name share behind [] no_lines r m n b c
       → IfSome rest (λ list. IfSome known (λ files. ListChecked files k name list share behind r m n b c))
   unfolding summary_of
-  checks-all same h = IfSome_then rest h.of (λ list h. IfSome_then known h (λ files q.
-      (q.outcomes, q.allowed, (q.counted, after_fault r _ _ _ same q.told))))
+  checks-all same h = grind (arith, common_steps, IfSome_then, after_fault)
 
   pub checks-halted : {behind : Share} {ahead : List ℕ} {s : Summary} → IsErr r
       → Checks rest known k name share behind ahead s r n n c c
@@ -138,7 +135,7 @@ checks-none {rest = None} end = record { of = tt }
 checks-none {rest = Some bytes} {known} end = record { of = IfSome-all known (λ _. rw (end.0, end.1) rest-none) }
 
 -- the next line was taken
-abbrev NextTaken : Option (List ℕ) → Option (List ℕ) → List ℕ → Option (List ℕ) → List ℕ → Type 0
+abbrev pub NextTaken : Option (List ℕ) → Option (List ℕ) → List ℕ → Option (List ℕ) → List ℕ → Type 0
 NextTaken kept rest ahead rest' ahead' = IfSome rest (λ bytes. (left : List ℕ) × (rest' ≡ Some left)
     × IsNextPiece 10 true kept (ahead ++ bytes) (ahead' ++ left))
 
@@ -178,13 +175,7 @@ opens-none rest ahead n = record { of = IfSome-all rest (λ _. omega arith) }
 module _ (kept rest : Option (List ℕ)) (ahead : List ℕ) (rest' : Option (List ℕ)) (ahead' : List ℕ)
     (next : NextTaken kept rest ahead rest' ahead') {m n : ℕ} (once : n ≤ m + 1) where
   pub opens-stopped : OpensEach rest ahead m n
-  opens-stopped = record {
-    of = IfSome_then rest next (λ _ t. rw t.2.2 (omega (arith, once)));
-  }
+  opens-stopped = grind (arith, common_steps, IfSome_then)
 
   pub opens-line : (o : ℕ) → OpensEach rest' ahead' n o → OpensEach rest ahead m o
-  opens-line o later = record {
-    of = IfSome_then rest next (λ _ t.
-        let most : o ≤ n + length (lines (ahead' ++ t.0)) = (subst (λ x. OpensEach x ahead' n o) t.1 later).of in
-        rw t.2.2 (omega (arith, once, most)));
-  }
+  opens-line o later = grind (arith, common_steps, IfSome_then)

@@ -1,20 +1,19 @@
 -- A list that is read beside its report: a line's outcome comes before those of the lines that are left.
 use Rattle.sumlist.proofs.Common.{◌≡◌, ◌<◌, ◌≤◌, ◌∙◌, ◌+◌, ◌-◌, ◌*◌, ◌^◌, ◌++◌, ◌∷◌, ℕ, List, [], Option, None, Some}
 use Rattle.sumlist.proofs.Common.{true, false, append_assoc, append-nil, ap, sym, refl, subst, arith, length, Verdict}
-use Rattle.sumlist.proofs.Common.{Err, IsEntryIn, IsLine, Listing, Mark, Meaning, Ok, Outcome, Result, Summary}
-use Rattle.sumlist.proofs.Common.{IsCounted, escaped, foreign, inl, keyed, length-append, lines, lines_of, malformed}
-use Rattle.sumlist.proofs.Common.{IfSome, IfSome_then, no_lines, skipped, text, told, unkeyed, with_line}
+use Rattle.sumlist.proofs.Common.{Err, IsEntryIn, Listing, Mark, Meaning, Ok, Outcome, Result, Summary}
+use Rattle.sumlist.proofs.Common.{IsCounted, escaped, foreign, inl, length-append, lines, lines_of, malformed}
+use Rattle.sumlist.proofs.Common.{IfSome, IfSome_then, no_lines, skipped, text, told, with_line, common_steps}
 use Rattle.std.specs.List.{AllZip}
 use Rattle.std.specs.Io.KnownBytes.{IsAtEnd}
 use Rattle.std.specs.Borrow.{Bor}
 use Rattle.std.specs.Prelude.{MatchOption, option_map}
 use Rattle.std.proofs.lemmas.List.Sums.{fold-append}
-use Rattle.source.specs.declared.pumping.SourceFault.{SourceFault}
-use Rattle.source.specs.declared.pumping.SourceFault.TheVariants.{Read, TooLong}
 use Rattle.sumlist.proofs.MeaningCases.{entry_one, foreign_unskipped, not_foreign, not_skipped}
+use Rattle.sumlist.proofs.Stepping.{NextTaken, same_line}
 use Rattle.sumlist.proofs.TakenTexts.{Next, NextVerdict}
 use Rattle.sumlist.specs.Line.{IsSkipped}
-use Rattle.sumlist.specs.Lines.{IsKept, line_limit}
+use Rattle.sumlist.specs.Lines.{IsKept}
 use Rattle.sumlist.specs.Report.{IsPossible, report_from, summary_of, verdict_text}
 use Rattle.sumlist.specs.declared.look.Look.{Look}
 use Rattle.sumlist.specs.declared.summary.Mark.TheVariants.{Foreign, Malformed, Skipped, Told}
@@ -22,26 +21,13 @@ use Rattle.sumlist.specs.declared.telling.TellFault.{TellFault}
 use Rattle.sumlist.specs.declared.telling.TellFault.TheVariants as fault
 use Rattle.sumlist.specs.inside.Marks.{mark_of, outcome_of, part}
 use Rattle.sumlist.specs.inside.Stepped.{MarksMalformed}
-use Rattle.sumlist.specs.inside.Taking.{IsNextPiece}
-use Rattle.sumlist.specs.inside.Telling.{Ended, ListBeside, TellCounts, Tells, of_list}
+use Rattle.sumlist.specs.inside.Telling.{Ended, ListBeside, TellCounts, Tells}
 
 -- ---- one line
 
 -- a malformed line with a look has the text of any other
 pub same_text : (name : Option (List ℕ)) (n : ℕ) (look : Look) → text name n malformed ≡ text name n (foreign look)
-same_text None n look = refl
-same_text (Some name) n look = refl
-
--- a line that is too long to be kept is malformed
-pub long-malformed : (m : Meaning) (line : List ℕ) → line_limit < length line → MarksMalformed m line Malformed
-long-malformed m line long = on m
-  where
-    no : IsLine line → ⊥
-    no l = let within = l.1 in omega arith
-
-    on : (m : Meaning) → MarksMalformed m line Malformed
-    on (unkeyed kind) = (λ s. no s.0, λ e s. no s.is_line, λ l f. no f.0)
-    on (keyed n limit f) = (λ s. no s.0, λ e s. no s.1.is_line, λ l t. no t.1.is_line)
+same_text name n look = grind (arith, common_steps)
 
 -- what a report says, of what is left at first and then
 abbrev pub NextTold : Meaning → Option (List ℕ) → List ℕ → ℕ → Option (List ℕ) → Option (List ℕ)
@@ -49,11 +35,6 @@ abbrev pub NextTold : Meaning → Option (List ℕ) → List ℕ → ℕ → Opt
 NextTold m name line n old new r = IfSome old (λ bytes. Tells m name line n bytes new r)
 
 module _ (m : Meaning) (name : Option (List ℕ)) (line : List ℕ) (n : ℕ) where
-  -- a line that is skipped has no text
-  pub told-skipped : (old : Option (List ℕ)) → IsSkipped line → NextTold m name line n old old (Ok Skipped)
-  told-skipped None s = tt
-  told-skipped (Some bytes) s = (skipped, s, refl, bytes, refl, refl)
-
   -- the line of an entry came
   pub told-entry : (e : Listing) → IsEntryIn m line e → (old new : Option (List ℕ)) (v : Verdict)
       → NextVerdict e.name old new (Some v) → NextTold m name line n old new (Ok (Told v))
@@ -87,30 +68,19 @@ module _ (m : Meaning) (name : Option (List ℕ)) (line : List ℕ) (n : ℕ) wh
   told-malformed (Told v) marks (Some bytes) new p = absurd marks
 
   unskipped : (mark : Mark) → MarksMalformed m line mark → IsSkipped line → ⊥
-  unskipped Malformed marks s = marks.0 s
-  unskipped (Foreign l) marks s = foreign_unskipped m line l marks s
-  unskipped Skipped marks s = absurd marks
-  unskipped (Told v) marks s = absurd marks
+  unskipped mark marks s = grind (arith, common_steps, foreign_unskipped)
 
   entryless : (mark : Mark) → MarksMalformed m line mark → (e : Listing) → IsEntryIn m line e → ⊥
-  entryless Malformed marks e s = marks.1 e s
-  entryless (Foreign l) marks e s = not_foreign m line e l s marks
-  entryless Skipped marks e s = absurd marks
-  entryless (Told v) marks e s = absurd marks
+  entryless mark marks e s = grind (arith, common_steps, not_foreign)
 
   no_malformed : (mark : Mark) → MarksMalformed m line mark → (bytes : List ℕ)
       → ((behind : List ℕ) → bytes ≡ text name n malformed ++ behind → ⊥)
       → (o : Outcome) (behind : List ℕ) → IsPossible m line o → bytes ≡ text name n o ++ behind → ⊥
-  no_malformed mark marks bytes none skipped behind q is = unskipped mark marks q
-  no_malformed mark marks bytes none malformed behind q is = none behind is
-  no_malformed mark marks bytes none (foreign l) behind q is =
-      none behind (rw (same_text name n l) is)
-  no_malformed mark marks bytes none (told k v) behind q is = entryless mark marks q.0 q.1
+  no_malformed mark marks bytes none o behind q is = grind (arith, common_steps, unskipped, same_text, entryless)
 
   pub other-malformed : (mark : Mark) → MarksMalformed m line mark → (old new : Option (List ℕ))
       → Next old (text name n malformed) new false → NextTold m name line n old new (Err fault.OtherLine)
-  other-malformed mark marks None new p = tt
-  other-malformed mark marks (Some bytes) new p = no_malformed mark marks bytes p
+  other-malformed mark marks old new p = grind (arith, no_malformed)
 
 -- a fault that is neither one of the list nor one of the count of the report's lines
 abbrev pub IsOther : TellFault → Type 0
@@ -118,12 +88,7 @@ IsOther f = (f ≡ fault.ListRead → ⊥) × (f ≡ fault.ListTooLong → ⊥) 
 
 -- a read of the report is no read of the list
 pub counts-other : (T : Type 0) (f : TellFault) (old new : ℕ) → TellCounts {T = T} (Err f) old new → IsOther f
-counts-other T fault.ListRead old new h = absurd h
-counts-other T fault.ListTooLong old new h = absurd h
-counts-other T fault.ReportTooLong old new h = absurd h
-counts-other T fault.ReportRead old new h = (λ is. let no = is in cc, λ is. let no = is in cc, λ is. let no = is in cc)
-counts-other T fault.OtherLine old new h = (λ is. let no = is in cc, λ is. let no = is in cc, λ is. let no = is in cc)
-counts-other T fault.OutOfMemory old new h = (λ is. let no = is in cc, λ is. let no = is in cc, λ is. let no = is in cc)
+counts-other T f old new h = grind (arith, common_steps)
 
 pub counted-more : (mark : Mark) (s u : Summary) → IsCounted mark s u → lines_of u ≡ lines_of s + 1
 counted-more mark s u counted = grind arith
@@ -131,8 +96,7 @@ counted-more mark s u counted = grind arith
 -- what is kept of a line, as it was handed out
 kept-line : (line : Option (Bor (List ℕ))) (kept : Option (List ℕ))
     → MatchOption line (kept ≡ None) (λ l. kept ≡ Some l.now) → option_map (λ l. l.now) line ≡ kept
-kept-line None kept is = sym is
-kept-line (Some l) kept is = sym is
+kept-line line kept is = grind (arith, common_steps)
 
 -- ---- lines so far
 
@@ -156,22 +120,13 @@ summary-snoc : (os : List Outcome) (o : Outcome) → summary_of (os ++ o ∷ [])
 unfolding summary_of
 summary-snoc os o = fold-append with_line no_lines os (o ∷ [])
 
--- a name is not counted
-same_line : (s : Summary) (o : Outcome) → with_line s (outcome_of (mark_of o)) ≡ with_line s o
-same_line s o = grind arith
-
 -- what a report says of a verdict has two bytes at least, and so has each line of it
 verdict-size : (v : Verdict) → 2 ≤ length (verdict_text v)
 verdict-size v = grind arith
 
 text-size : (name : Option (List ℕ)) (n : ℕ) (o : Outcome)
     → 2 * (1 - part Skipped (mark_of o)) ≤ length (text name n o)
-text-size name n skipped = omega arith
-text-size name n (told k v) = omega (arith, verdict-size v, length-append (escaped k) (verdict_text v))
-text-size None n malformed = omega arith
-text-size None n (foreign l) = omega arith
-text-size (Some list) n malformed = grind (arith, length-append {A = ℕ})
-text-size (Some list) n (foreign l) = grind (arith, length-append {A = ℕ})
+text-size name n o = grind (arith, common_steps, verdict-size, length-append)
 
 -- lines of the bytes of a list were told, and these are left; and so of the report
 pub record Beside (m : Meaning) (name : Option (List ℕ)) (list report : List ℕ) (i j : ℕ) (waiting : List (List ℕ))
@@ -187,15 +142,12 @@ pub record Beside (m : Meaning) (name : Option (List ℕ)) (list report : List �
   pub same : length before ≡ length outcomes
   pub most : 2 * j + length behind ≤ 2 * i + length report
 
-module _ (m : Meaning) (name : Option (List ℕ)) (list report : List ℕ) (i j : ℕ) (behind : List ℕ) (s : Summary)
-    (line : List ℕ) (others : List (List ℕ)) (b : Beside m name list report i j (line ∷ others) behind s) where
+module _ {m : Meaning} {name : Option (List ℕ)} {list report : List ℕ} {i j : ℕ} {behind : List ℕ} {s : Summary}
+    {line : List ℕ} {others : List (List ℕ)} (b : Beside m name list report i j (line ∷ others) behind s) where
   -- the report is long enough for one line more
   size-line : (mark : Mark) (rest : Option (List ℕ)) (t : Tells m name line (lines_of s + 1) behind rest (Ok mark))
       → 2 * (j + (1 - part Skipped mark)) + length t.3 ≤ 2 * i + length report
-  size-line mark rest t =
-      let size = rw t.2 at (text-size name (lines_of s + 1) t.0) in
-      let whole = ap length t.4 ∙ length-append (text name (lines_of s + 1) t.0) t.3 in
-      omega (arith, b.most, size, whole)
+  size-line mark rest t = grind (arith, common_steps, text-size, length-append)
 
   -- one line more
   beside-line : (mark : Mark) (rest : Option (List ℕ)) (u : Summary)
@@ -231,35 +183,14 @@ module _ (m : Meaning) (name : Option (List ℕ)) (list report : List ℕ) (i j 
   -- the report does not have the line next, or it was not read
   fault-ends : (rest : Option (List ℕ)) (f : TellFault) → Tells m name line (lines_of s + 1) behind rest (Err f)
       → IsOther f → Ended m name b.outcomes b.before (line ∷ others) behind rest report i (Err f)
-  fault-ends rest fault.OtherLine t other = (
-    line,
-    others,
-    refl,
-    λ o end p is. let number : length b.before + 1 ≡ lines_of s + 1 = omega (arith, b.same, b.size) in
-        t o end p (rw number at is),
-  )
-  fault-ends rest fault.ListRead t other = absurd (other.0 refl)
-  fault-ends rest fault.ListTooLong t other = absurd (other.1 refl)
-  fault-ends rest fault.ReportTooLong t other = absurd (other.2 refl)
-  fault-ends rest fault.ReportRead t other = tt
-  fault-ends rest fault.OutOfMemory t other = tt
+  fault-ends rest f t other = grind (arith, common_steps)
 
 -- what is said of such lines
-listed : (m : Meaning) (name : Option (List ℕ)) (list report : List ℕ) (i j : ℕ) (waiting : List (List ℕ))
-    (behind : List ℕ) (s : Summary) (b : Beside m name list report i j waiting behind s) (rest : Option (List ℕ))
+listed : {m : Meaning} {name : Option (List ℕ)} {list report : List ℕ} {i j : ℕ} {waiting : List (List ℕ)}
+    {behind : List ℕ} {s : Summary} (b : Beside m name list report i j waiting behind s) (rest : Option (List ℕ))
     (r : Result Summary TellFault) → Ended m name b.outcomes b.before waiting behind rest report i r
     → ListBeside m name list report i j rest r
-listed m name list report i j waiting behind s b rest r ended = (
-  b.outcomes,
-  b.before,
-  waiting,
-  b.are,
-  b.possible,
-  behind,
-  b.begun,
-  (let sum = b.sum in omega (arith, b.counted, b.size, ap (λ (t : Summary). t.skipped) sum)),
-  ended,
-)
+listed b rest r ended = grind (arith, common_steps)
 
 -- ---- the list and the report, where they are known
 
@@ -268,18 +199,13 @@ pub record Telling (m : Meaning) (name : Option (List ℕ)) (list report : Optio
   pub of : IfSome list (λ bytes. IfSome report (λ text. (left : List ℕ) × (rest ≡ Some left) × (more : List ℕ)
       × (behind ≡ Some more) × Beside m name bytes text i j (lines (ahead ++ left)) more s))
 
--- the next line was taken
-abbrev pub NextTaken : Option (List ℕ) → Option (List ℕ) → List ℕ → Option (List ℕ) → List ℕ → Type 0
-NextTaken kept rest ahead rest' ahead' = IfSome rest (λ bytes. (left : List ℕ) × (rest' ≡ Some left)
-    × IsNextPiece 10 true kept (ahead ++ bytes) (ahead' ++ left))
-
 -- what is said of the list in the end
 abbrev pub Listed : Meaning → Option (List ℕ) → Option (List ℕ) → Option (List ℕ) → ℕ → ℕ → Option (List ℕ)
     → Result Summary TellFault → Type 0
 Listed m name list report i j rest r =
     IfSome list (λ bytes. IfSome report (λ text. ListBeside m name bytes text i j rest r))
 
-module _ (m : Meaning) (name : Option (List ℕ)) where
+module _ {m : Meaning} {name : Option (List ℕ)} where
   none-beside : (list report : List ℕ) (i : ℕ) → Beside m name list report i i (lines list) report no_lines
   unfolding report_from summary_of
   none-beside list report i = record {
@@ -300,32 +226,22 @@ module _ (m : Meaning) (name : Option (List ℕ)) where
   told-none (Some bytes) None i = record { of = tt }
   told-none (Some bytes) (Some text) i = record { of = (bytes, refl, text, refl, none-beside bytes text i) }
 
-  module _ (list report : Option (List ℕ)) (i j : ℕ) (ahead : List ℕ) (rest behind : Option (List ℕ)) (s : Summary)
+  module _ {list report : Option (List ℕ)} {i j : ℕ} {ahead : List ℕ} {rest behind : Option (List ℕ)} {s : Summary}
       (t : Telling m name list report i j ahead rest behind s) where
     -- a growth was refused
     pub told-stopped : (end : Option (List ℕ)) → Listed m name list report i j end (Err fault.OutOfMemory)
-    told-stopped end = IfSome_then list t.of (λ bytes h. IfSome_then report h (λ text q.
-        listed m name bytes text i j _ q.2 s q.4 end (Err fault.OutOfMemory) tt))
-
-    -- the list was not read
-    pub told-unread : (f : SourceFault) → Listed m name list report i j behind (Err (of_list f))
-    told-unread Read = IfSome_then list t.of (λ bytes h. IfSome_then report h (λ text q.
-        listed m name bytes text i j _ q.2 s q.4 behind (Err fault.ListRead) q.3))
-    told-unread TooLong = IfSome_then list t.of (λ bytes h. IfSome_then report h (λ text q.
-        listed m name bytes text i j _ q.2 s q.4 behind (Err fault.ListTooLong) q.3))
+    told-stopped end = grind (arith, common_steps, IfSome_then, listed)
 
     -- no line is left
     ended : (bytes text : List ℕ) (left more : List ℕ) → Beside m name bytes text i j (lines (ahead ++ left)) more s
         → ahead ≡ [] → left ≡ [] → behind ≡ Some more → ListBeside m name bytes text i j behind (Ok s)
-    ended bytes text left more b none end is =
-        listed m name bytes text i j _ more s b behind (Ok s) (rw (none, end) refl, b.sum, is)
+    ended bytes text left more b none end is = grind (arith, common_steps, listed)
 
     pub told-all : (ahead ≡ []) × IsAtEnd rest → Listed m name list report i j behind (Ok s)
-    told-all end = IfSome_then list t.of (λ bytes h. IfSome_then report h (λ text q.
-        ended bytes text q.0 q.2 q.4 end.0 (rw q.1 at end.1) q.3))
+    told-all end = grind (arith, common_steps, IfSome_then, ended)
 
     -- a line was read, and this was handed out of it
-    module _ (kept rest' : Option (List ℕ)) (ahead' : List ℕ) (n : ℕ) (count : n ≡ lines_of s)
+    module _ (kept rest' : Option (List ℕ)) (ahead' : List ℕ) {n : ℕ} (count : n ≡ lines_of s)
         (next : NextTaken kept rest ahead rest' ahead') (line : Option (Bor (List ℕ)))
         (is : MatchOption line (kept ≡ None) (λ l. kept ≡ Some l.now)) where
       -- what the report says of it
@@ -339,38 +255,32 @@ module _ (m : Meaning) (name : Option (List ℕ)) where
 
       said : (r : Result Mark TellFault) (end : Option (List ℕ)) (whole more : List ℕ) → behind ≡ Some more
           → IsKept kept whole → Says end r → Tells m name whole (lines_of s + 1) more end r
-      said r end whole more still of says = subst (λ k. Tells m name whole (k + 1) more end r) count
-          (subst (λ x. NextTold m name whole (n + 1) x end r) still
-          (says whole (subst (λ k. IsKept k whole) (sym (kept-line line kept is)) of)))
+      said r end whole more still of says = grind (arith, common_steps, kept-line)
 
       pub told-fault : (f : TellFault) (end : Option (List ℕ)) → IsOther f → Says end (Err f)
           → Listed m name list report i j end (Err f)
-      told-fault f end other says = IfSome_then list t.of (λ bytes h. IfSome_then report h (λ text q.
+      told-fault f end other says = IfSome_then list t.of (λ _ h. IfSome_then report h (λ _ q.
           let l = next-line q.0 q.1 in
           let b = rw l.4 at q.4 in
-          let tells = said (Err f) end l.0 q.2 q.3 l.2 says in
-          listed m name bytes text i j _ q.2 s b end (Err f)
-          (fault-ends m name bytes text i j q.2 s l.0 (lines (ahead' ++ l.1)) b end f tells other)))
+          listed b end (Err f) (fault-ends b end f (said (Err f) end l.0 q.2 q.3 l.2 says) other)))
 
       -- the lines of the report are more than can be counted
       pub told-too-long : (mark : Mark) (end : Option (List ℕ)) → j < 2 ^ 64 → 2 ^ 64 ≤ j + (1 - part Skipped mark)
           → Says end (Ok mark) → Listed m name list report i j end (Err fault.ReportTooLong)
-      told-too-long mark end few many says = IfSome_then list t.of (λ bytes h. IfSome_then report h (λ text q.
+      told-too-long mark end few many says = IfSome_then list t.of (λ _ h. IfSome_then report h (λ _ q.
           let l = next-line q.0 q.1 in
           let b = rw l.4 at q.4 in
-          let tells = said (Ok mark) end l.0 q.2 q.3 l.2 says in
-          let most = size-line m name bytes text i j q.2 s l.0 (lines (ahead' ++ l.1)) b mark end tells in
-          listed m name bytes text i j _ q.2 s b end (Err fault.ReportTooLong)
-          (let sum = b.sum in
-          omega (arith, few, many, most, b.counted, b.size, ap (λ (u : Summary). u.skipped) sum))))
+          let most = size-line b mark end (said (Ok mark) end l.0 q.2 q.3 l.2 says) in
+          let sum = b.sum in
+          listed b end (Err fault.ReportTooLong)
+          (omega (arith, few, many, most, b.counted, b.size, ap (λ (u : Summary). u.skipped) sum))))
 
-      pub told-line : (mark : Mark) (u : Summary) (end : Option (List ℕ)) (k : ℕ) → k ≡ j + (1 - part Skipped mark)
+      pub told-line : (mark : Mark) {u : Summary} (end : Option (List ℕ)) {k : ℕ} → k ≡ j + (1 - part Skipped mark)
           → IsCounted mark s u → Says end (Ok mark) → Telling m name list report i k ahead' rest' end u
-      told-line mark u end k up counted says = rw up record {
-        of = IfSome_then list t.of (λ bytes h. IfSome_then report h (λ text q.
+      told-line mark {u} end up counted says = rw up record {
+        of = IfSome_then list t.of (λ _ h. IfSome_then report h (λ _ q.
             let l = next-line q.0 q.1 in
             let b = rw l.4 at q.4 in
-            let tells = said (Ok mark) end l.0 q.2 q.3 l.2 says in
-            let more = beside-line m name bytes text i j q.2 s l.0 (lines (ahead' ++ l.1)) b mark end u tells counted in
+            let more = beside-line b mark end u (said (Ok mark) end l.0 q.2 q.3 l.2 says) counted in
             (l.1, l.3, more.0, more.1, more.2)));
       }
