@@ -1,6 +1,7 @@
 -- A part more behind parts in a row.
+use Rattle.std.proofs.lemmas.Grind.{common_steps}
 use Rattle.std.proofs.Common.{◌≡◌, ℕ, ◌+◌, ◌*◌, ◌<◌, List, [], ◌∷◌, ◌++◌, refl, sym, ap, ◌∙◌, arith}
-use Rattle.std.proofs.Common.{append_assoc, append-nil, length-append, subst}
+use Rattle.std.proofs.Common.{append_assoc, append-nil, length-append}
 use Rattle.std.proofs.Math.Nat.{zero-mod}
 use Rattle.b3.specs.Modes.{hash_parameters}
 use Rattle.b3.specs.Parts.{IsNextInRow}
@@ -49,17 +50,7 @@ pub row-first : (row : Row) (part : PartValue) → row_parameters row ≡ hash_p
     → row_first row ≡ part.first_chunk → row_count row ≡ part.len → row_closed row ≡ 0
     → row_open row ≡ part.len → ((m : List ℕ) → IsValueOf hash_parameters part m → HoldsRow row m)
     → 1024 * part.first_chunk ≡ 0 → IsRowOf row (part ∷ [])
-row-first row part parameters first count closed last holds place = record {
-  first = omega (arith, first, place);
-  parameters = parameters;
-  in_row = (place, (0, refl), tt);
-  count = omega (arith, count);
-  last = last;
-  some = omega arith;
-  several = ((λ some. omega (arith, some, closed)), λ more. absurd (omega (arith, more)));
-  holds = λ m values. holds m (let split = values-split [] part m values in
-      subst (IsValueOf hash_parameters part) (sym (split.2 ∙ ap (λ (l : List ℕ). l ++ split.1) split.3)) split.4);
-}
+row-first row part parameters first count closed last holds place = grind (arith, common_steps, values-split)
 
 -- the row with a part more
 pub row-more : (old new : Row) (parts : List PartValue) (part : PartValue) → IsRowOf old parts
@@ -67,29 +58,9 @@ pub row-more : (old new : Row) (parts : List PartValue) (part : PartValue) → I
     → ((m x : List ℕ) → HoldsRow old m → IsValueOf (row_parameters old) part x → HoldsRow new (m ++ x))
     → row_count new ≡ row_count old + part.len → 0 < row_closed new → row_open new ≡ part.len
     → row_first new ≡ row_first old → row_parameters new ≡ row_parameters old → IsRowOf new (parts ++ part ∷ [])
-row-more old new parts part is next holds count closed last first kept =
-    let size = length-append parts (part ∷ []) in
-    let some = is.some in
-    let begin = is.first in
-    let bytes = is.count in
-    let place = next.0 in
-    record {
-      first = first ∙ is.first;
-      parameters = kept ∙ is.parameters;
-      in_row = follow-more 0 1024 parts part is.in_row (omega (arith, place, begin, bytes))
-          (subst IsWhole is.last next.1);
-      count = count ∙ ap (λ n. n + part.len) is.count ∙ sym (bytes_of-more parts part);
-      last = last ∙ sym (last_of-more 1024 parts part);
-      some = omega (arith, size);
-      several = ((λ more. omega (arith, size, some)), λ more. closed);
-      holds = λ m values. let split = values-split parts part m values in
-          subst (HoldsRow new) (sym split.2) (holds split.0 split.1 (is.holds split.0 split.3)
-          (subst (λ p. IsValueOf p part split.1) (sym is.parameters) split.4));
-    }
+row-more old new parts part is next holds count closed last first kept = grind (arith, common_steps, length-append, follow-more, bytes_of-more, last_of-more, values-split)
 
 -- a part that begins where a row from the first chunk on ends comes next, if what stands before it is whole
 pub next-is : (first n last : ℕ) (part : PartValue) → first ≡ 0 → 1024 * part.first_chunk ≡ n → IsWhole last
     → IsNextInRow first n last part.first_chunk part.len
-next-is first n last part begin place whole =
-    let limit = part.placed.1 in
-    rw begin (omega (arith, place), whole, ((λ none. refl), omega (arith, limit, place), λ p power. zero-mod p))
+next-is first n last part begin place whole = grind (arith, common_steps, zero-mod)

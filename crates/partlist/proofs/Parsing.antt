@@ -1,4 +1,5 @@
 -- What a line that tells a part comes to, word after word.
+use Rattle.std.proofs.lemmas.Grind.{common_steps}
 use Rattle.std.proofs.Common.{◌≡◌, ℕ, ◌<◌, ◌^◌, List, ◌∷◌, ◌++◌, refl, sym, ap, ◌∙◌, arith, codes, length, Result, Ok}
 use Rattle.std.proofs.Common.{Err, IsOk, IfOk, ◌↔◌, MatchOption}
 use Rattle.std.proofs.lemmas.Bool.{false≢true}
@@ -39,10 +40,7 @@ pub told_value : (line rest after digits : List ℕ) (n k first len : ℕ) (valu
     → line ≡ codes "sums-part-1 blake3 " ++ rest → n < 2 ^ 64 → rest ≡ decimal n ++ 32 ∷ after
     → k < 2 ^ 64 → after ≡ decimal k ++ 32 ∷ digits
     → (n ≡ first) × ((k ≡ len) × (digits ≡ encode_lower value))
-told_value line rest after digits n k first len value t e h f i g =
-    let told = told_len line rest after n first len value t e h f in
-    let cut = cut_number_once k len digits _ i (len_fits line first len value t) (sym g ∙ told.1) in
-    (told.0, cut)
+told_value line rest after digits n k first len value t e h f i g = grind (arith, common_steps, told_len, cut_number_once, len_fits)
 
 moved : (line v : List ℕ) (a b c d : ℕ) → a ≡ b → c ≡ d → LineTells line b d v → LineTells line a c v
 moved line v a b c d e f t = rw (e, f) t
@@ -72,8 +70,4 @@ value_once v w p q m n e =
     cc
 
 pub one_meaning : OnePart
-one_meaning line a b c d v w t u =
-    let first = cut_number_once a c _ _ (first_fits line a b v t) (first_fits line c d w u)
-    (append_cancel_left (codes "sums-part-1 blake3 ") _ _ (sym t.text ∙ u.text)) in
-    let len = cut_number_once b d _ _ (len_fits line a b v t) (len_fits line c d w u) first.1 in
-    (first.0, len.0, value_once v w t.bytes u.bytes t.sized u.sized len.1)
+one_meaning line a b c d v w t u = grind (arith, common_steps, cut_number_once, first_fits, append_cancel_left, len_fits, value_once)

@@ -1,4 +1,5 @@
 -- The line of the part of some bytes tells their part: its chaining value is eight words.
+use Rattle.std.proofs.lemmas.Grind.{common_steps}
 use Rattle.std.proofs.Common.{◌≡◌, ℕ, zero, suc, ◌+◌, ◌*◌, ◌/◌, ◌^◌, ◌<◌, ◌≤◌, Bool, true, false, List, [], ◌∷◌, ◌++◌}
 use Rattle.std.proofs.Common.{length, take, drop, fold, map, slice_index, slice_set, bit_xor, refl, sym, ap, ◌∙◌, arith}
 use Rattle.std.proofs.Common.{length-append, leb}
@@ -13,7 +14,7 @@ use Rattle.words.specs.Blake3.{compress3, permuted_words, rounds3, working_words
 use Rattle.words.specs.Mix.{g, g_at, rotated_xor, round, word_sum}
 use Rattle.words.specs.Tables.{iv32, places}
 use Rattle.words.specs.Words.{word_bytes}
-use Rattle.b3.specs.Chunk.{block, chunk, last_block, start_flag, value_before}
+use Rattle.b3.specs.Chunk.{block, chunk, start_flag, value_before}
 use Rattle.b3.specs.Modes.{hash_parameters, tree_of}
 use Rattle.b3.specs.Node.{Node, cv}
 use Rattle.b3.specs.Tree.{chunk_count, parent, tree, tree_within}
@@ -29,15 +30,13 @@ none_words : AreWords []
 none_words = record { at = λ i. omega arith }
 
 cons-at : (x : ℕ) (xs : List ℕ) → x < 2 ^ 32 → AreWords xs → (i : ℕ) → slice_index (x ∷ xs) i < 2 ^ 32
-cons-at x xs h are zero = h
-cons-at x xs h are (suc i) = are.at i
+cons-at x xs h are i = grind (arith, common_steps)
 
 words-cons : (x : ℕ) (xs : List ℕ) → x < 2 ^ 32 → AreWords xs → AreWords (x ∷ xs)
 words-cons x xs h are = record { at = cons-at x xs h are }
 
 words-four : (a b c d : ℕ) → a < 2 ^ 32 → b < 2 ^ 32 → c < 2 ^ 32 → d < 2 ^ 32 → AreWords (a ∷ b ∷ c ∷ d ∷ [])
-words-four a b c d p q r s =
-    words-cons a _ p (words-cons b _ q (words-cons c _ r (words-cons d _ s none_words)))
+words-four a b c d p q r s = grind (arith, common_steps, words-cons, none_words)
 
 append-at : (bound : ℕ) (xs ys : List ℕ) → ((i : ℕ) → slice_index xs i < bound)
     → ((i : ℕ) → slice_index ys i < bound) → (i : ℕ) → slice_index (xs ++ ys) i < bound
@@ -108,8 +107,7 @@ iv-four = words-four _ _ _ _ (omega arith) (omega arith) (omega arith) (omega ar
 
 working-words : (h : List ℕ) (t b d : ℕ) → AreWords h → t < 2 ^ 64 → b < 2 ^ 32 → d < 2 ^ 32
     → AreWords (working_words3 h t b d)
-working-words h t b d are p q r =
-    words-append _ _ (words-append h _ are iv-four) (words-four _ _ _ _ (omega arith) (omega (arith, p)) q r)
+working-words h t b d are p q r = grind (arith, common_steps, words-append, iv-four, words-four)
 
 -- a node whose numbers are words, and its counter two
 record IsFit (node : Node) : Type 0 where
@@ -137,8 +135,7 @@ cv-length node = refl
 
 module _ (key : List ℕ) (flags : ℕ) (are : AreWords key) (few : flags < 256) where
   start_few : (j : ℕ) → start_flag j ≤ 1
-  start_few zero = omega arith
-  start_few (suc j) = omega arith
+  start_few j = grind (arith, common_steps)
 
   block_few : (x : List ℕ) (j : ℕ) → length (block x j) < 2 ^ 32
   block_few x j = omega (arith, length-take 64 (drop (64 * j) x))
@@ -155,12 +152,7 @@ module _ (key : List ℕ) (flags : ℕ) (are : AreWords key) (few : flags < 256)
 
   chunk-fit : (c : ℕ) (x : List ℕ) → c < 2 ^ 64 → IsFit (chunk key flags c x)
   unfolding chunk
-  chunk-fit c x h = record {
-    h = before-words c x (last_block x) h;
-    t = h;
-    b = block_few x (last_block x);
-    d = omega (arith, few, start_few (last_block x));
-  }
+  chunk-fit c x h = grind (arith, common_steps, before-words, block_few, start_few)
 
   parent-fit : (left right : List ℕ) → IsFit (parent key flags left right)
   unfolding parent
@@ -192,11 +184,7 @@ iv-words = words-append _ _ iv-four (words-four _ _ _ _ (omega arith) (omega ari
 -- ---- the line
 
 low_first-bytes : (x : ℕ) → IsBytes (bytes_low_first 0 4 x)
-low_first-bytes x zero = omega arith
-low_first-bytes x (suc zero) = omega arith
-low_first-bytes x (suc (suc zero)) = omega arith
-low_first-bytes x (suc (suc (suc zero))) = omega arith
-low_first-bytes x (suc (suc (suc (suc i)))) = omega arith
+low_first-bytes x h = grind (arith, common_steps)
 
 pub word_bytes-bytes : (xs : List ℕ) → IsBytes (word_bytes 4 xs)
 unfolding word_bytes

@@ -1,8 +1,8 @@
 -- Lines of parts that come byte after byte.
-use Rattle.std.proofs.Common.{◌≡◌, ◌≢◌, ℕ, ◌+◌, ◌-◌, ◌<◌, ◌≤◌, ◌^◌, false, List, [], ◌∷◌, ◌++◌, length, refl, sym}
-use Rattle.std.proofs.Common.{ap, ◌∙◌, subst}
-use Rattle.std.proofs.Common.{arith, inl, inr, append_assoc, append-nil, length-append, codes, eqb, Option, None}
-use Rattle.std.proofs.Common.{Some, Result, Ok, Err, IfSome}
+use Rattle.std.proofs.lemmas.Grind.{common_steps}
+use Rattle.std.proofs.Common.{◌≡◌, ◌≢◌, ℕ, ◌+◌, ◌-◌, ◌<◌, ◌≤◌, List, [], ◌∷◌, ◌++◌, length, refl, sym, ap, ◌∙◌, subst}
+use Rattle.std.proofs.Common.{arith, inl, inr, append_assoc, append-nil, length-append, codes, Option, None, Some}
+use Rattle.std.proofs.Common.{Result, Ok, Err, IfSome}
 use Rattle.std.proofs.lemmas.Bool.{cases_eq}
 use Rattle.std.proofs.lemmas.Bool.Decides.{nat_tests}
 use Rattle.std.proofs.lemmas.Fmt.{length-decimal-le}
@@ -24,7 +24,6 @@ use Rattle.partlist.specs.declared.fault.PartFault.{PartFault}
 use Rattle.partlist.specs.declared.fault.JoinFault.{JoinFault}
 use Rattle.partlist.specs.declared.fault.JoinFault.TheVariants.{Line, Read}
 use Rattle.partlist.specs.declared.joining.Joiner.{Joiner}
-use Rattle.partlist.specs.inside.Few.{most_parts}
 use Rattle.partlist.specs.inside.Joiner.{HasJoined, LeavesJoined, MayBeRowOf, Partway, joined_count}
 use Rattle.partlist.specs.inside.Reader.{JoinsNext, Leaves}
 use Rattle.partlist.proofs.Parsing.{first_fits, len_fits}
@@ -32,8 +31,7 @@ use Rattle.partlist.proofs.Parsing.{first_fits, len_fits}
 -- ---- lines
 
 HasNo-more : (xs : List ℕ) (c : ℕ) → HasNo 10 xs → c ≢ 10 → HasNo 10 (xs ++ c ∷ [])
-HasNo-more xs c free other =
-    All-push (λ x. eqb x 10 ≡ false) xs c free (grind (arith, nat_tests, other))
+HasNo-more xs c free other = grind (arith, common_steps, All-push, nat_tests)
 
 -- the first line begins with bytes that stand at the beginning and have no LF among them
 pub first_line : (front more : List ℕ) → HasNo 10 front → 0 < length front
@@ -81,18 +79,10 @@ AllTell-more [] (other ∷ parts) line part tell one = absurd tell
 AllTell-more (l ∷ ls) [] line part tell one = absurd tell
 AllTell-more (l ∷ ls) (other ∷ parts) line part tell one = (tell.0, AllTell-more ls parts line part tell.1 one)
 
--- ---- how many there can be
-
-most : (row : Option Row) → most_parts row ≤ 2 ^ 54
-most None = omega arith
-most (Some row) = let limit = row.last.1 in omega (arith, limit)
-
-pub parts-few : (joiner : Joiner) → joined_count joiner ≤ 2 ^ 54
-parts-few joiner = let few = joiner.few in omega (arith, few, most joiner.row)
+-- ---- the row of some parts
 
 pub row-is : (row : Option Row) (parts : List PartValue) → MayBeRowOf row parts → AreInRow parts
-row-is None parts none = subst AreInRow (sym none) tt
-row-is (Some row) parts is = is.in_row
+row-is row parts none = grind (arith, common_steps)
 
 -- ---- from one line to the next
 
@@ -144,15 +134,6 @@ module _ (known now after : Option (List ℕ)) (start old new : Joiner) (before 
             },
       ))
 
-  pub Coming-end : Next (Ok None) → IfSome known (λ text. (parts : List PartValue) → HasJoined start parts
-      → (more : List PartValue) × AllTell (lines text) more × HasJoined new (parts ++ more))
-  Coming-end next = IfSome_then known coming (λ text h parts joined.
-      let n = rw h.1 at next in
-      let p = h.2 parts joined in
-      let j = n.2 (parts ++ p.told) p.joined in
-      let all : lines text ≡ p.before = p.split ∙ ap (λ l. p.before ++ lines l) j.0 ∙ append-nil p.before in
-      (p.told, subst (λ ls. AllTell ls p.told) (sym all) p.tells, j.1))
-
   pub Coming-wrong : (number : ℕ) (fault : PartFault) → Next (Err (Line number fault))
       → IfSome known (λ text. (parts : List PartValue) → HasJoined start parts
       → StopsAt text parts (number - joined_count start) fault)
@@ -181,11 +162,7 @@ module _ (known now after : Option (List ℕ)) (start old new : Joiner) (before 
       × (let r : Result (Option PartValue) JoinFault = Err Read in Leaves (before ++ bytes) behind left r))
       → IfSome known (λ text. (parts : List PartValue) → HasJoined start parts
       → LeavesJoined text parts new after Read)
-  Coming-failed same leaves = IfSome_then known coming (λ text h parts joined.
-      let n = rw h.1 at leaves in
-      let begun = n.2.1 in
-      let p : Partway text parts old (begun.0 ++ n.0) = subst (Partway text parts old) begun.2 (h.2 parts joined) in
-      rw same (n.0, n.1, begun.0, begun.1, p))
+  Coming-failed same leaves = grind (arith, common_steps, IfSome_then)
 
   -- and where a line is wrong
   pub Coming-halts : (number : ℕ) (fault : PartFault) → new ≡ old → number ≡ joined_count old + 1

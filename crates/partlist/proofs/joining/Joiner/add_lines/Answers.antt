@@ -1,8 +1,7 @@
 use Rattle.std.proofs.Common.{[], ◌∙◌, refl, arith}
 use Rattle.std.proofs.KnownBytes.{Consumes-nil}
 use Rattle.partlist.specs.inside.Reader.{ahead}
-use Rattle.partlist.proofs.Reading.{Coming-end, Coming-failed, Coming-halts, Coming-joined, Coming-start, Coming-wrong}
-use Rattle.partlist.proofs.Reading.{Gives-more, parts-few}
+use Rattle.partlist.proofs.Reading.{Coming-failed, Coming-halts, Coming-joined, Coming-start, Coming-wrong, Gives-more}
 use Rattle.partlist.proofs.joining.Joiner.add_lines.Goals as goal
 
 pub lines-init : goal.lines-init
