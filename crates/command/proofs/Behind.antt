@@ -1,12 +1,12 @@
 -- Lists that are joined one behind another, as the definition of `join` says it.
-use Rattle.std.proofs.Common.{◌≡◌, ◌∙◌, ◌+◌, ℕ, List, [], ◌∷◌, ◌++◌, Ok, Err, refl, sym, ap, inl, inr, subst}
-use Rattle.std.proofs.Common.{append-nil, append_assoc, Option, None, Some, IfSome, Result}
+use Rattle.std.proofs.lemmas.Grind.{common_steps}
+use Rattle.std.proofs.Common.{arith, ◌≡◌, ◌∙◌, ◌+◌, ℕ, List, [], ◌∷◌, ◌++◌, Ok, Err, refl, sym, ap, inl, subst}
+use Rattle.std.proofs.Common.{append-nil, append_assoc, Option, Some, IfSome, Result}
 use Rattle.std.specs.Borrow.{Bor}
 use Rattle.b3.specs.declared.row.PartValue.{PartValue}
 use Rattle.request.specs.CommandLine.{Text}
 use Rattle.partlist.specs.Joined.{AreInRow, FollowEachOther}
 use Rattle.partlist.specs.declared.fault.JoinFault.{JoinFault}
-use Rattle.partlist.specs.declared.fault.JoinFault.TheVariants.{Read, Line}
 use Rattle.partlist.specs.declared.joining.Joiner.{Joiner}
 use Rattle.partlist.specs.inside.Joiner.{HasJoined, StopsSo}
 use Rattle.sumlist.specs.Report.{Files}
@@ -32,8 +32,7 @@ module _ (files : Files) where
       → AreInRow ((parts ++ t.0) ++ t.1)
       → JoinsLists files (left_by (list ∷ []) input) (parts ++ t.0) lists r
       → JoinsLists files input parts (list ∷ lists) r
-  first_join input list listed lists parts told r t row rest =
-      inr (t.0, t.3, front_row 0 1024 (parts ++ t.0) t.1 row, rest)
+  first_join input list listed lists parts told r t row rest = grind (arith, common_steps, front_row)
 
   -- all of them
   pub all_join : (input : List ℕ) (lists : List Text) (parts told : List PartValue) → AllListed files input lists told
@@ -72,7 +71,4 @@ module _ (files : Files) where
 pub not_joined : (list : Bor Text) (first : Option (List ℕ)) (old new : Joiner) (fault : JoinFault)
     → IfSome first (λ text. (parts : List PartValue) → HasJoined old parts → StopsSo text parts fault)
     → IfSome first (λ text. JoinsList {T = Unit {0}} list.now (Some text) old new (Err (of_join fault list)))
-not_joined list None old new fault stops = tt
-not_joined list (Some text) old new Read stops = λ parts joined. inr (inl refl)
-not_joined list (Some text) old new (Line n fault) stops =
-    λ parts joined. inr (inr (n, fault, refl, stops parts joined))
+not_joined list first old new fault stops = grind (arith, common_steps)

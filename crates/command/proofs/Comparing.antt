@@ -1,6 +1,7 @@
 -- The bytes of an output beside other bytes, piece by piece.
-use Rattle.std.proofs.Common.{◌≡◌, ◌≢◌, ◌∙◌, ℕ, ◌+◌, ◌++◌, ◌∷◌, List, [], length, ap, ap₂, arith, drop, length-append}
-use Rattle.std.proofs.Common.{refl, sym, take}
+use Rattle.std.proofs.lemmas.Grind.{common_steps}
+use Rattle.std.proofs.Common.{◌≡◌, ◌≢◌, ◌∙◌, ℕ, ◌+◌, ◌++◌, List, length, ap, ap₂, arith, drop, length-append, refl, sym}
+use Rattle.std.proofs.Common.{take}
 use Rattle.std.specs.Prelude.{◌↔◌, ◌==◌, false, true}
 use Rattle.std.proofs.lemmas.Bool.Decides.{nat_tests}
 use Rattle.std.proofs.lemmas.List.{drop_at, take_at}
@@ -13,14 +14,12 @@ use Rattle.command.proofs.Printing.{slice-length}
 -- bytes of another length are others
 pub other_length : (root : Node) (o n : ℕ) (wanted : List ℕ) → n ≢ length wanted
     → IsWanted wanted (slice root o n) false
-other_length root o n wanted other =
-    (λ e. absurd (cc), λ e. absurd (other (sym (slice-length root o n) ∙ ap length e)))
+other_length root o n wanted other = grind (arith, common_steps, slice-length)
 
 -- no bytes are left
 pub none_left : (root : Node) (o : ℕ) (rest : List ℕ) → (length rest == 0) ≡ true → slice root o (length rest) ≡ rest
 unfolding slice
-none_left root o [] e = refl
-none_left root o (x ∷ rest) e = let test = e in absurd (grind (arith, nat_tests))
+none_left root o rest e = grind (arith, common_steps, nat_tests)
 
 -- a list that is cut, and the bytes from the place p on behind its front
 module _ (root : Node) (o p : ℕ) (piece after rest : List ℕ) (whole : rest ≡ piece ++ after)

@@ -1,6 +1,7 @@
 -- Failures that are counted one after another.
-use Rattle.std.proofs.Common.{◌≡◌, ◌∙◌, ◌+◌, ◌++◌, ℕ, List, [], Option, None, Some, IfSome, Bool, true, false, arith}
-use Rattle.std.proofs.Common.{refl, ap₂, cond, not, replicate}
+use Rattle.std.proofs.lemmas.Grind.{common_steps}
+use Rattle.std.proofs.Common.{◌≡◌, ◌∙◌, ◌+◌, ◌++◌, ℕ, List, [], Option, Some, IfSome, Bool, true, false, arith, refl}
+use Rattle.std.proofs.Common.{ap₂, replicate}
 use Rattle.source.specs.Counts.{count_after}
 use Rattle.std.proofs.lemmas.List.Sums.{sum_by-append}
 use Rattle.command.specs.Checking.{Beside}
@@ -11,20 +12,14 @@ use Rattle.command.specs.inside.Troubles.{Failures, counts, failures_from, no_fa
 use Rattle.command.proofs.Refused.{counts-replicate, pair}
 
 pub plus-none : (f : Failures) (from_input : Bool) → f ≡ plus f (failures_from from_input 0)
-plus-none f true = pair (omega arith) (omega arith)
-plus-none f false = pair (omega arith) (omega arith)
+plus-none f from_input = grind (arith, common_steps, pair)
 
 pub counts-append : (xs ys : List Bool) → counts (xs ++ ys) ≡ plus (counts xs) (counts ys)
-counts-append xs ys = pair (sum_by-append (λ (b : Bool). cond b 1 0) xs ys)
-    (sum_by-append (λ (b : Bool). cond (not b) 1 0) xs ys)
+counts-append xs ys = grind (arith, common_steps, pair, sum_by-append)
 
 pub counted_more : (f g : List Bool) (i j k u v w : ℕ) → Counted f i j u v → Counted g j k v w
     → Counted (f ++ g) i k u w
-counted_more f g i j k u v w p q =
-    let of_input = sum_by-append (λ (b : Bool). cond b 1 0) f g in
-    let of_files = sum_by-append (λ (b : Bool). cond (not b) 1 0) f g in
-    let a = p.0 in let b = p.1 in let c = q.0 in let d = q.1 in
-    (omega (arith, of_input, a, c), omega (arith, of_files, b, d))
+counted_more f g i j k u v w p q = grind (arith, common_steps, sum_by-append)
 
 pub list_counted_more : (from_input : Bool) (f g : List Bool) (i j k u v w : ℕ) → ListCounted from_input f i j u v
     → ListCounted from_input g j k v w → ListCounted from_input (f ++ g) i k u w
@@ -45,13 +40,11 @@ list_counted_more from_input f g i j k u v w (m, n, is, a, b) (o, p, are, c, d) 
 -- failed reads of the list, or of files
 pub list_counted : (from_input : Bool) (k i j u v : ℕ) → j ≡ count_after i k → v ≡ u
     → ListCounted from_input (replicate k from_input) i j u v
-list_counted from_input k i j u v read same =
-    (k, 0, counts-replicate k from_input ∙ pair (omega arith) (omega arith), read, omega (arith, same))
+list_counted from_input k i j u v read same = grind (arith, common_steps, counts-replicate, pair)
 
 pub files_counted : (from_input : Bool) (k i j u v : ℕ) → j ≡ i → v ≡ count_after u k
     → ListCounted from_input (replicate k false) i j u v
-files_counted from_input k i j u v same read =
-    (0, k, counts-replicate k false ∙ plus-none (failures_from false k) from_input, omega (arith, same), read)
+files_counted from_input k i j u v same read = grind (arith, common_steps, counts-replicate, plus-none)
 
 -- the failures of a list and those of its report, where the list is standard input, or a file that was closed
 pub input_counted : (f : List Bool) (i j u v x y : ℕ) → v ≡ u → ListCounted true f i j x y → ReportCounted f i j u v x y
@@ -82,5 +75,4 @@ report_counted_none : (i u x : ℕ) → ReportCounted [] i i u u x x
 report_counted_none i u x = (no_failures, 0, refl, (omega arith, omega arith), omega arith)
 
 pub report_same : (o : Option Beside) (i u x : ℕ) → IfSome o (λ z. (o ≡ Some z) × ReportCounted [] i i u u x x)
-report_same None i u x = tt
-report_same (Some z) i u x = (refl, report_counted_none i u x)
+report_same o i u x = grind (arith, common_steps, report_counted_none)

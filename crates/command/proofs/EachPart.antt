@@ -1,4 +1,5 @@
 -- The run of `part --each`.
+use Rattle.std.proofs.lemmas.Grind.{common_steps}
 use Rattle.std.proofs.Common.{◌≡◌, ◌∙◌, ℕ, zero, suc, ◌+◌, ◌-◌, ◌*◌, ◌/◌, ◌^◌, ◌<◌, ◌≤◌, List, [], ◌∷◌, ◌++◌, length}
 use Rattle.std.proofs.Common.{min, take, drop, Option, Some, None, IfSome, Result, Ok, Err, Bool, true, false, refl}
 use Rattle.std.proofs.Common.{sym, ap, inl, inr, subst, arith, length-drop}
@@ -11,7 +12,7 @@ use Rattle.std.proofs.lemmas.Result.{err_from_is_err_and}
 use Rattle.std.specs.List.{flat_map, range_with_len}
 use Rattle.std.specs.Borrow.{Bor}
 use Rattle.std.specs.Option.{option_map_or}
-use Rattle.std.specs.Prelude.{◌⊎◌, IsErrAnd, IsSomeAnd, MatchOption}
+use Rattle.std.specs.Prelude.{◌⊎◌, IsErrAnd, MatchOption}
 use Rattle.b3.specs.Modes.{hash_parameters}
 use Rattle.b3.specs.declared.row.PartValue.{PartValue}
 use Rattle.b3.specs.Values.{IsValueOf}
@@ -26,9 +27,9 @@ use Rattle.sumlist.specs.Shared.{every}
 use Rattle.command.specs.Run.{Run, prints}
 use Rattle.command.specs.Cutting.{EachRuns, lines_of, numbers_of}
 use Rattle.command.specs.Lines.{content_of, is_input}
-use Rattle.command.specs.inside.Seen.{Does, DoesBeside}
-use Rattle.command.specs.inside.Troubles.{Counted, Failures, MayFail, MayRefuse, Trouble, counts, failed_reads}
-use Rattle.command.specs.inside.Troubles.{failures_from, out_of_memory, plus, refusal, too_long, trouble_of}
+use Rattle.command.specs.inside.Seen.{Does}
+use Rattle.command.specs.inside.Troubles.{Counted, MayFail, MayRefuse, Trouble, counts, failed_reads, failures_from}
+use Rattle.command.specs.inside.Troubles.{out_of_memory, refusal, too_long, trouble_of}
 use Rattle.command.specs.declared.fault.Fault.{Fault}
 use Rattle.command.specs.declared.fault.Fault.TheVariants.{CannotWrite, OutOfMemory}
 use Rattle.command.specs.inside.Cutting.{EachOf, PrintsEach, part_count, part_numbers}
@@ -87,10 +88,6 @@ module _ (n i : ℕ) (m : List ℕ) (part : PartValue) (some : 1 ≤ n) (within 
             above zero none = absurd (none refl)
             above (suc k) none = omega arith
 
-    -- its line is that of its number
-    pub part_line_is : told_line part ≡ each_line n m i
-    part_line_is = line_is (n * i) part _ is.0 is.1
-
 -- ---- the parts of a share, from one of them on
 
 -- their numbers, where so many others stand between two
@@ -102,39 +99,21 @@ abbrev pub own_lines : ℕ → ℕ → List ℕ → ℕ → Text
 own_lines o n m i = flat_map (each_line n m) (own o n m i)
 
 own_first : (s : Share) (n : ℕ) (m : List ℕ) → every s.others s.waiting (numbers_of n m) ≡ own s.others n m s.waiting
-own_first s n m =
-    let at : 0 + s.waiting ≡ s.waiting = omega arith in
-    every-from s.others s.waiting 0 (part_count n m)
-    ∙ ap (λ a. every s.others 0 (range_with_len a (part_count n m - s.waiting))) at
+own_first s n m = grind (arith, common_steps, every-from)
 
 own_next : (o n : ℕ) (m : List ℕ) (i : ℕ) → i < part_count n m → own o n m i ≡ i ∷ own o n m (i + 1 + o)
-own_next o n m i there =
-    let next : part_count n m - i ≡ suc (part_count n m - (i + 1)) = omega (arith, there) in
-    let left : part_count n m - (i + 1) - o ≡ part_count n m - (i + 1 + o) = omega arith in
-    ap (λ c. every o 0 (range_with_len i c)) next
-    ∙ ap (λ ys. i ∷ ys) (every-from o o (i + 1) (part_count n m - (i + 1))
-    ∙ ap (λ c. every o 0 (range_with_len (i + 1 + o) c)) left)
+own_next o n m i there = grind (arith, common_steps, every-from)
 
 own_none : (o n : ℕ) (m : List ℕ) (i : ℕ) → part_count n m ≤ i → own o n m i ≡ []
-own_none o n m i end =
-    let none : part_count n m - i ≡ 0 = omega (arith, end) in ap (λ c. every o 0 (range_with_len i c)) none
+own_none o n m i end = grind (arith, common_steps)
 
 -- a number that does not fit a `u64` is that of no part, and neither is the greatest of them
 few_parts : (n : ℕ) (m : List ℕ) → part_count n m ≤ 2 ^ 64 - 1
-few_parts n m =
-    let x : ℕ = min (length m) (2 ^ 64 - 1) - 1 in
-    let less : x / (1024 * n) ≤ x = div-le_self x (1024 * n) in
-    omega (arith, less)
+few_parts n m = grind (arith, common_steps, div-le_self)
 
 own_stopping : (o n : ℕ) (m : List ℕ) (i j : ℕ) → j ≡ min (min (i + o) (2 ^ 64 - 1) + 1) (2 ^ 64 - 1)
     → own o n m (i + 1 + o) ≡ own o n m j
-own_stopping o n m i j is =
-    let few = few_parts n m in
-    elim (cases_lt (i + 1 + o) (2 ^ 64)) [
-      | inl fits ↦ let same : i + 1 + o ≡ j = omega (arith, is, fits) in ap (own o n m) same
-      | inr more ↦ own_none o n m (i + 1 + o) (omega (arith, few, more))
-          ∙ sym (own_none o n m j (omega (arith, few, is, more)))
-    ]
+own_stopping o n m i j is = grind (arith, common_steps, few_parts, cases_lt, own_none)
 
 -- ---- the lines so far
 
@@ -157,8 +136,7 @@ pub record EachSoFar (s : Share) (n : ℕ) (content : Option (List ℕ)) (i : �
 -- what may be asked for next, where it is what follows or anything may be
 pub go_to : (gives : ℕ → Type 0) (others i j : ℕ) (any : Bool) → (others ≡ 0) ⊎ (any ≡ true)
     → (any ≡ true → gives i → gives j) → gives i → (others ≡ 0 → i ≡ j) → gives j
-go_to gives others i j any (inl none) moves at same = subst gives (same none) at
-go_to gives others i j any (inr is) moves at same = moves is at
+go_to gives others i j any h moves at same = grind (arith, common_steps)
 
 pub each_start : (s : Share) (n : ℕ) (content : Option (List ℕ)) (gives : ℕ → Type 0) (old : Shown) (k u : ℕ)
     (any : Bool) → 1 ≤ n → s.waiting ≤ s.others → (s.others ≡ 0) ⊎ (any ≡ true)
@@ -192,35 +170,28 @@ each_start s n content gives old k u any some within share moves at = record {
     opened (Some m) = let same = ap length (own_first s n m) in omega (arith, same)
 
 few_numbers : (n i : ℕ) → 1 ≤ n → n * i < 2 ^ 54 → i < 2 ^ 54
-few_numbers zero i some within = absurd (omega (arith, some))
-few_numbers (suc k) i some within = omega (arith, within)
+few_numbers n i some within = grind (arith, common_steps)
 
 -- the bytes that were asked for are those of the part
 chunks_few : (n : ℕ) (limit : Option ℕ) (m : List ℕ) → IsLimit (Some n) limit
     → length (first_bytes limit m) ≤ 1024 * n → first_bytes limit m ≡ take (1024 * n) m
-chunks_few n (Some k) m is few = ap (λ (j : ℕ). take j m) is.1
-chunks_few n None m is few = sym (take_all (1024 * n) m few)
+chunks_few n limit m is few = grind (arith, common_steps, take_all)
 
 chunks_many : (n first : ℕ) (limit : Option ℕ) (m : List ℕ) → IsLimit (Some n) limit
     → min (1024 * n) (2 ^ 64 - 1 - 1024 * first) < length (first_bytes limit m)
     → 2 ^ 64 - 1 - 1024 * first < length m
-chunks_many n first (Some k) m is more =
-    let size = length-take k m in let same = is.1 in omega (arith, size, same, more)
-chunks_many n first None m is more = let long = too_long_for_a_number n is in omega (arith, long, more)
+chunks_many n first limit m is more = grind (arith, common_steps, length-take, too_long_for_a_number)
 
 chunks_end : (n i : ℕ) (limit : Option ℕ) → IsLimit (Some n) limit
     → after_part (n * i) n limit ≡ 1024 * (n * (i + 1))
-chunks_end n i None is = let at : after_part (n * i) n None ≡ 1024 * (n * i) + 1024 * n = refl in omega (arith, at)
-chunks_end n i (Some k) is =
-    let at : after_part (n * i) n (Some k) ≡ 1024 * (n * i) + k = refl in let same = is.1 in omega (arith, at, same)
+chunks_end n i limit is = grind (arith, common_steps)
 
 -- beyond the last place of a part anything may be asked for, since there are other shares
 pub each_far : {s : Share} {n : ℕ} {content : Option (List ℕ)} {i : ℕ} {gives : ℕ → Type 0} {old mid : Shown}
     {k l u v : ℕ} → EachSoFar s n content i gives old mid k l u v → (j : ℕ) (any : Bool)
     → (s.others ≡ 0) ⊎ (any ≡ true) → (any ≡ true → gives (1024 * (n * i)) → gives j)
     → (2 ^ 54 - 1) / n + 1 ≤ i → gives j
-each_far so j any (inl alone) moves end = let near = so.near alone in absurd (omega (arith, near, end))
-each_far so j any (inr is) moves end = moves is so.at
+each_far so j any h moves end = grind (arith, common_steps)
 
 module _ {s : Share} {n : ℕ} {content : Option (List ℕ)} {i : ℕ} {gives : ℕ → Type 0} {old mid : Shown}
     {k l u v : ℕ} (so : EachSoFar s n content i gives old mid k l u v) (name : Text) (h w : ℕ) (one : h ≤ l + 1) where
@@ -280,8 +251,7 @@ module _ {s : Share} {n : ℕ} {content : Option (List ℕ)} {i : ℕ} {gives : 
           (record { ending = refl; out = written.done; cut = λ e. cc }) refl (counts-replicate _ b) (rw is at lost)
 
   none_lost : (b : Bool) → counts [] ≡ failures_from b 0
-  none_lost true = refl
-  none_lost false = refl
+  none_lost b = grind (arith, common_steps)
 
   -- all its lines were printed
   each_done : (new : Shown) (m : List ℕ) → content ≡ Some m → length m ≤ 2 ^ 64 - 1
@@ -302,23 +272,7 @@ module _ {s : Share} {n : ℕ} {content : Option (List ℕ)} {i : ℕ} {gives : 
   -- beyond the last place of a part
   pub each_end : (b : Bor Text) (r : Result ℕ Fault) → b.now ≡ name → (2 ^ 54 - 1) / n + 1 ≤ i
       → EndsAt 0 (2 ^ 64 - 1) name (too_long b.now) content r v w → Says r mid
-  each_end b (Err f) same end (inl (may, lost)) = each_refused f (why may) lost
-    where
-      why : MayFail name (λ _. ⊥) (trouble_of f) → MayRefuse (2 ^ 64 - 1) name content (trouble_of f)
-      why (inl p) = inl p
-      why (inr (inl p)) = inr (inl p)
-      why (inr (inr p)) = absurd p
-  each_end b (Err f) same end (inr (is, longer, quiet)) = each_refused f
-      (inr (inr (is ∙ ap too_long same, longer))) (rw is quiet)
-  each_end b (Ok status) same end (is, whole, quiet) = rw is (on content whole refl)
-    where
-      on : (c : Option (List ℕ)) → IsSomeAnd c (λ m. length m ≤ 2 ^ 64 - 1) → content ≡ c → Says (Ok 0) mid
-      on None whole is = absurd whole
-      on (Some m) whole is =
-          let x : ℕ = min (length m) (2 ^ 64 - 1) - 1 in
-          let few : x / (1024 * n) ≤ (2 ^ 54 - 1) / n = no_more n x so.some (omega arith) in
-          let left : own s.others n m i ≡ [] = own_none s.others n m i (omega (arith, few, end)) in
-          each_done mid m is whole (rw left at (rw is at so.written)) quiet
+  each_end b r same end h = grind (arith, common_steps, each_refused, no_more, own_none, each_done)
 
   module _ (limit : Option ℕ) (is_limit : IsLimit (Some n) limit) (below : i < (2 ^ 54 - 1) / n + 1) where
     within : n * i < 2 ^ 54
@@ -364,12 +318,7 @@ module _ {s : Share} {n : ℕ} {content : Option (List ℕ)} {i : ℕ} {gives : 
     module _ (part : PartValue) (takes : Takes (Ok (Some part))) (none : w ≡ count_after v 0) where
       -- it is that of its number
       found : (m : List ℕ) × (content ≡ Some m) × IsPart n i m part
-      found = on takes
-        where
-          on : Takes (Ok (Some part)) → (m : List ℕ) × (content ≡ Some m) × IsPart n i m part
-          on (inr e) = absurd e
-          on (inl (m, is, (fits, it))) =
-              (m, is, (it.0, rw (chunks_few n limit (drop (1024 * (n * i)) m) is_limit fits) at it.1))
+      found = grind (arith, common_steps, chunks_few)
 
       abbrev m : List ℕ
       m = found.0
@@ -382,8 +331,7 @@ module _ {s : Share} {n : ℕ} {content : Option (List ℕ)} {i : ℕ} {gives : 
 
       -- its line is the next
       line_next : own_lines s.others n m i ≡ told_line part ++ own_lines s.others n m next
-      line_next = ap (flat_map (each_line n m)) next_is ∙ ap (λ (t : Text). t ++ own_lines s.others n m next)
-          (sym (part_line_is n i m part so.some within found.2))
+      line_next = grind (arith, next_is, within)
 
       before : Writing old mid (lines_of s n m) (own_lines s.others n m i)
       before = rw found.1 at so.written
@@ -444,8 +392,7 @@ module _ {s : Share} {n : ℕ} {content : Option (List ℕ)} {i : ℕ} {gives : 
 -- why the content was not had
 pub each_unread : (s : Share) (n : ℕ) (name : Text) (b : Bool) (content : Option (List ℕ)) (t : Trouble)
     → b ≡ is_input name → MayFail name (λ _. ⊥) t → EachOf s n name content (refusal b content t)
-each_unread s n name b content t same may = λ input files at.
-    rw same (inl (rw at (unread_by (is_input name) name content t may)))
+each_unread s n name b content t same may = grind (arith, common_steps, unread_by)
 
 module _ (s : Share) (n : ℕ) (name : Text) (first : Option (List ℕ)) (tree : Option Files) (r : Result ℕ Fault)
     (old new : Shown) where
@@ -454,22 +401,7 @@ module _ (s : Share) (n : ℕ) (name : Text) (first : Option (List ℕ)) (tree :
   Each i j u v = IfSome first (λ input. IfSome tree (λ files. Taken (EachRuns s n name files input) r old new i j u v))
 
   pub each_run : (i j u v : ℕ) → Named (EachOf s n name) name first tree r old new 0 0 i j u v → Each i j u v
-  each_run i j u v named = known first (λ input f. known tree (λ files t. taken input files (rw t at (rw f at named))))
-    where
-      taken : (input : List ℕ) (files : Files)
-          → DoesBeside (EachOf s n name (content_of name input files)) r old new 0 0
-          (λ f. Counted f i j u v) → Taken (EachRuns s n name files input) r old new i j u v
-      taken input files d =
-          let listed = d.list in
-          let none : d.listed ≡ 0 = omega (arith, listed) in
-          let sum = d.sum ∙ ap (λ (k : ℕ). plus (failures_from false k) d.lost) none ∙ sym (plus_none d.lost) in (
-            d.run,
-            d.is_run input files refl,
-            d.does,
-            d.quiet,
-            subst (λ (f : Failures). Counted f i j u v)
-                (sym sum) d.counted,
-          )
+  each_run i j u v named = grind (arith, common_steps, known, Taken, plus_none)
 
   -- memory ran out before
   pub each_starved : (i u : ℕ) → IsErrAnd r (λ g. g ≡ OutOfMemory) → new ≡ old → Each i i u u

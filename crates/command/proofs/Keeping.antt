@@ -1,5 +1,6 @@
 -- The account of a walk.
-use Rattle.std.proofs.Common.{◌≡◌, ◌≢◌, ◌∙◌, ℕ, ◌-◌, List, [], ◌∷◌, ◌++◌, Option, Some, None, Ok, IfSome, true, refl}
+use Rattle.std.proofs.lemmas.Grind.{common_steps}
+use Rattle.std.proofs.Common.{arith, ◌≡◌, ◌≢◌, ◌∙◌, ℕ, ◌-◌, List, [], ◌∷◌, ◌++◌, Option, Some, Ok, IfSome, true, refl}
 use Rattle.std.proofs.Common.{ap, sym, subst, append-nil, append_assoc}
 use Rattle.std.proofs.lemmas.Option.{IfSome_then}
 use Rattle.hashes.specs.declared.share.Share.{Share}
@@ -15,12 +16,7 @@ pub record Kept {T I : Type 0} (keeps : List I → T → T → Type 0) (share : 
 
 module _ {T I : Type 0} {keeps : List I → T → T → Type 0} {share : Share} {start : Option (List I)} where
   pub kept_start : {a : T} → keeps [] a a → Kept keeps share start start share.waiting a a
-  kept_start {a} none = record { room = on start }
-    where
-      on : (o : Option (List I)) → IfSome o (λ s. (done : List I) × (l : List I) × (o ≡ Some l)
-          × (every share.others share.waiting s ≡ done ++ every share.others share.waiting l) × keeps done a a)
-      on None = tt
-      on (Some s) = ([], s, refl, refl, none)
+  kept_start {a} none = grind (arith, common_steps)
 
   module _ (both : (x y : List I) (a b c : T) → keeps x a b → keeps y b c → keeps (x ++ y) a c)
       {now : Option (List I)} {waiting : ℕ} {a b : T} (c : T) (k : Kept keeps share start now waiting a b)
@@ -33,18 +29,11 @@ module _ {T I : Type 0} {keeps : List I → T → T → Type 0} {share : Share} 
 
     -- no item was moved to
     pub kept_end : (d : T) → keeps [] c d → IfSome start (λ s. Within keeps share s a d)
-    kept_end d last = IfSome_then start k.room (λ s (done, l, is, split, so_far).
-        (done, every share.others waiting l, split, still done d (moved_to done so_far) last))
+    kept_end d last = grind (arith, common_steps, IfSome_then, still, moved_to)
 
     module _ (later : Option (List I)) (at : I → Type 0) (moved : IfSome now (λ l. MovesOn l later at (Ok true))) where
       pub kept_over : {soon : ℕ} → (waiting ≢ 0) × (soon ≡ waiting - 1) → Kept keeps share start later soon a c
-      kept_over {soon} (some, is_soon) = record {
-        room = IfSome_then start k.room (λ s (done, l, is, split, so_far).
-            let m : (i : I) × (rest : List I) × (l ≡ i ∷ rest) × at i × (later ≡ Some rest) = rw is at moved in
-            let same : every share.others waiting l ≡ every share.others soon m.1
-            = rw (m.2, is_soon) (every-later share.others waiting m.0 m.1 some) in
-            (done, m.1, m.4, split ∙ ap (λ x. done ++ x) same, moved_to done so_far));
-      }
+      kept_over {soon} h = grind (arith, common_steps, IfSome_then, every-later, moved_to)
 
       module _ (d : T) (zero : waiting ≡ 0) (did : (i : I) → at i → keeps (i ∷ []) c d) where
         pub kept_one : {soon : ℕ} → soon ≡ share.others → Kept keeps share start later soon a d

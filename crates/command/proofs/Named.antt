@@ -1,4 +1,5 @@
 -- A run over what a name gives, by where that is from.
+use Rattle.std.proofs.lemmas.Grind.{common_steps}
 use Rattle.std.proofs.Common.{◌≡◌, ◌∙◌, ℕ, List, drop, Option, Some, IfSome, Result, refl, sym, ap, subst, arith, false}
 use Rattle.std.proofs.Common.{Bool, true, if◌then◌else◌}
 use Rattle.std.specs.Prelude.{IsErrAnd}
@@ -29,17 +30,7 @@ content_is name input files is = ap (λ (b : Bool). if b then Some input else fi
 -- the same run, of whose other failures more is known
 pub beside_then : {is : Run → Type 0} {r : Result ℕ Fault} {old new : Shown} {i j : ℕ} {P Q : Failures → Type 0}
     → DoesBeside is r old new i j P → ((f : Failures) → P f → Q f) → DoesBeside is r old new i j Q
-beside_then d step = record {
-  run = d.run;
-  is_run = d.is_run;
-  does = d.does;
-  quiet = d.quiet;
-  listed = d.listed;
-  lost = d.lost;
-  sum = d.sum;
-  list = d.list;
-  counted = step d.lost d.counted;
-}
+beside_then d step = grind (arith, common_steps)
 
 pub still_held : {tree after : Option Files} {name : Text} {content : Option (List ℕ)} → after ≡ tree
     → HoldsFile tree name content → HoldsFile after name content
@@ -60,19 +51,13 @@ module _ (is : Option (List ℕ) → Run → Type 0) (name : Text) (first : Opti
   -- from standard input
   pub of_input : (u v w : ℕ) → is_input name ≡ true
       → ((m : List ℕ) → first ≡ Some m → DoesBeside (is (Some m)) r old new i j (LostOf name u v)) → Named u v w w
-  of_input u v w named does = known first (λ input f. known tree (λ files t.
-      subst (λ c. DoesBeside (is c) r old new i j (λ f. Counted f u v w w))
-      (sym (ap (λ (b : Bool). if b then Some input else files name) named)) (counted_by (Some input) u v u v w w
-      (does input f) (λ n p. Counted-input (is_input name) n u v w named p))))
+  of_input u v w named does = grind (arith, common_steps, known, counted_by, Counted-input)
 
   -- from a file, whether it is there or not
   pub of_file : (h u v : ℕ) → is_input name ≡ false
       → ((content : Option (List ℕ)) → HoldsFile tree name content
       → DoesBeside (is content) r old new i j (LostOf name u v)) → Named h h u v
-  of_file h u v away does = known first (λ input f. known tree (λ files t.
-      counted_by (content_of name input files) u v h h u v
-      (does (content_of name input files) (files, t, content_is name input files away))
-      (λ n p. Counted-named (is_input name) n h u v away p)))
+  of_file h u v away does = grind (arith, common_steps, known, counted_by, content_is, Counted-named)
 
   -- from a file that was opened
   pub of_opened : (h u v w a b : ℕ) (coming : Option (List ℕ)) → is_input name ≡ false
@@ -81,12 +66,8 @@ module _ (is : Option (List ℕ) → Run → Type 0) (name : Text) (first : Opti
       → ((m : List ℕ) → coming ≡ Some m → HoldsFile tree name (Some m)
       → DoesBeside (is (Some m)) r old new i j (LostOf name a b))
       → ((n : ℕ) → w ≡ count_after u 0 → b ≡ count_after a n → v ≡ count_after u n) → Named h h u v
-  of_opened h u v w a b coming away opened quiet does count = known first (λ input f. known tree (λ files t.
-      let m = rw t at opened in
-      subst (λ c. DoesBeside (is c) r old new i j (λ f. Counted f h h u v))
-      (sym (content_is name input files away ∙ m.1)) (counted_by (Some m.0) a b h h u v
-      (does m.0 m.2 (files, t, sym m.1))
-      (λ n p. Counted-named (is_input name) n h u v away (count n (rw t at quiet) p)))))
+  of_opened h u v w a b coming away opened quiet does count = grind
+      (arith, common_steps, known, content_is, counted_by, Counted-named)
 
   -- from a file that was not
   pub of_none : ((b : Bool) (content : Option (List ℕ)) (t : Trouble) → b ≡ is_input name → MayFail name (λ _. ⊥) t

@@ -1,10 +1,11 @@
 -- What was done of an item, by the answer of its run.
+use Rattle.std.proofs.lemmas.Grind.{common_steps}
 use Rattle.std.proofs.Common.{◌≡◌, ◌≢◌, ◌∙◌, ℕ, List, [], ◌∷◌, ◌++◌, Bool, true, false, Result, Ok, Err, append-nil}
 use Rattle.std.proofs.Common.{refl, sym, ap, arith, inl, inr, ◌==◌, subst, not}
 use Rattle.std.proofs.lemmas.Bool.Decides.{nat_tests}
 use Rattle.std.proofs.lemmas.Result.{err_from_is_err_and}
 use Rattle.std.specs.Prelude.{◌&&◌, ◌||◌, IsErrAnd, MatchBool, OnOk}
-use Rattle.source.specs.Written.{Done, Failed, Shown}
+use Rattle.source.specs.Written.{Done, Shown}
 use Rattle.source.proofs.Writing.{Done-after, Failed-after}
 use Rattle.command.specs.Run.{Run, Tells, TellsAll, cannot_write, end_of}
 use Rattle.command.specs.inside.Items.{Once, Passes, Reports}
@@ -18,12 +19,10 @@ not_3 n h = grind (arith, nat_tests)
 
 -- what ends the run has no empty line
 no_line : (goes_on : Bool) (n : ℕ) → (not goes_on || (n == 3)) ≡ true → (goes_on && (n == 1)) ≡ false
-no_line false n h = refl
-no_line true n h = grind (arith, nat_tests)
+no_line goes_on n h = grind (arith, common_steps, nat_tests)
 
 plainly : (c : Bool) (P : Type 0) {Q : Type 0} → Q → MatchBool (c && false) P Q
-plainly true P q = q
-plainly false P q = q
+plainly c P q = grind (arith, common_steps)
 
 abbrev status_by : Fault → ℕ
 status_by f = status_of (trouble_of f)
@@ -31,43 +30,20 @@ status_by f = status_of (trouble_of f)
 -- a run that is not cut off was printed whole
 pub whole : (run : Run) (r : Result ℕ Fault) (a b : Shown) → Does run r a b → (run.ending ≡ Err cannot_write → ⊥)
     → Done a b run.text
-whole run r a b does other = on run.is_whole refl does.out
-  where
-    on : (w : Bool) → run.is_whole ≡ w → MatchBool w (Done a b run.text) (Failed a b run.text) → Done a b run.text
-    on true is done = done
-    on false is failed = absurd (other (does.cut is))
+whole run r a b does other = grind (arith, common_steps)
 
 module _ {is : Run → Type 0} {counted : List Bool → Type 0} (plain : Run) (a b d e : Shown) (is_one : is plain)
     (counts : counted plain.failures) (reports : TellsAll d e plain.notes) where
   -- the run of an item ends with a status
   pub once_done : (goes_on shared : Bool) (s : ℕ) → (let r : Result ℕ Fault = Ok s in Does plain r a b)
       → (let r : Result ℕ Fault = Ok s in Once is goes_on shared counted r a b d e)
-  once_done goes_on shared s does = record {
-    plain = plain;
-    is_one = is_one;
-    first = plain;
-    in_share = rw does.ending (plainly shared _ refl);
-    counts = counts;
-    ends = record {
-      light = rw does.ending refl;
-      status = rw does.ending refl;
-      out = whole plain (Ok s) a b does (λ cut. let no = sym cut ∙ does.ending in cc);
-      err = rw does.ending (subst (λ n. TellsAll d e n) (sym (append-nil plain.notes)) reports);
-    };
-  }
+  once_done goes_on shared s does = grind (arith, common_steps, plainly, whole, append-nil)
 
   module _ (f : Fault) (does : let r : Result ℕ Fault = Err f in Does plain r a b) where
     -- or with a fault that ends the walk
     pub once_last : (goes_on shared : Bool) → (not goes_on || (status_by f == 3)) ≡ true
         → (let r : Result ℕ Fault = Err f in Once is goes_on shared counted r a b d e)
-    once_last goes_on shared heavy = record {
-      plain = plain;
-      is_one = is_one;
-      first = plain;
-      in_share = rw (does.ending, no_line goes_on (status_by f) heavy) (plainly shared _ refl);
-      counts = counts;
-      ends = record { heavy = rw does.ending heavy; does = does; err = reports };
-    }
+    once_last goes_on shared heavy = grind (arith, common_steps, no_line, plainly)
 
     -- or with one that is reported
     pub once_passed : (shared : Bool) (r : Result ℕ Fault) (c g : Shown) → Passes shared f r b c e g
@@ -143,15 +119,7 @@ module _ {is : Run → Type 0} {counted : List Bool → Type 0} (plain : Run) (a
 pub once_so : {P Q : Run → Type 0} {goes_on shared : Bool} {counted : List Bool → Type 0} {r : Result ℕ Fault}
     {a b d e : Shown} → ((run : Run) → P run → Q run) → Once P goes_on shared counted r a b d e
     → Once Q goes_on shared counted r a b d e
-once_so so o = record {
-  plain = o.plain;
-  is_one = so o.plain o.is_one;
-  first = o.first;
-  in_share = o.in_share;
-  counts = o.counts;
-  ends = o.ends;
-}
+once_so so o = grind (arith, common_steps)
 
 pub on_ok : {P : Type 0} (r : Result ℕ Fault) → P → OnOk r P
-on_ok (Ok s) p = p
-on_ok (Err f) p = tt
+on_ok r p = grind (arith, common_steps)

@@ -1,11 +1,11 @@
 -- How many files were opened.
+use Rattle.std.proofs.lemmas.Grind.{common_steps}
 use Rattle.std.proofs.Common.{◌≡◌, ℕ, ◌+◌, ◌<◌, ◌≤◌, List, [], ◌∷◌, ◌++◌, length, suc, ap, map, take, drop, get_or}
-use Rattle.std.proofs.Common.{Bool, true, false, Option, None, Some, IfSome, arith, refl, if◌then◌else◌}
+use Rattle.std.proofs.Common.{true, false, Option, Some, IfSome, arith, refl}
 use Rattle.std.proofs.lemmas.List.Sums.{sum_by-append}
 use Rattle.std.specs.Borrow.{Bor}
 use Rattle.std.specs.List.{sum_by}
 use Rattle.std.specs.Option.{option_map_or}
-use Rattle.std.specs.Prelude.{◌==◌}
 use Rattle.std.proofs.lemmas.Bool.Decides.{nat_tests}
 use Rattle.hashes.specs.declared.share.Share.{Share}
 use Rattle.request.specs.CommandLine.{Text}
@@ -29,13 +29,7 @@ module _ (given : List (Bor Text)) (i : ℕ) (d : Bor Text) (within : i < length
 
   -- up to the next one
   pub opens_more : OpensAtMost (sum_by opens_of (map (λ n. n.now) (take (i + 1) given))) a c
-  opens_more =
-      let more : sum_by opens_of (map (λ n. n.now) (take (i + 1) given)) ≡ sum_by opens_of (front ++ name ∷ [])
-      = ap (sum_by opens_of) (one_more given i d within) in
-      let sum : sum_by opens_of (front ++ name ∷ []) ≡ sum_by opens_of front + sum_by opens_of (name ∷ [])
-      = sum_by-append opens_of front (name ∷ []) in
-      let one : sum_by opens_of (name ∷ []) ≡ 0 + opens_of name = refl in
-      omega (arith, before, here, more, sum, one)
+  opens_more = grind (arith, common_steps, one_more, sum_by-append)
 
   -- all of them are no fewer
   pub opens_all : OpensAtMost (sum_by opens_of (map (λ n. n.now) given)) a c
@@ -54,9 +48,7 @@ module _ (given : List (Bor Text)) (i : ℕ) (d : Bor Text) (within : i < length
 
 pub part_opens-share : {A : Type 0} (s : Share) (name : Text) (xs : List A) → 0 < s.others
     → part_opens s name xs ≡ length (every s.others s.waiting xs) + 2
-part_opens-share s name xs some =
-    let other : (s.others == 0) ≡ false = grind (arith, nat_tests) in
-    ap (λ (b : Bool). if b then opens_of name else length (every s.others s.waiting xs) + 2) other
+part_opens-share s name xs some = grind (arith, common_steps, nat_tests)
 
 -- a file with lines was opened, and then others for their parts
 pub opens_beside : (s : Share) (parts name : Text) (first : Option (List ℕ)) (tree then_tree : Option Files)
@@ -65,23 +57,12 @@ pub opens_beside : (s : Share) (parts name : Text) (first : Option (List ℕ)) (
     → IfSome list (λ text. IfSome then_tree (λ files. h ≤ l + part_opens s name (lines text))) → i ≤ h
     → IfSome first (λ bytes. IfSome tree (λ files.
     i ≤ k + (1 + part_opens s name (option_map_or lines (files parts) []))))
-opens_beside s parts name None tree then_tree list k l h i same opened one more last = tt
-opens_beside s parts name (Some bytes) None then_tree list k l h i same opened one more last = tt
-opens_beside s parts name (Some bytes) (Some files) then_tree list k l h i same opened one more last =
-    on opened.0 opened.1 (rw same at (rw opened.2 at more))
-  where
-    on : (m : List ℕ) → files parts ≡ Some m → h ≤ l + part_opens s name (lines m)
-        → i ≤ k + (1 + part_opens s name (option_map_or lines (files parts) []))
-    on m is most = rw is (omega (arith, one, most, last))
+opens_beside s parts name first tree then_tree list k l h i same opened one more last = grind (arith, common_steps)
 
 -- ---- the names in a list
 
 pub opens_once : (name : Text) → opens_of name ≤ 1
-opens_once name = on (is_input name)
-  where
-    on : (b : Bool) → (if b then 0 else 1) ≤ 1
-    on true = omega arith
-    on false = omega arith
+opens_once name = grind (arith, common_steps)
 
 -- what was opened of a list of such pieces, where its bytes and the files are told
 abbrev pub OpensListed : (List ℕ → List (List ℕ)) → Text → Option (List ℕ) → Option Files → (i j : ℕ) → Type 0
@@ -93,16 +74,12 @@ module _ (pieces : List ℕ → List (List ℕ)) where
   pub opens_of_input : (list : Text) (first : Option (List ℕ)) (tree : Option Files) (i j : ℕ) → is_input list ≡ true
       → IfSome first (λ bytes. IfSome tree (λ files. j ≤ i + length (pieces bytes)))
       → OpensListed pieces list first tree i j
-  opens_of_input list None tree i j is most = tt
-  opens_of_input list (Some bytes) None i j is most = tt
-  opens_of_input list (Some bytes) (Some files) i j is most = rw is (omega (arith, most))
+  opens_of_input list first tree i j is most = grind (arith, common_steps)
 
   -- it is a file that does not open
   pub opens_of_none : (list : Text) (first : Option (List ℕ)) (tree : Option Files) (i j : ℕ) → is_input list ≡ false
       → j ≤ i + 1 → OpensListed pieces list first tree i j
-  opens_of_none list None tree i j is most = tt
-  opens_of_none list (Some bytes) None i j is most = tt
-  opens_of_none list (Some bytes) (Some files) i j is most = rw is (omega (arith, most))
+  opens_of_none list first tree i j is most = grind (arith, common_steps)
 
   -- it is a file that was opened, and closed
   pub opens_of_file : {F : Type 0} (list : Text) (remaining : F → Option (List ℕ)) (feed : F) (first : Option (List ℕ))
@@ -111,11 +88,8 @@ module _ (pieces : List ℕ → List (List ℕ)) where
       → then_tree ≡ tree → j ≤ i + 1
       → IfSome (remaining feed) (λ bytes. IfSome then_tree (λ files. k ≤ j + length (pieces bytes))) → l ≤ k
       → OpensListed pieces list first tree i l
-  opens_of_file list remaining feed None tree then_tree i j k l is opened same one more last = tt
-  opens_of_file list remaining feed (Some input) None then_tree i j k l is opened same one more last = tt
-  opens_of_file list remaining feed (Some input) (Some files) then_tree i j k l is opened same one more last =
-      let most : k ≤ j + length (pieces opened.0) = rw (opened.2, same) at more in
-      rw (is, opened.1) (omega (arith, one, most, last))
+  opens_of_file list remaining feed first tree then_tree i j k l is opened same one more last = grind
+      (arith, common_steps)
 
 -- ---- behind a key
 
@@ -124,14 +98,9 @@ pub opens_behind : (most : List ℕ → Files → ℕ) (first later : Option (Li
     (k i h j : ℕ) → later ≡ first → then_tree ≡ tree → h ≤ i + k
     → IfSome later (λ bytes. IfSome then_tree (λ files. j ≤ h + most bytes files))
     → IfSome first (λ bytes. IfSome tree (λ files. j ≤ i + (k + most bytes files)))
-opens_behind most None later tree then_tree k i h j a b key more = tt
-opens_behind most (Some bytes) later None then_tree k i h j a b key more = tt
-opens_behind most (Some bytes) later (Some files) then_tree k i h j a b key more =
-    let rest : j ≤ h + most bytes files = rw b at (rw a at more) in omega (arith, key, rest)
+opens_behind most first later tree then_tree k i h j a b key more = grind (arith, common_steps)
 
 -- nothing was
 pub opens_key : (most : List ℕ → Files → ℕ) (first : Option (List ℕ)) (tree : Option Files) (k i j : ℕ) → j ≤ i + k
     → IfSome first (λ bytes. IfSome tree (λ files. j ≤ i + (k + most bytes files)))
-opens_key most None tree k i j key = tt
-opens_key most (Some bytes) None k i j key = tt
-opens_key most (Some bytes) (Some files) k i j key = omega (arith, key)
+opens_key most first tree k i j key = grind (arith, common_steps)

@@ -1,4 +1,5 @@
 -- Lists that are checked, one after another.
+use Rattle.std.proofs.lemmas.Grind.{common_steps}
 use Rattle.std.proofs.Common.{◌≡◌, ◌≤◌, ◌+◌, ◌∙◌, ℕ, List, [], ◌∷◌, ◌++◌, Option, Some, None, Bool, true, false, IfSome}
 use Rattle.std.proofs.Common.{Result, Ok, Err, sym, ap, subst, arith, length, refl, if◌then◌else◌, ◌==◌, append_assoc}
 use Rattle.std.proofs.Common.{append-nil, nat_lt}
@@ -30,12 +31,7 @@ use Rattle.command.proofs.Turns.{every-all}
 
 fewer : (parts : List (List ℕ)) (b : Bool) (c : ℕ) → length (without_empty_last parts)
     ≤ length (without_empty_last (if b then [] ∷ parts else onto_first c parts))
-fewer [] true c = omega arith
-fewer (part ∷ parts) true c = omega arith
-fewer [] false c = omega arith
-fewer ([] ∷ []) false c = omega arith
-fewer ([] ∷ (part ∷ parts)) false c = omega arith
-fewer ((x ∷ part) ∷ parts) false c = omega arith
+fewer parts b c = grind (arith, common_steps)
 
 -- the end of a list has no more lines than the list
 fewer_lines : (front left : List ℕ) → length (lines left) ≤ length (lines (front ++ left))
@@ -45,11 +41,7 @@ fewer_lines (c ∷ front) left =
 
 fewer_opens : (files : Files) (name : Text) (front left : List ℕ)
     → opens_in left files name ≤ opens_in (front ++ left) files name
-fewer_opens files name front left = on (is_input name) refl
-  where
-    on : (b : Bool) → is_input name ≡ b → opens_in left files name ≤ opens_in (front ++ left) files name
-    on true is = rw is (omega (arith, fewer_lines front left))
-    on false is = rw is (omega arith)
+fewer_opens files name front left = grind (arith, common_steps, fewer_lines)
 
 fewer_sum : (files : Files) (names : List Text) (front left : List ℕ)
     → sum_by (opens_in left files) names ≤ sum_by (opens_in (front ++ left) files) names
@@ -64,10 +56,7 @@ fewer_sum files (name ∷ names) front left = omega (
 
 pub lists_none : (bytes : Option (List ℕ)) (files : Option Files) (opens : ℕ)
     → KeepsLists [] bytes bytes files files opens opens
-lists_none None files opens = (refl, tt)
-lists_none (Some bytes) None opens = (refl, tt)
-lists_none (Some bytes) (Some files) opens =
-    (refl, record { front = []; left = bytes; is = refl; split = refl; most = omega arith })
+lists_none bytes files opens = grind (arith, common_steps)
 
 pub lists_both : (x y : List Text) (bytes later last : Option (List ℕ)) (files now then_ : Option Files) (i j k : ℕ)
     → KeepsLists x bytes later files now i j → KeepsLists y later last now then_ j k
@@ -151,14 +140,13 @@ pub lists_walked : (reporting : Reporting) (m : Meaning) (share whole : Share) (
     lists (CountedOf old new) r old.out new.out
     err_old err_new) → DoesRun (λ bytes files. ListsRun m reporting (these share) files lists bytes)
     (λ notes. TellsAll err_old err_new notes) r old new
-lists_walked reporting m share whole lists r old new err_old err_new alone first walked = told_where old
-    (λ bytes files at of. rw (alone, first, every-all lists, at, of) at walked)
+lists_walked reporting m share whole lists r old new err_old err_new alone first walked = grind
+    (arith, common_steps, told_where, every-all)
 
 pub lists_opened : (lists : List Text) (whole : Share) (bytes later : Option (List ℕ))
     (files now : Option Files) (i j : ℕ)
     → whole.others ≡ 0 → whole.waiting ≡ 0 → (done : List Text) × (rest : List Text)
     × (every whole.others whole.waiting lists ≡ done ++ rest) × KeepsLists done bytes later files now i j
     → IfSome bytes (λ bytes. IfSome files (λ files. j ≤ i + sum_by (opens_in bytes files) lists))
-lists_opened lists whole bytes later files now i j alone first (done, rest, split, kept) =
-    IfSome_then bytes kept.1 (λ b h. IfSome_then files h (λ f o.
-    opens_some (opens_in b f) lists done rest i j (sym (every-all lists) ∙ rw (alone, first) at split) o.most))
+lists_opened lists whole bytes later files now i j alone first h = grind
+    (arith, common_steps, IfSome_then, opens_some, every-all)

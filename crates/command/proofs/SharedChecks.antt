@@ -1,7 +1,8 @@
 -- The runs of all shares of a check are one run.
-use Rattle.std.proofs.Common.{◌≡◌, ◌∙◌, ◌++◌, ℕ, ◌-◌, ◌^◌, ◌<◌, ◌≤◌, min, max, List, [], ◌∷◌, length, ap, ap₂, sym}
-use Rattle.std.proofs.Common.{refl, subst, arith, inl, inr, Bool, true, false, if◌then◌else◌, Option, Some, None}
-use Rattle.std.proofs.Common.{Result, Ok, Err, nat_lt}
+use Rattle.std.proofs.lemmas.Grind.{common_steps}
+use Rattle.std.proofs.Common.{◌≡◌, ◌∙◌, ◌++◌, ℕ, ◌<◌, ◌≤◌, min, max, List, [], ◌∷◌, length, ap, ap₂, sym, refl, subst}
+use Rattle.std.proofs.Common.{arith, inl, inr, Bool, true, false, if◌then◌else◌, Option, Some, None, Result, Ok, Err}
+use Rattle.std.proofs.Common.{nat_lt}
 use Rattle.std.proofs.lemmas.Bool.{cases_lt}
 use Rattle.std.specs.List.{AllByRecursion}
 use Rattle.std.specs.Prelude.{MatchBool, replicate}
@@ -20,7 +21,7 @@ use Rattle.task.specs.declared.tasks.Reporting.{Reporting}
 use Rattle.command.specs.Checking.{ListRuns, checked, notes_of}
 use Rattle.command.specs.Laws.{ChecksAreRun}
 use Rattle.command.specs.Lines.{content_of, is_input}
-use Rattle.command.specs.Run.{IsRefused, LeftBy, Run, cannot_write, end_of, followed, prints}
+use Rattle.command.specs.Run.{IsRefused, LeftBy, Run, end_of, followed, prints}
 use Rattle.command.specs.Walks.{Walks, is_last}
 use Rattle.command.proofs.Sharing.{status}
 
@@ -39,21 +40,13 @@ abbrev pub Ends : Run → Type 0
 Ends r = (s : ℕ) × (r.ending ≡ Ok s)
 
 ends_quiet : (r : Run) → (end_of r.ending).1 ≡ [] → Ends r
-ends_quiet r none = on r.ending refl none
-  where
-    on : (e : Result ℕ (ℕ × Text)) → r.ending ≡ e → (end_of e).1 ≡ [] → Ends r
-    on (Ok s) is none = (s, is)
-    on (Err t) is none = cc
+ends_quiet r none = grind (arith, common_steps)
 
 pub quiet_ends : (r : Run) → Quiet r → Ends r
 quiet_ends r quiet = ends_quiet r (nil_both r.notes (end_of r.ending).1 quiet).1
 
 quiet_rest : (first rest : Run) → Quiet (followed first rest) → Ends first × Quiet rest
-quiet_rest first rest quiet =
-    let both = nil_both (followed first rest).notes (end_of rest.ending).1 quiet in
-    let notes = nil_both first.notes ((end_of first.ending).1 ++ rest.notes) both.0 in
-    let after = nil_both (end_of first.ending).1 rest.notes notes.1 in
-    (ends_quiet first after.0, ap₂ (λ (a b : List Text). a ++ b) after.1 both.1)
+quiet_rest first rest quiet = grind (arith, common_steps, nil_both, ends_quiet)
 
 pub stopped : (r : Run) (t : ℕ × Text) → r.ending ≡ Err t → Ends r → ⊥
 stopped r t is (s, ends) = cc
@@ -65,12 +58,7 @@ and_then first rest = record (followed first rest) {
 }
 
 then_status : (first rest : Run) → Ends rest → status (and_then first rest) ≡ max (status first) (status rest)
-then_status first rest (s, ends) = on rest.ending ends
-  where
-    on : (e : Result ℕ (ℕ × Text)) → e ≡ Ok s
-        → (end_of (result_map_both (max (status first)) (λ t. t) e)).0 ≡ max (status first) (end_of e).0
-    on (Ok r) is = refl
-    on (Err t) is = cc
+then_status first rest h = grind (arith, common_steps, status)
 
 then_ends : (first rest : Run) → Ends rest → Ends (and_then first rest)
 then_ends first rest (s, ends) =
@@ -79,11 +67,7 @@ then_ends first rest (s, ends) =
 -- the run over a name that is refused ends with a trouble
 pub refused_stops : (most : ℕ) (b : Bool) (name : Text) (content : Option Text) (stop : Run)
     → IsRefused most b name content stop → Ends stop → ⊥
-refused_stops most b name content stop (inl (inl is)) ends = stopped stop _ (ap (λ (r : Run). r.ending) is) ends
-refused_stops most b name content stop (inl (inr is)) ends = stopped stop _ (ap (λ (r : Run). r.ending) is) ends
-refused_stops most b name None stop (inr is) ends = absurd is
-refused_stops most b name (Some m) stop (inr (long, is)) ends =
-    stopped stop _ (ap (λ (r : Run). r.ending) is) ends
+refused_stops most b name content stop h ends = grind (arith, common_steps, stopped)
 
 -- ---- the run over a list, and those after it
 
@@ -151,20 +135,10 @@ module _ (m : Meaning) (reporting : Reporting) (files : Files) (many : Bool) whe
 
   left_is : (name : Text) (input left : List ℕ) (e : Result ℕ (ℕ × Text)) → (s : ℕ) × (e ≡ Ok s)
       → LeftBy (is_input name) e input left → left ≡ left_of name input
-  left_is name input left e (s, ends) leaves = on (is_input name) e ends leaves
-    where
-      on : (b : Bool) (e : Result ℕ (ℕ × Text)) → e ≡ Ok s → LeftBy b e input left
-          → left ≡ (if b then [] else input)
-      on false e is leaves = leaves
-      on true (Ok r) is leaves = leaves
-      on true (Err t) is leaves = cc
+  left_is name input left e h leaves = grind (arith, common_steps)
 
   left_by : (name : Text) (input : List ℕ) (s : ℕ) → LeftBy (is_input name) (Ok s) input (left_of name input)
-  left_by name input s = on (is_input name)
-    where
-      on : (b : Bool) → LeftBy b (Ok s) input (if b then [] else input)
-      on false = refl
-      on true = refl
+  left_by name input s = grind (arith, common_steps)
 
   -- the run of a share over a list that is read to its end
   pub record Listed (name : Text) (s : Share) (content : Option (List ℕ)) (run : Run) (next : Share) : Type 0 where
@@ -178,22 +152,7 @@ module _ (m : Meaning) (reporting : Reporting) (files : Files) (many : Bool) whe
 
   listed : (name : Text) (s : Share) (content : Option (List ℕ)) (run : Run) (next : Share) → Ends run
       → ListRuns reporting files m (title name) name s content run next → Listed name s content run next
-  listed name s None run next ends (unread, same) =
-      absurd (refused_stops 0 false name None run (inl unread) ends)
-  listed name s (Some bytes) run next ends (os, allowed, inl (is, moved)) = record {
-    bytes = bytes;
-    is = refl;
-    outcomes = os;
-    allowed = allowed;
-    text = ap (λ (r : Run). r.text) is;
-    status = ap status is;
-    moved = moved;
-  }
-  listed name s (Some bytes) run next ends (os, allowed, inr (inl (is, same))) =
-      absurd (stopped run cannot_write (ap (λ (r : Run). r.ending) is) ends)
-  listed name s (Some bytes) run next (r, ends) (os, allowed, inr (inr (front, stop, begins, refused, is, same))) =
-      absurd (refused_stops (2 ^ 64 - 1) (is_input name) name (Some bytes) stop refused
-      (r, sym (ap (λ (r : Run). r.ending) is) ∙ ends))
+  listed name s content run next ends h = grind (arith, common_steps, refused_stops, status, stopped)
 
   module _ (n : ℕ) where
     abbrev pub share_at : ℕ → Share
@@ -256,8 +215,7 @@ module _ (m : Meaning) (reporting : Reporting) (files : Files) (many : Bool) whe
     Did lists input shares = (k : ℕ) → Quiet (shares k) × Over lists (share_at (min k n)) input (shares k)
 
     nothing : (x : Share × List ℕ) (run : Run) → From [] x 0 run → run ≡ prints [] 0
-    nothing x run (inl is) = is
-    nothing x run (inr b) = absurd b
+    nothing x run h = grind (arith, common_steps)
 
     none : (input : List ℕ) (shares : ℕ → Run) → Did [] input shares → Made [] input shares
     none input shares did =
@@ -289,8 +247,7 @@ module _ (m : Meaning) (reporting : Reporting) (files : Files) (many : Bool) whe
       outcomes k = (heads k).here.outcomes
 
       all_merged : Merged files m n (lines bytes) outcomes
-      all_merged = merged files m n (lines bytes) outcomes (λ k within.
-          subst (λ b. AllAllowed files m (lines b) (outcomes k)) (same_bytes k) (heads k).here.allowed)
+      all_merged = grind (arith, common_steps, merged, same_bytes)
 
       abbrev whole : List Outcome
       whole = all_merged.whole
@@ -303,8 +260,7 @@ module _ (m : Meaning) (reporting : Reporting) (files : Files) (many : Bool) whe
 
       -- a share makes the same of them
       own_whole : (k : ℕ) → k ≤ n → shared n (min k n) (outcomes k) ≡ shared n k whole
-      own_whole k within =
-          ap (λ j. shared n j (outcomes k)) (within_min k within) ∙ all_merged.same k within
+      own_whole k within = grind (arith, common_steps, within_min)
 
       -- the share that passes over j entries after the list before its next, and its run over the other lists
       abbrev share_of : ℕ → ℕ
@@ -314,23 +270,17 @@ module _ (m : Meaning) (reporting : Reporting) (files : Files) (many : Bool) whe
       behind j = (heads (share_of j)).rest
 
       waits : (j : ℕ) → (shared n (min (share_of j) n) (outcomes (share_of j))).1 ≡ min j n
-      waits j =
-          let below : min j n ≤ n = omega arith in
-          ap (λ (r : List Outcome × ℕ). r.1) (own_whole (share_of j) (turns.back_within (min j n) below))
-          ∙ turns.there (min j n) below
+      waits j = grind (arith, common_steps, own_whole)
 
       did_behind : Did lists (left_of name input) behind
-      did_behind j =
-          let h = heads (share_of j) in
-          (h.quiet, subst (λ w. Over lists (share_at w) (left_of name input) (behind j)) (waits j) h.runs)
+      did_behind j = grind (arith, common_steps, waits)
 
       -- how many share k passes over
       abbrev waiting : ℕ → ℕ
       waiting k = (shared n k whole).1
 
       comes : (k : ℕ) → k ≤ n → behind (waiting k) ≡ (heads k).rest
-      comes k within = ap (λ j. (heads j).rest)
-          (ap turns.back (within_min (waiting k) (turns.within k within)) ∙ turns.again k within)
+      comes k within = grind (arith, common_steps, within_min)
 
       -- the lines of the list's report
       abbrev spoken_here : Spoken (title name) 1 whole
@@ -338,10 +288,7 @@ module _ (m : Meaning) (reporting : Reporting) (files : Files) (many : Bool) whe
 
       share_text : (k : ℕ) → k ≤ n → (shares k).text
           ≡ report_from (title name) 1 (shared n k whole).0 ++ (heads k).rest.text
-      share_text k within =
-          let h = heads k in
-          ap (λ (r : Run). r.text) h.is ∙ ap (λ t. t ++ h.rest.text) (h.here.text
-          ∙ ap (λ (r : List Outcome × ℕ). report_from (title name) 1 r.0) (own_whole k within))
+      share_text k within = grind (arith, common_steps, own_whole)
 
       share_status : (k : ℕ) → k ≤ n → status (shares k) ≡ max (bad_own n k whole) (status (heads k).rest)
       share_status k within =
@@ -366,9 +313,7 @@ module _ (m : Meaning) (reporting : Reporting) (files : Files) (many : Bool) whe
 
       one_first : One name (record { others = 0; waiting = 0 }) input all_first
           (record { others = 0; waiting = (shared 0 0 whole).1 })
-      one_first = subst (λ c. ListRuns reporting files m (title name) name (record { others = 0; waiting = 0 }) c
-          all_first (record { others = 0; waiting = (shared 0 0 whole).1 })) (sym (heads 0).here.is)
-          (whole, all_merged.allowed, inl (refl, refl))
+      one_first = grind (arith, common_steps)
 
       -- and the other lists
       module _ (r : Made lists (left_of name input) behind) where
@@ -379,8 +324,7 @@ module _ (m : Meaning) (reporting : Reporting) (files : Files) (many : Bool) whe
         run_status = then_status all_first r.run r.ends ∙ ap (λ s. max s (status r.run)) first_status
 
         rest_text : (k : ℕ) → k ≤ n → (heads k).rest.text ≡ lined (every n (waiting k) r.said)
-        rest_text k within = ap (λ (x : Run). x.text) (sym (comes k within))
-            ∙ r.own (waiting k) (turns.within k within)
+        rest_text k within = grind (arith, common_steps, comes)
 
         rest_below : (k : ℕ) → k ≤ n → status (heads k).rest ≤ status r.run
         rest_below k within = subst (λ (x : Run). status x ≤ status r.run) (comes k within)
@@ -408,10 +352,7 @@ module _ (m : Meaning) (reporting : Reporting) (files : Files) (many : Bool) whe
             (k, within, omega (arith, share_status k within, same, less, most, run_status))
 
         highest : Highest
-        highest = elim (cases_lt (bad whole) (status r.run)) [
-          | inl less ↦ highest_later less
-          | inr less ↦ highest_here less
-        ]
+        highest = grind (arith, common_steps, cases_lt, bad, status, highest_later, highest_here)
 
         run_over : Over (name ∷ lists) (record { others = 0; waiting = 0 }) input run
         run_over =

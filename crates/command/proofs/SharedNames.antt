@@ -1,43 +1,29 @@
 -- The runs of all shares of names, given or in a list, are one run over all of them.
-use Rattle.std.proofs.Common.{◌≡◌, ◌∙◌, ℕ, ◌-◌, ◌^◌, ◌<◌, ◌≤◌, List, [], ◌∷◌, length, Bool, true, false, Some, None}
-use Rattle.std.proofs.Common.{Option, Result, Ok, Err, ap, sym, subst, refl, arith, inl, inr}
+use Rattle.std.proofs.lemmas.Grind.{common_steps}
+use Rattle.std.proofs.Common.{◌≡◌, ◌∙◌, ℕ, ◌-◌, ◌^◌, ◌≤◌, List, [], ◌∷◌, Bool, true, false, Some, None, Result, Ok, ap}
+use Rattle.std.proofs.Common.{sym, subst, refl, arith, inl, inr}
 use Rattle.std.proofs.lemmas.Bool.Decides.{nat_tests}
 use Rattle.std.proofs.lemmas.List.FromFn.{length-enumerate_from}
-use Rattle.std.specs.Prelude.{◌||◌, IsSomeAnd, MatchBool, ⊤, codes, max}
+use Rattle.std.specs.Prelude.{◌||◌, MatchBool, ⊤, max}
 use Rattle.std.specs.List.{AllByRecursion, enumerate_from, list_any}
 use Rattle.request.specs.CommandLine.{Text}
 use Rattle.sumlist.specs.Naming.{names}
 use Rattle.sumlist.specs.Report.{Files}
 use Rattle.command.specs.Hashing.{given, listed}
-use Rattle.command.specs.Keying.{LineRuns, answer}
+use Rattle.command.specs.Keying.{LineRuns}
 use Rattle.command.specs.Laws.{AreShares, ListedSharesAreRun, SharesAreRun}
-use Rattle.command.specs.Lines.{LineRule, content_of, is_input}
-use Rattle.command.specs.Run.{IsRefused, Prints, Run, end_of, followed, of_name, stops}
+use Rattle.command.specs.Lines.{LineRule, is_input}
+use Rattle.command.specs.Run.{IsRefused, Prints, Run, end_of, followed}
 use Rattle.command.specs.Walks.{Walks, has_no_line, is_last}
 use Rattle.command.proofs.Sharing.{IsFree, status, walk_is_shared}
 
 -- a name that is passed over prints nothing
 bare_print : (text : Text) (r : Run) → Prints text 0 r → has_no_line true r.ending ≡ true → r.text ≡ []
-bare_print text r (inl is) none = let no : ⊥ = cc in absurd no
-bare_print text r (inr is) none = let no : ⊥ = cc in absurd no
+bare_print text r h none = grind (arith, common_steps)
 
 bare : (l : LineRule) (files : Files) (name : Text) (input : List ℕ) (r : Run)
     → LineRuns None l name name input files r → has_no_line true r.ending ≡ true → r.text ≡ []
-bare l files name input r (inl p) none = ap (λ (x : Run). x.text) p.1
-bare l files name input r (inr (fits, inl (inl (inl p)))) none = ap (λ (x : Run). x.text) p
-bare l files name input r (inr (fits, inl (inl (inr p)))) none = ap (λ (x : Run). x.text) p
-bare l files name input r (inr (fits, inl (inr p))) none = on (content_of name input files) p
-  where
-    on : (content : Option (List ℕ)) → IsSomeAnd content (λ m. (l.limit < length m)
-        × (r ≡ stops (of_name name (codes ": too long\n")))) → r.text ≡ []
-    on None p = absurd p
-    on (Some m) p = ap (λ (x : Run). x.text) p.1
-bare l files name input r (inr (fits, inr p)) none = on (content_of name input files) p
-  where
-    on : (content : Option (List ℕ)) → IsSomeAnd content (λ m. (length m ≤ l.limit)
-        × Prints (answer None l name (l.bytes m)).0 0 r) → r.text ≡ []
-    on None p = absurd p
-    on (Some m) p = bare_print (l.text name (l.bytes m)) r p.1 none
+bare l files name input r h none = grind (arith, common_steps, bare_print)
 
 -- ---- given names
 
@@ -61,8 +47,7 @@ away (name ∷ found) none =
 
 -- a run over them that ends with a trouble has status 3
 heavy : (e : Result ℕ (ℕ × Text)) (r : Run) → r.ending ≡ e → is_last true e ≡ true → status r ≡ 3
-heavy (Ok s) r is last = let no : ⊥ = cc in absurd no
-heavy (Err t) r is last = let same : t.0 ≡ 3 = grind (arith, nat_tests) in rw is same
+heavy e r is last = grind (arith, common_steps, nat_tests)
 
 given_ends : (l : LineRule) (files : Files) (shared : Bool) (x : List ℕ) (s : ℕ) (found : List Text) (run : Run)
     → Walks true (given l files) shared x s found run → status run ≤ 1 → run.ending ≡ Ok (status run)
@@ -94,9 +79,7 @@ shares_are_run l files found input n shares more none did =
 
 refused_ends : (most : ℕ) (from_input : Bool) (name : Text) (m : List ℕ) (r : Run) (s : ℕ)
     → IsRefused most from_input name (Some m) r → r.ending ≡ Ok s → ⊥
-refused_ends most from_input name m r s (inl (inl p)) ends = cc
-refused_ends most from_input name m r s (inl (inr p)) ends = cc
-refused_ends most from_input name m r s (inr p) ends = let stopped = p.1 in cc
+refused_ends most from_input name m r s h ends = grind (arith, common_steps)
 
 listed_free : (l : LineRule) (files : Files) (list : Text) (bytes : List ℕ)
     → IsFree true (listed l files list bytes) (λ _. ⊤)

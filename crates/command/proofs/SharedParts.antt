@@ -6,7 +6,7 @@ use Rattle.std.proofs.lemmas.Bool.Decides.{nat_tests}
 use Rattle.std.proofs.lemmas.List.Elements.{All-weaker}
 use Rattle.std.proofs.lemmas.Option.{same_Some}
 use Rattle.std.specs.List.{AllByRecursion, AllZip, flat_map}
-use Rattle.std.specs.Prelude.{◌⊎◌, ◌==◌, IsSomeAnd, fold}
+use Rattle.std.specs.Prelude.{◌⊎◌, IsSomeAnd, fold}
 use Rattle.hex.proofs.HexLemmas.{decode_of-encode_lower}
 use Rattle.hex.specs.Hex.{IsBytes, encode_lower}
 use Rattle.b3.specs.Modes.{hash_parameters, tree_of}
@@ -103,9 +103,7 @@ abbrev pub Free : List ℕ → Type 0
 Free t = HasNo 10 t
 
 digits_free : (value : List ℕ) → IsBytes value → Free (encode_lower value)
-digits_free value are = All-weaker InWord (λ c. (c == 10) ≡ false)
-    (λ c h. let above = h.0 in grind (arith, nat_tests)) (encode_lower value)
-    (digits_word (encode_lower value) value (decode_of-encode_lower value are))
+digits_free value are = grind (arith, All-weaker, InWord, nat_tests, digits_word, decode_of-encode_lower)
 
 line_free : (first : ℕ) (m : List ℕ) → Free (line_of first m)
 line_free first m =

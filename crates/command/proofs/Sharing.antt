@@ -1,17 +1,17 @@
 -- The runs of all shares of a walk are one walk over all items.
+use Rattle.std.proofs.lemmas.Grind.{common_steps}
 use Rattle.std.proofs.Common.{◌≡◌, ◌∙◌, ◌==◌, ℕ, ◌<◌, ◌≤◌, List, [], ◌∷◌, ◌++◌, length, map, max, suc, zero, Bool, true}
-use Rattle.std.proofs.Common.{false, Some, None, Ok, Err, ap, ap₂, sym, subst, refl, arith, append_assoc, inl, inr}
-use Rattle.std.proofs.Common.{nat_lt}
+use Rattle.std.proofs.Common.{false, Some, None, Ok, ap, ap₂, sym, subst, refl, arith, append_assoc, inl, inr, nat_lt}
 use Rattle.std.proofs.lemmas.Bool.Decides.{nat_tests}
 use Rattle.std.proofs.lemmas.List.{length-map}
 use Rattle.std.proofs.lemmas.Slice.Zip.{AllZip-long}
 use Rattle.std.specs.List.{AllByRecursion, AllZip, flat_map}
-use Rattle.std.specs.Prelude.{◌&&◌, ◌⊎◌, MatchBool, Option, if◌then◌else◌, unwrap_or}
+use Rattle.std.specs.Prelude.{◌&&◌, MatchBool, Option, if◌then◌else◌, unwrap_or}
 use Rattle.request.specs.CommandLine.{Text}
 use Rattle.sumlist.specs.Shared.{every}
 use Rattle.sumlist.proofs.Shares.{every-map}
 use Rattle.command.specs.Laws.{AreShares}
-use Rattle.command.specs.Run.{Run, cannot_write, end_of, followed, prints}
+use Rattle.command.specs.Run.{Run, end_of, followed, prints}
 use Rattle.command.specs.Walks.{InShare, Walk, Walks, WalksShare, is_last, has_no_line}
 use Rattle.command.proofs.Turns.{every-all}
 
@@ -40,8 +40,7 @@ module _ {A B : Type 0} (P : A → B → Type 0) (n : ℕ) where
     pub are : (k : ℕ) → k ≤ n → shares k ≡ every n k ys
 
   none : (ys : List B) → AllZip P [] ys → ys ≡ []
-  none [] h = refl
-  none (y ∷ ys) h = absurd h
+  none ys h = grind (arith, common_steps)
 
   record Head (x : A) (xs : List A) (ys : List B) : Type 0 where
     pub y : B
@@ -160,11 +159,7 @@ module _ (goes_on : Bool) where
 
   lined_same : {A : Type 0} (f : Run → A) (shared : Bool) (r : Run) → f (record r { text = r.text ++ 10 ∷ [] }) ≡ f r
       → f (lined shared r) ≡ f r
-  lined_same f shared r same = on (shared && has_no_line goes_on r.ending)
-    where
-      on : (b : Bool) → f (if b then record r { text = r.text ++ 10 ∷ [] } else r) ≡ f r
-      on true = same
-      on false = refl
+  lined_same f shared r same = grind (arith, common_steps)
 
   module _ {S I : Type 0} (w : Walk S I) (P : I → Type 0) (plain : IsFree goes_on w P) where
     abbrev Did : I → Run → Type 0
@@ -177,19 +172,7 @@ module _ (goes_on : Bool) where
 
     first_is : (r first : Run) → InShare goes_on true r first → is_last goes_on first.ending ≡ false
         → first ≡ lined true r
-    first_is r first h light = on (true && has_no_line goes_on r.ending) h
-      where
-        heavy : (b : Bool) → is_last b (Err cannot_write) ≡ true
-        heavy true = refl
-        heavy false = refl
-
-        on : (b : Bool) → MatchBool b (let line = record r { text = r.text ++ 10 ∷ [] } in
-            (first ≡ line) ⊎ (first ≡ record line { is_whole = false; ending = Err cannot_write })) (first ≡ r)
-            → first ≡ (if b then record r { text = r.text ++ 10 ∷ [] } else r)
-        on true (inl p) = p
-        on true (inr p) =
-            let cut : is_last goes_on first.ending ≡ true = rw p (heavy goes_on) in let no : ⊥ = cc in absurd no
-        on false p = p
+    first_is r first h light = grind (arith, common_steps)
 
     spread : (x : S) (s : ℕ) (items : List I) → AllByRecursion P items → (run : Run) (st : ℕ)
         → Walks goes_on w true x s items run → run.ending ≡ Ok st → Spread s items run
@@ -293,9 +276,7 @@ module _ {S I : Type 0} (goes_on : Bool) (w : Walk S I) (P : I → Type 0) (plai
       (plain.bare z i r v step, all_bare items runs more)
 
   each : (k : ℕ) → k ≤ n → Spread goes_on w P plain 0 (every n k items) (shares k)
-  each k within = let d = did k within in
-      spread goes_on w P plain x 0 (every n k items) (all_every P n k items all) (shares k) (st k)
-      (rw (more n some) at d.0) d.1
+  each k within = grind (arith, common_steps, spread, all_every, more)
 
   own : (k : ℕ) (b : Bool) → nat_lt n k ≡ b → List Run
   own k true h = []

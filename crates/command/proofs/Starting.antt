@@ -1,7 +1,8 @@
 -- The run of `part --list`.
-use Rattle.std.proofs.Common.{◌≡◌, ℕ, zero, suc, ◌+◌, ◌-◌, ◌*◌, ◌/◌, ◌^◌, ◌<◌, ◌≤◌, List, [], ◌∷◌, ◌++◌, length, min}
-use Rattle.std.proofs.Common.{max, Bool, true, false, Option, Some, None, IfSome, Result, Ok, Err, refl, inl, inr}
-use Rattle.std.proofs.Common.{subst, arith}
+use Rattle.std.proofs.lemmas.Grind.{common_steps}
+use Rattle.std.proofs.Common.{◌≡◌, ℕ, zero, suc, ◌+◌, ◌-◌, ◌*◌, ◌/◌, ◌^◌, ◌<◌, ◌≤◌, List, [], ◌∷◌, ◌++◌, length, max}
+use Rattle.std.proofs.Common.{Bool, true, false, Option, Some, None, IfSome, Result, Ok, Err, refl, inl, inr, subst}
+use Rattle.std.proofs.Common.{arith}
 use Rattle.std.proofs.Math.Nat.{div-mul-le_self, mul-div-le, mul-le-mul_left, two-pow-succ}
 use Rattle.std.proofs.lemmas.Bool.{cases_lt}
 use Rattle.std.proofs.lemmas.Nat.{div_below, le-div}
@@ -25,40 +26,22 @@ use Rattle.command.proofs.Tagging.{Taken, Taken-refused, Taken-said}
 
 -- none is beyond the end of the longest message
 pub before_end : (n i : ℕ) → i < (2 ^ 54 - 1) / n + 1 → n * i < 2 ^ 54
-before_end n i below =
-    let here : i ≤ (2 ^ 54 - 1) / n = omega arith in
-    let more : n * i ≤ n * ((2 ^ 54 - 1) / n) = mul-le-mul_left n here in
-    let most : n * ((2 ^ 54 - 1) / n) ≤ 2 ^ 54 - 1 = mul-div-le (2 ^ 54 - 1) n in
-    omega (arith, more, most)
+before_end n i below = grind (arith, common_steps, mul-le-mul_left, mul-div-le)
 
 near_end : (q n x : ℕ) → q * (1024 * n) ≤ x → x ≤ 2 ^ 64 - 2 → q * n ≤ 2 ^ 54 - 1
 near_end q n x below few = omega arith
 
 -- so many bytes have no more parts than there are positions
 pub no_more : (n x : ℕ) → 1 ≤ n → x ≤ 2 ^ 64 - 2 → x / (1024 * n) ≤ (2 ^ 54 - 1) / n
-no_more n x some few =
-    let q : ℕ = x / (1024 * n) in
-    le-div q (2 ^ 54 - 1) n some (near_end q n x (div-mul-le_self x (1024 * n)) few)
+no_more n x some few = grind (arith, common_steps, le-div, near_end, div-mul-le_self)
 
 -- ---- the number of parts, by whether there is a byte
 
 pub counts_on : (n i : ℕ) (m : List ℕ) → 1 ≤ n → n * i < 2 ^ 54 → 1024 * (n * i) < length m → i + 1 ≤ part_count n m
-counts_on n i m some within has =
-    let x : ℕ = min (length m) (2 ^ 64 - 1) - 1 in
-    let reached : i * (1024 * n) ≤ x = omega (arith, within, has) in
-    let there : i ≤ x / (1024 * n) = le-div i x (1024 * n) (omega (arith, some)) reached in
-    omega (arith, there)
+counts_on n i m some within has = grind (arith, common_steps, le-div)
 
 pub counts_none : (n i : ℕ) (m : List ℕ) → 1 ≤ n → length m ≤ 1024 * (n * i) → part_count n m ≤ max 1 i
-counts_none n zero m some none =
-    let x : ℕ = min (length m) (2 ^ 64 - 1) - 1 in
-    let first : x / (1024 * n) < 1 = div_below x (1024 * n) 1 (omega (arith, some)) (omega (arith, none, some)) in
-    omega (arith, first)
-counts_none n (suc k) m some none =
-    let x : ℕ = min (length m) (2 ^ 64 - 1) - 1 in
-    let below : x / (1024 * n) < suc k
-    = div_below x (1024 * n) (suc k) (omega (arith, some)) (omega (arith, none, some)) in
-    omega (arith, below)
+counts_none n i m some none = grind (arith, common_steps, div_below)
 
 -- what the halves know of the number of parts: nothing where there is no file
 abbrev pub Known : ℕ → (least most : ℕ) → Option (List ℕ) → Type 0
@@ -67,30 +50,21 @@ Known n least most (Some m) = (least ≤ part_count n m) × (part_count n m ≤ 
 
 -- before the first
 known_first : (n : ℕ) (content : Option (List ℕ)) → 1 ≤ n → Known n 0 ((2 ^ 54 - 1) / n + 1) content
-known_first n None some = (refl, refl)
-known_first n (Some m) some =
-    let few = no_more n (min (length m) (2 ^ 64 - 1) - 1) some (omega arith) in
-    (omega arith, omega (arith, few))
+known_first n content some = grind (arith, common_steps, no_more)
 
 -- a byte was looked for at the first chunk of a part
 known_more : (n least most i : ℕ) (has : Bool) (content : Option (List ℕ)) → 1 ≤ n → n * i < 2 ^ 54 → has ≡ true
     → IsSomeAnd content (λ m. IsTrue has ↔ (1024 * (n * i) < length m)) → Known n least most content
     → Known n (i + 1) most content
-known_more n least most i has None some within is byte known = absurd byte
-known_more n least most i has (Some m) some within is byte known =
-    (counts_on n i m some within (byte.0 is), known.1)
+known_more n least most i has content some within is byte known = grind (arith, common_steps, counts_on)
 
 pub none_there : (has : Bool) (position size : ℕ) → has ≡ false → (IsTrue has ↔ (position < size)) → size ≤ position
-none_there true position size is byte = absurd (cc is)
-none_there false position size is byte =
-    elim (cases_lt position size) [ inl less ↦ absurd (cc (byte.1 less)) | inr more ↦ more ]
+none_there has position size is byte = grind (arith, common_steps, cases_lt)
 
 known_fewer : (n least most i : ℕ) (has : Bool) (content : Option (List ℕ)) → 1 ≤ n → has ≡ false
     → IsSomeAnd content (λ m. IsTrue has ↔ (1024 * (n * i) < length m)) → Known n least most content
     → Known n least i content
-known_fewer n least most i has None some is byte known = absurd byte
-known_fewer n least most i has (Some m) some is byte known =
-    (known.0, counts_none n i m some (none_there has (1024 * (n * i)) (length m) is byte))
+known_fewer n least most i has content some is byte known = grind (arith, common_steps, counts_none, none_there)
 
 -- ---- the same, where the files are told
 
@@ -106,28 +80,19 @@ module _ (n : ℕ) (name : Text) where
 
   pub counting_first : (tree : Option Files) (most i : ℕ) → 1 ≤ n → most ≡ (2 ^ 54 - 1) / n + 1
       → Counting tree 0 most i i
-  counting_first None most i some is = tt
-  counting_first (Some files) most i some is = (rw is (known_first n (files name) some), omega arith)
+  counting_first tree most i some is = grind (arith, common_steps, known_first)
 
   pub counting_more : (tree then_tree : Option Files) (least most at i j k : ℕ) (has : Bool) → 1 ≤ n
       → n * at < 2 ^ 54 → has ≡ true → then_tree ≡ tree → Byte then_tree (1024 * (n * at)) j k (Ok has)
       → Counting tree least most i j → Counting tree (at + 1) most i k
-  counting_more None then_tree least most at i j k has some within is same byte known = tt
-  counting_more (Some files) then_tree least most at i j k has some within is same byte known =
-      let told = rw same at byte in
-      let before = known.1 in
-      let now = told.1 in
-      (known_more n least most at has (files name) some within is told.0 known.0, omega (arith, before, now))
+  counting_more tree then_tree least most at i j k has some within is same byte known = grind
+      (arith, common_steps, known_more)
 
   pub counting_fewer : (tree then_tree : Option Files) (least most at i j k : ℕ) (has : Bool) → 1 ≤ n
       → has ≡ false → then_tree ≡ tree → Byte then_tree (1024 * (n * at)) j k (Ok has)
       → Counting tree least most i j → Counting tree least at i k
-  counting_fewer None then_tree least most at i j k has some is same byte known = tt
-  counting_fewer (Some files) then_tree least most at i j k has some is same byte known =
-      let told = rw same at byte in
-      let before = known.1 in
-      let now = told.1 in
-      (known_fewer n least most at has (files name) some is told.0 known.0, omega (arith, before, now))
+  counting_fewer tree then_tree least most at i j k has some is same byte known = grind
+      (arith, common_steps, known_fewer)
 
   -- what the count of the parts answers
   abbrev pub Counted : Option Files → (i k : ℕ) → Result ℕ Fault → Type 0

@@ -1,5 +1,6 @@
 -- The lines that are printed of tags are a list of them, each of which is OK.
-use Rattle.std.proofs.Common.{◌≡◌, ◌∙◌, ℕ, ◌*◌, ◌≤◌, List, [], ◌∷◌, ◌++◌, length, Option, Some, None, ap, false, refl}
+use Rattle.std.proofs.lemmas.Grind.{common_steps}
+use Rattle.std.proofs.Common.{arith, ◌≡◌, ◌∙◌, ℕ, ◌≤◌, List, [], ◌∷◌, ◌++◌, length, Option, Some, None, ap, false, refl}
 use Rattle.std.proofs.Common.{append_assoc}
 use Rattle.std.specs.Prelude.{All, IsSomeAnd, flat_map, map}
 use Rattle.std.proofs.lemmas.List.Elements.{All-head, All-tail}
@@ -56,7 +57,4 @@ module _ (digits limit : ℕ) (f : List ℕ → List ℕ) (n : ℕ) (files : Fil
       next_ok name names (files name) refl (All-head Here name names all) (all_ok names (All-tail Here name names all))
 
 pub tags_ok : TagsAreOk
-tags_ok (mac.Hmac h k) key n files names all = all_ok (2 * k) _ _ n files names all
-tags_ok (mac.Blake2b k) key n files names all = all_ok (2 * k) _ _ n files names all
-tags_ok (mac.Blake2s k) key n files names all = all_ok (2 * k) _ _ n files names all
-tags_ok (mac.Blake3 k) key n files names all = all_ok 64 _ _ n files names all
+tags_ok h key n files names all = grind (arith, common_steps, all_ok)

@@ -1,6 +1,7 @@
 -- What is left of a feed of which a part was taken, and why a name does not open.
+use Rattle.std.proofs.lemmas.Grind.{common_steps}
 use Rattle.std.proofs.Common.{◌≡◌, ◌∙◌, ℕ, ◌+◌, ◌*◌, ◌<◌, ◌≤◌, List, length, drop, Bool, true, false, Option, Some}
-use Rattle.std.proofs.Common.{None, IfSome, Result, Ok, refl, ap, inl, inr, arith, length-drop, nat_lt, suc, zero}
+use Rattle.std.proofs.Common.{None, IfSome, Result, Ok, refl, ap, arith, length-drop, nat_lt, suc, zero}
 use Rattle.std.proofs.lemmas.Bool.Decides.{nat_tests}
 use Rattle.std.proofs.lemmas.List.{drop-drop, length-take}
 use Rattle.std.specs.Prelude.{MatchBool}
@@ -16,13 +17,10 @@ use Rattle.command.proofs.CutParts.{told_front}
 -- a name that does not open is not too long
 pub unopened : (name : Text) (content : Option (List ℕ)) (t : Trouble) → MayRefuse 0 name content t
     → (t ≡ too_long name → ⊥) → MayFail name (λ _. ⊥) t
-unopened name content t (inl p) other = inl p
-unopened name content t (inr (inl p)) other = inr (inl p)
-unopened name content t (inr (inr p)) other = absurd (other p.0)
+unopened name content t h other = grind (arith, common_steps)
 
 by_test : {A B : Type 0} (b : Bool) → (b ≡ true → A) → (b ≡ false → B) → MatchBool b A B
-by_test true p q = p refl
-by_test false p q = q refl
+by_test b p q = grind (arith, common_steps)
 
 less : (a b : ℕ) → nat_lt a b ≡ true → a < b
 less a b is = grind (arith, nat_tests)

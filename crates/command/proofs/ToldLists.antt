@@ -1,16 +1,14 @@
 -- The run of `check` with `--report`: lists are read beside their report.
+use Rattle.std.proofs.lemmas.Grind.{common_steps}
 use Rattle.std.proofs.Common.{◌≡◌, ◌∙◌, ℕ, ◌+◌, ◌-◌, ◌^◌, ◌<◌, ◌≤◌, List, [], ◌∷◌, ◌++◌, length, length-append, Option}
-use Rattle.std.proofs.Common.{Some, None, Bool, true, false, Result, Ok, Err, IfSome, refl, sym, ap, ◌⊎◌, arith, inl}
-use Rattle.std.proofs.Common.{inr}
+use Rattle.std.proofs.Common.{Some, None, Bool, true, false, Result, Ok, Err, IfSome, refl, ap, ◌⊎◌, arith, inl, inr}
 use Rattle.std.proofs.lemmas.Bool.Decides.{nat_tests}
-use Rattle.std.specs.Prelude.{◌==◌, IsErrAnd, IsErrOf, IsSomeAnd, OnOk, codes, fold, if◌then◌else◌, nat_le, nat_lt}
+use Rattle.std.specs.Prelude.{◌==◌, IsErrAnd, IsErrOf, IsSomeAnd, OnOk, fold, if◌then◌else◌, nat_le, nat_lt}
 use Rattle.std.specs.Borrow.{Bor}
-use Rattle.std.specs.Fmt.{decimal}
 use Rattle.std.specs.Io.KnownBytes.{Consumes, IsAtEnd}
 use Rattle.std.proofs.KnownBytes.{Appends-nil}
 use Rattle.request.specs.CommandLine.{Text}
 use Rattle.source.specs.Counts.{count_after}
-use Rattle.source.specs.Pumped.{Gives}
 use Rattle.source.specs.Written.{Shown}
 use Rattle.sumlist.specs.Checked.{CountsOnly}
 use Rattle.sumlist.specs.Escape.{escaped}
@@ -48,30 +46,16 @@ use Rattle.sumlist.specs.Shared.{every}
 use Rattle.command.proofs.Refused.{not_both, refused_ends, Counted-none, Does-refused, Counted-as, Counted-refusal}
 use Rattle.command.proofs.Refused.{counts-replicate, pair, refused_by, unread_by}
 use Rattle.command.proofs.TakenParts.{unopened}
-use Rattle.command.specs.inside.Told.{BesideRuns, HasRoom, IsTold, ReportCounted, ToldOver, by_report_of, roomy, ReportOf}
+use Rattle.command.specs.inside.Told.{BesideRuns, HasRoom, IsTold, ReportCounted, ToldOver, by_report_of, ReportOf}
 use Rattle.command.specs.inside.Told.{told_state}
 
 -- ---- the lines of a report
 
 verdict_some : (v : Verdict) → 1 ≤ length (verdict_text v)
-verdict_some verdict.Matches = omega arith
-verdict_some verdict.Differs = omega arith
-verdict_some verdict.Missing = omega arith
-verdict_some verdict.Unreadable = omega arith
-verdict_some verdict.TooLong = omega arith
+verdict_some v = grind (arith, common_steps)
 
 malformed_some : (title : Option Text) (k : ℕ) → 1 ≤ length (text title k malformed)
-malformed_some None k =
-    let few : length (codes "line ") ≡ 5 = refl in
-    omega (arith, few, length-append (codes "line ") (decimal k ++ codes ": MALFORMED\n"))
-malformed_some (Some title) k =
-    let few : length (codes ": line ") ≡ 7 = refl in
-    omega (
-      arith,
-      few,
-      length-append (escaped title) (codes ": line " ++ (decimal k ++ codes ": MALFORMED\n")),
-      length-append (codes ": line ") (decimal k ++ codes ": MALFORMED\n"),
-    )
+malformed_some title k = grind (arith, common_steps, length-append)
 
 -- no line is empty
 lines_some : (title : Option Text) (k : ℕ) (os : List Outcome) (s : Summary)
@@ -134,13 +118,7 @@ module _ (reporting : Reporting) (m : Meaning) (title : Option Text) (name repor
       (Some bytes) whole
       left n rest next (record (stops (shown (trouble_of f))) { failures = failures })) → after ≡ before
       → ListCounted (is_input name.now) failures i j x y → Fed (Err f)
-  stops_by f failures is quiet counted = record {
-    run = record (stops (shown (trouble_of f))) { failures = failures };
-    is_run = is;
-    does = λ out. Does-refused (trouble_of f) failures f (Err f) out out refl refl refl;
-    notes = quiet;
-    counts = counted;
-  }
+  stops_by f failures is quiet counted = grind (arith, common_steps, Does-refused)
 
   unread : (f : Fault) → MayRefuse (2 ^ 64 - 1) name.now (Some bytes) (trouble_of f) → after ≡ before
       → j ≡ count_after i (failed_reads (Some bytes) (trouble_of f)) → y ≡ x → Fed (Err f)
@@ -202,39 +180,20 @@ pub feed_told : (reporting : Reporting) (m : Meaning) (title : Option Text) (nam
     → (bytes coming whole : List ℕ) → first ≡ Some bytes → left ≡ Some coming → (room : HasRoom whole coming n)
     → Fed reporting m title name report bytes coming whole n next rest before after i j x y room
     (graded (of_tell answer name report next))
-feed_told reporting m title name report first now left rest n next before after i j x y answer beside reads more gave said
-    bytes coming whole at has room =
-    let given = rw at at gave in
-    fed reporting m title name report bytes coming whole n next rest before after i j x y room answer
-    (rw (at, has) at beside) reads more (λ is. long_list bytes given.0 now given.1 (given.2 is)) said
+feed_told reporting m title name report first now left rest n next before after i j x y answer beside reads more gave
+    said bytes coming whole at has room = grind (arith, common_steps, fed, long_list)
 
 pub feed_left : (old new : Option (List ℕ)) (answer : Result Summary TellFault) (name report : Bor Text) (n : ℕ)
     (P : List ℕ → Type 0) → IfSome old (λ _. (given : List ℕ) × Consumes old new given × P given)
     → OnOk answer (IsAtEnd new) → Leaves true (of_tell answer name report n) old new
-feed_left old new answer name report n P gave end = (given old gave, at_end answer end)
-  where
-    given : (first : Option (List ℕ)) → IfSome first (λ _. (given : List ℕ) × Consumes first new given × P given)
-        → Gives first new
-    given None gave = ([], tt)
-    given (Some bytes) gave = (gave.0, gave.1)
-
-    at_end : (answer : Result Summary TellFault) → OnOk answer (IsAtEnd new)
-        → OnOk (of_tell answer name report n) (IsAtEnd new)
-    at_end (Ok s) end = end
-    at_end (Err tell.ListRead) end = tt
-    at_end (Err tell.ListTooLong) end = tt
-    at_end (Err tell.ReportRead) end = tt
-    at_end (Err tell.ReportTooLong) end = tt
-    at_end (Err tell.OtherLine) end = tt
-    at_end (Err tell.OutOfMemory) end = tt
+feed_left old new answer name report n P gave end = grind (arith, common_steps)
 
 -- ---- one list by its name
 
 -- the same run, of whose failures more is known
 told_as : {is : Run → Type 0} {r : Result ℕ Fault} {before after : Shown} {P Q : List Bool → Type 0}
     → IsTold is r before after P → ((f : List Bool) → P f → Q f) → IsTold is r before after Q
-told_as t so =
-    record { run = t.run; is_run = t.is_run; does = t.does; notes = t.notes; counts = so t.run.failures t.counts }
+told_as t so = grind (arith, common_steps)
 
 module _ (reporting : Reporting) (m : Meaning) (title : Option Text) (name report : Text) (left : Option Text) (n : ℕ)
     (rest : Option Text) (next : ℕ) (r : Result ℕ Fault) (b c : Seen) (before after : Shown) (x y : ℕ) where
@@ -289,23 +248,16 @@ module _ (reporting : Reporting) (m : Meaning) (title : Option Text) (name repor
 
 -- ---- the run over lists
 
-some_is : {X : Type 0} {P : X → Type 0} (o : Option X) → IsSomeAnd o P → (x : X) × (o ≡ Some x) × P x
-some_is None p = absurd p
-some_is (Some x) p = (x, refl, p)
-
 and_some : {X : Type 0} (o : Option X) (x : X) (P : X → Type 0) → o ≡ Some x → P x → IsSomeAnd o P
 and_some o x P is p = rw is p
 
 -- what a list that was read to its end leaves of standard input
 left_by : (b : Bool) (s : ℕ) (bytes : List ℕ) (now : Option (List ℕ))
     → (let r : Result ℕ Fault = Ok s in Leaves b r (Some bytes) now) → now ≡ Some (if b then [] else bytes)
-left_by false s bytes now leaves = leaves
-left_by true s bytes None leaves = absurd leaves.0.1
-left_by true s bytes (Some rest) leaves = ap (λ (l : List ℕ). Some l) leaves.1
+left_by b s bytes now leaves = grind (arith, common_steps)
 
 plus-file : (b : Bool) (k : ℕ) → failures_from false k ≡ plus (failures_from b 0) (failures_from false k)
-plus-file true k = pair (omega arith) (omega arith)
-plus-file false k = pair (omega arith) (omega arith)
+plus-file b k = grind (arith, common_steps, pair)
 
 -- ---- what is seen of lists beside their report
 
@@ -317,25 +269,12 @@ pub told_known : (report : Text) (left : Option Text) (n : ℕ) (bytes : Option 
     (P : Beside → Type 0) → ((text m : List ℕ) (f : Files) (whole : Text) → left ≡ Some text → bytes ≡ Some m
     → files ≡ Some f → f report ≡ Some whole → HasRoom whole text n
     → P (record { left = text; number = n; input = m })) → IfSome (told_state report left n bytes files) P
-told_known report None n bytes files P holds = tt
-told_known report (Some left) n None files P holds = tt
-told_known report (Some left) n (Some bytes) None P holds = tt
-told_known report (Some left) n (Some bytes) (Some files) P holds = on (files report) refl
-  where
-    on : (content : Option Text) → files report ≡ content → IfSome (roomy left n bytes content) P
-    on None is = tt
-    on (Some whole) is = by (nat_le (n + length left) (length whole + 1)) refl
-      where
-        by : (b : Bool) → nat_le (n + length left) (length whole + 1) ≡ b
-            → IfSome (if b then Some (record { left = left; number = n; input = bytes }) else None) P
-        by false few = tt
-        by true few = holds left bytes files whole refl refl refl is (grind (arith, nat_tests))
+told_known report left n bytes files P holds = grind (arith, common_steps, nat_tests)
 
 known_told : (report text m : List ℕ) (f : Files) (whole : Text) (left : Option Text) (n : ℕ) (bytes : Option (List ℕ))
     (files : Option Files) → left ≡ Some text → bytes ≡ Some m → files ≡ Some f → f report ≡ Some whole
     → HasRoom whole text n → told_state report left n bytes files ≡ Some (record { left = text; number = n; input = m })
-known_told report text m f whole left n bytes files is at of readable room =
-    rw (is, at, of, readable, fits (n + length text) (length whole + 1) room) refl
+known_told report text m f whole left n bytes files is at of readable room = grind (arith, common_steps, fits)
 
 -- ---- the run of one list
 
@@ -401,7 +340,17 @@ module _ (reporting : Reporting) (m : Meaning) (lists : List Text) (report name 
             λ s ends now still. known_told report behind over files whole rest next c.bytes c.files rest_is now
                 (still ∙ of) is (omega (arith, few, longer, long, next_is, room)),
           )
-      on (Some m) at (inr (inr (os, front, after, cut, possible, behind, split, inr (line, others, more, so, other)))) = (
+      on (Some m) at (inr (inr (
+        os,
+        front,
+        after,
+        cut,
+        possible,
+        behind,
+        split,
+        inr
+            (line, others, more, so, other),
+      ))) = (
         here,
         inr (inr (rw (of, at) (
           os,
@@ -421,13 +370,15 @@ module _ (reporting : Reporting) (m : Meaning) (lists : List Text) (report name 
   -- what was done of it, from a state on
   abbrev pub ToldOnce : Beside → Text → Result ℕ Fault → Shown → Type 0
   ToldOnce z i q out = Once (λ run. (w : Beside) × (by_report_of m reporting b.files lists report).step z i run w
-      × OnOk q (told_state report rest next c.bytes c.files ≡ Some w)) false shared (ReportOf b c x y) q b.out out err_old
+      × OnOk q (told_state report rest next c.bytes c.files ≡ Some w)) false shared (ReportOf b c x y) q
+      b.out out err_old
       err_new
 
   pub list_told : ToldOver reporting m title name report left n rest next r b c err_old err_new x y
       → Leaves (is_input name) r b.bytes c.bytes → c.files ≡ b.files → c.out ≡ b.out
       → IfSome (told_state report left n b.bytes b.files) (λ z. (i : Text) → i ≡ name → ToldOnce z i r c.out)
-  list_told read gave kept out = told_known report left n b.bytes b.files _ (λ coming bytes files whole has at of is room.
+  list_told read gave kept out = told_known report left n b.bytes b.files _
+      (λ coming bytes files whole has at of is room.
       λ i named. let t = read bytes coming whole files at of has room in
       rw (named, out) (on (record { left = coming; number = n; input = bytes }) r t
       (stepped coming bytes whole files of is room t.run t.is_run) (rw at at gave)))
@@ -435,7 +386,8 @@ module _ (reporting : Reporting) (m : Meaning) (lists : List Text) (report name 
       on : (z : Beside) (q : Result ℕ Fault) {is : Run → Type 0} (t : IsTold is q err_old err_new (ReportOf b c x y))
           → Stepped z t.run → Leaves (is_input name) q (Some z.input) c.bytes → ToldOnce z name q b.out
       on z (Ok s) t (w, step, known) gave = once_done t.run b.out b.out err_old err_new
-          (w, step, known s (t.does b.out).ending (left_by (is_input name) s z.input c.bytes gave) kept) t.counts t.notes
+          (w, step, known s (t.does b.out).ending (left_by (is_input name) s z.input c.bytes gave) kept)
+          t.counts t.notes
           false shared s (t.does b.out)
       on z (Err f) t (w, step, known) gave =
           once_last t.run b.out b.out err_old err_new (w, step, tt) t.counts t.notes f (t.does b.out) false shared refl
@@ -537,34 +489,11 @@ module _ (reporting : Reporting) (m : Meaning) (report : Text) (names : List Tex
       (by_report_of m reporting b.files names report) share z names (ReportOf b d x y) r b.out d.out err_old err_new)
       → v ≡ count_after d.file_failures y
       → Reported b.bytes tree b.out d.out b.input_failures d.input_failures u v
-  report_read remaining feed tree left b d share x y u v alone first opened kept counted is fresh lists closed =
-      on b.bytes tree refl kept opened counted
-    where
-      on : (first : Option (List ℕ)) (tree : Option Files) → b.bytes ≡ first → b.files ≡ tree
-          → IfSome tree (λ files. (whole : List ℕ) × (files report ≡ Some whole) × (remaining feed ≡ Some whole))
-          → IfSome tree (λ files. b.file_failures ≡ count_after u 0)
-          → Reported first tree b.out d.out b.input_failures d.input_failures u v
-      on None tree at of opened counted = tt
-      on (Some bytes) None at of opened counted = tt
-      on (Some bytes) (Some files) at of (whole, readable, all) counted =
-          let state = known_told report whole bytes files whole left 1 b.bytes b.files (is ∙ all) at of readable
-          (omega arith) in
-          let (run, walks, does, tells, (own, k, are, (read, opened), last)) = rw (alone, first, of, every-all names) at
-          (rw state at lists) in (
-            run,
-            inr (and_some (files report) whole _ readable walks),
-            does,
-            tells,
-            Counted-as _ _ _ _ _ _ are (
-              omega (arith, read),
-              omega (arith, counted, opened, last, fresh, closed),
-            ),
-          )
+  report_read remaining feed tree left b d share x y u v alone first opened kept counted is fresh lists closed = grind
+      (arith, common_steps, known_told, every-all, and_some, Counted-as)
 
 -- files that were opened for lists and their report, by what is opened for some of the lists
 pub report_opened : (lists : List Text) (share : Share) (i j k l : ℕ) → share.others ≡ 0 → share.waiting ≡ 0
     → (done : List Text) × (rest : List Text) × (every share.others share.waiting lists ≡ done ++ rest)
     × (k ≤ j + sum_by opens_of done) → j ≤ i + 1 → l ≤ k → l ≤ i + (1 + sum_by opens_of lists)
-report_opened lists share i j k l alone first (done, rest, split, most) begun closed =
-    let all = opens_some opens_of lists done rest j k (sym (every-all lists) ∙ rw (alone, first) at split) most in
-    omega (arith, all, begun, closed)
+report_opened lists share i j k l alone first h begun closed = grind (arith, common_steps, opens_some, every-all)

@@ -1,9 +1,9 @@
 -- What a share takes of things that come one after another.
+use Rattle.std.proofs.lemmas.Grind.{common_steps}
 use Rattle.std.proofs.Common.{◌≡◌, ◌∙◌, ℕ, ◌+◌, ◌-◌, ◌≤◌, zero, suc, List, [], ◌∷◌, ◌++◌, length, ap, refl, arith, ◌<◌}
-use Rattle.std.proofs.Common.{false, true}
+use Rattle.std.proofs.Common.{false}
 use Rattle.std.proofs.lemmas.Bool.Decides.{nat_tests}
 use Rattle.std.specs.List.{range_with_len}
-use Rattle.std.specs.Prelude.{nat_lt}
 use Rattle.sumlist.specs.Shared.{every}
 use Rattle.task.specs.declared.sharing.SharedFile.{SharedFile}
 use Rattle.command.specs.Lines.{is_input}
@@ -15,9 +15,7 @@ every-all (x ∷ xs) = ap (λ ys. x ∷ ys) (every-all xs)
 
 -- a file of which there are other shares is not standard input
 pub not_input : (file : SharedFile) → 0 < file.share.others → is_input file.name.now ≡ false
-not_input file some =
-    let other : nat_lt 0 file.share.others ≡ true = grind (arith, nat_tests) in
-    let named = file.named in rw other at named
+not_input file some = grind (arith, common_steps, nat_tests)
 
 -- how many a share passes over behind these before its next
 abbrev pub waits : {A : Type 0} → ℕ → ℕ → List A → ℕ

@@ -1,17 +1,15 @@
 -- The run of `part --verify` by what names give.
-use Rattle.std.proofs.Common.{◌≡◌, ℕ, List, drop, Option, Some, Bool, IfSome, Result, refl, sym, subst, arith, false}
-use Rattle.std.proofs.Common.{inl, inr}
+use Rattle.std.proofs.lemmas.Grind.{common_steps}
+use Rattle.std.proofs.Common.{◌≡◌, ℕ, List, drop, Option, Some, Bool, IfSome, Result, refl, arith, false, inl}
 use Rattle.std.specs.Prelude.{IsErrAnd}
 use Rattle.hashes.specs.declared.share.Share.{Share}
 use Rattle.request.specs.CommandLine.{Text}
 use Rattle.source.specs.Counts.{count_after}
 use Rattle.source.specs.Written.{Shown}
 use Rattle.sumlist.specs.Report.{Files}
-use Rattle.command.specs.Lines.{content_of, is_input}
+use Rattle.command.specs.Lines.{is_input}
 use Rattle.command.specs.Verifying.{VerifyRuns}
-use Rattle.command.specs.inside.Seen.{DoesBeside}
-use Rattle.command.specs.inside.Troubles.{Counted, Failures, MayFail, MayRefuse, Trouble, failures_of, refusal}
-use Rattle.command.specs.inside.Troubles.{too_long, trouble_of}
+use Rattle.command.specs.inside.Troubles.{MayFail, MayRefuse, Trouble, failures_of, refusal, too_long, trouble_of}
 use Rattle.command.specs.inside.Verifying.{ComparesName}
 use Rattle.command.specs.declared.fault.Fault.{Fault}
 use Rattle.command.specs.declared.fault.Fault.TheVariants.{OutOfMemory}
@@ -60,22 +58,4 @@ module _ (s : Share) (parts name : Text) (first : Option (List ℕ)) (tree : Opt
       → IfSome tree (λ files. x ≡ count_after w 0) → i ≡ 0
       → IfSome list (λ text. Named (ComparesName s parts name text) name first tree r old new i j u v x z)
       → y ≡ count_after z j → Verified v
-  verified_by v x z i j list opened counted fresh beside closed = known first (λ bytes q. known tree (λ files t.
-      let m = rw t at opened in
-      of_list bytes files (rw t at (rw q at (rw m.2 at beside))) m.1 (rw t at counted)))
-    where
-      of_list : {text : List ℕ} (bytes : List ℕ) (files : Files)
-          → DoesBeside (ComparesName s parts name text (content_of name bytes files)) r old new i j
-          (λ f. Counted f u v x z) → files parts ≡ Some text → x ≡ count_after w 0
-          → Taken (VerifyRuns s parts name files bytes) r old new u v w y
-      of_list bytes files d is none =
-          let input = d.counted.0 in
-          let file = d.counted.1 in
-          let listed = d.list in (
-            d.run,
-            inr (rw is d.is_run),
-            d.does,
-            d.quiet,
-            subst (λ (f : Failures). Counted f u v w y) (sym d.sum)
-                (omega (arith, input), omega (arith, file, closed, listed, fresh, none)),
-          )
+  verified_by v x z i j list opened counted fresh beside closed = grind (arith, common_steps, known, Taken)

@@ -1,10 +1,10 @@
 -- The run of `part --verify`.
+use Rattle.std.proofs.lemmas.Grind.{common_steps, flat_map-append}
 use Rattle.std.proofs.Common.{◌≡◌, ◌∙◌, ℕ, ◌+◌, ◌-◌, ◌*◌, ◌≤◌, Bool, true, false, List, [], ◌∷◌, ◌++◌, length, max}
-use Rattle.std.proofs.Common.{take, drop, Option, Some, None, IfSome, Result, Ok, Err, refl, sym, ap, subst, arith}
-use Rattle.std.proofs.Common.{fold, suc, inl, inr, append_assoc, append-nil, length-append, nat_lt, if◌then◌else◌}
+use Rattle.std.proofs.Common.{take, drop, Option, Some, None, IfSome, Result, Ok, Err, refl, sym, ap, subst, arith, suc}
+use Rattle.std.proofs.Common.{inl, inr, append_assoc, append-nil, length-append, nat_lt, if◌then◌else◌}
 use Rattle.std.proofs.KnownBytes.{Appends-nil}
 use Rattle.std.proofs.lemmas.Bool.Decides.{nat_tests}
-use Rattle.std.proofs.lemmas.Grind.{flat_map-append}
 use Rattle.std.proofs.lemmas.List.{length-take}
 use Rattle.std.proofs.lemmas.Result.{err_from_is_err_and}
 use Rattle.std.specs.Borrow.{Bor}
@@ -67,9 +67,7 @@ abbrev pub mark : List ℕ → PartValue → Verdict
 mark m part = (verdict m part).0
 
 status_by : (short same : Bool) → (given short same).1 ≡ status_of (given short same).0
-status_by true same = refl
-status_by false true = refl
-status_by false false = refl
+status_by short same = grind (arith, common_steps)
 
 status_is : (m : List ℕ) (part : PartValue) → (verdict m part).1 ≡ status_of (mark m part)
 status_is m part = status_by (is_short m part) (has_value m part)
@@ -79,26 +77,15 @@ pub judged_fault : (part : PartValue) (room : ℕ) (name : Text) (m : List ℕ) 
     → (let r : Result (Option PartValue) Fault = Err f in
     TakesAt part.first_chunk room (Some part.len) name (Some m) r) → part.len ≤ 1024 * room
     → MayFail name (λ _. ⊥) (trouble_of f)
-judged_fault part room name m f (inr may) enough = may
-judged_fault part room name m f (inl (x, is, inl p)) enough = inr (inl p)
-judged_fault part room name m f (inl (x, is, inr p)) enough =
-    let size = length-take part.len (drop (1024 * part.first_chunk) x) in
-    let limit = part.placed.1 in let more = p.1 in
-    absurd (omega (arith, size, limit, more, enough))
+judged_fault part room name m f h enough = grind (arith, common_steps, length-take)
 
 status-more : (m : List ℕ) (told : List PartValue) (part : PartValue)
     → status m (told ++ part ∷ []) ≡ max (status m told) (status_of (mark m part))
-status-more m told part = on 0 told ∙ ap (max (status m told)) (status_is m part)
-  where
-    on : (s : ℕ) (told : List PartValue) → fold (λ s part. max s (verdict m part).1) s (told ++ part ∷ [])
-        ≡ max (fold (λ s part. max s (verdict m part).1) s told) (verdict m part).1
-    on s [] = refl
-    on s (first ∷ told) = on (max s (verdict m first).1) told
+status-more m told part = grind (arith, common_steps, status_is)
 
 lines_said : (m : List ℕ) (told : List PartValue) (part : PartValue)
     → flat_map (verdict_line m) (told ++ part ∷ []) ≡ flat_map (verdict_line m) told ++ verdict_line m part
-lines_said m told part = flat_map-append (verdict_line m) told (part ∷ [])
-    ∙ ap (λ (l : Text). flat_map (verdict_line m) told ++ l) (append-nil (verdict_line m part))
+lines_said m told part = grind (arith, common_steps, flat_map-append, append-nil)
 
 -- the line that is written of a verdict
 abbrev pub line_said : PartValue → Verdict → Text
@@ -123,8 +110,7 @@ by_lines : {text : List ℕ} {joiner : Joiner} {front : List ℕ} {list : Option
     (run ≡ record (stops run_ends.cannot_write) { text = said; is_whole = false })
     ⊎ ((end : Run) × VerifyEnds parts name text m told (every s.others s.waiting told) (lines (front ++ read.rest)) end
     × (run ≡ record end { text = said }))) → ComparesName s parts name text (Some m) run
-by_lines {front = front} {told = told} m parts name read ends =
-    inr (read.before, lines (front ++ read.rest), told, read.split, read.tells, read.row, ends)
+by_lines {front = front} {told = told} m parts name read ends = grind (arith, common_steps)
 
 -- these parts were compared and one file opened for each of the share, and none failed; so many are passed over before
 -- its next
@@ -172,16 +158,13 @@ Next joiner next front ahead list after r = IfSome list (λ bytes. (left : List 
     × ((parts : List PartValue) → HasJoined joiner parts → JoinsNext (front ++ bytes) parts next (ahead ++ left) r))
 
 quiet_both : (b : Bool) → counts [] ≡ plus (failures_from false 0) (failures_from b 0)
-quiet_both true = refl
-quiet_both false = refl
+quiet_both b = grind (arith, common_steps)
 
 list_failed : (b : Bool) → counts (false ∷ []) ≡ plus (failures_from false 1) (failures_from b 0)
-list_failed true = refl
-list_failed false = refl
+list_failed b = grind (arith, common_steps)
 
 file_failed : (b : Bool) → counts (b ∷ []) ≡ plus (failures_from false 0) (failures_from b 1)
-file_failed true = refl
-file_failed false = refl
+file_failed b = grind (arith, common_steps)
 
 as_many : (ls : List (List ℕ)) (parts : List PartValue) → AllTell ls parts → length parts ≡ length ls
 as_many [] [] tells = refl
@@ -206,11 +189,7 @@ module _ {s : Share} {text m : List ℕ} {gives : ℕ → Type 0} {joiner : Join
   said = flat_map (verdict_line m) own
 
   few_opens : (h : ℕ) → h ≤ l + 1 → h ≤ k + (length (every s.others s.waiting (lines text)) + 1)
-  few_opens h one =
-      let few : length own ≤ length (every s.others s.waiting (lines text))
-      = subst (λ (ls : List (List ℕ)). length own ≤ length (every s.others s.waiting ls)) (sym so.read.split)
-      (every-few s.others s.waiting so.told so.read.before _ (as_many so.read.before so.told so.read.tells)) in
-      let opened = so.opened in omega (arith, few, opened, one)
+  few_opens h one = grind (arith, common_steps, every-few, as_many)
 
   -- what was found behind the parts so far
   found : (next : Joiner) (ahead : List ℕ) (after : Option (List ℕ)) (r : Result (Option PartValue) JoinFault)

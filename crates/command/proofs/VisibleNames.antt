@@ -1,5 +1,6 @@
 -- What the visible form of a name comes to: characters that are no command to a terminal, end no line and set no
 -- direction, and the name itself where it has only such ones and no backslash.
+use Rattle.std.proofs.lemmas.Grind.{common_steps}
 use Rattle.std.proofs.Common.{◌≡◌, ◌∙◌, ℕ, ◌/◌, ◌%◌, ◌<◌, Bool, true, false, cond, ◌&&◌, ◌||◌, List, [], ◌∷◌, ◌++◌}
 use Rattle.std.proofs.Common.{refl, sym, ap, arith, append-nil, codes}
 use Rattle.std.proofs.Math.Utf8.{encodes, scalars}
@@ -18,16 +19,13 @@ use Rattle.sumlist.specs.Escape.{escape_of, is_special}
 use Rattle.command.specs.Visible.{is_layout, is_plain, is_quiet, visible, visible_char}
 
 and_true : (a b : Bool) → a ≡ true → b ≡ true → (a && b) ≡ true
-and_true true b p q = q
-and_true false b p q = p
+and_true a b p q = grind (arith, common_steps)
 
 and_left : (a b : Bool) → (a && b) ≡ true → a ≡ true
-and_left true b e = refl
-and_left false b e = e
+and_left a b e = grind (arith, common_steps)
 
 and_right : (a b : Bool) → (a && b) ≡ true → b ≡ true
-and_right true b e = e
-and_right false b e = absurd (cc e)
+and_right a b e = grind (arith, common_steps)
 
 -- a text whose characters are quiet
 record IsQuiet (text : List ℕ) : Type 0 where
@@ -60,10 +58,7 @@ all_quiet (b ∷ text) e =
     (all_quiet text (and_right (printable b) (list_all printable text) e))
 
 quiet_text : (text : List ℕ) → list_all printable text ≡ true → IsQuiet text
-quiet_text text e = record {
-  utf8 = IsUtf8-from_ascii text (all_ascii text e);
-  quiet = ap (list_all is_quiet) (chars-IsAscii text (all_ascii text e)) ∙ all_quiet text e;
-}
+quiet_text text e = grind (arith, common_steps, IsUtf8-from_ascii, all_ascii, chars-IsAscii, all_quiet)
 
 printable_digit : (n : ℕ) → n < 16 → printable (slice_index lower_digits n) ≡ true
 printable_digit n less = AllPass-from_list_all printable lower_digits refl n 0 less

@@ -1,4 +1,5 @@
 -- How far a walk has come, and what is done of it behind the next item.
+use Rattle.std.proofs.lemmas.Grind.{common_steps}
 use Rattle.std.proofs.Common.{◌≡◌, ◌≢◌, ◌∙◌, ℕ, ◌-◌, List, [], ◌∷◌, ◌++◌, Bool, true, false, Option, Some, None, Result}
 use Rattle.std.proofs.Common.{Ok, Err, IfSome, refl, sym, subst, arith, inl, inr, max, append_assoc, nat_lt, ◌==◌}
 use Rattle.std.proofs.Common.{if◌then◌else◌}
@@ -11,9 +12,9 @@ use Rattle.source.specs.Written.{Done, Failed, Shown}
 use Rattle.source.proofs.Writing.{Done-after, Failed-after}
 use Rattle.sumlist.specs.Shared.{every}
 use Rattle.sumlist.proofs.Shares.{every-later}
-use Rattle.command.specs.Run.{Run, TellsAll, end_of, followed, prints, stops}
+use Rattle.command.specs.Run.{Run, TellsAll, end_of, followed, stops}
 use Rattle.command.specs.Walks.{Walk, Walks}
-use Rattle.command.specs.inside.Items.{Breaks, DoesWalk, EndsBy, Follows, Halts, MovesOn, Once}
+use Rattle.command.specs.inside.Items.{Breaks, DoesWalk, EndsBy, Follows, MovesOn, Once}
 use Rattle.command.specs.inside.Seen.{Does}
 use Rattle.command.specs.inside.Troubles.{shown, trouble_of}
 use Rattle.command.specs.declared.fault.Fault.{Fault}
@@ -93,14 +94,7 @@ module _ {T : Type 0} {counted : List Bool → T → T → Type 0}
     did_stop : (i : I) (items : List I) (status : ℕ) (last : Option S) (h : Fault) (p q : T) (a b e f : Shown)
         → OneOf counted goes_on w shared x i last p q (Err h) a b e f
         → Rest counted goes_on w shared x status (i ∷ items) p q (Err h) a b e f
-    did_stop i items status last h p q a b e f o =
-        let it : Halts goes_on o.first (Err h) a b e f = o.ends in (
-          o.first,
-          inr (o.plain, o.first, o.is_one.0, o.is_one.1, o.in_share, rw it.heavy refl),
-          it.does,
-          it.err,
-          o.counts,
-        )
+    did_stop i items status last h p q a b e f o = grind (arith, common_steps)
 
     did_break : (status : ℕ) (items : List I) (h : Fault) (p q : T) (b e : Shown)
         → Breaks w.broken h (λ f. counted f p q) → Rest counted goes_on w shared x status items p q (Err h) b b e e
@@ -119,15 +113,7 @@ module _ {T : Type 0} {counted : List Bool → T → T → Type 0}
 
     did_end : (status : ℕ) (r : Result ℕ Fault) (p q : T) (b e : Shown)
         → EndsBy (w.ending x status) r (λ f. counted f p q) → Rest counted goes_on w shared x status [] p q r b b e e
-    did_end status (Ok s) p q b e (ends, counts) =
-        (prints [] s, inl ends, record { ending = refl; out = nothing b; cut = λ is. cc }, refl, counts)
-    did_end status (Err h) p q b e (failures, ends, counts) = (
-      record (stops (shown (trouble_of h))) { failures = failures },
-      inl ends,
-      record { ending = refl; out = nothing b; cut = λ is. cc },
-      refl,
-      counts,
-    )
+    did_end status r p q b e h = grind (arith, common_steps, nothing)
 
   -- what is done of an item and the others of its share is done of those to come
   of_share : (share : Share) (x : S) (status waiting : ℕ) (l : List I) (i : I) (after : List I) → l ≡ i ∷ after
@@ -173,13 +159,7 @@ module _ {T S I : Type 0} {goes_on : Bool} {w : Walk S I} {counted : List Bool �
     {start : Option S} {all : Option (List I)} where
   pub walked_start : {p : T} {a e : Shown} → Walked goes_on w counted share start all start all
       share.waiting 0 p p a a e e
-  walked_start {p} {a} {e} = record { goes = on start all }
-    where
-      on : (o : Option S) (l : Option (List I)) → IfSome o (λ s. IfSome l (λ i. (x : S) × (rest : List I)
-          × (o ≡ Some x) × (l ≡ Some rest) × Goes goes_on w counted share s i x rest share.waiting 0 p p a a e e))
-      on None l = tt
-      on (Some s) None = tt
-      on (Some s) (Some l) = (s, l, refl, refl, record { go = λ r t c g d. d })
+  walked_start {p} {a} {e} = grind (arith, common_steps)
 
   module _ (more : (f g : List Bool) (a b c : T) → counted f a b → counted g b c → counted (f ++ g) a c)
       {now : Option S} {items : Option (List I)} {waiting status : ℕ} {p q : T} (t : T) {a b e f : Shown}
@@ -241,14 +221,7 @@ module _ {T S I : Type 0} {goes_on : Bool} {w : Walk S I} {counted : List Bool �
           of_one : (last : Option S) (u : T) (r : Result ℕ Fault) (c g : Shown)
               → Ones counted goes_on v share at later last t u r b c f g → (x : S) → later ≡ Some x → (i : I) → at i
               → OneOf counted goes_on w (nat_lt 0 share.others) x i last t u r b c f g
-          of_one last u r c g ones x is i here = let o = (rw is at ones) i here in record {
-            plain = o.plain;
-            is_one = (o.is_one.0, so x i o.plain o.is_one.0 o.is_one.1, o.is_one.2);
-            first = o.first;
-            in_share = o.in_share;
-            counts = o.counts;
-            ends = o.ends;
-          }
+          of_one last u r c g ones x is i here = grind (arith, common_steps)
 
           pub walked_one : {soon : ℕ} (s : ℕ) (last : Option S) (u : T) (c g : Shown) {after : ℕ}
               → (waiting ≡ 0) × (soon ≡ share.others) → after ≡ max status s
@@ -295,8 +268,4 @@ module _ {T S I : Type 0} {goes_on : Bool} {w : Walk S I} {counted : List Bool �
 pub ended : {S I : Type 0} (v w : Walk S I) (counted : List Bool → Type 0) (now : Option S) (status : ℕ)
     (r : Result ℕ Fault) → ((x : S) (status : ℕ) (run : Run) → v.ending x status run → w.ending x status run)
     → IfSome now (λ x. EndsBy (v.ending x status) r counted) → IfSome now (λ x. EndsBy (w.ending x status) r counted)
-ended {S} v w counted now status r so ends = IfSome_then now ends (λ x end. on x r end)
-  where
-    on : (x : S) (r : Result ℕ Fault) → EndsBy (v.ending x status) r counted → EndsBy (w.ending x status) r counted
-    on x (Ok s) (end, counts) = (so x status (prints [] s) end, counts)
-    on x (Err h) (failures, end, counts) = (failures, so x status _ end, counts)
+ended {S} v w counted now status r so ends = grind (arith, common_steps, IfSome_then)

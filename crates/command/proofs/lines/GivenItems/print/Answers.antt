@@ -10,5 +10,6 @@ returns-clause-printed g c =
     g.T.Tree.opens g.W.Sink.shown in
     let old = at c.args.self.now.input.now c.args.self.now.tree.now c.args.out.now in
     rw (c.out-1.given.1 (sym c.print_one.ensures.same.out)) (given_printed (line_by c.args.self.now.rule.now)
-    c.args.self.now.names.name.now (nat_lt 0 c.args.share.others) _ old (at c.print_one.new.self.input.now c.print_one.new.self.tree.now c.print_one.new.self.out.now) _ _
+    c.args.self.now.names.name.now (nat_lt 0 c.args.share.others) _ old
+    (at c.print_one.new.self.input.now c.print_one.new.self.tree.now c.print_one.new.self.out.now) _ _
     c.print_one.ensures.files c.print_one.ensures.name)

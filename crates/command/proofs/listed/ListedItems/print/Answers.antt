@@ -22,7 +22,8 @@ returns-clause-printed g c =
     let gave = c.print_one.ensures.gave c.in-Some.ensures.other in
     rw (c.out-1.given.1 (sym c.print_one.ensures.same.out)) (listed_printed (nat_lt 0 c.args.share.others)
     (line_by c.args.self.now.rule.now) c.args.self.now.list c.args.self.now.number c.args.self.now.names.now old
-    (at c.print_one.new.self.input.now c.print_one.new.self.tree.now c.print_one.new.self.out.now) _ _ _ c.in-Some.name.now c.in-Some.ensures.file c.print_one.ensures.files gave
+    (at c.print_one.new.self.input.now c.print_one.new.self.tree.now c.print_one.new.self.out.now) _ _ _
+    c.in-Some.name.now c.in-Some.ensures.file c.print_one.ensures.files gave
     c.print_one.ensures.name)
 
 pub returns-clause-items : goal.returns-clause-items

@@ -10,7 +10,8 @@ returns-clause-run g c =
     g.T.Tree.opens g.W.Sink.shown in
     let new = at c.walk.new.items.input.now c.walk.new.items.tree.now c.walk.new.out in
     lists_walked c.args.reporting (meaning c.args.entries.now) c.args.share c.whole.result
-    (map (λ n. n.now) c.args.lists.now) _ (at c.args.self.now.input.now c.args.self.now.tree.now c.args.self.now.out.now) new _ _ c.whole.ensures.others c.whole.ensures.waiting
+    (map (λ n. n.now) c.args.lists.now) _ (at c.args.self.now.input.now c.args.self.now.tree.now
+    c.args.self.now.out.now) new _ _ c.whole.ensures.others c.whole.ensures.waiting
     (rw (c.new.ensures.left, c.new.ensures.names) at c.walk.ensures.run)
 
 pub returns-clause-opens : goal.returns-clause-opens

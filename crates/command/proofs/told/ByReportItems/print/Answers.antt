@@ -16,7 +16,8 @@ returns-clause-printed g c =
     c.args.self.now.told.name.now c.args.self.now.lists.name.now _
     (rw c.are_several.ensures at c.title_of-title.ensures) (left g.F.Feed.remaining c.args.self.now.told.report)
     (left g.F.Feed.remaining c.tell_one.new.told.report) c.args.self.now.told.next c.tell_one.new.told.next
-    (nat_lt 0 c.args._share.others) _ old (at c.tell_one.new.self.input.now c.tell_one.new.self.tree.now c.tell_one.new.self.out.now) _ _
+    (nat_lt 0 c.args._share.others) _ old (at c.tell_one.new.self.input.now c.tell_one.new.self.tree.now
+    c.tell_one.new.self.out.now) _ _
     (g.F.Feed.failure_count c.args.self.now.told.report.feed.now)
     (g.F.Feed.failure_count c.tell_one.new.told.report.feed.now) c.tell_one.ensures.list c.tell_one.ensures.gave
     c.tell_one.ensures.kept.files
