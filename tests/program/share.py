@@ -67,8 +67,10 @@ def changed(source, report):
 
 def check(program, words, names):
     """A run over these lists, which has a standard input of its own."""
-    given = open("input", "rb").read() if "-" in names else b""
-    return harness.run(program, ["check", *words, "--", *names], given)
+    if "-" not in names:
+        return harness.run(program, ["check", *words, "--", *names])
+    with open("input", "rb") as given:  # no pipe, which a share refuses
+        return harness.run(program, ["check", *words, "--", *names], None, stdin=given)
 
 
 def one_run(program, source, about, files):

@@ -17,4 +17,5 @@ pub mod Telling
 pub mod Moved
 pub mod Said
 pub mod Looks
+pub mod FileTree
 pub mod Filling

@@ -5,6 +5,7 @@ ghost use Rattle.std.specs.Io.Seek.{MovesTo};
 ghost use Rattle.std.specs.Prelude.{◌≡◌, ◌↔◌, ◌⊎◌, ◌<◌, ℕ, Err, IsTrue, None, Ok, Result, IfErr, IfOk};
 ghost use Rattle.std.specs.declared.io.ErrorKind.{ErrorKind};
 ghost use Rattle.sumlist.specs.Opening.{fault_of};
+ghost use Rattle.sumlist.specs.inside.FileTree.{tree_is_shared};
 ghost use Rattle.sumlist.specs.inside.Moved.{IsMoved};
 ghost use Rattle.either.specs.declared.Either.TheVariants.{Left};
 
@@ -66,6 +67,7 @@ impl<'r, R: Files> FileTree<'r, R> {
         ensures failures { ⟦<FileTree<'r, R> as Tree>⟧.failure_count result
             ≡ ⟦<FileTree<'r, R> as Tree>⟧.failure_count self.entry }
         ensures opens { ⟦<FileTree<'r, R> as Tree>⟧.opens result ≡ 0 }
+        ensures shared { IsTrue (tree_is_shared result) }
     {
         FileTree {
             rt: self.rt,
@@ -86,8 +88,10 @@ impl<'r, R: Files> FileTree<'r, R> {
         }
     }
 
-    // Whether the others would miss what is read of the file of this name.
-    fn is_lost(&self, name: &str) -> bool {
+    /// Whether the others would miss what is read by this name, as by that of standard input.
+    pub fn is_lost(&self, name: &str) -> bool
+        ensures shared { IsTrue result → IsTrue (tree_is_shared self.now) }
+    {
         self.is_shared && self.rt.metadata(name).ok().filter(gives_once).is_some()
     }
 }

@@ -9,10 +9,12 @@ ghost use Rattle.request.specs.declared.request.WordsFault.TheVariants.{OutOfMem
 ghost use Rattle.command.specs.Run.{Tells};
 ghost use Rattle.sums.specs.Asking.{IsAsked};
 
+mod input;
 mod progress;
 mod watched;
 
 use command::{Fault, tell};
+use input::Input;
 use program::{run_task, task_of};
 use progress::{Erasing, Progress};
 use request::{Request, WordsFault, line};
@@ -121,13 +123,14 @@ fn run_words<W: Sink, E: Sink>(
             if is_shown {
                 progress.begin(most);
             }
-            let mut input = Watched::new(Device::new(rt.stdin()), progress.watch_input());
             let files = if keeps_input {
                 FileTree::beside(rt, "/dev/stdin")
             } else {
                 FileTree::new(rt)
             };
             let files = if is_shared { files.shared() } else { files };
+            let stdin = Input::of(rt.stdin(), files.is_lost("/dev/stdin"));
+            let mut input = Watched::new(Device::new(stdin), progress.watch_input());
             let mut tree = WatchedTree::new(files, progress);
             run_task(alloc, judged, &mut input, &mut tree, out, err)
         }
