@@ -2,7 +2,7 @@
    CALL_NUMBER gives does nothing and fails with the error CALL_ERROR. Each read gives at most SHORT
    bytes, and each write takes at most as many, where that is set. At the end the number of calls is
    written into the file that CALL_COUNT names. The folder / that a run opens and closes as it begins is
-   not counted, and neither open nor close of it fails. */
+   not counted, and neither open nor close of it fails, but if NO_ROOT is set it cannot be opened. */
 typedef unsigned long size_t;
 
 extern void *dlsym(void *, const char *);
@@ -14,6 +14,7 @@ extern int dprintf(int, const char *, ...);
 
 #define AFTER_THIS ((void *)-1)
 #define CREATE_TO_WRITE 01101
+#define DENIED 13
 
 static long count;
 static int folder = -1;
@@ -43,7 +44,11 @@ long write(int file, const void *buffer, size_t size) {
 
 int open(const char *name, int flags, unsigned mode) {
     int (*next)(const char *, int, unsigned) = dlsym(AFTER_THIS, "open");
-    if (!strcmp(name, "/")) return folder = next(name, flags, mode);
+    if (!strcmp(name, "/")) {
+        if (!getenv("NO_ROOT")) return folder = next(name, flags, mode);
+        *__errno_location() = DENIED;
+        return -1;
+    }
     return fails("open") ? -1 : next(name, flags, mode);
 }
 

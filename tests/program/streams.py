@@ -304,12 +304,15 @@ def of_terminal(words, typed):
 
 
 def closed_streams():
-    """What is closed stays closed, whatever is opened: no file is taken for standard input or for an output."""
+    """What is closed stays closed, whatever is opened, even if `/` cannot be: no file is taken for standard input or for
+    an output."""
+    settings = {"LD_PRELOAD": harness.preloaded("fail_call"), "NO_ROOT": "1"}
     write("self-names", b"/dev/stdin\0")
     write("self-list", ABC + b"  /dev/stdin\n")
     for words, status, out, told in UNREAD:
         wanted = (status, out, b"sums: " + told if told else b"")
         same(f"{words}, standard input closed", without((0,), words), wanted)
+        same(f"{words}, standard input closed, and no root", without((0,), words, **settings), wanted)
         same(f"{words}, 0 and 2 closed", without((0, 2), words), (status, out, b""))
         unwritten = (3, b"", CANNOT_WRITE) if out else wanted
         same(f"{words}, 0 and 1 closed", without((0, 1), words), unwritten)
@@ -324,9 +327,10 @@ def closed_streams():
         same(f"{name}, closed", without((2,), words), (status, out, b""))
 
 
-def without(streams, words):
-    """A run that is begun with these streams closed."""
-    return harness.run(program, words.split(), b"abc", preexec_fn=lambda: [os.close(stream) for stream in streams])
+def without(streams, words, **settings):
+    """A run that is begun with these streams closed, and with these variables."""
+    return harness.run(program, words.split(), b"abc", env={**os.environ, **settings},
+                       preexec_fn=lambda: [os.close(stream) for stream in streams])
 
 
 def own_files():

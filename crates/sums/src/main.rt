@@ -35,6 +35,9 @@ const LINE_ROOM: usize = 131_200;
 // of them is printed as at most four.
 const FAULT_ROOM: usize = 524_800;
 
+// Folders of which some can be opened, whatever the modes of the others.
+const FOLDERS: [&str; 4] = ["/", "/proc", "/dev", "."];
+
 fn main(rt: HostRuntime) -> ExitCode {
     match run_lines(&rt) {
         Ok(status) => ExitCode::from(status),
@@ -62,17 +65,26 @@ fn run_lines(rt: &HostRuntime) -> io::Result<u8> {
 
 // Opens a folder in place of each of the three streams that is closed. The system gives a file that it opens the lowest
 // free number: if standard input is closed, the first file would be read as standard input too. Like the closed stream, a
-// folder can be neither read nor written, not even as /dev/stdin, whereas the null device would be an empty file. If `/`
-// cannot be opened, a closed stream is not held.
+// folder can be neither read nor written, not even as /dev/stdin, whereas the null device would be an empty file. The
+// first folder of FOLDERS that can be opened serves; only if none can, a closed stream is not held.
 fn closed_streams(rt: &HostRuntime) -> io::Result<Vec<File>> {
     let mut held = Vec::new(rt.alloc());
     for _ in 0..3 {
-        match File::open(rt, "/") {
-            Ok(folder) if folder.as_raw_fd() <= 2 => held.push(folder)?,
+        match any_folder(rt) {
+            Some(folder) if folder.as_raw_fd() <= 2 => held.push(folder)?,
             _ => break,
         }
     }
     Ok(held)
+}
+
+fn any_folder(rt: &HostRuntime) -> Option<File> {
+    for name in FOLDERS {
+        if let Ok(folder) = File::open(rt, name) {
+            return Some(folder);
+        }
+    }
+    None
 }
 
 // The status of a run, given whether standard output took the rest of what was printed. A run with status 3
