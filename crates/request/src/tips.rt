@@ -18,12 +18,27 @@ const CHECK: &str = "'sums check LIST' checks a list";
 
 const PARALLEL: &str = "'sums-parallel' uses all cores";
 
+const ALGORITHM: &str = "the algorithm is set by '-a'";
+
+const QUIET: &str = "'sums check LIST | sed \"/: OK$/d\"' prints what is not OK";
+
+const STATUS: &str = "'sums check LIST > /dev/null' has the status alone";
+
+const SOME: &str = "'grep -F -e FILE LIST' prints the lines of one file of a list";
+
+const STRICT: &str = "'sums check LIST' always prints malformed lines, with status 1";
+
 const FOLDER: &str =
     "'find FOLDER -type f -print0 | sums hash -a sha256 --files0-from -' hashes a folder";
 
 // What there is here for options of other programs, by how these begin.
-const OPTIONS: [(&str, &str); 9] = [
-    ("--al", "the algorithm is set by '-a'"),
+const OPTIONS: [(&str, &str); 21] = [
+    ("--al", ALGORITHM),
+    ("--sha1", ALGORITHM),
+    ("--sha2", ALGORITHM),
+    ("--sha5", ALGORITHM),
+    ("--md5", ALGORITHM),
+    ("--b", ALGORITHM),
     ("--le", "the length is set by '-l'"),
     ("-c", CHECK),
     ("--check", CHECK),
@@ -32,6 +47,13 @@ const OPTIONS: [(&str, &str); 9] = [
     ("--num-threads", PARALLEL),
     ("-r", FOLDER),
     ("--recursive", FOLDER),
+    ("--quiet", QUIET),
+    ("-q", QUIET),
+    ("--status", STATUS),
+    ("--ignore-missing", SOME),
+    ("--strict", STRICT),
+    ("--warn", STRICT),
+    ("-w", STRICT),
 ];
 
 /// The text of an error: that of `clap`, for wrong words with other tips.
@@ -115,13 +137,19 @@ fn quoted(text: &str) -> &str {
     rest.split_once('\'').unwrap_or((rest, "")).0
 }
 
-// Of a value that `-a` does not take: the possible one that has its letters and digits, in small letters.
+// Of a value that `-a` does not take: the possible one that has its letters and digits, in small letters, or else the
+// HMAC over it.
 fn push_value(alloc: Global, text: &mut String, said: &str) -> Result<(), AllocError> {
-    let value = letters(alloc, quoted(said))?;
-    if let Some((names, _)) = parted(said, "[possible values: ").1.split_once(']') {
+    let Some((names, _)) = parted(said, "[possible values: ").1.split_once(']') else {
+        return Ok(());
+    };
+    let value = quoted(said);
+    let keyed = format!(in alloc; "hmac{value}")?;
+    for wanted in [value, keyed.as_str()] {
+        let wanted = letters(alloc, wanted)?;
         for name in names.split(", ") {
-            if letters(alloc, name)?.as_slice() == value.as_slice() {
-                write!(text, "{TIP}a similar value exists: '{name}'")?;
+            if letters(alloc, name)?.as_slice() == wanted.as_slice() {
+                return write!(text, "{TIP}a similar value exists: '{name}'");
             }
         }
     }
