@@ -1,6 +1,7 @@
 #!/usr/bin/env python3
 """Lists the functions of the crates that decide something without a clause: their body has a branch, and they have no
-`ensures`. Methods of a trait have its clauses, and tests have none. docs/PROOFS.md has to name exactly these functions.
+`ensures`, or ask the system too, of whose answer no clause can speak. Methods of a trait have its clauses, unless they
+ask the system, and tests have none. docs/PROOFS.md has to name exactly these functions.
 usage: tests/documents/without_clause.py           compares them with docs/PROOFS.md
        tests/documents/without_clause.py --list    prints them with their files
 """
@@ -19,7 +20,10 @@ ROOT = os.path.dirname(harness.HERE)
 TESTS = ("library_tests", "memory_tests")
 FUNCTION = re.compile(r"^( *)(?:pub(?:\(\w+\))? )?(?:const |unsafe |extern \"C\" )*fn (\w+)")
 # a branch, a loop, an early return, a comparison, or a choice made by a closure
-BRANCH = re.compile(r"\b(?:if|match|while|for)\b|matches!|\.filter\(|\.then\w*\(|\?(?=[;.,)\s]|$)|&&|\|\||[=!]=| [<>]=? ")
+BRANCH = re.compile(r"\b(?:if|match|while|for)\b|matches!|\.(?:filter|unwrap_or|or|and|then|min|max)\w*\("
+                    r"|\?(?=[;.,)\s]|$)|&&|\|\||[=!]=| [<>]=? ")
+# what only the system knows: its files and streams, by the runtime that is handed on
+ASKS = re.compile(r"\brt\b[.,)]|\bSeekFrom::|\.is_terminal\(")
 LITERAL = re.compile(r"\"(?:\\.|[^\"\\])*\"|'(?:\\.[^']*|[^'\\])'|//.*")
 NAMED = "These decide without a clause: "
 
@@ -51,8 +55,9 @@ def without_clause():
             lines = file.read().splitlines()
         for name, block, head, body in functions(lines):
             of_trait = re.search(r"\btrait\b|\bfor\b", block)
-            decides = any(BRANCH.search(LITERAL.sub("", line)) for line in body)
-            if decides and not of_trait and not any("ensures" in line for line in head):
+            code = [LITERAL.sub("", line) for line in body]
+            decides, asks = (any(pattern.search(line) for line in code) for pattern in (BRANCH, ASKS))
+            if decides and (asks or not of_trait and not any("ensures" in line for line in head)):
                 yield path, name
 
 
