@@ -25,6 +25,8 @@ fn hint(report: &Report) -> Option<&'static str> {
         Some("digests of another length than those of -a")
     } else if report.entries.is_empty() && report.malformed.is_empty() {
         Some("no entries")
+    } else if report.entries.is_empty() {
+        Some("no line is an entry")
     } else if is_all(Verdict::Failed) {
         Some("all FAILED, untagged lines may need another -a")
     } else if is_all(Verdict::Missing) {

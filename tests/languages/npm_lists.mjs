@@ -31,6 +31,7 @@ function piecesOf(bytes, size) {
 function remarkOf(rows) {
   if (rows.some((it) => it.untagged)) return 'digests of another length than those of -a';
   if (!rows.length) return 'no entries';
+  if (rows.every((it) => it.verdict === 'MALFORMED')) return 'no line is an entry';
   if (rows.every((it) => it.verdict === 'FAILED')) return 'all FAILED, untagged lines may need another -a';
   return rows.every((it) => it.verdict === 'MISSING') ? 'all MISSING, names count from the current folder' : null;
 }

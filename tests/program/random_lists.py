@@ -40,10 +40,13 @@ LABELS = {each["label"]: (name, int(each["most"])) for name, each in tables.HASH
 LENGTHS = {name: range(int(each["least"]), int(each["most"]) + 1) for name, each in tables.HASHES.items()}
 # What is said of a list beside its report.
 EMPTY, OTHER, FAILED, MISSING = map(tables.text, ("{no entries}", "{other -a}", "{all failed}", "{all missing}"))
-TAGGED, OTHER_KEY = map(tables.text, ("{tagged}", "{other key}"))
-MD5, SHA_1, MARK, NO_NAME, UNTAGGED = map(tables.text, ("{MD5}", "{SHA-1}", "{mark}", "{no name}", "{need -a}"))
+TAGGED, OTHER_KEY, NO_ENTRY = map(tables.text, ("{tagged}", "{other key}", "{no entry}"))
+MD5, SHA_1, MARK, SIGNED = map(tables.text, ("{MD5}", "{SHA-1}", "{mark}", "{signed}"))
+NO_NAME, UNTAGGED = map(tables.text, ("{no name}", "{need -a}"))
+ARMOUR = b"-----BEGIN PGP SIGNED MESSAGE-----"
 # What is said of a malformed line, by how it begins, and by the digits of a digest that is none of its list.
-LOOKS = [(rb"MD5 \(.*", MD5), (rb"SHA1 \(.*", SHA_1), (rb"\xef\xbb\xbf.*", MARK), (rb"[0-9a-fA-F]+[ \t\r\f]*", NO_NAME)]
+LOOKS = [(rb"MD5 \(.*", MD5), (rb"SHA1 \(.*", SHA_1), (rb"\xef\xbb\xbf.*", MARK), (ARMOUR + b".*", SIGNED),
+         (rb"[0-9a-fA-F]+[ \t\r\f]*", NO_NAME)]
 DIGESTS = {32: MD5, 40: SHA_1}
 # the fewest and the most bytes of a tag in a list, and those without -l
 TAGS = {
@@ -218,6 +221,8 @@ def said(verdicts, others, kind):
         text = TAGGED + b"%d" % len(others) if isinstance(kind, Keyed) else others[0]
     elif not verdicts:
         text = EMPTY
+    elif verdicts == {b"MALFORMED"}:
+        text = NO_ENTRY
     elif verdicts == {b"FAILED"} and kind:
         text = OTHER_KEY if isinstance(kind, Keyed) else FAILED
     elif verdicts == {b"MISSING"}:
@@ -280,7 +285,7 @@ def random_line(source, kind, files):
     if chance < 0.03:
         return source.choice([b"", b"# a comment", b"\r", b"#"])
     if chance < 0.06:
-        line = source.choice([b"MD5 (" + line, b"SHA1 (" + line, b"\xef\xbb\xbf" + line, line.split(b" ")[0]])
+        line = source.choice([b"MD5 (" + line, b"SHA1 (" + line, b"\xef\xbb\xbf" + line, ARMOUR, line.split(b" ")[0]])
     while source.random() < 0.5:
         line = mutated(source, line) if line else b"x"
     return line.replace(b"\n", b"")[: LONGEST_LINE + 2]

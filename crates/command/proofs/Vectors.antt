@@ -11,7 +11,7 @@ use Rattle.hashes.specs.declared.kind.Kind.TheVariants.{Blake2b, Blake2s, Blake3
 use Rattle.command.specs.inside.Cutting.{part_count, start_lines}
 use Rattle.sumlist.specs.Report.{Meaning, foreign, keyed, malformed, no_lines, report_from, skipped, summary_of, told}
 use Rattle.sumlist.specs.Report.{unkeyed}
-use Rattle.sumlist.specs.declared.look.Look.TheVariants.{Digest, Marked, Nameless}
+use Rattle.sumlist.specs.declared.look.Look.TheVariants.{Digest, Marked, Nameless, Signed}
 use Rattle.sumlist.specs.declared.summary.Summary.{Summary}
 use Rattle.sumlist.specs.declared.verdict.Verdict.TheVariants.{Differs, Missing}
 use Rattle.command.specs.inside.Faults.{hinted, noted}
@@ -132,12 +132,17 @@ walk_of_share : WalksShare true numbered (record { others = 1; waiting = 1 }) 0 
     (record (prints (codes "\n") 1) { notes = codes "sums: 8\n" ∷ [] })
 walk_of_share = inr (_, _, 1, (refl, refl), inl refl, (_, inl refl, refl))
 
--- skipped lines alone are no entries, and beside a malformed line nothing is told of that
+-- skipped lines alone are no entries, and malformed ones beside them neither, but nothing is told of one beside an entry
 hinted_example : hinted (codes "-") (unkeyed None) (summary_of (skipped ∷ [])) ≡ codes "sums: -: no entries\n" ∷ []
 unfolding visible chars encode_utf8 summary_of
 hinted_example = refl
 
-hinted_none : hinted (codes "-") (unkeyed (Some Blake3)) (summary_of (skipped ∷ malformed ∷ [])) ≡ []
+hinted_malformed : hinted (codes "-") (unkeyed (Some Blake3)) (summary_of (skipped ∷ malformed ∷ malformed ∷ []))
+    ≡ codes "sums: -: no line is an entry\n" ∷ []
+unfolding visible chars encode_utf8 summary_of
+hinted_malformed = refl
+
+hinted_none : hinted (codes "-") (unkeyed (Some Blake3)) (summary_of (malformed ∷ told (codes "a") Differs ∷ [])) ≡ []
 unfolding summary_of
 hinted_none = refl
 
@@ -169,6 +174,12 @@ hinted_nameless : hinted (codes "-") (unkeyed (Some Sha256)) (summary_of (foreig
     ≡ codes "sums: -: a line has digits and no name\n" ∷ []
 unfolding visible chars encode_utf8 summary_of
 hinted_nameless = refl
+
+-- a signed list has entries too
+hinted_signed : hinted (codes "-") (unkeyed None) (summary_of (foreign Signed ∷ told (codes "a") Missing ∷ []))
+    ≡ codes "sums: -: is signed, 'gpg -o LIST --verify' gives its text\n" ∷ []
+unfolding visible chars encode_utf8 summary_of
+hinted_signed = refl
 
 -- lines that are FAILED, with skipped ones, where no line has another outcome
 hinted_failed : hinted (codes "-") (unkeyed (Some Blake2s)) (summary_of (told (codes "a") Differs ∷ skipped ∷ []))

@@ -379,10 +379,10 @@ fn write_note<E: Sink>(
 //
 // Without `-a`, or with one of another length, a good list has malformed lines alone. A message on standard
 // error says so, once for each list. The first malformed line with a known look decides: that of MD5, SHA-1,
-// a byte order mark or digits alone, by its bytes, or of an entry of another hash. BLAKE2b has digests of
-// each length, so one more reading decides that. Lines that are all `FAILED` get a message under each `-a`,
-// though the files may be damaged. Malformed lines are read twice, and a list with several faults gets one
-// message.
+// a byte order mark, a signed text or digits alone, by its bytes, or of an entry of another hash. BLAKE2b has
+// digests of each length, so one more reading decides that. A file that is no list at all has malformed lines
+// alone, maybe millions. Lines that are all `FAILED` get a message under each `-a`, though the files may be
+// damaged. Malformed lines are read twice, and a list with several faults gets one message.
 fn hint_of<'n>(
     name: &'n str,
     entries: &sumlist::Entries<'_, ShortKeyed>,
@@ -402,6 +402,8 @@ fn hint_of<'n>(
     }
     if summary.is_empty() {
         Some(Message::of(name, ": no entries\n"))
+    } else if summary.is_all_malformed() {
+        Some(Message::of(name, ": no line is an entry\n"))
     } else if summary.is_all_failed() {
         Some(Message::of(name, failed_hint(entries)?))
     } else if summary.is_all_missing() {
@@ -432,6 +434,9 @@ fn untagged_hint<'n>(name: &'n str, kind: Option<Kind>, look: Look) -> Message<'
     match look {
         Look::Marked => Message::of(name, ": a line begins with a byte order mark\n"),
         Look::Nameless => Message::of(name, ": a line has digits and no name\n"),
+        Look::Signed => {
+            Message::of(name, ": is signed, 'gpg -o LIST --verify' gives its text\n")
+        }
         Look::Digest(16) => Message::of(name, ": looks like MD5, which sums does not have\n"),
         Look::Digest(20) => Message::of(name, ": looks like SHA-1, which sums does not have\n"),
         Look::Digest(_) if kind.is_some() => {

@@ -5,7 +5,7 @@ use Rattle.sumlist.proofs.Common.{malformed, told, foreign, HasForm, label_of, t
 use Rattle.std.specs.Fmt.{digits}
 use Rattle.hex.specs.Hex.{encode_with, decode_pairs}
 use Rattle.sumlist.specs.Report.{look_of, report_from}
-use Rattle.sumlist.specs.declared.look.Look.TheVariants.{Digest, Marked, Nameless}
+use Rattle.sumlist.specs.declared.look.Look.TheVariants.{Digest, Marked, Nameless, Signed}
 use Rattle.sumlist.proofs.Reading.{labelled_form}
 
 -- BLAKE2b of "abc" with a digest of one byte, under a name with a backslash and an LF
@@ -62,6 +62,9 @@ look_of_sha1 = refl
 
 look_of_mark : look_of (239 ∷ 187 ∷ 191 ∷ codes "00  a") ≡ Some Marked
 look_of_mark = refl
+
+look_of_signed : look_of (codes "-----BEGIN PGP SIGNED MESSAGE-----" ++ 13 ∷ []) ≡ Some Signed
+look_of_signed = refl
 
 look_of_digits : look_of (codes "0aF9  " ++ 13 ∷ []) ≡ Some Nameless
 look_of_digits = refl

@@ -19,6 +19,8 @@ pub enum Look {
     Marked,
     /// A digest without a name.
     Nameless,
+    /// The first line of a text that PGP signed in clear.
+    Signed,
 }
 
 impl Look {
@@ -47,6 +49,8 @@ fn look_of(line: &[u8]) -> Option<Look>
         Some(Look::Digest(20))
     } else if line.starts_with(b"\xef\xbb\xbf") {
         Some(Look::Marked)
+    } else if line.starts_with(b"-----BEGIN PGP SIGNED MESSAGE-----") {
+        Some(Look::Signed)
     } else if is_nameless(line) {
         Some(Look::Nameless)
     } else {
