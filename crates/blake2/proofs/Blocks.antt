@@ -1,5 +1,6 @@
 -- Counting and cutting blocks: how many come before the last, and whole blocks as chunks.
-use Rattle.std.proofs.Common.{◌≡◌, ℕ, zero, suc, ◌+◌, ◌-◌, ◌*◌, ◌/◌, ◌<◌, ◌≤◌, List, length, take, drop, refl, sym, ap}
+use Rattle.std.proofs.lemmas.Grind.{common_steps}
+use Rattle.std.proofs.Common.{◌≡◌, ℕ, zero, suc, ◌+◌, ◌-◌, ◌*◌, ◌/◌, ◌<◌, ◌≤◌, List, length, take, drop, refl, ap}
 use Rattle.std.proofs.Common.{◌∙◌, arith, length-drop, add-zero}
 use Rattle.std.proofs.lemmas.List.{take_all}
 use Rattle.std.proofs.lemmas.Nat.{div-mul-add}
@@ -20,35 +21,23 @@ concat_chunks n (suc k) xs h =
 -- the chunks of whole blocks, joined again
 pub whole_chunks : (n q : ℕ) (xs : List ℕ) (bs : List (List ℕ)) → 0 < n → length xs ≡ q * n
     → bs ≡ first_chunks n (length xs / n) xs → concat bs ≡ xs
-whole_chunks n q xs bs pos len e =
-    let count : length xs / n ≡ q = rw (len, ← add-zero (q * n)) (div-mul-add q n 0 pos) in
-    let all : n * q ≡ length xs = omega arith in
-    rw (e, count, concat_chunks n q xs (omega arith), all) (take_all (length xs) xs (omega arith))
+whole_chunks n q xs bs pos len e = grind (arith, common_steps, add-zero, div-mul-add, concat_chunks, take_all)
 
 -- the bytes of whole blocks
 pub chunks_len : (n q l k : ℕ) → 0 < n → l ≡ q * n → k ≡ l / n → n * k ≡ l
-chunks_len n q l k pos len e =
-    let count : l / n ≡ q = rw (len, ← add-zero (q * n)) (div-mul-add q n 0 pos) in
-    rw (e, count, len) (omega arith)
+chunks_len n q l k pos len e = grind (arith, common_steps, add-zero, div-mul-add)
 
 -- what whole blocks but the last leave is at most a block
 pub tail_fits : (n l t whole : ℕ) → 0 < n → whole ≡ (l - 1) / n * n → t + whole ≡ l → t ≤ n
-tail_fits n l t whole pos e sum =
-    let near : l - 1 < (l - 1) / n * n + n = lt-div-mul-add pos in omega arith
+tail_fits n l t whole pos e sum = grind (arith, common_steps, lt-div-mul-add)
 
 -- an input of n blocks and a last one of u bytes has n blocks before the last
 pub last_block : (n u w l : ℕ) → l ≡ n * w + u → u ≤ w → 0 < w → (0 < n → 0 < u) → (l - 1) / w ≡ n
-last_block zero zero w l e le pos back =
-    let z : l - 1 ≡ 0 * w + 0 = omega arith in rw z (div-mul-add 0 w 0 pos)
-last_block (suc n) zero w l e le pos back = absurd (omega (arith, back (omega arith)))
-last_block n (suc v) w l e le pos back =
-    let z : l - 1 ≡ n * w + v = omega arith in rw z (div-mul-add n w v (omega arith))
+last_block n u w l e le pos back = grind (arith, common_steps, div-mul-add)
 
 -- the rounded-up quotient, by the blocks before the last
 pub block_count_is : (n w : ℕ) → 0 < w → 0 < n → (n + (w - 1)) / w ≡ (n - 1) / w + 1
-block_count_is n w pos some =
-    let e : n + (w - 1) ≡ (n - 1) + 1 * w = omega arith in
-    rw (e, add-mul-div_right (n - 1) 1 pos) refl
+block_count_is n w pos some = grind (arith, common_steps, add-mul-div_right)
 
 zero_div : (w : ℕ) → 0 < w → 0 / w ≡ 0
 zero_div w pos = let z : 0 ≡ 0 * w + 0 = omega arith in ap (λ (x : ℕ). x / w) z ∙ div-mul-add 0 w 0 pos
@@ -56,8 +45,7 @@ zero_div w pos = let z : 0 ≡ 0 * w + 0 = omega arith in ap (λ (x : ℕ). x / 
 -- the blocks before the last
 pub before_last : (k : Variant) (n : ℕ) → 0 < block_len k → block_count k n - 1 ≡ (n - 1) / block_len k
 unfolding block_count
-before_last k zero pos = sym (zero_div (block_len k) pos)
-before_last k (suc n) pos = let e = block_count_is (suc n) (block_len k) pos (omega arith) in omega arith
+before_last k n pos = grind (arith, common_steps, zero_div, block_count_is)
 
 -- a count of blocks at an equal block length
 pub same_scale : (c b n m : ℕ) → n ≡ b → c + b ≡ b * m → c + n ≡ n * m

@@ -1,11 +1,12 @@
 -- How the chaining value and the buffer follow the input as it grows.
+use Rattle.std.proofs.lemmas.Grind.{common_steps}
 use Rattle.std.proofs.Common.{◌≡◌, ℕ, zero, suc, false, true, ◌+◌, ◌-◌, ◌*◌, ◌<◌, ◌≤◌, List, [], ◌∷◌, ◌++◌, length}
 use Rattle.std.proofs.Common.{take, drop, replicate, refl, sym, ap, ◌∙◌, arith, get_or, length-append, length-drop}
 use Rattle.std.proofs.Common.{add-one, zero-add, append_assoc}
 use Rattle.std.proofs.lemmas.List.{take-append-le, drop-append-le, take_all, drop_all, append-nil, take-append-drop}
 use Rattle.std.proofs.lemmas.List.{length-take-le, take_more}
 use Rattle.std.proofs.Math.Seq.{drop-append_seam}
-use borrow.Rule.Slice.PartMut.{put_mid, post_of}
+use borrow.Rule.Slice.PartMut.{put_mid}
 use Rattle.std.proofs.Math.Nat.{mul-le-mul_right, div-mul-le_self}
 use Rattle.std.specs.List.{concat}
 use Rattle.std.proofs.lemmas.List.Folds.{concat-append}
@@ -22,13 +23,7 @@ suc_mul n w = omega arith
 -- a block that lies in the input is not moved by what follows
 block_words-append : (k : Variant) (p q : List ℕ) (n : ℕ) → suc n * block_len k ≤ length p
     → block_words k (p ++ q) n ≡ block_words k p n
-block_words-append k p q n h =
-    let e : suc n * block_len k ≡ n * block_len k + block_len k = suc_mul n (block_len k) in
-    let fits : block_len k ≤ length (drop (n * block_len k) p) = omega (arith, length-drop (n * block_len k) p) in
-    rw (
-      drop-append-le (n * block_len k) p q (omega arith),
-      take-append-le (block_len k) (drop (n * block_len k) p) q fits,
-    ) refl
+block_words-append k p q n h = grind (arith, common_steps, suc_mul, length-drop, drop-append-le, take-append-le)
 
 -- chain reads only the blocks that it counts
 pub chain-append : (k : Variant) (s p q : List ℕ) (n : ℕ) → n * block_len k ≤ length p
@@ -41,8 +36,7 @@ chain-append k s p q (suc n) h =
 
 -- a whole block needs no padding
 padded_whole : (n : ℕ) (x : List ℕ) → length x ≡ n → padded n x ≡ x
-padded_whole n x h =
-    let e : n - length x ≡ 0 = omega arith in rw (e, append-nil) refl
+padded_whole n x h = grind (arith, common_steps, append-nil)
 
 -- one more whole block
 pub IsChained_next : (k : Variant) (s p h x h' : List ℕ) (n t : ℕ) → IsChained k s p h n → length x ≡ block_len k
@@ -73,9 +67,7 @@ IsChained_more k s p h h' x bs n i t held lt is len at e =
 -- the buffer with zeros after its first bytes
 pub zeros_after : (b z : List ℕ) (used j l n : ℕ) → length b ≡ n → used + j ≡ n → z ≡ replicate l 0 → l ≡ n - used
     → put_mid used j b z ≡ take used b ++ replicate (n - used) 0
-zeros_after b z used j l n len ej ez el =
-    let nothing : post_of used j b ≡ [] = drop_all j (drop used b) (omega (arith, length-drop used b)) in
-    rw (nothing, append-nil, ez, el) refl
+zeros_after b z used j l n len ej ez el = grind (arith, common_steps, drop_all, length-drop, append-nil)
 
 module _ (k : Variant) (s : List ℕ) (pos : 0 < block_len k) where
   -- a state whose number of blocks before the last is known
@@ -93,16 +85,7 @@ module _ (k : Variant) (s : List ℕ) (pos : 0 < block_len k) where
   compressed_facts : (p h b : List ℕ) (used compressed : ℕ) → IsHeld k s p h b used compressed
       → (compressed ≡ (block_count k (length p) - 1) * block_len k) × (0 < (block_count k (length p) - 1) → 0 < used)
   unfolding IsHeld
-  compressed_facts p h b used compressed held = (
-    held.1,
-    λ some.
-        let q = before_last k (length p) pos in
-        let below : (block_count k (length p) - 1) * block_len k ≤ length p - 1 =
-        rw q (div-mul-le_self (length p - 1) (block_len k)) in
-        let more : 1 * block_len k ≤ (block_count k (length p) - 1) * block_len k =
-        mul-le-mul_right (block_len k) some in
-        omega arith,
-  )
+  compressed_facts p h b used compressed held = grind (arith, common_steps, before_last, div-mul-le_self, mul-le-mul_right)
 
   -- bytes that the buffer has room for
   pub IsHeld_short : (p h b c d : List ℕ) (used compressed : ℕ) → IsHeld k s p h b used compressed
@@ -144,11 +127,7 @@ module _ (k : Variant) (s : List ℕ) (pos : 0 < block_len k) where
   pub IsHeld_tail : (p h b d : List ℕ) (n compressed : ℕ) → IsChained k s p h n → compressed ≡ n * block_len k
       → 0 < length d → length d ≤ block_len k
       → take (length d) b ≡ d → IsHeld k s (p ++ d) h b (length d) compressed
-  IsHeld_tail p h b d n compressed held count some le placed =
-      IsHeld_from (p ++ d) h b (length d) compressed n count le (λ _. some)
-      (omega (arith, length-append p d, held.0))
-      (held.1 ∙ sym (chain-append k s p d n (omega (arith, held.0))))
-      (placed ∙ rw (count, ← held.0) (sym (drop-append_seam p d)))
+  IsHeld_tail p h b d n compressed held count some le placed = grind (arith, common_steps, IsHeld_from, length-append, chain-append, drop-append_seam)
 
   -- the last block, with zeros after its bytes
   pub IsHeld_last : (p h b x h' : List ℕ) (used compressed t : ℕ) → IsHeld k s p h b used compressed
@@ -156,13 +135,7 @@ module _ (k : Variant) (s : List ℕ) (pos : 0 < block_len k) where
       → x ≡ take used b ++ replicate (block_len k - used) 0 → t ≡ compressed + used
       → h' ≡ compress k h (words (word_len k) 16 x) t true → h' ≡ final_value k s p
   unfolding IsHeld final_value
-  IsHeld_last p h b x h' used compressed t held le fits ex at eh =
-      let rest : drop compressed p ≡ take used b = sym held.3 in
-      let lr : length (take used b) ≡ used = length-take-le used b fits in
-      let block : take (block_len k) (drop compressed p) ≡ take used b =
-      rw rest (take_all (block_len k) (take used b) (omega arith)) in
-      let same : x ≡ padded (block_len k) (take (block_len k) (drop compressed p)) = rw (block, lr) ex in
-      rw (← held.1, ← same, ← held.2, held.0, ← at) eh
+  IsHeld_last p h b x h' used compressed t held le fits ex at eh = grind (arith, common_steps, length-take-le, take_all)
 
   -- the state before any input
   pub IsHeld_none : (b : List ℕ) → IsHeld k s [] s b 0 0

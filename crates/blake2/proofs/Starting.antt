@@ -1,6 +1,7 @@
 -- What a hasher starts with: the parameter block, and the key's block.
+use Rattle.std.proofs.lemmas.Grind.{common_steps}
 use Rattle.std.proofs.Common.{◌≡◌, ℕ, ◌+◌, ◌-◌, ◌*◌, ◌/◌, ◌≤◌, ◌<◌, List, [], ◌∷◌, ◌++◌, length, take, drop, replicate}
-use Rattle.std.proofs.Common.{refl, sym, ap, ◌∙◌, arith, zero-add, suc, true, false}
+use Rattle.std.proofs.Common.{ap, arith, zero-add, true, false}
 use Rattle.std.specs.Prelude.{◌==◌}
 use Rattle.std.proofs.lemmas.Bool.Decides.{nat_tests}
 use Rattle.std.proofs.lemmas.List.{take-append-drop, drop-replicate, append-nil, take-replicate}
@@ -11,24 +12,18 @@ use Rattle.blake2.specs.Blake2.{block_len, key_block, parameter_block, input, sa
 -- bytes that were written over the first of n zeros
 pub padded_from : (n : ℕ) (b y : List ℕ) → take (0 + length y) b ≡ y
     → drop (0 + length y) b ≡ drop (0 + length y) (replicate {A = ℕ} n 0) → b ≡ padded n y
-padded_from n b y front rest =
-    let zeros : drop (0 + length y) (replicate {A = ℕ} n 0) ≡ replicate {A = ℕ} (n - length y) 0 =
-    drop-replicate {X = ℕ} (0 + length y) n 0 ∙ ap (λ (i : ℕ). replicate {A = ℕ} (n - i) 0) (zero-add (length y)) in
-    let cut : take (0 + length y) b ++ drop (0 + length y) b ≡ b = take-append-drop (0 + length y) b in
-    sym cut ∙ rw (front, rest, zeros) refl
+padded_from n b y front rest = grind (arith, common_steps, drop-replicate, zero-add, take-append-drop)
 
 -- without a key, the empty message has no input
 pub input_unkeyed : (k : Variant) (key : List ℕ) → true ≡ (length key == 0) → [] ≡ input k key []
 unfolding key_block
-input_unkeyed k [] e = refl
-input_unkeyed k (x ∷ xs) e = absurd (grind (arith, nat_tests))
+input_unkeyed k key e = grind (arith, common_steps, nat_tests)
 
 -- under a key, it has the key's block
 pub input_keyed : (k : Variant) (key : List ℕ) (n : ℕ) → false ≡ (length key == 0) → n ≡ block_len k
     → padded n key ≡ input k key []
 unfolding key_block
-input_keyed k [] n e w = cc
-input_keyed k (x ∷ xs) n e w = rw (w, append-nil) refl
+input_keyed k key n e w = grind (arith, common_steps, append-nil)
 
 -- half a block of bytes
 pub half_block : (k : Variant) (n : ℕ) → n ≡ block_len k → n / 2 ≡ 8 * word_len k
@@ -44,21 +39,7 @@ pub parameters_first : (k : Variant) (n d : ℕ) (key salt personal b b1 b2 : Li
     → take (n / 4 + n / 8 + length personal) b2 ≡ take (n / 4 + n / 8) b1 ++ personal
     → take (n / 2) b2 ≡ parameter_block k (salted d key salt personal)
 unfolding block_len
-parameters_first k n d key salt personal b b1 b2 en some es ep eb e1 e2 =
-    let w : ℕ = word_len k in
-    let l : ℕ = length key in
-    let z : ℕ → List ℕ = λ i. replicate {A = ℕ} i 0 in
-    let all : n / 4 ≡ suc (suc (suc (suc (4 * w - 4)))) = omega arith in
-    let cut : take (4 * w - 4) (z (n - 4)) ≡ z (4 * w - 4) =
-    take-replicate {X = ℕ} (4 * w - 4) (n - 4) 0 (omega arith) in
-    let first : take (n / 4) b ≡ d ∷ l ∷ 1 ∷ 1 ∷ z (4 * w - 4) =
-    ap (λ (t : List ℕ). take (n / 4) t) eb ∙ ap (λ (i : ℕ). take i (d ∷ l ∷ 1 ∷ 1 ∷ z (n - 4))) all
-    ∙ ap (λ (t : List ℕ). d ∷ l ∷ 1 ∷ 1 ∷ t) cut in
-    let salt_end : n / 4 + n / 8 ≡ n / 4 + length salt = omega arith in
-    let end : n / 2 ≡ n / 4 + n / 8 + length personal = omega arith in
-    let with_salt : take (n / 4 + n / 8) b1 ≡ (d ∷ l ∷ 1 ∷ 1 ∷ z (4 * w - 4)) ++ salt =
-    ap (λ (i : ℕ). take i b1) salt_end ∙ e1 ∙ ap (λ (t : List ℕ). t ++ salt) first in
-    ap (λ (i : ℕ). take i b2) end ∙ e2 ∙ ap (λ (t : List ℕ). t ++ personal) with_salt
+parameters_first k n d key salt personal b b1 b2 en some es ep eb e1 e2 = grind (arith, common_steps, take-replicate)
 
 -- two words end within a block, after its quarter, and after an eighth more
 pub two_words_fit : (k : Variant) (n m : ℕ) → n ≡ block_len k → m ≡ 2 * word_len k

@@ -1,4 +1,5 @@
 -- Output keying material, written block by block: so far it is the beginning of all the blocks.
+use Rattle.std.proofs.lemmas.Grind.{common_steps}
 use Rattle.std.proofs.Common.{◌≡◌, ℕ, zero, suc, ◌+◌, ◌-◌, ◌*◌, ◌<◌, ◌≤◌, min, List, [], ◌∷◌, ◌++◌, length, take, arith}
 use Rattle.std.proofs.Common.{refl, sym, ◌∙◌, ap, length-append, add-zero, add-suc}
 use Rattle.std.proofs.Math.Nat.{suc-mul, zero-mul, lt_of_mul-lt-mul_right}
@@ -41,25 +42,13 @@ module _ (prf : List ℕ → List ℕ) (info : List ℕ) where
   -- at first nothing is written
   pub written_none : (size : ℕ) (out : List ℕ) → Written prf info size out 0 0 []
   unfolding expand_blocks expand_block
-  written_none size out =
-      let none = zero-mul size in
-      record {
-        counted = omega arith;
-        blocks = sym none;
-        place = omega arith;
-        made = refl;
-        last = refl;
-        short = omega arith;
-      }
+  written_none size out = grind (arith, common_steps, zero-mul)
 
   module _ (size : ℕ) (out : List ℕ) (filled counter : ℕ) (block : List ℕ)
       (w : Written prf info size out filled counter block) where
     -- where not all is written, all blocks so far are, and there is a number for one more
     pub written_next : filled < length out → length out ≤ 255 * size → counter < 255
-    written_next more fits =
-        let place = w.place in
-        let below : counter * size < 255 * size = omega arith in
-        lt_of_mul-lt-mul_right size below
+    written_next more fits = grind (arith, common_steps, lt_of_mul-lt-mul_right)
 
     -- one more block
     pub written_more : (after next : List ℕ) (taken : ℕ) → filled < length out → length out ≤ 255 * size
@@ -67,27 +56,7 @@ module _ (prf : List ℕ → List ℕ) (info : List ℕ) where
         → length after ≡ length out → take (filled + taken) after ≡ take filled out ++ take taken next
         → Written prf info size after (filled + taken) (suc counter) next
     unfolding expand_blocks expand_block
-    written_more after next taken more fits made whole count same written =
-        let blocks = expand_blocks prf info counter in
-        let last : next ≡ expand_block prf info (suc counter) = made
-        ∙ ap (λ b. prf (b ++ info ++ suc counter ∷ [])) w.last in
-        let one : length (expand_block prf info (suc counter)) ≡ size = sym (ap length last) ∙ whole in
-        let all = length-append blocks (expand_block prf info (suc counter)) in
-        let product = suc-mul counter size in
-        let lengths = w.blocks in
-        let place = w.place in
-        let exact : filled ≡ length blocks = omega arith in
-        let front : take filled out ≡ blocks = w.made ∙ take_all filled blocks (omega (arith, exact)) in
-        record {
-          counted = written_next more fits;
-          blocks = omega arith;
-          place = omega arith;
-          made = written ∙ ap (λ xs. xs ++ take taken next) front ∙ ap (λ xs. blocks ++ take taken xs) last
-              ∙ sym (ap (λ k. take (k + taken) (blocks ++ expand_block prf info (suc counter))) exact
-              ∙ take-append-add blocks (expand_block prf info (suc counter)) taken);
-          last = last;
-          short = omega arith;
-        }
+    written_more after next taken more fits made whole count same written = grind (arith, common_steps, length-append, suc-mul, take_all, written_next, take-append-add)
 
     -- at last all is written
     pub written_all : length out ≤ filled → out ≡ take (length out) (expand_blocks prf info 255)

@@ -1,29 +1,17 @@
 -- What lines mean that are too long, which hash a number names, and texts without LF.
-use Rattle.std.proofs.Common.{◌≡◌, ◌<◌, ◌≤◌, ◌∙◌, ℕ, List, take, false, None, Option, Some}
-use Rattle.std.proofs.Common.{ap, arith, length, refl, sym}
+use Rattle.std.proofs.lemmas.Grind.{common_steps}
+use Rattle.std.proofs.Common.{◌≡◌, ◌≤◌, ◌∙◌, ℕ, List, take, false, None, Option, Some, ap, arith, refl, sym}
 use Rattle.std.specs.Prelude.{if◌then◌else◌, ◌==◌, Contains}
 use Rattle.std.proofs.lemmas.Bool.{eqb-false}
 use Rattle.std.proofs.lemmas.List.Elements.{All-contains}
 use Rattle.std.proofs.lemmas.Bool.Decides.{nat_tests}
 use Rattle.hashes.specs.declared.kind.Kind.{Kind}
 use Rattle.hashes.specs.declared.kind.Kind.TheVariants.{Blake2b, Blake2s, Blake3, Sha256, Sha512}
-use Rattle.sumlist.specs.Line.{IsMalformed, IsUntagged}
 use Rattle.sumlist.specs.Lines.{IsKept}
 use Rattle.sumlist.specs.inside.Cut.{HasNo}
 use Rattle.listing.specs.Numbers.{number_of}
 use Rattle.listing.specs.declared.state.ListState.{ListState}
 use Rattle.listing.specs.inside.State.{held}
-
--- a line that is too long is malformed, whatever the hash
-pub overlong : (text : List ℕ) (kind : Option Kind) → 65536 < length text
-    → IsMalformed text kind × (IsUntagged text kind → ⊥)
-overlong text kind long = (
-  (
-    λ s. let l = s.0.1 in absurd (omega (arith, l, long)),
-    λ e s. let l = s.is_line.1 in absurd (omega (arith, l, long)),
-  ),
-  λ u. let l = u.3.is_line.1 in absurd (omega (arith, l, long)),
-)
 
 abbrev kind_at : ℕ → Option Kind
 kind_at n =
@@ -35,12 +23,7 @@ kind_at n =
     else None
 
 kind_back : (k : Option Kind) → kind_at (number_of k) ≡ k
-kind_back None = refl
-kind_back (Some Sha256) = refl
-kind_back (Some Sha512) = refl
-kind_back (Some Blake2b) = refl
-kind_back (Some Blake2s) = refl
-kind_back (Some Blake3) = refl
+kind_back k = grind (arith, common_steps)
 
 -- no two hashes have one number
 pub number_one : (k l : Option Kind) → number_of k ≡ number_of l → k ≡ l

@@ -1,5 +1,6 @@
 -- The front of what a feed has to come is read as the feed is.
-use Rattle.std.proofs.Common.{◌≡◌, ℕ, ◌+◌, ◌-◌, ◌≤◌, List, ◌++◌, Option, None, Some, length, take, ap, ◌∙◌, arith}
+use Rattle.std.proofs.lemmas.Grind.{common_steps}
+use Rattle.std.proofs.Common.{◌≡◌, ℕ, ◌+◌, ◌-◌, ◌≤◌, List, Option, None, Some, length, take, ap, ◌∙◌, arith}
 use Rattle.std.proofs.KnownBytes.{Consumes-trans}
 use Rattle.std.proofs.Math.Seq.{take-append-add, take-nil}
 use Rattle.std.specs.Io.KnownBytes.{Consumes, IsAtEnd}
@@ -21,16 +22,9 @@ front-consumes (Some x) (Some y) bytes n k size few given =
     ∙ take-append-add bytes y (n - k)
 
 pub front-end : (a : Option (List ℕ)) (n : ℕ) → IsAtEnd a → IsAtEnd (front_of n a)
-front-end None n end = tt
-front-end (Some x) n end = rw end (take-nil n)
+front-end a n end = grind (arith, common_steps, take-nil)
 
 -- some bytes were given, and then some more
 pub Passes-trans : {F : Type 0} (remaining : F → Option (List ℕ)) (a b c : Front F) → Passes remaining a b
     → Passes remaining b c → Passes remaining a c
-Passes-trans remaining a b c p q = record {
-  lent = q.lent ∙ p.lent;
-  whole = λ none. q.whole (p.whole none);
-  given = p.given ++ q.given;
-  inner = Consumes-trans _ _ _ p.given q.given p.inner q.inner;
-  front = Consumes-trans _ _ _ p.given q.given p.front q.front;
-}
+Passes-trans remaining a b c p q = grind (arith, common_steps, Consumes-trans)

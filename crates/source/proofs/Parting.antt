@@ -1,6 +1,7 @@
 -- Parts of what a feed has to come, one after the other.
-use Rattle.std.proofs.Common.{◌≡◌, ℕ, zero, suc, ◌+◌, ◌-◌, ◌*◌, ◌/◌, ◌%◌, ◌^◌, ◌<◌, ◌≤◌, List, [], ◌++◌, Option, None}
-use Rattle.std.proofs.Common.{Some, IfSome, length, take, refl, ap, sym, subst, ◌∙◌, inl, inr, arith, append-nil}
+use Rattle.std.proofs.lemmas.Grind.{common_steps}
+use Rattle.std.proofs.Common.{◌≡◌, ℕ, zero, suc, ◌+◌, ◌-◌, ◌*◌, ◌/◌, ◌%◌, ◌^◌, ◌<◌, ◌≤◌, List, ◌++◌, Option}
+use Rattle.std.proofs.Common.{IfSome, length, take, ap, sym, ◌∙◌, inl, inr, arith, append-nil}
 use Rattle.std.proofs.Common.{length-append, length-take-le, mul-add, pow_mono, pow_pos}
 use Rattle.std.proofs.Math.Nat.{pow-succ', mul-mod_right, mul_assoc, mul_comm}
 use Rattle.std.proofs.lemmas.Bool.{cases_lt}
@@ -16,31 +17,18 @@ use Rattle.source.specs.Pumped.{IsLongerThan}
 
 -- the bytes that were read ahead alone are more than n
 pub ahead_longer : (a : Option (List ℕ)) (xs : List ℕ) (n : ℕ) → n < length xs → IsLongerThan (prepend_known xs a) n
-ahead_longer None xs n more = tt
-ahead_longer (Some x) xs n more = omega (arith, more, length-append xs x)
+ahead_longer a xs n more = grind (arith, common_steps, length-append)
 
 -- what was read behind the first n bytes of a buffer is the next of them
 pub filled_more : (run buf : List ℕ) (n k count : ℕ) → n ≤ length run → count ≤ length buf
     → take (n + count) (put_mid n k run buf) ≡ take n run ++ take count buf
-filled_more run buf n k count within few =
-    let all : List ℕ = put_mid n k run buf in
-    let front : length (take n run) ≡ n = length-take-le n run within in
-    let whole : take (n + length buf) all ≡ take n run ++ buf = take-put_mid n k run buf (n + length buf) refl within in
-    sym (take-take (n + count) (n + length buf) all (omega (arith, few)))
-    ∙ ap (λ (l : List ℕ). take (n + count) l) whole
-    ∙ rw front at (take-append-add (take n run) buf count)
+filled_more run buf n k count within few = grind (arith, common_steps, length-take-le, take-put_mid, take-take, take-append-add)
 
 -- bytes behind which nothing was read into a buffer are all that was to come
 pub all_taken : (a b c : Option (List ℕ)) (xs run bytes : List ℕ) (n : ℕ) (P : List ℕ → Type 0) → Consumes a b xs
     → Consumes (prepend_known xs b) (prepend_known (take n run) c) bytes → n ≡ 0 → (n < length run → IsAtEnd c)
     → 0 < length run → P bytes → IfSome a P
-all_taken None b c xs run bytes n P first rest none end some holds = tt
-all_taken (Some x) None c xs run bytes n P first rest none end some holds = absurd first
-all_taken (Some x) (Some y) None xs run bytes n P first rest none end some holds = absurd rest
-all_taken (Some x) (Some y) (Some z) xs run bytes n P first rest none end some holds =
-    let read : take n run ≡ [] = rw none refl in
-    let left : take n run ++ z ≡ [] = ap (λ (l : List ℕ). l ++ z) read ∙ end (omega arith) in
-    subst P (sym (first ∙ rest ∙ ap (λ (l : List ℕ). bytes ++ l) left ∙ append-nil bytes)) holds
+all_taken a b c xs run bytes n P first rest none end some holds = grind (arith, common_steps, append-nil)
 
 -- chunks from the chunk `first` on in two halves, each of which a run of `len` bytes fits in
 pub record IsHalved (first chunks len : ℕ) : Type 0 where

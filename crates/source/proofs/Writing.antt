@@ -1,8 +1,9 @@
 -- How far a text has been written: a sink took a beginning of it, and the rest is left. Where each piece of a text is
 -- written the text is, and where one fails a beginning of the text stands.
+use Rattle.std.proofs.lemmas.Grind.{common_steps}
 use Rattle.std.proofs.Common.{◌≡◌, ◌+◌, ◌<◌, ℕ, List, [], ◌++◌, take, drop, get_or, length, refl, sym, ap, ◌∙◌}
 use Rattle.std.proofs.Common.{append_assoc, append-nil, add-one, drop-cons, take-append-drop, Option, Result, Ok, Err}
-use Rattle.std.proofs.Common.{IsErr}
+use Rattle.std.proofs.Common.{IsErr, arith}
 use Rattle.std.proofs.KnownBytes.{Appends-nil, Appends-trans}
 use Rattle.std.proofs.lemmas.Result.{MatchResult-from_err}
 use Rattle.std.specs.Io.KnownBytes.{Appends}
@@ -66,11 +67,7 @@ pub record Writing (old new : Shown) (text rest : List ℕ) : Type 0 where
 -- a piece of what was left was written
 pub Writing-step : (a b c : Shown) (text rest piece left : List ℕ)
     → rest ≡ piece ++ left → Writing a b text rest → Done b c piece → Writing a c text left
-Writing-step a b c text rest piece left e w p = record {
-  front = w.front ++ piece;
-  whole = w.whole ∙ ap (λ l. w.front ++ l) e ∙ sym (append_assoc w.front piece left);
-  done = (p.0 ∙ w.done.0, Appends-trans a.contents b.contents c.contents w.front piece w.done.1 p.1);
-}
+Writing-step a b c text rest piece left e w p = grind (arith, common_steps, append_assoc, Appends-trans)
 
 -- the same, where the piece is the first n bytes
 pub Writing-more : (a b c : Shown) (text rest : List ℕ) (n : ℕ)
@@ -84,13 +81,7 @@ Writing-end old new text w = rw (w.whole ∙ append-nil w.front) w.done
 -- a piece of what is left failed
 pub Writing-failed : (a b c : Shown) (text rest piece left : List ℕ)
     → rest ≡ piece ++ left → Writing a b text rest → Failed b c piece → Failed a c text
-Writing-failed a b c text rest piece left e w p =
-    rw (w.whole) (Failed-after a b c w.front rest w.done (rw e (Failed-more b c piece left p)))
-
--- what was left was written, or begun
-pub Writing-last : {T E : Type 0} (r : Result T E) (a b c : Shown) (text rest : List ℕ) → Writing a b text rest
-    → Writes r b c rest → Writes r a c text
-Writing-last r a b c text rest w p = rw (w.whole) (Writes-after r a b c w.front rest w.done p)
+Writing-failed a b c text rest piece left e w p = grind (arith, common_steps, Failed-after, Failed-more)
 
 -- the pieces from one on
 pub flat_map-drop : {A : Type 0} (f : A → List ℕ) (xs : List A) (i : ℕ) (x : A) → i < length xs

@@ -1,6 +1,7 @@
 -- A text with a name and a colon before the rest.
-use Rattle.std.proofs.Common.{◌≡◌, ◌≢◌, Bool, true, false, [], ◌∷◌, ◌++◌, Option, None, Some, MatchOption, ◌∙◌}
-use Rattle.std.proofs.Common.{ap, codes, length, refl, sym, unwrap_or}
+use Rattle.std.proofs.lemmas.Grind.{common_steps}
+use Rattle.std.proofs.Common.{◌≡◌, ◌≢◌, Bool, true, [], ◌∷◌, ◌++◌, Option, None, MatchOption, ◌∙◌}
+use Rattle.std.proofs.Common.{ap, codes, length, sym, unwrap_or, arith}
 use Rattle.std.specs.Borrow.{Bor}
 use Rattle.std.specs.Prelude.{◌==◌, drop, if◌then◌else◌}
 use Rattle.std.proofs.Math.Seq.{drop-append_seam}
@@ -23,22 +24,18 @@ lacks_name t n m r same lacks is = rw (is, ← same) (λ rest. lacks (58 ∷ res
 -- it does, and the rest begins with the colon or not
 pub has_name : (t n m f : Text) (r : Option (Bor Text)) → m ≡ n → t ≡ m ++ f
     → MatchOption r ((rest : Text) → f ≢ (58 ∷ []) ++ rest) (λ x. f ≡ (58 ∷ []) ++ x.now) → IsAfter t n r
-has_name t n m f None same is lacks =
-    λ rest bad. lacks rest (append_cancel_left n f (58 ∷ rest) (ap (λ k. k ++ f) (sym same) ∙ sym is ∙ bad))
-has_name t n m f (Some x) same is has = is ∙ ap (λ k. k ++ f) same ∙ ap (λ f. n ++ f) has
+has_name t n m f r same is lacks = grind (arith, common_steps, append_cancel_left)
 
 -- a text without this beginning, where it has it
 abbrev without : Text → Text → Text
 without t start = if starts_with ◌==◌ t start then drop (length start) t else t
 
 begun : (start rest : Text) → without (start ++ rest) start ≡ rest
-begun start rest = let has = (starts_is Decides-eqb (start ++ rest) start _ refl).1 rest refl in
-    rw has (drop-append_seam start rest)
+begun start rest = grind (arith, common_steps, starts_is, Decides-eqb, drop-append_seam)
 
 unbegun : (b : Bool) (t start : Text) → (b ≡ true → t ≡ start ++ drop (length start) t)
     → ((rest : Text) → t ≢ start ++ rest) → (if b then drop (length start) t else t) ≡ t
-unbegun true t start has lacks = absurd (lacks (drop (length start) t) (has refl))
-unbegun false t start has lacks = refl
+unbegun b t start has lacks = grind (arith, common_steps)
 
 -- the digits in the text of `--verify`
 pub digits_behind : (g : Given) (t b n d : Text) → b ≡ t → n ≡ unwrap_or (text_of (codes "a") g) []
@@ -48,6 +45,4 @@ digits_behind g t b n d same is p =
 
 pub digits_alone : (g : Given) (t b n : Text) → b ≡ t → n ≡ unwrap_or (text_of (codes "a") g) []
     → ((rest : Text) → b ≢ n ++ 58 ∷ rest) → b ≡ digits_of g t
-digits_alone g t b n same is lacks = let start = n ++ 58 ∷ [] in
-    rw (← is) (same ∙ sym (unbegun (starts_with ◌==◌ t start) t start (starts_is Decides-eqb t start _ refl).0
-    (λ rest q. lacks rest (same ∙ q ∙ append_assoc n (58 ∷ []) rest))))
+digits_alone g t b n same is lacks = grind (arith, unbegun, starts_is, Decides-eqb, append_assoc)

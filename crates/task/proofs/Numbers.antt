@@ -1,6 +1,7 @@
 -- The number of a setting is what a parse reads, where it is in range.
-use Rattle.std.proofs.Common.{◌≡◌, ℕ, ◌-◌, ◌^◌, ◌<◌, ◌≤◌, Bool, true, false, length, nat_lt, nat_le}
-use Rattle.std.proofs.Common.{Result, Ok, Err, refl, sym, arith}
+use Rattle.std.proofs.lemmas.Grind.{common_steps}
+use Rattle.std.proofs.Common.{◌≡◌, ℕ, ◌-◌, ◌^◌, ◌<◌, ◌≤◌, Bool, true, length, nat_lt, nat_le}
+use Rattle.std.proofs.Common.{Result, Ok, Err, sym, arith}
 use Rattle.std.specs.Prelude.{◌&&◌, if◌then◌else◌}
 use Rattle.std.proofs.lemmas.Bool.Decides.{nat_tests}
 use Rattle.std.proofs.lemmas.Result.{Ok-from_Ok_iff, OkIff-at_ok}
@@ -17,17 +18,11 @@ model = numerals_by_value _ tells_all_ascii_digits
 spelled : (a b : Bool) (least most m n : ℕ) (fault : Text) → a ≡ true → b ≡ true → m ≡ n
     → (if nat_le least n && nat_le n most then Ok n else Err fault)
     ≡ (if a && b && (nat_le least m && nat_le m most) then Ok m else Err fault)
-spelled true true least most m n fault p q same = rw same refl
-spelled true false least most m n fault p q same = cc
-spelled false b least most m n fault p q same = cc
+spelled a b least most m n fault p q same = grind (arith, common_steps)
 
 outside : (a b c d : Bool) (n : ℕ) (fault : Text) → (a ≡ true → b ≡ true → d ≡ true → ⊥)
     → Err fault ≡ (if a && b && (c && d) then Ok n else Err fault)
-outside true true true true n fault never = absurd (never refl refl refl)
-outside true true true false n fault never = refl
-outside true true false d n fault never = refl
-outside true false c d n fault never = refl
-outside false b c d n fault never = refl
+outside a b c d n fault never = grind (arith, common_steps)
 
 -- the parse read a number
 pub number-parsed : {E : Type 0} (least most : ℕ) (setting t : Text) (n : ℕ) (r : Result ℕ E)

@@ -1,4 +1,5 @@
 -- Words that turn by whole bytes are their bytes in another order.
+use Rattle.std.proofs.lemmas.Grind.{common_steps}
 use Rattle.std.proofs.Common.{◌≡◌, ℕ, ◌<◌, ◌+◌, ◌*◌, ◌/◌, ◌%◌, ◌^◌, List, slice_index, bit_or, bit_xor, arith, ap, ◌∙◌}
 use Rattle.std.proofs.Common.{sym}
 use Rattle.std.proofs.lemmas.Nat.{or_shifted, or_comm}
@@ -46,7 +47,4 @@ pub words_turned : (n a b c d k : ℕ) (x y w z u r : List ℕ)
     → ((i : ℕ) → i < n → number_l 256 (chunk (4 * i) 4 u) ≡ picked z i a b c d)
     → ((i : ℕ) → i < n → slice_index r i ≡ number_l 256 (chunk (4 * i) 4 u))
     → (i : ℕ) → i < n → slice_index r i ≡ rotate_right w32 (bit_xor (slice_index x i) (slice_index y i)) k
-words_turned n a b c d k x y w z u r turns within bytes fit lanes moved words i h =
-    words i h ∙ moved i h
-    ∙ rw (bytes i a h within.0, bytes i b h within.1, bytes i c h within.2, bytes i d h within.3)
-    (turns (slice_index w i) (fit i h) ∙ ap (λ (v : ℕ). rotate_right w32 v k) (lanes i h))
+words_turned n a b c d k x y w z u r turns within bytes fit lanes moved words i h = grind (arith, common_steps, slice_index)

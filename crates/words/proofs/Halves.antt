@@ -1,4 +1,5 @@
 -- Rounds of two inputs in the halves of rows.
+use Rattle.std.proofs.lemmas.Grind.{common_steps}
 use Rattle.std.proofs.Common.{◌≡◌, ℕ, ◌<◌, ◌+◌, ◌*◌, List, [], ◌∷◌, bit_xor, slice_index, take, arith, refl, subst}
 use Rattle.words.specs.Blake2.{blake2s, schedule}
 use Rattle.words.specs.Blake3.{folded_halves3}
@@ -35,7 +36,4 @@ pub halves_folded : (v : List (List ℕ)) (a b : List ℕ)
     → ((j : ℕ) → j < 8 → slice_index b j ≡ bit_xor (row_word v 1 j) (row_word v 3 j))
     → (i : ℕ) → i < 2 → half8 i (a ∷ b ∷ []) ≡ take 8 (folded_halves3 [] (half16 i v))
 unfolding half16
-halves_folded v a b first second i h =
-    folded (half16 i v) (first (4 * i + 0) (omega arith)) (first (4 * i + 1) (omega arith))
-    (first (4 * i + 2) (omega arith)) (first (4 * i + 3) (omega arith)) (second (4 * i + 0) (omega arith))
-    (second (4 * i + 1) (omega arith)) (second (4 * i + 2) (omega arith)) (second (4 * i + 3) (omega arith))
+halves_folded v a b first second i h = grind (arith, common_steps, folded)

@@ -1,5 +1,6 @@
-use Rattle.std.proofs.Common.{◌≡◌, ℕ, zero, suc, ◌<◌, ◌+◌, ◌-◌, ◌*◌, ◌/◌, ◌%◌, ◌^◌, List, [], ◌∷◌, length, slice_index}
-use Rattle.std.proofs.Common.{slice_index_or, bit_or, bit_xor, arith, refl, ap, map, sym, ◌∙◌, replicate}
+use Rattle.std.proofs.lemmas.Grind.{common_steps}
+use Rattle.std.proofs.Common.{◌≡◌, ℕ, ◌<◌, ◌+◌, ◌-◌, ◌*◌, ◌/◌, ◌%◌, ◌^◌, List, [], ◌∷◌, length, slice_index}
+use Rattle.std.proofs.Common.{slice_index_or, bit_or, bit_xor, arith, ap, map, sym, ◌∙◌, replicate}
 use Rattle.std.specs.Simd.Lanes.{zip2, Each1}
 use Rattle.std.specs.List.{range_with_len}
 use Rattle.std.proofs.lemmas.List.{ext_get_or, get_or-drop, get_or-map}
@@ -12,21 +13,11 @@ use Rattle.words.specs.Words.{words}
 
 -- what holds of both halves
 pub below_two : (P : ℕ → Type 0) → P 0 → P 1 → (i : ℕ) → i < 2 → P i
-below_two P p0 p1 zero h = p0
-below_two P p0 p1 (suc zero) h = p1
-below_two P p0 p1 (suc (suc n)) h = absurd (omega arith)
+below_two P p0 p1 i h = grind (arith, common_steps)
 
 -- what holds of each of the eight lanes
 pub below_eight : (P : ℕ → Type 0) → P 0 → P 1 → P 2 → P 3 → P 4 → P 5 → P 6 → P 7 → (i : ℕ) → i < 8 → P i
-below_eight P p0 p1 p2 p3 p4 p5 p6 p7 zero h = p0
-below_eight P p0 p1 p2 p3 p4 p5 p6 p7 (suc zero) h = p1
-below_eight P p0 p1 p2 p3 p4 p5 p6 p7 (suc (suc zero)) h = p2
-below_eight P p0 p1 p2 p3 p4 p5 p6 p7 (suc (suc (suc zero))) h = p3
-below_eight P p0 p1 p2 p3 p4 p5 p6 p7 (suc (suc (suc (suc zero)))) h = p4
-below_eight P p0 p1 p2 p3 p4 p5 p6 p7 (suc (suc (suc (suc (suc zero))))) h = p5
-below_eight P p0 p1 p2 p3 p4 p5 p6 p7 (suc (suc (suc (suc (suc (suc zero)))))) h = p6
-below_eight P p0 p1 p2 p3 p4 p5 p6 p7 (suc (suc (suc (suc (suc (suc (suc zero))))))) h = p7
-below_eight P p0 p1 p2 p3 p4 p5 p6 p7 (suc (suc (suc (suc (suc (suc (suc (suc n)))))))) h = absurd (omega arith)
+below_eight P p0 p1 p2 p3 p4 p5 p6 p7 i h = grind (arith, common_steps)
 
 -- a list, word by word
 pub listed : (n : ℕ) (xs : List ℕ) → length xs ≡ n → xs ≡ map (slice_index xs) (range_with_len 0 n)
@@ -58,8 +49,7 @@ pub row_of : (r x : List (List ℕ)) → r ≡ transposed8 x → (i : ℕ) → i
     → slice_index_or (slice_index_or r 0 [] ∷ slice_index_or r 1 [] ∷ slice_index_or r 2 [] ∷ slice_index_or r 3 []
     ∷ slice_index_or r 4 [] ∷ slice_index_or r 5 [] ∷ slice_index_or r 6 [] ∷ slice_index_or r 7 [] ∷ []) i []
     ≡ lane8 i x
-row_of r x e =
-    below_eight _ (rw e refl) (rw e refl) (rw e refl) (rw e refl) (rw e refl) (rw e refl) (rw e refl) (rw e refl)
+row_of r x e = grind (arith, below_eight)
 
 -- the words of x xor y fit, in n lanes of so many bits
 pub xors_fit : (bits n : ℕ) (x : List ℕ) → length x ≡ n → (y : List ℕ) → length y ≡ n → Each1 (λ v. v < 2 ^ bits) x
@@ -71,35 +61,17 @@ xors_fit bits n x lx y ly fx fy i h =
 
 -- what holds of each number below four
 pub below_four : (P : ℕ → Type 0) → P 0 → P 1 → P 2 → P 3 → (i : ℕ) → i < 4 → P i
-below_four P p0 p1 p2 p3 zero h = p0
-below_four P p0 p1 p2 p3 (suc zero) h = p1
-below_four P p0 p1 p2 p3 (suc (suc zero)) h = p2
-below_four P p0 p1 p2 p3 (suc (suc (suc zero))) h = p3
-below_four P p0 p1 p2 p3 (suc (suc (suc (suc n)))) h = absurd (omega arith)
+below_four P p0 p1 p2 p3 i h = grind (arith, common_steps)
 
 -- what holds of four lanes and of the four behind them
 pub by_fours : (P : ℕ → Type 0) → ((i : ℕ) → i < 4 → P i) → ((i : ℕ) → i < 4 → P (4 + i)) → (i : ℕ) → i < 8 → P i
-by_fours P low high =
-    below_eight P (low 0 (omega arith)) (low 1 (omega arith)) (low 2 (omega arith)) (low 3 (omega arith))
-    (high 0 (omega arith)) (high 1 (omega arith)) (high 2 (omega arith)) (high 3 (omega arith))
+by_fours P low high = grind (arith, common_steps, below_eight)
 
 -- four bytes as a word
 pub le_word : (x : List ℕ) (at p q r s : ℕ) → p ≡ at → q ≡ at + 1 → r ≡ at + 2 → s ≡ at + 3
     → slice_index x p + 256 * (slice_index x q + 256 * (slice_index x r + 256 * (slice_index x s + 256 * 0)))
     ≡ word_at x at
-le_word x at p q r s hp hq hr hs =
-    let none : at + 0 ≡ at = omega arith in
-    rw (
-      hp,
-      hq,
-      hr,
-      hs,
-      get_or-drop at x 0 0,
-      get_or-drop at x 1 0,
-      get_or-drop at x 2 0,
-      get_or-drop at x 3 0,
-      none,
-    ) refl
+le_word x at p q r s hp hq hr hs = grind (arith, common_steps, get_or-drop)
 
 -- four words of sixteen bytes, which stand in x from `at` on
 pub words_loaded : (x l : List ℕ) (at : ℕ) → ((n : ℕ) → n < 16 → slice_index l n ≡ slice_index x (at + n))
@@ -121,23 +93,4 @@ pub block_read : (b y : List ℕ) (f g h k : ℕ → ℕ) → ((n : ℕ) → n <
     → ((n : ℕ) → n < 4 → k n ≡ word_at b (48 + 4 * n)) → b ≡ y
     → f 0 ∷ f 1 ∷ f 2 ∷ f 3 ∷ g 0 ∷ g 1 ∷ g 2 ∷ g 3 ∷ h 0 ∷ h 1 ∷ h 2 ∷ h 3 ∷ k 0 ∷ k 1 ∷ k 2 ∷ k 3 ∷ [] ≡ words 4 16 y
 unfolding words
-block_read b y f g h k first second third fourth same =
-    rw (
-      first 0 (omega arith),
-      first 1 (omega arith),
-      first 2 (omega arith),
-      first 3 (omega arith),
-      second 0 (omega arith),
-      second 1 (omega arith),
-      second 2 (omega arith),
-      second 3 (omega arith),
-      third 0 (omega arith),
-      third 1 (omega arith),
-      third 2 (omega arith),
-      third 3 (omega arith),
-      fourth 0 (omega arith),
-      fourth 1 (omega arith),
-      fourth 2 (omega arith),
-      fourth 3 (omega arith),
-    )
-    (ap (λ (x : List ℕ). words 4 16 x) same)
+block_read b y f g h k first second third fourth same = grind (arith)

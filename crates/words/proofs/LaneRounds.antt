@@ -1,4 +1,5 @@
 -- Rounds in one lane of vectors.
+use Rattle.std.proofs.lemmas.Grind.{common_steps}
 use Rattle.std.proofs.Common.{◌≡◌, ℕ, zero, suc, ◌<◌, List, [], ◌∷◌, bit_xor, refl, arith, slice_index}
 use Rattle.std.proofs.Common.{map, get_or, ap, ◌∙◌, ◌+◌, length}
 use Rattle.std.proofs.lemmas.List.{get_or-map}
@@ -44,8 +45,7 @@ pub mixed_words : {A : Type 0} (words : A → List ℕ) (m : List A) → length 
     → y < 16 → (k : Variant) (w z : List ℕ)
     → z ≡ g k w (slice_index (words (get_or m x d)) i) (slice_index (words (get_or m y e)) i)
     → z ≡ g k w (slice_index (lane i (map words m)) x) (slice_index (lane i (map words m)) y)
-mixed_words words m len i x y d e hx hy k w z same =
-    rw (picked words m len i x d hx, picked words m len i y e hy) same
+mixed_words words m len i x y d e hx hy k w z same = grind (arith, common_steps, picked)
 
 pub column_words : {A : Type 0} (words : A → List ℕ) (v : List A) → length v ≡ 16 → (i j : ℕ) (a b c d : A) → j < 4
     → (k : Variant) (x y : ℕ) (z : List ℕ)
@@ -53,13 +53,7 @@ pub column_words : {A : Type 0} (words : A → List ℕ) (v : List A) → length
     ∷ slice_index (words (get_or v (j + 8) c)) i ∷ slice_index (words (get_or v (j + 12) d)) i ∷ []) x y
     → z ≡ g k (slice_index (lane i (map words v)) j ∷ slice_index (lane i (map words v)) (j + 4)
     ∷ slice_index (lane i (map words v)) (j + 8) ∷ slice_index (lane i (map words v)) (j + 12) ∷ []) x y
-column_words words v len i j a b c d h k x y z same =
-    rw (
-      picked words v len i j a (omega arith),
-      picked words v len i (j + 4) b (omega arith),
-      picked words v len i (j + 8) c (omega arith),
-      picked words v len i (j + 12) d (omega arith),
-    ) same
+column_words words v len i j a b c d h k x y z same = grind (arith, common_steps, picked)
 
 -- a round: G down the columns, and then down the diagonals
 pub round_by_columns : (k : Variant) (v m s : List ℕ) → length v ≡ 16
@@ -85,8 +79,7 @@ round_by_columns k v m s len {a0} {b0} {c0} {d0} {a1} {b1} {c1} {d1} {a2} {b2} {
 pub xored : {A : Type 0} (words : A → List ℕ) (xs : List A) → length xs ≡ 16 → (i j k : ℕ) (d e : A) (x : ℕ) → j < 16
     → k < 16 → x ≡ bit_xor (slice_index (words (get_or xs j d)) i) (slice_index (words (get_or xs k e)) i)
     → x ≡ bit_xor (slice_index (lane i (map words xs)) j) (slice_index (lane i (map words xs)) k)
-xored words xs len i j k d e x hj hk same =
-    rw (picked words xs len i j d hj, picked words xs len i k e hk) same
+xored words xs len i j k d e x hj hk same = grind (arith, common_steps, picked)
 
 -- the same with the word of a vector of another array
 pub xored_in : {A : Type 0} (words : A → List ℕ) (h xs : List A) → length h ≡ 8 → length xs ≡ 16 → (i j : ℕ)
@@ -95,13 +88,7 @@ pub xored_in : {A : Type 0} (words : A → List ℕ) (h xs : List A) → length 
     → y ≡ bit_xor x (slice_index (words (get_or xs (j + 8) e)) i)
     → y ≡ bit_xor (bit_xor (lane_at (map words h) j i) (slice_index (lane i (map words xs)) j))
     (slice_index (lane i (map words xs)) (j + 8))
-xored_in words h xs lh lx i j c d e x y hj ex ey =
-    rw (
-      read words h 8 lh j i c hj,
-      picked words xs lx i j d (omega arith),
-      picked words xs lx i (j + 8) e (omega arith),
-      ey,
-    ) (ap (λ (z : ℕ). bit_xor z (slice_index (words (get_or xs (j + 8) e)) i)) ex)
+xored_in words h xs lh lx i j c d e x y hj ex ey = grind (arith, common_steps, read, picked, bit_xor, slice_index, get_or)
 
 -- the chaining value, with the halves of v xored in
 pub folded_in : (x v : List ℕ) {a b c d e f g h : ℕ}

@@ -1,6 +1,6 @@
 -- Words of eight bytes that turn by whole bytes are their bytes in another order.
+use Rattle.std.proofs.lemmas.Grind.{common_steps}
 use Rattle.std.proofs.Common.{◌≡◌, ℕ, ◌<◌, ◌+◌, ◌*◌, ◌/◌, ◌%◌, ◌^◌, List, slice_index, bit_or, bit_xor, arith}
-use Rattle.std.proofs.Common.{ap, ◌∙◌, sym}
 use Rattle.std.proofs.lemmas.Nat.{or_shifted, or_comm}
 use Rattle.std.specs.Int.{w64, rotate_right}
 use Rattle.std.specs.Simd.Lanes.{number_l, chunk}
@@ -19,9 +19,7 @@ bytes_of x a b c d e f g h =
 -- the low part of a word, moved up by k bits over its high part
 exchanged : (x low k made moved : ℕ) → moved ≡ x % low * 2 ^ k → x / low < 2 ^ k → made ≡ x % low * 2 ^ k + x / low
     → made ≡ bit_or (x / low) moved
-exchanged x low k made moved up fits parts =
-    parts ∙ sym (or_shifted (x % low) k (x / low) fits) ∙ or_comm (x % low * 2 ^ k) (x / low)
-    ∙ ap (λ (n : ℕ). bit_or (x / low) n) (sym up)
+exchanged x low k made moved up fits parts = grind (arith, common_steps, or_shifted, or_comm, bit_or)
 
 pub turned_32 : (x : ℕ) → x < 2 ^ 64 → bytes_of x 4 5 6 7 0 1 2 3 ≡ rotate_right w64 x 32
 turned_32 x h =
@@ -53,16 +51,4 @@ pub words_turned : (n a b c d e f g h k : ℕ) (x y w z u r : List ℕ)
     → ((i : ℕ) → i < n → number_l 256 (chunk (8 * i) 8 u) ≡ picked z i a b c d e f g h)
     → ((i : ℕ) → i < n → slice_index r i ≡ number_l 256 (chunk (8 * i) 8 u))
     → (i : ℕ) → i < n → slice_index r i ≡ rotate_right w64 (bit_xor (slice_index x i) (slice_index y i)) k
-words_turned n a b c d e f g h k x y w z u r turns within bytes fit lanes moved words i l =
-    words i l ∙ moved i l
-    ∙ rw (
-      bytes i a l within.0,
-      bytes i b l within.1,
-      bytes i c l within.2,
-      bytes i d l within.3,
-      bytes i e l within.4,
-      bytes i f l within.5,
-      bytes i g l within.6,
-      bytes i h l within.7,
-    )
-    (turns (slice_index w i) (fit i l) ∙ ap (λ (v : ℕ). rotate_right w64 v k) (lanes i l))
+words_turned n a b c d e f g h k x y w z u r turns within bytes fit lanes moved words i l = grind (arith, slice_index)

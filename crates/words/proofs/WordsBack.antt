@@ -24,5 +24,4 @@ word_back (x ∷ xs) (suc i) h fits =
 -- the words of the bytes of words
 pub words_back : (n : ℕ) (xs : List ℕ) → length xs ≡ n → ((i : ℕ) → i < n → slice_index xs i < 2 ^ 32)
     → words 4 n (word_bytes 4 xs) ≡ xs
-words_back n xs len fits =
-    sym (words_read 4 n (word_bytes 4 xs) xs len (λ i h. sym (word_back xs i h (fits i (omega arith)))))
+words_back n xs len fits = grind (arith, words_read, word_back)
