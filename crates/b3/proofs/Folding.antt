@@ -1,8 +1,8 @@
 -- The recursion of the tree from the top is a fold of its subtrees from the end: over k closed
 -- chunks and a last one, the left subtrees of the recursion are the trees of the one-bits of k.
-use Rattle.std.proofs.Common.{◌≡◌, ℕ, zero, suc, ◌+◌, ◌-◌, ◌*◌, ◌^◌, ◌<◌, ◌≤◌, List, [], ◌∷◌, ◌++◌, length, take}
-use Rattle.std.proofs.Common.{drop, refl, sym, ap, ◌∙◌, arith, add-zero, pow_pos, pow_mono}
-use Rattle.std.proofs.Common.{length-drop, length-take-le}
+use Rattle.std.proofs.lemmas.Grind.{common_steps}
+use Rattle.std.proofs.Common.{◌≡◌, ℕ, zero, suc, ◌+◌, ◌-◌, ◌*◌, ◌^◌, ◌<◌, ◌≤◌, List, [], ◌∷◌, ◌++◌, length, take, drop}
+use Rattle.std.proofs.Common.{refl, sym, ap, ◌∙◌, arith, add-zero, pow_pos, pow_mono, length-drop, length-take-le}
 use Rattle.std.proofs.Math.Nat.{pow-succ'}
 use Rattle.std.proofs.lemmas.Bool.{le-leb, lt-leb}
 use Rattle.std.proofs.lemmas.List.{drop-drop, take-take, drop-take, take-append-le, drop-append-le}
@@ -121,10 +121,4 @@ module _ (key : List ℕ) (flags c : ℕ) (m : List ℕ) where
   pub run_append : (x : List ℕ) (l i : ℕ) → 1024 * (i + 2 ^ l) ≤ length m
       → run_cv key flags c (m ++ x) l i ≡ run_cv key flags c m l i
   unfolding run_cv
-  run_append x l i h =
-      let n : ℕ = 1024 * 2 ^ l in
-      let rest_len : length (drop (1024 * i) m) ≡ length m - 1024 * i = length-drop (1024 * i) m in
-      let start : drop (1024 * i) (m ++ x) ≡ drop (1024 * i) m ++ x = drop-append-le (1024 * i) m x (omega arith) in
-      let part : take n (drop (1024 * i) m ++ x) ≡ take n (drop (1024 * i) m)
-      = take-append-le n (drop (1024 * i) m) x (omega arith) in
-      ap (λ (ys : List ℕ). cv (tree key flags (c + i) ys)) (ap (λ (ys : List ℕ). take n ys) start ∙ part)
+  run_append x l i h = grind (arith, common_steps, length-drop, drop-append-le, take-append-le)

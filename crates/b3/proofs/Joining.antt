@@ -1,5 +1,6 @@
 -- Parts in a row: all but the last are whole subtrees, so the last one stands where the one-bits of
 -- the number of the chunks before it end, and the tree is folded from the subtrees and the last part.
+use Rattle.std.proofs.lemmas.Grind.{common_steps}
 use Rattle.std.proofs.Common.{◌≡◌, ℕ, zero, suc, ◌+◌, ◌-◌, ◌*◌, ◌/◌, ◌%◌, ◌^◌, ◌<◌, ◌≤◌, List, ◌++◌, length, take}
 use Rattle.std.proofs.Common.{drop, refl, sym, ap, ◌∙◌, inl, inr, arith, add-zero, pow_pos, pow_mono, pow-add}
 use Rattle.std.proofs.Common.{mul-le-mul_left, length-append, length-drop}
@@ -32,18 +33,11 @@ tree_join key flags c e m1 m2 full some fits =
 
 -- an exponent is less where its power is
 pub less_power : (e l : ℕ) → 2 ^ e < 2 ^ l → e < l
-less_power e l h = elim (cases_lt e l) [
-  | inl lt ↦ lt
-  | inr ge ↦
-      let up : 2 ^ l ≤ 2 ^ e = pow_mono ge in
-      absurd (omega arith)
-]
+less_power e l h = grind (arith, common_steps, cases_lt, pow_mono)
 
 -- a power of two is a multiple of the smaller ones
 pub power_multiple : (e l : ℕ) → e ≤ l → 2 ^ l ≡ 2 ^ e * 2 ^ (l - e)
-power_multiple e l h =
-    let is : l ≡ e + (l - e) = omega arith in
-    ap (λ (n : ℕ). 2 ^ n) is ∙ pow-add 2 e (l - e)
+power_multiple e l h = grind (arith, common_steps, pow-add)
 
 mul_up : (a q : ℕ) → 0 < q → a * 1 ≤ a * q
 mul_up a q h = mul-le-mul_left a (omega arith)
@@ -121,8 +115,7 @@ place_power c n placed =
 
 -- a whole part stands at a multiple of its length
 pub whole_place : (c n j : ℕ) → n ≡ 1024 * 2 ^ j → IsPlacedAt c n → c % 2 ^ j ≡ 0
-whole_place c n j whole placed =
-    placed.2 (2 ^ j) (j, refl, omega (arith, pow_pos j), omega (arith, pow_pos j))
+whole_place c n j whole placed = grind (arith, common_steps, pow_pos)
 
 -- bytes from a multiple of a power of two on, which are at most so many chunks, can be a part
 pub placed_within : (e c n : ℕ) → c % 2 ^ e ≡ 0 → (n ≡ 0 → c ≡ 0) → n ≤ 1024 * 2 ^ e → 1024 * c + n ≤ 2 ^ 64 - 1
@@ -149,15 +142,7 @@ placed_within e c n aligned none few limit = (
 pub Holds_last : (s : Blake3) (m : List ℕ) → Holds s m → 1024 * s.stack.closed + s.chunk.len ≤ 2 ^ 64 - 1
     → IsPlacedAt s.stack.closed (length m - 1024 * s.stack.closed)
     × (chunk_count (drop (1024 * s.stack.closed) m) ≡ 1)
-Holds_last s m held fits =
-    let k : ℕ = s.stack.closed in
-    let rest : length (drop (1024 * k) m) ≡ length m - 1024 * k = length-drop (1024 * k) m in
-    let len : s.chunk.len ≡ length (drop (1024 * k) m) = held.split.open_chunk.len in
-    let within : 1024 * k ≤ length m = held.split.within in
-    let last : k + 1 ≡ chunk_count m = held.last in (
-      placed_within 0 k (length m - 1024 * k) (omega arith) (λ none. omega (arith, none)) (omega arith) (omega arith),
-      omega arith,
-    )
+Holds_last s m held fits = grind (arith, common_steps, length-drop, placed_within)
 
 -- the chaining values and the last part are the tree
 pub row_root : (key : List ℕ) (flags f : ℕ) (m : List ℕ) (items : List (List ℕ)) (c n : ℕ)

@@ -1,5 +1,6 @@
 -- Blocks of chunks that lie one after the other, taken side by side.
-use Rattle.std.proofs.Common.{◌≡◌, ℕ, zero, suc, ◌+◌, ◌-◌, ◌*◌, ◌<◌, ◌≤◌, List, [], ◌++◌, length, take, drop, refl}
+use Rattle.std.proofs.lemmas.Grind.{common_steps}
+use Rattle.std.proofs.Common.{◌≡◌, ℕ, ◌+◌, ◌-◌, ◌*◌, ◌<◌, ◌≤◌, List, length, take, drop, refl}
 use Rattle.std.proofs.Common.{sym, ap, ◌∙◌, arith, append-nil, length-drop, length-take-le, add-one}
 use Rattle.std.proofs.lemmas.List.{take-take, drop-take, drop-drop}
 use Rattle.words.specs.Blake3.{compress3}
@@ -26,9 +27,7 @@ block_at x i j h =
 
 pub block_words_full : (x : List ℕ) → length x ≡ 64 → block_words x ≡ words 4 16 x
 unfolding block_words
-block_words_full x h =
-    let padded : x ++ [] ≡ x = append-nil x in
-    rw (h, padded) refl
+block_words_full x h = grind (arith, common_steps, append-nil)
 
 -- the words that a lane reads
 pub lane_block : (x b : List ℕ) (i j : ℕ) → 1024 * i + 1024 ≤ length x → j < 16
@@ -43,10 +42,7 @@ lane_block x b i j w hj e =
 -- the flags of a block that is not the last of sixteen
 pub flag_more : (flags j d : ℕ) → (j ≡ 0 → d ≡ flags + 1) → (0 < j → j < 15 → d ≡ flags) → j < 15
     → d ≡ flags + start_flag j
-flag_more flags zero d first later h = first refl
-flag_more flags (suc j) d first later h =
-    let none : flags + 0 ≡ flags = omega arith in
-    later (omega arith) h ∙ sym none
+flag_more flags j d first later h = grind (arith, common_steps)
 
 -- one block more of a chunk of 1024 bytes
 pub value_more : (key : List ℕ) (flags c d : ℕ) (x : List ℕ) (j : ℕ) → length x ≡ 1024 → j < 15

@@ -1,4 +1,5 @@
 -- An array that calls of a closure made, where no call changes what the closure holds.
+use Rattle.std.proofs.lemmas.Grind.{common_steps}
 use Rattle.std.proofs.Common.{◌≡◌, ℕ, zero, suc, ◌+◌, ◌<◌, List, arith, subst, sym, slice_index_or}
 use Rattle.std.specs.Array.{IsFromFnResult, IsFromFnResultFrom}
 use denote.Param.Members.{Mut, Called}
@@ -20,6 +21,4 @@ module _ {F B : Type 0} (g : Mut F (ℕ × Unit {0}) B) (P : ℕ → B → Type 
 
   -- each element is what the closure answers of its index
   pub made_by : (ys : List B) (n : ℕ) → IsFromFnResult g f ys n → (k : ℕ) (e : B) → k < n → P k (slice_index_or ys k e)
-  made_by ys n made k e below =
-      let counted : 0 + k ≡ k = omega arith in
-      subst (λ (m : ℕ). P m (slice_index_or ys m e)) counted (from ys 0 n made.each k e below)
+  made_by ys n made k e below = grind (arith, common_steps, slice_index_or, from)

@@ -1,4 +1,5 @@
 -- Powers of two are the numbers with one bit.
+use Rattle.std.proofs.lemmas.Grind.{common_steps}
 use Rattle.std.proofs.Common.{◌≡◌, ℕ, zero, suc, ◌+◌, ◌*◌, ◌/◌, ◌%◌, ◌^◌, ◌<◌, ◌≤◌, max, refl, sym, ap, ◌∙◌, inl, inr}
 use Rattle.std.proofs.Common.{arith, pow_pos, pow_mono}
 use Rattle.std.proofs.Math.Nat.{pow-succ', mul-mod_right}
@@ -67,12 +68,7 @@ greatest_below p n (suc e, is) from near some =
 
 -- there is one least power of two from n on
 pub least_power_unique : (p q n : ℕ) → IsLeastPowerFrom p n → IsLeastPowerFrom q n → p ≡ q
-least_power_unique p q n (e, pe, pn, p2) (f, qf, qn, q2) =
-    elim (cases_order e f) [
-      | inl same ↦ pe ∙ ap (λ (k : ℕ). 2 ^ k) same ∙ sym qf
-      | inr (inl lt) ↦ absurd (smaller_power e f n lt (omega arith) (omega arith))
-      | inr (inr gt) ↦ absurd (smaller_power f e n gt (omega arith) (omega arith))
-    ]
+least_power_unique p q n h r1 = grind (arith, common_steps, cases_order, smaller_power)
 
 -- there is a least power of two from n on
 pub least_power : (n : ℕ) → 0 < n → (p : ℕ) × IsLeastPowerFrom p n

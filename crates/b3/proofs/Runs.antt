@@ -1,4 +1,5 @@
 -- Subtrees of one size that lie one after the other in a run of chunks.
+use Rattle.std.proofs.lemmas.Grind.{common_steps}
 use Rattle.std.proofs.Common.{◌≡◌, ℕ, suc, ◌+◌, ◌-◌, ◌*◌, ◌/◌, ◌^◌, ◌<◌, ◌≤◌, List, [], length, take, drop, get_or}
 use Rattle.std.proofs.Common.{refl, sym, ap, ap₂, ◌∙◌, arith, one-mul, add-zero, inl, inr, pow_mono, pow-add}
 use Rattle.std.proofs.Common.{length-take-le}
@@ -8,7 +9,6 @@ use Rattle.std.proofs.lemmas.List.{drop-drop, take-append-drop, take_rest, take_
 use Rattle.std.proofs.lemmas.List.{get_or-set_other, length-set}
 use Rattle.std.proofs.Math.Nat.{mul-le-mul_left, pow-succ'}
 use Rattle.b3.specs.Node.{cv}
-use Rattle.b3.specs.Chunk.{value_before}
 use Rattle.b3.specs.Tree.{tree}
 use Rattle.b3.specs.inside.Stack.{joined_cv}
 use Rattle.b3.specs.inside.Runs.{run_cv, value_before_last}
@@ -18,19 +18,11 @@ use Rattle.words.proofs.LaneLemmas.{below_eight}
 pub run_shift : (key : List ℕ) (flags c k : ℕ) (m : List ℕ) (l i : ℕ)
     → run_cv key flags (c + k) (drop (1024 * k) m) l i ≡ run_cv key flags c m l (k + i)
 unfolding run_cv
-run_shift key flags c k m l i =
-    let at : 1024 * k + 1024 * i ≡ 1024 * (k + i) = omega arith in
-    let place : c + k + i ≡ c + (k + i) = omega arith in
-    ap₂ (λ (n : ℕ) (x : List ℕ). cv (tree key flags n (take (1024 * 2 ^ l) x))) place
-    (drop-drop (1024 * i) (1024 * k) m ∙ ap (λ (n : ℕ). drop n m) at)
+run_shift key flags c k m l i = grind (arith, common_steps, drop-drop)
 
 pub before_shift : (key : List ℕ) (flags c k : ℕ) (m : List ℕ) (i : ℕ)
     → value_before_last key flags (c + k) (drop (1024 * k) m) i ≡ value_before_last key flags c m (k + i)
-before_shift key flags c k m i =
-    let at : 1024 * k + 1024 * i ≡ 1024 * (k + i) = omega arith in
-    let place : c + k + i ≡ c + (k + i) = omega arith in
-    ap₂ (λ (n : ℕ) (x : List ℕ). value_before key flags n (take 1024 x) 15) place
-    (drop-drop (1024 * i) (1024 * k) m ∙ ap (λ (n : ℕ). drop n m) at)
+before_shift key flags c k m i = grind (arith, common_steps, drop-drop)
 
 pub run_part : (key : List ℕ) (flags c k : ℕ) (m : List ℕ) (l i : ℕ) → 1024 * k ≤ length m → i + 2 ^ l ≤ k
     → run_cv key flags c (take (1024 * k) m) l i ≡ run_cv key flags c m l i
@@ -103,9 +95,7 @@ module _ (key : List ℕ) (flags c : ℕ) (m : List ℕ) (l level half middle : 
         (low (2 * i + 1) (omega arith)) (omega arith) refl (omega arith)
 
     upper : (i : ℕ) → i < 4 → out (4 + i) ≡ run_cv key flags c m level (2 ^ level * (4 + i))
-    upper i h =
-        over (4 + i) (8 * 2 ^ l + 2 ^ l * (2 * i)) (8 * 2 ^ l + 2 ^ l * (2 * i + 1)) _ _ (outr i h)
-        (high (2 * i) (omega arith)) (high (2 * i + 1) (omega arith)) (omega arith) (omega arith) (omega arith)
+    upper i h = grind (arith, common_steps, over, high)
 
     pub parent_values : (i : ℕ) → i < 8 → out i ≡ run_cv key flags c m level (2 ^ level * i)
     parent_values =
@@ -156,8 +146,7 @@ joined_whole key flags c m l left right len is_left is_right =
 pub run_whole : (key : List ℕ) (flags c : ℕ) (m : List ℕ) (l : ℕ) → length m ≡ 1024 * 2 ^ l
     → run_cv key flags c m l 0 ≡ cv (tree key flags c m)
 unfolding run_cv
-run_whole key flags c m l size =
-    rw (take_all (1024 * 2 ^ l) m (omega arith), add-zero) refl
+run_whole key flags c m l size = grind (arith, common_steps, take_all, add-zero)
 
 -- a power below another is at most its half
 pub two_below : (j l : ℕ) → j < l → 2 * 2 ^ j ≤ 2 ^ l
@@ -181,12 +170,7 @@ pub last_second : (key : List ℕ) (flags c : ℕ) (m : List ℕ) (p half middle
     → half ≡ 1024 * (8 * p) → middle ≡ c + half / 1024 → 0 < p → n ≡ 2 * p
     → value_before_last key flags middle (take (length m - half) (drop half m)) (8 * p - 1)
     ≡ value_before_last key flags c m (8 * n - 1)
-last_second key flags c m p half middle n at_half is_middle some is =
-    let place : middle + (8 * p - 1) ≡ c + (8 * n - 1) = omega arith in
-    let at : half + 1024 * (8 * p - 1) ≡ 1024 * (8 * n - 1) = omega arith in
-    ap₂ (λ (k : ℕ) (x : List ℕ). value_before key flags k (take 1024 x) 15) place
-    (ap (λ (x : List ℕ). drop (1024 * (8 * p - 1)) x) (take_rest m half) ∙ drop-drop (1024 * (8 * p - 1)) half m
-    ∙ ap (λ (k : ℕ). drop k m) at)
+last_second key flags c m p half middle n at_half is_middle some is = grind (arith, common_steps, take_rest, drop-drop)
 
 -- a run by its place
 pub run_at : (key : List ℕ) (flags c : ℕ) (m : List ℕ) (l i n : ℕ) → n ≡ c + i

@@ -1,6 +1,7 @@
 -- Pushing the next tree onto a row of subtrees is adding to a binary number: where k is a multiple
 -- of 2 ^ (j + 1), the subtrees of k + 2 ^ j leaves are those of k and then the tree of the
 -- last 2 ^ j.
+use Rattle.std.proofs.lemmas.Grind.{common_steps}
 use Rattle.std.proofs.Common.{◌≡◌, ℕ, zero, suc, ◌+◌, ◌-◌, ◌*◌, ◌^◌, ◌<◌, ◌≤◌, [], ◌∷◌, ◌++◌, refl, ap, ◌∙◌, inl, inr}
 use Rattle.std.proofs.Common.{arith, add-zero, pow_pos, pow_mono, pow-add, mul-add, mul-le-mul_left}
 use Rattle.std.proofs.Math.Nat.{mul-sub, pow-succ'}
@@ -24,21 +25,11 @@ module _ {X : Type 0} (tree : ℕ → ℕ → X) where
 
 -- a multiple of a below one of its multiples is a whole step below it
 pub step_below : (a q b : ℕ) → a * q < a * b → a * q + a ≤ a * b
-step_below a q b h =
-    elim (cases_lt q b) [
-      | inl lt ↦
-          let e : a * (q + 1) ≤ a * b = mul-le-mul_left a (omega arith) in
-          omega (arith, mul-add a q 1)
-      | inr ge ↦
-          let e : a * b ≤ a * q = mul-le-mul_left a ge in
-          absurd (omega arith)
-    ]
+step_below a q b h = grind (arith, common_steps, cases_lt, mul-le-mul_left, mul-add)
 
 -- 2 ^ l is a multiple of each smaller power
 pow_multiple : (j l : ℕ) → j < l → 2 ^ l ≡ 2 ^ suc j * 2 ^ (l - suc j)
-pow_multiple j l h =
-    let e : l ≡ suc j + (l - suc j) = omega arith in
-    ap (λ (n : ℕ). 2 ^ n) e ∙ pow-add 2 (suc j) (l - suc j)
+pow_multiple j l h = grind (arith, common_steps, pow-add)
 
 module _ {X : Type 0} (tree : ℕ → ℕ → X) where
   -- where k is a multiple of 2 ^ (j + 1), the subtrees of k + 2 ^ j leaves are those of k and, at

@@ -1,4 +1,5 @@
 -- Chaining values of the chunks of a message, one after the other, cut where the tree is cut.
+use Rattle.std.proofs.lemmas.Grind.{common_steps}
 use Rattle.std.proofs.Common.{◌≡◌, ℕ, ◌+◌, ◌-◌, ◌*◌, ◌<◌, List, [], take, drop, get_or, refl, sym, ap₂, ◌∙◌, arith}
 use Rattle.std.proofs.Common.{◌^◌, ap, add-zero, length, length-drop, length-take-le, pow-add, pow_pos}
 use Rattle.std.proofs.lemmas.List.{get_or-drop, get_or-take, take_all}
@@ -50,11 +51,9 @@ module _ (key : List ℕ) (flags c p : ℕ) (m : List ℕ) (values : List (List 
 
   pub right_values : (i : ℕ) → i < chunk_count m - p
       → get_or (drop p values) i [] ≡ run_cv key flags (c + p) (drop (1024 * p) m) 0 i
-  right_values i h =
-      get_or-drop p values i [] ∙ held (p + i) (omega (arith, within)) ∙ sym (run_shift key flags c p m 0 i)
+  right_values i h = grind (arith, common_steps, get_or-drop, within, run_shift)
 
   -- the node over both sides
   pub split_node : (left right : List ℕ) → left ≡ cv (tree key flags c (take (1024 * p) m))
       → right ≡ cv (tree key flags (c + p) (drop (1024 * p) m)) → parent key flags left right ≡ tree key flags c m
-  split_node left right is_left is_right =
-      ap₂ (parent key flags) is_left is_right ∙ sym (tree_split key flags c p m cut)
+  split_node left right is_left is_right = grind (arith, common_steps, tree_split)
