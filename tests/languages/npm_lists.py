@@ -26,7 +26,7 @@ STANDS_IN = f"{harness.HERE}/languages/npm_lists.mjs"
 
 # what is said of malformed lines, of which the package tells only whether they are untagged
 LOOKING = ("MD5", "SHA-1", "mark", "signed", "no name", "other -a", "no entry")
-LOOKS = b"|".join(re.escape(tables.text(f"{{{name}}}")) for name in LOOKING))
+LOOKS = b"|".join(re.escape(tables.text(f"{{{name}}}")) for name in LOOKING)
 
 
 def seen(run):
