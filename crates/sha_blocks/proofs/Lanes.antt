@@ -1,6 +1,7 @@
 -- What an operation on vectors does to the word in each lane.
-use Rattle.std.proofs.Common.{◌≡◌, ℕ, ◌<◌, ◌+◌, ◌-◌, ◌*◌, ◌/◌, ◌%◌, ◌^◌, List, length, slice_index, inl, inr}
-use Rattle.std.proofs.Common.{bit_or, bit_xor, arith, refl, subst, replicate, ◌∙◌}
+use Rattle.std.proofs.lemmas.Grind.{common_steps}
+use Rattle.std.proofs.Common.{◌≡◌, ℕ, ◌<◌, ◌-◌, ◌*◌, ◌/◌, ◌%◌, ◌^◌, List, length, slice_index}
+use Rattle.std.proofs.Common.{bit_or, bit_xor, arith, refl, replicate, ◌∙◌}
 use Rattle.std.specs.Int.{Width, rotate_right}
 use Rattle.std.specs.Simd.Lanes.{zip2}
 use Rattle.std.proofs.lemmas.Bool.{cases_lt}
@@ -13,39 +14,19 @@ use mir.Val.{bits}
 -- what holds of each number below sixteen
 pub below_sixteen : (P : ℕ → Type 0) → P 0 → P 1 → P 2 → P 3 → P 4 → P 5 → P 6 → P 7
     → P 8 → P 9 → P 10 → P 11 → P 12 → P 13 → P 14 → P 15 → (i : ℕ) → i < 16 → P i
-below_sixteen P p0 p1 p2 p3 p4 p5 p6 p7 p8 p9 p10 p11 p12 p13 p14 p15 i h =
-    elim (cases_lt i 8) [
-      | inl lt ↦ below_eight P p0 p1 p2 p3 p4 p5 p6 p7 i lt
-      | inr ge ↦
-          let e : 8 + (i - 8) ≡ i = omega arith in
-          subst P e (below_eight (λ (k : ℕ). P (8 + k)) p8 p9 p10 p11 p12 p13 p14 p15 (i - 8) (omega arith))
-    ]
+below_sixteen P p0 p1 p2 p3 p4 p5 p6 p7 p8 p9 p10 p11 p12 p13 p14 p15 i h = grind (arith, common_steps, cases_lt, below_eight)
 
 -- two shifts joined rotate each word of n lanes
 pub rotated_lane : (w : Width) (n r i : ℕ) (x : List ℕ) → length x ≡ n → 0 < r → r < bits w → i < n
     → slice_index (zip2 bit_or (zip2 (λ (z k : ℕ). z / 2 ^ k) x (replicate n r))
     (zip2 (λ (z k : ℕ). z * 2 ^ k % 2 ^ bits w) x (replicate n (bits w - r)))) i
     ≡ rotate_right w (slice_index x i) r
-rotated_lane w n r i x len low high h =
-    let right : r % bits w ≡ r = mod-eq_of_lt high in
-    let left : (bits w - r) % bits w ≡ bits w - r = mod-eq_of_lt (omega arith) in
-    rw (
-      zip2_splat (λ (v k : ℕ). v / 2 ^ k) x n r len,
-      zip2_splat (λ (v k : ℕ). v * 2 ^ k % 2 ^ bits w) x n (bits w - r) len,
-      zip2-map bit_or (λ (v : ℕ). v / 2 ^ r) (λ (v : ℕ). v * 2 ^ (bits w - r) % 2 ^ bits w) x,
-      get_or-map (λ (v : ℕ). bit_or (v / 2 ^ r) (v * 2 ^ (bits w - r) % 2 ^ bits w)) x i 0 0 (omega arith),
-      right,
-      left,
-    ) refl
+rotated_lane w n r i x len low high h = grind (arith, common_steps, mod-eq_of_lt, zip2_splat, zip2-map, bit_or, get_or-map)
 
 -- a shift of each word
 pub shifted_lane : (n r i : ℕ) (x : List ℕ) → length x ≡ n → i < n
     → slice_index (zip2 (λ (z k : ℕ). z / 2 ^ k) x (replicate n r)) i ≡ slice_index x i / 2 ^ r
-shifted_lane n r i x len h =
-    rw (
-      zip2_splat (λ (v k : ℕ). v / 2 ^ k) x n r len,
-      get_or-map (λ (v : ℕ). v / 2 ^ r) x i 0 0 (omega arith),
-    ) refl
+shifted_lane n r i x len h = grind (arith, common_steps, zip2_splat, get_or-map)
 
 -- three words, xored
 pub xor_lane : (n : ℕ) (x y z : List ℕ) → length x ≡ n → length y ≡ n → length z ≡ n → (i : ℕ) → i < n

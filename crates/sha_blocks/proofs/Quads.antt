@@ -12,10 +12,7 @@ quad_of b t u k w e h words = λ i lt. words k h i lt ∙ ap (slice_index (sched
 -- four vectors
 pub quads_of : (b : List ℕ) (t : ℕ) (w0 w1 w2 w3 : List ℕ) → IsQuad b t w0 → IsQuad b (t + 4) w1
     → IsQuad b (t + 8) w2 → IsQuad b (t + 12) w3 → AreQuads b t (w0 ∷ w1 ∷ w2 ∷ w3 ∷ [])
-quads_of b t w0 w1 w2 w3 q0 q1 q2 q3 =
-    let at = slice_index (schedule b 48) in
-    below_four _ (λ i lt. q0 i lt ∙ ap at (omega arith)) (λ i lt. q1 i lt ∙ ap at (omega arith))
-    (λ i lt. q2 i lt ∙ ap at (omega arith)) (λ i lt. q3 i lt ∙ ap at (omega arith))
+quads_of b t w0 w1 w2 w3 q0 q1 q2 q3 = grind (arith, slice_index, below_four)
 
 -- the same round, spelled another way
 pub at_round : (h b : List ℕ) (m n : ℕ) (v : List ℕ) (w : List (List ℕ)) → m ≡ n → IsAtRound h b m v w

@@ -1,5 +1,6 @@
 -- Sums of words below m in another order than the standard's.
-use Rattle.std.proofs.Common.{◌≡◌, ℕ, ◌+◌, ◌%◌, List, [], ◌∷◌, slice_index, arith, ap, refl}
+use Rattle.std.proofs.lemmas.Grind.{common_steps}
+use Rattle.std.proofs.Common.{◌≡◌, ℕ, ◌+◌, ◌%◌, List, [], ◌∷◌, slice_index, arith, ap}
 use Rattle.std.proofs.Math.Nat.{add-mod-mod, mod-add-mod}
 
 -- a word of the schedule
@@ -23,6 +24,4 @@ pub round_keyed : (m : ℕ) (v : List ℕ) (k w key c s z j : ℕ) → key ≡ (
     ∷ slice_index v 4 ∷ slice_index v 5 ∷ slice_index v 6 ∷ []
     ≡ (t1 + (z + j) % m) % m ∷ slice_index v 0 ∷ slice_index v 1 ∷ slice_index v 2
     ∷ (slice_index v 3 + t1) % m ∷ slice_index v 4 ∷ slice_index v 5 ∷ slice_index v 6 ∷ []
-round_keyed m v k w key c s z j keyed =
-    let h = slice_index v 7 in
-    rw (keyed, keyed_first m k w h c s, d_before_sigma m k w h c s (slice_index v 3)) refl
+round_keyed m v k w key c s z j keyed = grind (arith, common_steps, slice_index, keyed_first, d_before_sigma)

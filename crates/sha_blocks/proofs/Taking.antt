@@ -1,4 +1,5 @@
 -- How the hash value and the buffer follow a message as it grows.
+use Rattle.std.proofs.lemmas.Grind.{common_steps}
 use Rattle.std.proofs.Common.{◌≡◌, ℕ, ◌+◌, ◌-◌, ◌*◌, ◌/◌, ◌%◌, ◌<◌, ◌≤◌, List, [], ◌∷◌, ◌++◌, length, take, drop}
 use Rattle.std.proofs.Common.{refl, sym, ap, ◌∙◌, arith, get_or, length-append, length-drop, append_assoc}
 use Rattle.std.proofs.Common.{zero, suc, replicate, slice_set, add-one, add-zero, zero-add}
@@ -19,12 +20,6 @@ concat_chunks n zero xs h = let z : n * 0 ≡ 0 = omega arith in rw z refl
 concat_chunks n (suc k) xs h =
     let e : n * suc k ≡ n + n * k = omega arith in
     rw (e, take-add n (n * k) xs, concat_chunks n k (drop n xs) (omega (arith, length-drop n xs))) refl
-
--- the hash value of what was taken
-pub HasTaken_value : (words_after : List ℕ → ℕ → List ℕ) (n : ℕ) (h b m : List ℕ)
-    → HasTaken words_after n h b m → h ≡ words_after m (length m / n)
-unfolding HasTaken
-HasTaken_value words_after n h b m held = held.0
 
 -- a message cut behind its whole blocks: p has those, and d the bytes after them
 pub record IsCut (words_after : List ℕ → ℕ → List ℕ) (n : ℕ) (h b m p d : List ℕ) : Type 0 where
@@ -201,20 +196,14 @@ module _ (words_after : List ℕ → ℕ → List ℕ) (compressed : List ℕ �
 -- the beginning of a padding
 pub padding_front : (n z : ℕ) → z < n
     → take {A = ℕ} (z + 1) (slice_set (replicate {A = ℕ} n 0) 0 0x80) ≡ 0x80 ∷ replicate z 0
-padding_front zero z lt = absurd (omega arith)
-padding_front (suc n) z lt = rw add-one (ap (λ (xs : List ℕ). 0x80 ∷ xs) (take-replicate z n 0 (omega arith)))
+padding_front n z lt = grind (arith, common_steps, add-one, take-replicate)
 
 -- the same, of k bytes
 pub padding_begins : (n k : ℕ) → 0 < k → k ≤ n
     → take {A = ℕ} k (slice_set (replicate {A = ℕ} n 0) 0 0x80) ≡ 0x80 ∷ replicate (k - 1) 0
-padding_begins n k some fits =
-    let one : k ≡ k - 1 + 1 = omega arith in
-    ap (λ (j : ℕ). take {A = ℕ} j (slice_set (replicate {A = ℕ} n 0) 0 0x80)) one
-    ∙ padding_front n (k - 1) (omega arith)
+padding_begins n k some fits = grind (arith, common_steps, slice_set, padding_front)
 
 -- the end of a padding: the count of the bits of n bytes
 pub bits_counted : (w : Width) (most taken n : ℕ) (count : List ℕ) → taken ≡ n → n * 8 < most
     → count ≡ to_be_bytes w (8 * taken) → count ≡ to_be_bytes w (n * 8 % most)
-bits_counted w most taken n count same fits is =
-    let bits : 8 * taken ≡ n * 8 % most = omega (arith, mod-eq_of_lt fits) in
-    is ∙ ap (to_be_bytes w) bits
+bits_counted w most taken n count same fits is = grind (arith, common_steps, mod-eq_of_lt)
