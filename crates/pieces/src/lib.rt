@@ -6,12 +6,13 @@ pub use blake2b_lanes::blake2b;
 pub use blake2s_lanes::blake2s;
 pub use blake3_lanes::blake3;
 pub use fault::Fault;
-pub use sha256_lanes::sha256;
-pub use sha512_lanes::sha512;
+pub use sha256_lanes::{sha256, sha256_rows};
+pub use sha512_lanes::{sha512, sha512_rows};
 
 mod blake2b_lanes;
 mod blake2s_lanes;
 mod blake3_lanes;
+mod block_lanes;
 mod chunk_lanes;
 mod digests;
 mod fault;

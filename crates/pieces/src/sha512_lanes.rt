@@ -2,6 +2,8 @@
 
 ghost use Rattle.std.specs.Prelude.{◌≡◌, ◌<◌, ◌≤◌, ◌+◌, ◌*◌, ◌/◌, [], ℕ, length, take, drop};
 ghost use Rattle.std.specs.Prelude.{None, Some, MatchResult, slice_index, slice_index_or};
+ghost use Rattle.std.specs.Prelude.{◌^◌};
+ghost use Rattle.std.specs.Int.{to_be_bytes, w128};
 ghost use Rattle.std.proofs.Common.{rules};
 ghost use Rattle.sha2.specs.Sha512;
 ghost use Rattle.pieces.specs.Pieces.{digests};
@@ -9,12 +11,12 @@ ghost use Rattle.pieces.specs.Faults.{piece_fault};
 
 use crate::digests::write_digests;
 use crate::fault::Fault;
-use crate::lanes2::words64::lane_rows;
+use crate::lanes2::words64::{lane_rows, same_lanes};
 use crate::piece_hash::PieceHash;
 use crate::sha_lanes::final_values;
 use sha_blocks::{Value512, digest512};
 use std::simd::prelude::*;
-use words::level;
+use words::{IV64, level};
 
 // The bytes of a hash value.
 #[inline(always)]
@@ -22,6 +24,44 @@ fn bytes_of(h: [u64; 8]) -> [u8; 64]
     ensures { result ≡ Sha512.digest_bytes h 8 }
 {
     Value512 { h }.bytes()
+}
+
+// The count of bits that ends the padding of a message of `len` bytes.
+#[inline(always)]
+fn bit_count(len: usize) -> [u8; 16]
+    ensures value { result ≡ to_be_bytes w128 (8 * len) }
+    ensures whole { length result ≡ 16 }
+{
+    (8 * len as u128).to_be_bytes()
+}
+
+// Those of four messages.
+#[inline(always)]
+fn bit_counts(lens: &[usize; 4]) -> [[u8; 16]; 4]
+    ensures value { (i : ℕ) → i < 4 → slice_index_or result i [] ≡ to_be_bytes w128 (8 * slice_index lens.now i) }
+    ensures whole { (i : ℕ) → i < 4 → length (slice_index_or result i []) ≡ 16 }
+{
+    let mut counts = [[0; 16]; 4];
+    'lanes: for i in 0..4 {
+        counts[i] = bit_count(lens[i]);
+    }
+    counts
+}
+
+/// The SHA-512 digests (FIPS 180-4, section 6.4) of the four messages of `lens` bytes that begin at `starts`.
+pub fn sha512_rows(bytes: &[u8], starts: &[usize; 4], lens: &[usize; 4]) -> [[u8; 64]; 4]
+    requires fits { (i : ℕ) → i < 4 → slice_index starts.now i + slice_index lens.now i ≤ length bytes.now }
+    ensures value { (i : ℕ) → i < 4 → slice_index_or result i []
+        ≡ Sha512.sha512 (take (slice_index lens.now i) (drop (slice_index starts.now i) bytes.now)) }
+    ensures whole { (i : ℕ) → i < 4 → length (slice_index_or result i []) ≡ 64 }
+{
+    let counts = bit_counts(lens);
+    let first = same_lanes(&IV64);
+    let values = final_values::<Value512, [u64x4; 8], 4, 128, 256, 16>(
+        first, bytes, starts, lens, &counts,
+    );
+    let [h0, h1, h2, h3] = lane_rows(values);
+    [bytes_of(h0), bytes_of(h1), bytes_of(h2), bytes_of(h3)]
 }
 
 // SHA-512, four pieces side by side.
@@ -44,10 +84,7 @@ impl PieceHash<4, 64> for Lanes512 {
     }
 
     fn side_by_side(&self, bytes: &[u8], starts: &[usize; 4], piece_len: usize) -> [[u8; 64]; 4] {
-        let count = (8 * piece_len as u128).to_be_bytes();
-        let values = final_values::<Value512, [u64x4; 8], 4, 128>(bytes, starts, piece_len, &count);
-        let [h0, h1, h2, h3] = lane_rows(values);
-        [bytes_of(h0), bytes_of(h1), bytes_of(h2), bytes_of(h3)]
+        sha512_rows(bytes, starts, &[piece_len; 4])
     }
 
     fn one(&self, piece: &[u8]) -> [u8; 64] {

@@ -3,64 +3,14 @@
 
 ghost use Rattle.std.specs.Prelude.{◌≡◌, ◌<◌, ◌≤◌, ◌+◌, ◌-◌, ◌*◌, ◌/◌, ◌%◌, ◌++◌, ◌∷◌, [], ℕ, List, length};
 ghost use Rattle.std.specs.Prelude.{drop, replicate, slice_index, slice_index_or, take};
+ghost use Rattle.pieces.specs.inside.Blocks.{padding};
 
+use crate::block_lanes::{HashValues, take_each};
 use crate::digests::starts_of;
 use sha_blocks::HashValue;
 use words::write_at;
 
-/// The hash values of `LANES` messages, one in each lane; `V` is the hash value of one message.
-pub(crate) trait HashValues<V: HashValue<N>, const LANES: usize, const N: usize> {
-    // Room for the work on a block in each lane.
-    type Room: Copy;
-
-    // The words in a lane.
-    ghost lane: { ℕ → Self → List ℕ };
-
-    /// The hash value before the first block, in each lane.
-    fn start() -> Self
-        ensures { (i : ℕ) → i < LANES → lane i result ≡ V.words_after [] 0 };
-
-    /// Room with nothing in it.
-    fn room() -> Self::Room;
-
-    /// Takes a block in each lane: the one that begins `at` bytes after the lane's start.
-    fn take_blocks(
-        &mut self,
-        room: &mut Self::Room,
-        bytes: &[u8],
-        starts: &[usize; LANES],
-        at: usize,
-    )
-        requires { (i : ℕ) → i < LANES → slice_index starts.now i + at + N ≤ length bytes.now }
-        ensures { (i : ℕ) → i < LANES → lane i self.new
-            ≡ V.compressed (lane i self.old) (take N (drop (slice_index starts.now i + at) bytes.now)) };
-
-    ghost some_lanes: { 0 < LANES };
-
-    ghost few_lanes: { LANES ≤ 8 };
-}
-
-// Takes the whole blocks of messages of `len` bytes.
-#[inline(always)]
-fn take_whole<V: HashValue<N>, H: HashValues<V, LANES, N>, const LANES: usize, const N: usize>(
-    values: &mut H,
-    room: &mut H::Room,
-    bytes: &[u8],
-    starts: &[usize; LANES],
-    len: usize,
-)
-    requires fits { (i : ℕ) → i < LANES → slice_index starts.now i + len ≤ length bytes.now }
-    requires begun { (i : ℕ) → i < LANES → H.lane i values.old ≡ V.words_after [] 0 }
-    ensures { (i : ℕ) → i < LANES → H.lane i values.new
-        ≡ V.words_after (take len (drop (slice_index starts.now i) bytes.now)) (len / N) }
-{
-    'each: for block in 0..len / N {
-        values.take_blocks(room, bytes, starts, N * block);
-    }
-}
-
-// Puts the last bytes of a message at the front of a block of zeros, followed by the mark that begins the
-// padding.
+// Puts the last bytes of a message at the front of zeros, followed by the mark that begins the padding.
 #[inline(always)]
 fn put_marked<const N: usize>(block: &mut [u8; N], bytes: &[u8])
     requires short { length bytes.now < N }
@@ -71,89 +21,141 @@ fn put_marked<const N: usize>(block: &mut [u8; N], bytes: &[u8])
     block[bytes.len()] = 0x80;
 }
 
-// Such a block for each message; its last `len` bytes begin `at` bytes after its start.
+// How many blocks the last bytes of a message and its padding fill: one if the mark and the count of `size` bytes have
+// room after these bytes, else two.
 #[inline(always)]
-fn marked_rows<const N: usize, const LANES: usize>(
+fn blocks_left<const N: usize>(len: usize, size: usize) -> usize
+    requires { size < N }
+    ensures filled { N * result ≡ len % N + (1 + (2 * N - 1 - size - len % N) % N + size) }
+    ensures few { result ≤ 2 }
+{
+    if len % N < N - size { 1 } else { 2 }
+}
+
+// Those of each message.
+#[inline(always)]
+fn counts_left<const N: usize, const LANES: usize>(
+    lens: &[usize; LANES],
+    size: usize,
+) -> [usize; LANES]
+    requires { size < N }
+    ensures filled { (i : ℕ) → i < LANES → N * slice_index result i
+        ≡ slice_index lens.now i % N + (1 + (2 * N - 1 - size - slice_index lens.now i % N) % N + size) }
+    ensures few { (i : ℕ) → i < LANES → slice_index result i ≤ 2 }
+{
+    let mut counts = [0; LANES];
+    'lanes: for i in 0..LANES {
+        counts[i] = blocks_left::<N>(lens[i], size);
+    }
+    counts
+}
+
+// How many whole blocks of `N` bytes each message has.
+#[inline(always)]
+fn whole_blocks<const N: usize, const LANES: usize>(lens: &[usize; LANES]) -> [usize; LANES]
+    requires { 0 < N }
+    ensures { (i : ℕ) → i < LANES → slice_index result i ≡ slice_index lens.now i / N }
+{
+    let mut counts = [0; LANES];
+    'lanes: for i in 0..LANES {
+        counts[i] = lens[i] / N;
+    }
+    counts
+}
+
+// The last bytes of a message and its padding, which ends with the count of bits, at the front of two blocks.
+#[inline(always)]
+fn tail<const N: usize, const TWO: usize>(
+    bytes: &[u8],
+    start: usize,
+    len: usize,
+    count: &[u8],
+) -> [u8; TWO]
+    requires two { TWO ≡ 2 * N }
+    requires fits { start + len ≤ length bytes.now }
+    requires count { length count.now < N }
+    ensures value { take (len % N + length (padding N count.now len)) result
+        ≡ take (len % N) (drop (start + (len - len % N)) bytes.now) ++ padding N count.now len }
+    ensures whole { length result ≡ TWO }
+{
+    let used = len % N;
+    let at = start + (len - used);
+    let mut tail = [0; TWO];
+    put_marked(&mut tail, &bytes[at..at + used]);
+    write_at(
+        &mut tail,
+        N * blocks_left::<N>(len, count.len()) - count.len(),
+        count,
+    );
+    tail
+}
+
+// Those of each message.
+#[inline(always)]
+fn tails<const N: usize, const TWO: usize, const C: usize, const LANES: usize>(
     bytes: &[u8],
     starts: &[usize; LANES],
-    at: usize,
-    len: usize,
-) -> [[u8; N]; LANES]
-    requires fits { (i : ℕ) → i < LANES → slice_index starts.now i + at + len ≤ length bytes.now }
-    requires short { len < N }
-    ensures { (i : ℕ) → i < LANES → slice_index_or result i []
-        ≡ take len (drop (slice_index starts.now i + at) bytes.now) ++ (0x80 ∷ replicate (N - 1 - len) 0) }
+    lens: &[usize; LANES],
+    counts: &[[u8; C]; LANES],
+) -> [[u8; TWO]; LANES]
+    requires two { TWO ≡ 2 * N }
+    requires fits { (i : ℕ) → i < LANES → slice_index starts.now i + slice_index lens.now i ≤ length bytes.now }
+    requires count { C < N }
+    ensures value { (i : ℕ) → i < LANES → let len = slice_index lens.now i in
+        let count = slice_index_or counts.now i [] in
+        take (len % N + length (padding N count len)) (slice_index_or result i [])
+        ≡ take (len % N) (drop (slice_index starts.now i + (len - len % N)) bytes.now) ++ padding N count len }
+    ensures whole { (i : ℕ) → i < LANES → length (slice_index_or result i []) ≡ TWO }
 {
-    let mut rows = [[0; N]; LANES];
+    let mut rows = [[0; TWO]; LANES];
     'rows: for i in 0..LANES {
-        let start = starts[i] + at;
-        put_marked(&mut rows[i], &bytes[start..start + len]);
+        rows[i] = tail::<N, TWO>(bytes, starts[i], lens[i], &counts[i]);
     }
     rows
 }
 
-// Takes a block in each lane.
-#[inline(always)]
-fn take_rows<V: HashValue<N>, H: HashValues<V, LANES, N>, const LANES: usize, const N: usize>(
-    values: &mut H,
-    room: &mut H::Room,
-    rows: &[[u8; N]; LANES],
-)
-    requires { (i : ℕ) → i < LANES → length (slice_index_or rows.now i []) ≡ N }
-    ensures { (i : ℕ) → i < LANES
-        → H.lane i values.new ≡ V.compressed (H.lane i values.old) (slice_index_or rows.now i []) }
-{
-    let bytes = rows.as_flattened();
-    values.take_blocks(room, bytes, &starts_of(0, LANES, N, bytes.len()), 0);
-}
-
-// Takes a block in each lane, with the count of bits as the last bytes of each block.
-#[inline(always)]
-fn take_ended<V: HashValue<N>, H: HashValues<V, LANES, N>, const LANES: usize, const N: usize>(
-    values: &mut H,
-    room: &mut H::Room,
-    rows: &mut [[u8; N]; LANES],
-    count: &[u8],
-)
-    requires count { length count.now ≤ N }
-    requires whole { (i : ℕ) → i < LANES → length (slice_index_or rows.old i []) ≡ N }
-    ensures { (i : ℕ) → i < LANES → H.lane i values.new ≡ V.compressed (H.lane i values.old)
-        (take (N - length count.now) (slice_index_or rows.old i []) ++ count.now) }
-{
-    'rows: for i in 0..LANES {
-        write_at(&mut rows[i], N - count.len(), count);
-    }
-    take_rows::<V, H, LANES, N>(values, room, rows);
-}
-
-/// The hash values after the messages of `len` bytes that begin at `starts`, and their padding, which ends with the
-/// count of bits.
+/// The hash values, from `first` on, after the messages of `lens` bytes that begin at `starts`, and their padding, which
+/// ends with the counts of bits.
 #[inline(always)]
 pub(crate) fn final_values<
     V: HashValue<N>,
     H: HashValues<V, LANES, N>,
     const LANES: usize,
     const N: usize,
->(bytes: &[u8], starts: &[usize; LANES], len: usize, count: &[u8]) -> H
-    requires fits { (i : ℕ) → i < LANES → slice_index starts.now i + len ≤ length bytes.now }
-    requires count { length count.now < N }
+    const TWO: usize,
+    const C: usize,
+>(
+    first: H,
+    bytes: &[u8],
+    starts: &[usize; LANES],
+    lens: &[usize; LANES],
+    counts: &[[u8; C]; LANES],
+) -> H
+    requires two { TWO ≡ 2 * N }
+    requires made { (k : ℕ) → (h b : List ℕ) → H.made k h b ≡ V.compressed h b }
+    requires begun { (i : ℕ) → i < LANES → H.lane i first ≡ V.words_after [] 0 }
+    requires fits { (i : ℕ) → i < LANES → slice_index starts.now i + slice_index lens.now i ≤ length bytes.now }
+    requires count { C < N }
+    requires sized { (i : ℕ) → i < LANES → length (slice_index_or counts.now i []) ≡ C }
     ensures { (i : ℕ) → i < LANES → (p : List ℕ)
-        → p ≡ take len (drop (slice_index starts.now i) bytes.now)
-        ++ (0x80 ∷ replicate ((2 * N - 1 - length count.now - len % N) % N) 0 ++ count.now)
+        → p ≡ take (slice_index lens.now i) (drop (slice_index starts.now i) bytes.now)
+        ++ padding N (slice_index_or counts.now i []) (slice_index lens.now i)
         → H.lane i result ≡ V.words_after p (length p / N) }
 {
-    let mut values = H::start();
+    let mut values = first;
     let mut room = H::room();
-    take_whole::<V, H, LANES, N>(&mut values, &mut room, bytes, starts, len);
-    let used = len % N;
-    let mut rows = marked_rows(bytes, starts, len - used, used);
-    if used + count.len() < N {
-        take_ended::<V, H, LANES, N>(&mut values, &mut room, &mut rows, count);
-        return values;
-    }
-    take_rows::<V, H, LANES, N>(&mut values, &mut room, &rows);
-    let mut last = [[0; N]; LANES];
-    take_ended::<V, H, LANES, N>(&mut values, &mut room, &mut last, count);
+    let whole = whole_blocks::<N, LANES>(lens);
+    take_each::<V, H, LANES, N>(&mut values, &mut room, bytes, starts, &whole);
+    let tails = tails::<N, TWO, C, LANES>(bytes, starts, lens, counts);
+    let rest = tails.as_flattened();
+    let left = counts_left::<N, LANES>(lens, C);
+    take_each::<V, H, LANES, N>(
+        &mut values,
+        &mut room,
+        rest,
+        &starts_of(0, LANES, TWO, rest.len()),
+        &left,
+    );
     values
 }
 

@@ -8,12 +8,11 @@ ghost use Rattle.words.specs.inside.Lanes.{lane_at, lane8};
 ghost use Rattle.pieces.specs.inside.Rounds.{HasWords, IsAfterRounds};
 ghost use Rattle.pieces.specs.inside.Words.{reversed};
 
-use super::HashValues;
+use crate::block_lanes::{HashValues, choose32};
 use sha_blocks::schedules::{add, keyed, next_word, rotated, xor};
 use sha_blocks::{Value256, added, one_round};
 use std::simd::prelude::*;
-use words::IV32;
-use words::lanes::{bytes_of, message_lanes, same_lanes, words_of};
+use words::lanes::{bytes_of, message_lanes, words_of};
 
 // Room for the words of eight schedules: word t of block i is at t and i.
 type Words = [u32x8; 64];
@@ -176,18 +175,21 @@ impl HashValues<Value256, 8, 64> for [u32x8; 8] {
 
     ghost lane = { λ i s. lane8 i s };
 
-    #[inline(always)]
-    #[tactic(auto, unfolding(sha2::specs::Sha256::hash_after))]
-    fn start() -> [u32x8; 8] {
-        same_lanes(&IV32)
-    }
+    ghost made = { λ k h b. Sha256.compress h b };
 
     #[inline(always)]
     fn room() -> Words {
         [u32x8::splat(0); 64]
     }
 
-    fn take_blocks(&mut self, words: &mut Words, bytes: &[u8], starts: &[usize; 8], at: usize) {
+    fn take_blocks(
+        &mut self,
+        words: &mut Words,
+        bytes: &[u8],
+        starts: &[usize; 8],
+        at: usize,
+        _block: usize,
+    ) {
         load(words, bytes, starts, at);
         let h = *self;
         let mut v = h;
@@ -195,7 +197,14 @@ impl HashValues<Value256, 8, 64> for [u32x8; 8] {
         *self = added!(add, h, v);
     }
 
+    #[inline(always)]
+    fn choose(&mut self, next: &[u32x8; 8], done: usize, counts: &[usize; 8]) {
+        choose32(self, next, done, counts);
+    }
+
     ghost some_lanes = { Prim.search rules };
 
     ghost few_lanes = { Prim.search rules };
+
+    ghost positive = { Prim.search rules };
 }

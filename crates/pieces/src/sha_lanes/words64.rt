@@ -8,12 +8,11 @@ ghost use Rattle.words.specs.inside.Lanes.{lane_at, lane8};
 ghost use Rattle.pieces.specs.inside.Rounds.{HasWords, IsAfterRounds};
 ghost use Rattle.pieces.specs.inside.Words.{reversed_long};
 
-use super::HashValues;
-use crate::lanes2::words64::{message_lanes, same_lanes};
+use crate::block_lanes::{HashValues, choose64};
+use crate::lanes2::words64::message_lanes;
 use sha_blocks::sha512::schedules::{Words, add, extend, keyed, rotated, xor};
 use sha_blocks::{Value512, added, one_round};
 use std::simd::prelude::*;
-use words::IV64;
 use words::lanes::long::{bytes_of, words_of};
 
 #[inline(always)]
@@ -163,18 +162,21 @@ impl HashValues<Value512, 4, 128> for [u64x4; 8] {
 
     ghost lane = { λ i s. lane8 i s };
 
-    #[inline(always)]
-    #[tactic(auto, unfolding(sha2::specs::Sha512::hash_after))]
-    fn start() -> [u64x4; 8] {
-        same_lanes(&IV64)
-    }
+    ghost made = { λ k h b. Sha512.compress h b };
 
     #[inline(always)]
     fn room() -> Words {
         [u64x4::splat(0); 80]
     }
 
-    fn take_blocks(&mut self, words: &mut Words, bytes: &[u8], starts: &[usize; 4], at: usize) {
+    fn take_blocks(
+        &mut self,
+        words: &mut Words,
+        bytes: &[u8],
+        starts: &[usize; 4],
+        at: usize,
+        _block: usize,
+    ) {
         load(words, bytes, starts, at);
         let h = *self;
         let mut v = h;
@@ -182,7 +184,14 @@ impl HashValues<Value512, 4, 128> for [u64x4; 8] {
         *self = added!(add, h, v);
     }
 
+    #[inline(always)]
+    fn choose(&mut self, next: &[u64x4; 8], done: usize, counts: &[usize; 4]) {
+        choose64(self, next, done, counts);
+    }
+
     ghost some_lanes = { Prim.search rules };
 
     ghost few_lanes = { Prim.search rules };
+
+    ghost positive = { Prim.search rules };
 }

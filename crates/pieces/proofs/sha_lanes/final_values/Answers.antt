@@ -1,20 +1,34 @@
-use Rattle.std.proofs.Common.{[], ℕ, List, arith, replicate, slice_index}
-use Rattle.std.proofs.lemmas.Simd.{get_or-replicate}
-use Rattle.pieces.proofs.Tails.{ended_here, ended_over}
+use Rattle.std.proofs.Common.{◌≡◌, ◌≤◌, ◌+◌, ◌-◌, ◌*◌, ◌%◌, ◌∙◌, [], ℕ, List, ap, arith, length, length-append}
+use Rattle.std.proofs.Common.{replicate, slice_index, slice_index_or}
+use Rattle.std.proofs.lemmas.List.{length-replicate}
+use Rattle.std.proofs.Math.Nat.{mul-le-mul_left}
+use Rattle.pieces.specs.inside.Blocks.{padding, taken}
+use Rattle.pieces.proofs.Tails.{block_of_row, ended}
 use Rattle.pieces.proofs.sha_lanes.final_values.Goals as goal
-
-pub returns-then-used-count : goal.returns-then-used-count
-returns-then-used-count g c = λ i lt p is.
-    let v = g.met.V.HashValue in
-    ended_here g.V.HashValue.words_after g.V.HashValue.compressed g.row.N v.positive v.on_front v.next_block
-    c.args.bytes.now _ _ _ c.args.count.now p (slice_index c.args.starts.now i) c.args.len (c.requires.fits i lt)
-    (omega arith) (c.take_whole.ensures i lt) (c.marked_rows-rows.ensures i lt) (c.take_ended.ensures i lt) is
 
 pub returns : goal.returns
 returns g c = λ i lt p is.
     let v = g.met.V.HashValue in
-    ended_over g.V.HashValue.words_after g.V.HashValue.compressed g.row.N v.positive v.on_front v.next_block
-    c.args.bytes.now _ _ _ _ _ c.args.count.now p (slice_index c.args.starts.now i) c.args.len (c.requires.fits i lt)
-    (omega arith) c.requires.count (c.take_whole.ensures i lt) (c.marked_rows-rows.ensures i lt)
-    (c.take_rows.ensures i lt)
-    (get_or-replicate {A = List ℕ} g.row.LANES i (replicate g.row.N 0) [] lt) (c.take_ended-2.ensures i lt) is
+    let n : ℕ = g.row.N in
+    let x : List ℕ = c.args.bytes.now in
+    let len : ℕ = slice_index c.args.lens.now i in
+    let start : ℕ = slice_index c.args.starts.now i in
+    let count : List ℕ = slice_index_or c.args.counts.now i [] in
+    let left : ℕ = slice_index c.counts_left-left.result i in
+    let size : length count ≡ g.row.C = c.requires.sized i lt in
+    let zeros : ℕ = (2 * n - 1 - length count - len % n) % n in
+    let filled : n * left ≡ len % n + length (padding n count len) =
+    rw (← size) at c.counts_left-left.ensures.filled i lt
+    ∙ omega (arith, length-append (replicate zeros 0) count, length-replicate {A = ℕ} zeros 0) in
+    let whole = c.take_each.ensures i lt
+    ∙ ap (taken g.H.HashValues.made n (g.H.HashValues.lane i c.args.first) x start) (c.whole_blocks-whole.ensures i lt) in
+    ended g.V.HashValue.words_after g.V.HashValue.compressed g.H.HashValues.made n v.positive v.on_front v.next_block
+    c.requires.made x c.as_flattened-rest.result.now (slice_index_or c.tails-tails.result i []) (padding n count len) p
+    _ _ _ start len (slice_index c.starts_of.result i) left (c.requires.fits i lt) (c.requires.begun i lt) whole
+    (c.tails-tails.ensures.value i lt) filled
+    (λ j below.
+    let few : n * (j + 1) ≤ n * 2 = mul-le-mul_left n (omega (arith, c.counts_left-left.ensures.few i lt)) in
+    block_of_row n g.row.TWO i (slice_index c.starts_of.result i) j c.tails-tails.result _
+    c.as_flattened-rest.ensures.value (λ k within. c.tails-tails.ensures.whole k (omega arith)) (omega arith)
+    (c.starts_of.ensures.place i lt lt) (omega (arith, few, c.requires.two)))
+    (c.take_each-2.ensures i lt) is
