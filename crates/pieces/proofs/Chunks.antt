@@ -94,20 +94,21 @@ unfolding slice
 digest_row root row e = (ap (λ (ys : List ℕ). take 32 ys) e, ap length e)
 
 -- rows for the digests of eight messages, of which the first n are written
-pub record AreDigests (x starts : List ℕ) (len : ℕ) (rows : List (List ℕ)) (n : ℕ) : Type 0 where
+pub record AreDigests (x starts : List ℕ) (len : ℕ → ℕ) (rows : List (List ℕ)) (n : ℕ) : Type 0 where
   pub eight : length rows ≡ 8
   pub written : (k : ℕ) → k < n
-      → slice_index_or rows k [] ≡ slice (hash_root (message x (slice_index starts k) len)) 0 32
+      → slice_index_or rows k [] ≡ slice (hash_root (message x (slice_index starts k) (len k))) 0 32
 
 -- one digest more
-pub digests_more : (x starts : List ℕ) (len : ℕ) (rows : List (List ℕ)) (i : ℕ) (row : List ℕ)
+pub digests_more : (x starts : List ℕ) (len : ℕ → ℕ) (rows : List (List ℕ)) (i : ℕ) (row : List ℕ)
     → AreDigests x starts len rows i → i < 8
-    → row ≡ slice (hash_root (message x (slice_index starts i) len)) 0 32
+    → row ≡ slice (hash_root (message x (slice_index starts i) (len i))) 0 32
     → AreDigests x starts len (set rows i row) (i + 1)
 digests_more x starts len rows i row held h is = record {
   eight = length-set rows i row ∙ held.eight;
   written = below_more
-      (λ k. slice_index_or (set rows i row) k [] ≡ slice (hash_root (message x (slice_index starts k) len)) 0 32) i
+      (λ k. slice_index_or (set rows i row) k [] ≡ slice (hash_root (message x (slice_index starts k) (len k))) 0 32)
+      i
       (λ k below. get_or-set_other rows i k row [] (λ e. absurd (omega (arith, e))) ∙ held.written k below)
       (get_or-set_same rows i row [] (omega arith) ∙ is);
 }

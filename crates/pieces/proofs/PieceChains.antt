@@ -11,6 +11,7 @@ use Rattle.words.specs.Words.{words, padded, word_bytes}
 use Rattle.blake2.specs.Blake2.{blake2, block_count, block_len, block_words, chain, final_value, key_block, start}
 use Rattle.blake2.specs.Blake2.{unsalted, word_len}
 use Rattle.blake2.proofs.Blocks.{before_last}
+use Rattle.pieces.specs.inside.Blocks.{taken}
 
 -- the bytes of a piece from its byte a on
 pub piece_from : (x : List ℕ) (s len a : ℕ) → a ≤ len → drop a (take len (drop s x)) ≡ take (len - a) (drop (s + a) x)
@@ -53,8 +54,20 @@ chain_more k n h x value read next s len j t w inside fits here reads count made
     let at : t ≡ (j + 1) * block_len k = count ∙ rw w (omega arith) in
     made ∙ rw (more, here, reads, at, block_in k n x s len j w inside fits) refl
 
+-- the blocks of a piece that are taken one after the other
+pub chain_taken : (k : Variant) (n : ℕ) (h x : List ℕ) (s len j : ℕ) → n ≡ block_len k → j * n ≤ len
+    → s + len ≤ length x
+    → taken (λ i v b. compress k v (words (word_len k) 16 b) (n * (i + 1)) false) n h x s j
+    ≡ chain k h (take len (drop s x)) j
+unfolding taken chain
+chain_taken k n h x s len zero w inside fits = refl
+chain_taken k n h x s len (suc j) w inside fits =
+    let more : j + 1 ≡ suc j = omega arith in
+    chain_more k n h x _ _ _ s len j _ w (omega arith) fits (chain_taken k n h x s len j w (omega arith) fits) refl refl
+    refl ∙ ap (chain k h (take len (drop s x))) more
+
 -- the last block of a piece
-pub chain_last : (k : Variant) (n : ℕ) (h x value read next : List ℕ) (s len : ℕ) → n ≡ block_len k → 0 < n → 0 < len
+pub chain_last : (k : Variant) (n : ℕ) (h x value read next : List ℕ) (s len : ℕ) → n ≡ block_len k → 0 < n
     → s + len ≤ length x
     → value ≡ chain k h (take len (drop s x)) ((len - 1) / n)
     → read ≡ words (word_len k) 16
@@ -62,7 +75,7 @@ pub chain_last : (k : Variant) (n : ℕ) (h x value read next : List ℕ) (s len
     → len - n * ((len - 1) / n) ≤ n → n * ((len - 1) / n) ≤ len
     → next ≡ compress k value read len true → next ≡ final_value k h (take len (drop s x))
 unfolding final_value
-chain_last k n h x value read next s len w pos some fits here reads short below made =
+chain_last k n h x value read next s len w pos fits here reads short below made =
     let q : ℕ = (len - 1) / n in
     let p : List ℕ = take len (drop s x) in
     let size : length p ≡ len = length_piece x s len fits in

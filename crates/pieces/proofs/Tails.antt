@@ -1,9 +1,12 @@
--- The last bytes of a message with the padding of SHA-2 after them, and the blocks before. `words_after p k` is the hash
--- value after the first k blocks of p, and a block has n bytes.
-use Rattle.std.proofs.Common.{◌≡◌, ℕ, zero, suc, ◌+◌, ◌-◌, ◌*◌, ◌/◌, ◌%◌, ◌<◌, ◌≤◌, List, ◌∷◌, ◌++◌, length, take, drop}
-use Rattle.std.proofs.Common.{[], add-one, replicate, slice_index_or, slice_set, refl, sym, ap, ◌∙◌, arith, length-append, length-drop}
+-- The last bytes of a message with the padding of SHA-2 after them, and the blocks before. `words_after p k` is the
+-- hash value after the first k blocks of p, and a block has n bytes.
+use Rattle.std.proofs.Common.{◌≡◌, ℕ, zero, suc, ◌+◌, ◌-◌, ◌*◌, ◌/◌, ◌%◌, ◌<◌, ◌≤◌}
+use Rattle.std.proofs.Common.{List, ◌∷◌, ◌++◌, length, take, drop}
+use Rattle.std.proofs.Common.{[], add-one, replicate, slice_index_or, slice_set, refl, sym, ap}
+use Rattle.std.proofs.Common.{◌∙◌, arith, length-append, length-drop}
 use Rattle.std.specs.List.{flat_map}
-use Rattle.std.proofs.lemmas.List.{drop-append-le, drop-drop, drop-take, length-take-le, set-append_right, take-append-le}
+use Rattle.std.proofs.lemmas.List.{drop-append-le, drop-drop, drop-take, length-take-le}
+use Rattle.std.proofs.lemmas.List.{set-append_right, take-append-le}
 use Rattle.std.proofs.lemmas.List.{take-append-drop, take-replicate, take-take}
 use Rattle.std.proofs.lemmas.Nat.{div-mul-add}
 use Rattle.std.proofs.Math.Nat.{div-add-mod, mul-le-mul_left}

@@ -1,19 +1,21 @@
 // The BLAKE2b digests of pieces, four of them side by side.
 
-ghost use Rattle.std.specs.Prelude.{◌≡◌, ◌<◌, ◌≤◌, ◌+◌, [], ℕ, List, length, take, drop, slice_index, slice_index_or};
+ghost use Rattle.std.specs.Prelude.{◌≡◌, ◌<◌, ◌≤◌, ◌+◌, ◌*◌, [], ℕ, List, false};
+ghost use Rattle.std.specs.Prelude.{length, take, drop, slice_index, slice_index_or};
 ghost use Rattle.std.specs.Prelude.{None, Some, MatchResult};
 ghost use Rattle.std.proofs.Common.{rules};
-ghost use Rattle.words.specs.Blake2.{blake2b};
-ghost use Rattle.words.specs.Words.{padded, words};
-ghost use Rattle.words.specs.inside.Lanes.{lane};
+ghost use Rattle.words.specs.Blake2.{blake2b, compress};
+ghost use Rattle.words.specs.Words.{words};
+ghost use Rattle.words.specs.inside.Lanes.{lane, lane8};
 ghost use Rattle.blake2.specs.Blake2.{blake2, final_value, start, unsalted};
 ghost use Rattle.pieces.specs.Pieces.{digests};
 ghost use Rattle.pieces.specs.Faults.{sized_fault};
 
+use crate::block_lanes::{HashValues, choose64, take_each};
 use crate::digests::write_digests;
 use crate::fault::Fault;
 use crate::lanes2::words64::{lane_rows, message_lanes, next_lanes, same_lanes};
-use crate::last_blocks::padded_tails;
+use crate::last_blocks::{blocks_before, last_blocks};
 use crate::piece_hash::PieceHash;
 use blake2::Blake2b;
 use std::simd::u64x4;
@@ -38,38 +40,66 @@ fn start_value(digest_len: usize) -> [u64; 8]
     ]
 }
 
-// The words of the last blocks of four pieces, by lanes; each of these blocks has `len` bytes of its piece.
-fn last_lanes(bytes: &[u8], starts: &[usize; 4], at: usize, len: usize) -> [u64x4; 16]
-    requires fits { (i : ℕ) → i < 4 → slice_index starts.now i + at + len ≤ length bytes.now }
-    requires short { len ≤ 128 }
-    ensures { (i : ℕ) → i < 4 → lane i result
-        ≡ words 8 16 (padded 128 (take len (drop (slice_index starts.now i + at) bytes.now))) }
+// The words of four blocks, by lanes.
+#[inline(always)]
+fn block_words(blocks: &[[u8; 128]; 4]) -> [u64x4; 16]
+    requires { (i : ℕ) → i < 4 → length (slice_index_or blocks.now i []) ≡ 128 }
+    ensures { (i : ℕ) → i < 4 → lane i result ≡ words 8 16 (slice_index_or blocks.now i []) }
 {
-    if len == 128 {
-        return message_lanes(bytes, starts, at);
-    }
-    let tails = padded_tails::<128, 4>(bytes, starts, at, len);
-    let places = [0, 128, 256, 384];
-    message_lanes(tails.as_flattened(), &places, 0)
+    message_lanes(blocks.as_flattened(), &[0, 128, 256, 384], 0)
 }
 
-// The final chaining values of four pieces of `len` bytes, from the value `first` on.
-fn final_values(first: &[u64; 8], bytes: &[u8], starts: &[usize; 4], len: usize) -> [[u64; 8]; 4]
-    requires some { 0 < len }
-    requires fits { (i : ℕ) → i < 4 → slice_index starts.now i + len ≤ length bytes.now }
-    ensures { (i : ℕ) → i < 4 → slice_index_or result i []
-        ≡ final_value blake2b first.now (take len (drop (slice_index starts.now i) bytes.now)) }
-{
-    let whole = (len - 1) / 128;
-    let at = 128 * whole;
-    let mut values = same_lanes(first);
-    'each_block: for j in 0..whole {
-        let message = message_lanes(bytes, starts, 128 * j);
-        let next = next_lanes(values, &message, 128 * (j as u128 + 1), false);
-        values = next;
+impl HashValues<Blake2b, 4, 128> for [u64x4; 8] {
+    type Room = ();
+
+    ghost lane = { λ i s. lane8 i s };
+
+    ghost made = { λ k h b. compress blake2b h (words 8 16 b) (128 * (k + 1)) false };
+
+    #[inline(always)]
+    fn room() {}
+
+    #[inline(always)]
+    fn take_blocks(
+        &mut self,
+        _room: &mut (),
+        bytes: &[u8],
+        starts: &[usize; 4],
+        at: usize,
+        block: usize,
+    ) {
+        let message = message_lanes(bytes, starts, at);
+        *self = next_lanes(*self, &message, &[128 * (block + 1); 4], false);
     }
-    let message = last_lanes(bytes, starts, at, len - at);
-    lane_rows(next_lanes(values, &message, len as u128, true))
+
+    #[inline(always)]
+    fn choose(&mut self, next: &[u64x4; 8], done: usize, counts: &[usize; 4]) {
+        choose64(self, next, done, counts);
+    }
+
+    ghost some_lanes = { Prim.search rules };
+
+    ghost few_lanes = { Prim.search rules };
+
+    ghost positive = { Prim.search rules };
+}
+
+// The final chaining values of the four messages of `lens` bytes that begin at `starts`, from the value `first` on.
+fn final_values(
+    first: &[u64; 8],
+    bytes: &[u8],
+    starts: &[usize; 4],
+    lens: &[usize; 4],
+) -> [[u64; 8]; 4]
+    requires { (i : ℕ) → i < 4 → slice_index starts.now i + slice_index lens.now i ≤ length bytes.now }
+    ensures { (i : ℕ) → i < 4 → slice_index_or result i []
+        ≡ final_value blake2b first.now (take (slice_index lens.now i) (drop (slice_index starts.now i) bytes.now)) }
+{
+    let counts = blocks_before::<128, 4>(lens);
+    let mut values = same_lanes(first);
+    take_each::<Blake2b, [u64x4; 8], 4, 128>(&mut values, &mut (), bytes, starts, &counts);
+    let message = block_words(&last_blocks::<128, 4>(bytes, starts, lens, &counts));
+    lane_rows(next_lanes(values, &message, lens, true))
 }
 
 // BLAKE2b with digests of one length, without a key.
@@ -108,8 +138,8 @@ impl PieceHash<4, 64> for Lanes2b {
         4
     }
 
-    fn side_by_side(&self, bytes: &[u8], starts: &[usize; 4], piece_len: usize) -> [[u8; 64]; 4] {
-        let values = final_values(&self.first, bytes, starts, piece_len);
+    fn rows(&self, bytes: &[u8], starts: &[usize; 4], lens: &[usize; 4]) -> [[u8; 64]; 4] {
+        let values = final_values(&self.first, bytes, starts, lens);
         [
             bytes64(&values[0]),
             bytes64(&values[1]),

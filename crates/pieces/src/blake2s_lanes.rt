@@ -1,19 +1,24 @@
 // The BLAKE2s digests of pieces, eight of them side by side.
 
-ghost use Rattle.std.specs.Prelude.{◌≡◌, ◌<◌, ◌≤◌, ◌+◌, [], ℕ, List, length, take, drop, slice_index, slice_index_or};
+ghost use Rattle.std.specs.Prelude.{◌≡◌, ◌<◌, ◌≤◌, ◌+◌, ◌*◌, [], ℕ, List, false};
+ghost use Rattle.std.specs.Prelude.{length, take, drop, slice_index, slice_index_or};
 ghost use Rattle.std.specs.Prelude.{None, Some, MatchResult};
 ghost use Rattle.std.proofs.Common.{rules};
-ghost use Rattle.words.specs.Blake2.{blake2s};
+ghost use Rattle.words.specs.Blake2.{blake2s, compress};
+ghost use Rattle.words.specs.Words.{words};
+ghost use Rattle.words.specs.inside.Lanes.{lane8};
 ghost use Rattle.blake2.specs.Blake2.{blake2, final_value, start, unsalted};
 ghost use Rattle.pieces.specs.Pieces.{digests};
 ghost use Rattle.pieces.specs.Faults.{sized_fault};
 
+use crate::block_lanes::{HashValues, choose32, take_each};
 use crate::digests::write_digests;
 use crate::fault::Fault;
 use crate::lanes2::words32::next_lanes;
-use crate::last_blocks::last_lanes;
+use crate::last_blocks::{block_words, blocks_before, last_blocks};
 use crate::piece_hash::PieceHash;
 use blake2::Blake2s;
+use std::simd::prelude::*;
 use words::lanes::{lane_rows, message_lanes, same_lanes};
 use words::{Absorb, IV32, bytes32, write_at};
 
@@ -36,23 +41,57 @@ fn start_value(digest_len: usize) -> [u32; 8]
     ]
 }
 
-// The final chaining values of eight pieces of `len` bytes, from the value `first` on.
-fn final_values(first: &[u32; 8], bytes: &[u8], starts: &[usize; 8], len: usize) -> [[u32; 8]; 8]
-    requires some { 0 < len }
-    requires fits { (i : ℕ) → i < 8 → slice_index starts.now i + len ≤ length bytes.now }
-    ensures { (i : ℕ) → i < 8 → slice_index_or result i []
-        ≡ final_value blake2s first.now (take len (drop (slice_index starts.now i) bytes.now)) }
-{
-    let whole = (len - 1) / 64;
-    let at = 64 * whole;
-    let mut values = same_lanes(first);
-    'each_block: for j in 0..whole {
-        let message = message_lanes(bytes, starts, 64 * j);
-        let next = next_lanes(values, &message, 64 * (j as u64 + 1), false);
-        values = next;
+impl HashValues<Blake2s, 8, 64> for [u32x8; 8] {
+    type Room = ();
+
+    ghost lane = { λ i s. lane8 i s };
+
+    ghost made = { λ k h b. compress blake2s h (words 4 16 b) (64 * (k + 1)) false };
+
+    #[inline(always)]
+    fn room() {}
+
+    #[inline(always)]
+    fn take_blocks(
+        &mut self,
+        _room: &mut (),
+        bytes: &[u8],
+        starts: &[usize; 8],
+        at: usize,
+        block: usize,
+    ) {
+        let message = message_lanes(bytes, starts, at);
+        *self = next_lanes(*self, &message, &[64 * (block + 1); 8], false);
     }
-    let message = last_lanes(bytes, starts, at, len - at);
-    lane_rows(next_lanes(values, &message, len as u64, true))
+
+    #[inline(always)]
+    fn choose(&mut self, next: &[u32x8; 8], done: usize, counts: &[usize; 8]) {
+        choose32(self, next, done, counts);
+    }
+
+    ghost some_lanes = { Prim.search rules };
+
+    ghost few_lanes = { Prim.search rules };
+
+    ghost positive = { Prim.search rules };
+}
+
+// The final chaining values of the eight messages of `lens` bytes that begin at `starts`, from the value `first` on.
+fn final_values(
+    first: &[u32; 8],
+    bytes: &[u8],
+    starts: &[usize; 8],
+    lens: &[usize; 8],
+) -> [[u32; 8]; 8]
+    requires { (i : ℕ) → i < 8 → slice_index starts.now i + slice_index lens.now i ≤ length bytes.now }
+    ensures { (i : ℕ) → i < 8 → slice_index_or result i []
+        ≡ final_value blake2s first.now (take (slice_index lens.now i) (drop (slice_index starts.now i) bytes.now)) }
+{
+    let counts = blocks_before::<64, 8>(lens);
+    let mut values = same_lanes(first);
+    take_each::<Blake2s, [u32x8; 8], 8, 64>(&mut values, &mut (), bytes, starts, &counts);
+    let message = block_words(&last_blocks::<64, 8>(bytes, starts, lens, &counts));
+    lane_rows(next_lanes(values, &message, lens, true))
 }
 
 // BLAKE2s with digests of one length, without a key.
@@ -91,8 +130,8 @@ impl PieceHash<8, 32> for Lanes2s {
         7
     }
 
-    fn side_by_side(&self, bytes: &[u8], starts: &[usize; 8], piece_len: usize) -> [[u8; 32]; 8] {
-        let values = final_values(&self.first, bytes, starts, piece_len);
+    fn rows(&self, bytes: &[u8], starts: &[usize; 8], lens: &[usize; 8]) -> [[u8; 32]; 8] {
+        let values = final_values(&self.first, bytes, starts, lens);
         [
             bytes32(&values[0]),
             bytes32(&values[1]),

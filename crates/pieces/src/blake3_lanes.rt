@@ -8,6 +8,7 @@ ghost use Rattle.b3.specs.Modes.{hash_root};
 ghost use Rattle.pieces.specs.Pieces.{digests};
 ghost use Rattle.pieces.specs.Faults.{piece_fault};
 
+use crate::block_lanes::{least_of, most_of};
 use crate::chunk_lanes::chunk_digests;
 use crate::digests::write_digests;
 use crate::fault::Fault;
@@ -32,13 +33,14 @@ impl PieceHash<8, 32> for LanesBlake3 {
         8
     }
 
-    fn side_by_side(&self, bytes: &[u8], starts: &[usize; 8], piece_len: usize) -> [[u8; 32]; 8] {
-        if piece_len <= CHUNK_LEN {
-            return chunk_digests(bytes, starts, piece_len);
+    fn rows(&self, bytes: &[u8], starts: &[usize; 8], lens: &[usize; 8]) -> [[u8; 32]; 8] {
+        let len = least_of(lens);
+        if len == most_of(lens) && 0 < len && len <= CHUNK_LEN {
+            return chunk_digests(bytes, starts, len);
         }
         let mut digests = [[0; 32]; 8];
-        'pieces: for i in 0..8 {
-            digests[i] = digest_of(&bytes[starts[i]..starts[i] + piece_len]);
+        'messages: for i in 0..8 {
+            digests[i] = digest_of(&bytes[starts[i]..starts[i] + lens[i]]);
         }
         digests
     }

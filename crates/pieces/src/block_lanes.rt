@@ -47,9 +47,9 @@ pub(crate) trait HashValues<V, const LANES: usize, const N: usize>: Copy {
     ghost positive: { 0 < N };
 }
 
-// The greatest count.
+/// The greatest count.
 #[inline(always)]
-fn most_of<const LANES: usize>(counts: &[usize; LANES]) -> usize
+pub(crate) fn most_of<const LANES: usize>(counts: &[usize; LANES]) -> usize
     ensures bound { (i : ℕ) → i < LANES → slice_index counts.now i ≤ result }
     ensures least { (n : ℕ) → ((i : ℕ) → i < LANES → slice_index counts.now i ≤ n) → result ≤ n }
 {
@@ -62,9 +62,9 @@ fn most_of<const LANES: usize>(counts: &[usize; LANES]) -> usize
     most
 }
 
-// The least count.
+/// The least count.
 #[inline(always)]
-fn least_of<const LANES: usize>(counts: &[usize; LANES]) -> usize
+pub(crate) fn least_of<const LANES: usize>(counts: &[usize; LANES]) -> usize
     requires { 0 < LANES }
     ensures { (i : ℕ) → i < LANES → result ≤ slice_index counts.now i }
 {
@@ -75,7 +75,7 @@ fn least_of<const LANES: usize>(counts: &[usize; LANES]) -> usize
     least
 }
 
-// The place of block `block` of a message that begins at `start`, if it has that block. Otherwise the place of any block.
+// The place of block `block` of a message that begins at `start`, if it has that block, or else that of another block.
 #[inline(always)]
 fn place_of(start: usize, count: usize, size: usize, block: usize, len: usize) -> usize
     requires counted { size * (block + 1) ≤ len }
@@ -169,54 +169,34 @@ fn picked<W: Copy>(old: W, next: W, done: usize, count: usize) -> W
 }
 
 // The word of `next` in each lane whose count is above `done`, and the old one in the others.
+macro_rules! picked_lanes {
+    ($vector:ident, $old:ident, $next:ident, $done:ident, $counts:ident, [$($k:literal),*]) => {{
+        let old = $old.to_array();
+        let next = $next.to_array();
+        $vector::from_array([$(picked(old[$k], next[$k], $done, $counts[$k])),*])
+    }};
+}
+
 #[inline(always)]
 fn chosen32(old: u32x8, next: u32x8, done: usize, counts: &[usize; 8]) -> u32x8
     ensures next { (i : ℕ) → i < 8 → done < slice_index counts.now i → slice_index result i ≡ slice_index next i }
     ensures kept { (i : ℕ) → i < 8 → slice_index counts.now i ≤ done → slice_index result i ≡ slice_index old i }
 {
-    let old = old.to_array();
-    let next = next.to_array();
-    u32x8::from_array([
-        picked(old[0], next[0], done, counts[0]),
-        picked(old[1], next[1], done, counts[1]),
-        picked(old[2], next[2], done, counts[2]),
-        picked(old[3], next[3], done, counts[3]),
-        picked(old[4], next[4], done, counts[4]),
-        picked(old[5], next[5], done, counts[5]),
-        picked(old[6], next[6], done, counts[6]),
-        picked(old[7], next[7], done, counts[7]),
-    ])
+    picked_lanes!(u32x8, old, next, done, counts, [0, 1, 2, 3, 4, 5, 6, 7])
 }
 
-// The same of words of 64 bits.
 #[inline(always)]
 fn chosen64(old: u64x4, next: u64x4, done: usize, counts: &[usize; 4]) -> u64x4
     ensures next { (i : ℕ) → i < 4 → done < slice_index counts.now i → slice_index result i ≡ slice_index next i }
     ensures kept { (i : ℕ) → i < 4 → slice_index counts.now i ≤ done → slice_index result i ≡ slice_index old i }
 {
-    let old = old.to_array();
-    let next = next.to_array();
-    u64x4::from_array([
-        picked(old[0], next[0], done, counts[0]),
-        picked(old[1], next[1], done, counts[1]),
-        picked(old[2], next[2], done, counts[2]),
-        picked(old[3], next[3], done, counts[3]),
-    ])
+    picked_lanes!(u64x4, old, next, done, counts, [0, 1, 2, 3])
 }
 
-// Each of eight vectors by one of these.
+// Each of eight vectors, chosen so.
 macro_rules! chosen {
-    ($chosen:ident, $old:ident, $next:ident, $done:ident, $counts:ident) => {
-        [
-            $chosen($old[0], $next[0], $done, $counts),
-            $chosen($old[1], $next[1], $done, $counts),
-            $chosen($old[2], $next[2], $done, $counts),
-            $chosen($old[3], $next[3], $done, $counts),
-            $chosen($old[4], $next[4], $done, $counts),
-            $chosen($old[5], $next[5], $done, $counts),
-            $chosen($old[6], $next[6], $done, $counts),
-            $chosen($old[7], $next[7], $done, $counts),
-        ]
+    ($chosen:ident, $old:ident, $next:ident, $done:ident, $counts:ident, [$($k:literal),*]) => {
+        [$($chosen($old[$k], $next[$k], $done, $counts)),*]
     };
 }
 
@@ -226,7 +206,14 @@ pub(crate) fn choose32(values: &mut [u32x8; 8], next: &[u32x8; 8], done: usize, 
     ensures next { (i : ℕ) → i < 8 → done < slice_index counts.now i → lane8 i values.new ≡ lane8 i next.now }
     ensures kept { (i : ℕ) → i < 8 → slice_index counts.now i ≤ done → lane8 i values.new ≡ lane8 i values.old }
 {
-    *values = chosen!(chosen32, values, next, done, counts);
+    *values = chosen!(
+        chosen32,
+        values,
+        next,
+        done,
+        counts,
+        [0, 1, 2, 3, 4, 5, 6, 7]
+    );
 }
 
 /// `HashValues::choose` of eight words of 64 bits in each lane.
@@ -235,5 +222,12 @@ pub(crate) fn choose64(values: &mut [u64x4; 8], next: &[u64x4; 8], done: usize, 
     ensures next { (i : ℕ) → i < 4 → done < slice_index counts.now i → lane8 i values.new ≡ lane8 i next.now }
     ensures kept { (i : ℕ) → i < 4 → slice_index counts.now i ≤ done → lane8 i values.new ≡ lane8 i values.old }
 {
-    *values = chosen!(chosen64, values, next, done, counts);
+    *values = chosen!(
+        chosen64,
+        values,
+        next,
+        done,
+        counts,
+        [0, 1, 2, 3, 4, 5, 6, 7]
+    );
 }

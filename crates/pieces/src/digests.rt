@@ -87,7 +87,7 @@ fn put_group<H: PieceHash<LANES, MOST>, const LANES: usize, const MOST: usize>(
 {
     let size = hash.digest_len();
     let starts = starts_of(done, count, piece_len, bytes.len());
-    let rows = hash.side_by_side(bytes, &starts, piece_len);
+    let rows = hash.rows(bytes, &starts, &[piece_len; LANES]);
     'rows: for i in 0..count {
         put_digest(&rows[i], size, out, size * (done + i));
     }

@@ -1,6 +1,7 @@
 // What the lanes of BLAKE2 and BLAKE3 share: the last bytes of pieces.
 
-ghost use Rattle.std.specs.Prelude.{◌≡◌, ◌<◌, ◌≤◌, ◌+◌, [], ℕ, length, take, drop, slice_index, slice_index_or};
+ghost use Rattle.std.specs.Prelude.{◌≡◌, ◌<◌, ◌≤◌, ◌+◌, ◌-◌, ◌*◌, ◌/◌, [], ℕ};
+ghost use Rattle.std.specs.Prelude.{length, take, drop, slice_index, slice_index_or};
 ghost use Rattle.words.specs.Words.{padded, words};
 ghost use Rattle.words.specs.inside.Lanes.{lane};
 
@@ -41,6 +42,57 @@ pub(crate) fn padded_tails<const N: usize, const LANES: usize>(
     tails
 }
 
+/// How many blocks of `N` bytes each message has before its last.
+#[inline(always)]
+pub(crate) fn blocks_before<const N: usize, const LANES: usize>(
+    lens: &[usize; LANES],
+) -> [usize; LANES]
+    requires { 0 < N }
+    ensures { (i : ℕ) → i < LANES → slice_index result i ≡ (slice_index lens.now i - 1) / N }
+{
+    let mut counts = [0; LANES];
+    'lanes: for i in 0..LANES {
+        counts[i] = lens[i].saturating_sub(1) / N;
+    }
+    counts
+}
+
+/// The last block of each message, padded with zeros. Before it are `counts` blocks.
+#[inline(always)]
+pub(crate) fn last_blocks<const N: usize, const LANES: usize>(
+    bytes: &[u8],
+    starts: &[usize; LANES],
+    lens: &[usize; LANES],
+    counts: &[usize; LANES],
+) -> [[u8; N]; LANES]
+    requires fits { (i : ℕ) → i < LANES → slice_index starts.now i + slice_index lens.now i ≤ length bytes.now }
+    requires below { (i : ℕ) → i < LANES → N * slice_index counts.now i ≤ slice_index lens.now i }
+    requires short { (i : ℕ) → i < LANES → slice_index lens.now i ≤ N * slice_index counts.now i + N }
+    ensures value { (i : ℕ) → i < LANES → let done = N * slice_index counts.now i in slice_index_or result i []
+        ≡ padded N (take (slice_index lens.now i - done) (drop (slice_index starts.now i + done) bytes.now)) }
+    ensures whole { (i : ℕ) → i < LANES → length (slice_index_or result i []) ≡ N }
+{
+    let mut blocks = [[0; N]; LANES];
+    'lanes: for i in 0..LANES {
+        let done = N * counts[i];
+        blocks[i] = padded_tail(bytes, starts[i] + done, lens[i] - done);
+    }
+    blocks
+}
+
+/// The words of eight blocks, by lanes.
+#[inline(always)]
+pub(crate) fn block_words(blocks: &[[u8; 64]; 8]) -> [u32x8; 16]
+    requires { (i : ℕ) → i < 8 → length (slice_index_or blocks.now i []) ≡ 64 }
+    ensures { (i : ℕ) → i < 8 → lane i result ≡ words 4 16 (slice_index_or blocks.now i []) }
+{
+    message_lanes(
+        blocks.as_flattened(),
+        &[0, 64, 128, 192, 256, 320, 384, 448],
+        0,
+    )
+}
+
 /// The words of the last blocks of eight pieces, by lanes; each of these blocks has `len` bytes of its piece.
 #[inline(always)]
 pub(crate) fn last_lanes(bytes: &[u8], starts: &[usize; 8], at: usize, len: usize) -> [u32x8; 16]
@@ -52,7 +104,5 @@ pub(crate) fn last_lanes(bytes: &[u8], starts: &[usize; 8], at: usize, len: usiz
     if len == 64 {
         return message_lanes(bytes, starts, at);
     }
-    let tails = padded_tails::<64, 8>(bytes, starts, at, len);
-    let places = [0, 64, 128, 192, 256, 320, 384, 448];
-    message_lanes(tails.as_flattened(), &places, 0)
+    block_words(&padded_tails::<64, 8>(bytes, starts, at, len))
 }

@@ -2,7 +2,7 @@
 
 ghost use Rattle.std.specs.Prelude.{◌≡◌, ◌<◌, ◌≤◌, ◌+◌, [], ℕ, List, length, take, drop, slice_index, slice_index_or};
 
-/// A hash function, with digests of up to `MOST` bytes, that takes `LANES` pieces of one length side by side.
+/// A hash function, with digests of up to `MOST` bytes, that takes `LANES` messages side by side.
 pub(crate) trait PieceHash<const LANES: usize, const MOST: usize> {
     // The number of bytes in a digest.
     ghost size: { Self → ℕ };
@@ -20,18 +20,17 @@ pub(crate) trait PieceHash<const LANES: usize, const MOST: usize> {
     fn fewest(&self, piece_len: usize) -> usize
         ensures { 0 < result };
 
-    /// The digests of the `LANES` pieces of `piece_len` bytes that begin at `starts`, each at the front of
-    /// its row. The same start may occur more than once.
-    fn side_by_side(
+    /// The digests of the `LANES` messages of `lens` bytes that begin at `starts`, each at the front of its row.
+    /// They may overlap.
+    fn rows(
         &self,
         bytes: &[u8],
         starts: &[usize; LANES],
-        piece_len: usize,
+        lens: &[usize; LANES],
     ) -> [[u8; MOST]; LANES]
-        requires some { 0 < piece_len }
-        requires fits { (i : ℕ) → i < LANES → slice_index starts.now i + piece_len ≤ length bytes.now }
+        requires { (i : ℕ) → i < LANES → slice_index starts.now i + slice_index lens.now i ≤ length bytes.now }
         ensures value { (i : ℕ) → i < LANES → take (size self.now) (slice_index_or result i [])
-            ≡ digest self.now (take piece_len (drop (slice_index starts.now i) bytes.now)) }
+            ≡ digest self.now (take (slice_index lens.now i) (drop (slice_index starts.now i) bytes.now)) }
         ensures whole { (i : ℕ) → i < LANES → length (slice_index_or result i []) ≡ MOST };
 
     /// The digest of one piece, at the front of a row.

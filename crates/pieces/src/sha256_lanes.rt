@@ -38,7 +38,8 @@ fn bit_count(len: usize) -> [u8; 8]
 // Those of eight messages.
 #[inline(always)]
 fn bit_counts(lens: &[usize; 8]) -> [[u8; 8]; 8]
-    ensures value { (i : ℕ) → i < 8 → slice_index_or result i [] ≡ to_be_bytes w64 (slice_index lens.now i * 8 % 2 ^ 64) }
+    ensures value { (i : ℕ) → i < 8
+        → slice_index_or result i [] ≡ to_be_bytes w64 (slice_index lens.now i * 8 % 2 ^ 64) }
     ensures whole { (i : ℕ) → i < 8 → length (slice_index_or result i []) ≡ 8 }
 {
     let mut counts = [[0; 8]; 8];
@@ -91,8 +92,8 @@ impl PieceHash<8, 32> for Lanes256 {
         5
     }
 
-    fn side_by_side(&self, bytes: &[u8], starts: &[usize; 8], piece_len: usize) -> [[u8; 32]; 8] {
-        sha256_rows(bytes, starts, &[piece_len; 8])
+    fn rows(&self, bytes: &[u8], starts: &[usize; 8], lens: &[usize; 8]) -> [[u8; 32]; 8] {
+        sha256_rows(bytes, starts, lens)
     }
 
     fn one(&self, piece: &[u8]) -> [u8; 32] {

@@ -83,8 +83,8 @@ impl PieceHash<4, 64> for Lanes512 {
         if level() < 3 { usize::MAX } else { 3 }
     }
 
-    fn side_by_side(&self, bytes: &[u8], starts: &[usize; 4], piece_len: usize) -> [[u8; 64]; 4] {
-        sha512_rows(bytes, starts, &[piece_len; 4])
+    fn rows(&self, bytes: &[u8], starts: &[usize; 4], lens: &[usize; 4]) -> [[u8; 64]; 4] {
+        sha512_rows(bytes, starts, lens)
     }
 
     fn one(&self, piece: &[u8]) -> [u8; 64] {

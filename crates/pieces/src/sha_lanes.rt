@@ -114,8 +114,8 @@ fn tails<const N: usize, const TWO: usize, const C: usize, const LANES: usize>(
     rows
 }
 
-/// The hash values, from `first` on, after the messages of `lens` bytes that begin at `starts`, and their padding, which
-/// ends with the counts of bits.
+/// The hash values, from `first` on, after the messages of `lens` bytes that begin at `starts`, and their padding,
+/// which ends with the counts of bits.
 #[inline(always)]
 pub(crate) fn final_values<
     V: HashValue<N>,

@@ -1,32 +1,63 @@
 // F of BLAKE2b on four inputs side by side.
 
 ghost use Rattle.std.specs.Prelude.{◌≡◌, ◌<◌, ◌≤◌, ◌+◌, ◌*◌, ◌%◌, [], ◌∷◌, ℕ};
-ghost use Rattle.std.specs.Prelude.{slice_index, slice_index_or, take, drop, length};
+ghost use Rattle.std.specs.Prelude.{bit_xor, slice_index, slice_index_or, take, drop, length};
+ghost use Rattle.words.specs.Tables.{iv64};
 ghost use Rattle.byteorder.specs.Endian.{little_number};
 ghost use Rattle.words.specs.Blake2.{blake2b, compress, working_words};
 ghost use Rattle.words.specs.Words.{words};
 ghost use Rattle.words.specs.inside.Lanes.{lane, lane4, lane8};
 
 use std::simd::prelude::*;
+use words::IV64;
 use words::lanes::long::words_of;
 use words::lanes::mixing::{folded, twelve_rounds};
-use words::{IV64, working};
+
+// The word that the low halves of the counts change. Their high halves are 0.
+#[inline(always)]
+fn low_words(t: &[usize; 4]) -> u64x4
+    ensures { (i : ℕ) → i < 4 → slice_index result i ≡ bit_xor (slice_index iv64 4) (slice_index t.now i) }
+{
+    u64x4::from_array([
+        IV64[4] ^ t[0] as u64,
+        IV64[4] ^ t[1] as u64,
+        IV64[4] ^ t[2] as u64,
+        IV64[4] ^ t[3] as u64,
+    ])
+}
 
 #[inline(always)]
 #[tactic(auto, unfolding(words::specs::inside::Lanes::lane))]
-fn working_lanes(h: [u64x4; 8], t: u128, last: bool) -> [u64x4; 16]
-    ensures { (i : ℕ) → i < 4 → lane i result ≡ working_words blake2b (lane8 i h) t last }
+fn working_lanes(h: [u64x4; 8], t: &[usize; 4], last: bool) -> [u64x4; 16]
+    ensures { (i : ℕ) → i < 4 → lane i result ≡ working_words blake2b (lane8 i h) (slice_index t.now i) last }
 {
-    let low = (t % 0x1_0000_0000_0000_0000) as u64;
-    let high = (t >> 64) as u64;
-    working!(h, IV64, low, high, last, u64x4::splat)
+    let marked = if last { !IV64[6] } else { IV64[6] };
+    [
+        h[0],
+        h[1],
+        h[2],
+        h[3],
+        h[4],
+        h[5],
+        h[6],
+        h[7],
+        u64x4::splat(IV64[0]),
+        u64x4::splat(IV64[1]),
+        u64x4::splat(IV64[2]),
+        u64x4::splat(IV64[3]),
+        low_words(t),
+        u64x4::splat(IV64[5]),
+        u64x4::splat(marked),
+        u64x4::splat(IV64[7]),
+    ]
 }
 
-/// F in each of four lanes: takes the blocks `m` into the chaining values `h`. `t` is the number of input
-/// bytes up to and including these blocks, and `last` marks the last ones (RFC 7693, section 3.2).
+/// F in each of four lanes: takes the blocks `m` into the chaining values `h`. `t` are the numbers of input bytes up
+/// to and including these blocks, and `last` marks the last ones (RFC 7693, section 3.2).
 #[tactic(auto, unfolding(words::specs::Blake2::compress))]
-pub(crate) fn next_lanes(h: [u64x4; 8], m: &[u64x4; 16], t: u128, last: bool) -> [u64x4; 8]
-    ensures { (i : ℕ) → i < 4 → lane8 i result ≡ compress blake2b (lane8 i h) (lane i m.now) t last }
+pub(crate) fn next_lanes(h: [u64x4; 8], m: &[u64x4; 16], t: &[usize; 4], last: bool) -> [u64x4; 8]
+    ensures { (i : ℕ) → i < 4
+        → lane8 i result ≡ compress blake2b (lane8 i h) (lane i m.now) (slice_index t.now i) last }
 {
     let v = working_lanes(h, t, last);
     let v = twelve_rounds((), &v, m);

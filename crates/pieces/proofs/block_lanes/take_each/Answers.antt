@@ -1,4 +1,5 @@
-use Rattle.std.proofs.Common.{◌≡◌, ◌+◌, ◌/◌, ◌<◌, ◌≤◌, ◌*◌, ◌∙◌, ℕ, List, add-one, ap, arith, drop, inl, inr, length, refl, slice_index, take}
+use Rattle.std.proofs.Common.{◌≡◌, ◌+◌, ◌/◌, ◌<◌, ◌≤◌, ◌*◌, ◌∙◌, ℕ, List, add-one, ap, arith}
+use Rattle.std.proofs.Common.{drop, inl, inr, length, refl, slice_index, take}
 use Rattle.std.proofs.lemmas.Bool.{cases_lt}
 use Rattle.std.proofs.lemmas.Nat.{le-div}
 use Rattle.pieces.specs.inside.Blocks.{taken}
@@ -16,9 +17,9 @@ pub take_next-requires : goal.take_next-requires
 take_next-requires g c =
     let n : ℕ = g.row.N in
     let len : ℕ = length c.args.bytes.now in
-    let most : c.most_of-block-end.result ≤ len / n =
-    c.most_of-block-end.ensures.least (len / n)
-    (λ i lt. le-div (slice_index c.args.counts.now i) len n g.met.H.HashValues.positive (omega (arith, c.requires i lt))) in (
+    let fits : (i : ℕ) → i < g.row.LANES → slice_index c.args.counts.now i ≤ len / n =
+    λ i lt. le-div _ len n g.met.H.HashValues.positive (omega (arith, c.requires i lt)) in
+    let most : c.most_of-block-end.result ≤ len / n = c.most_of-block-end.ensures.least (len / n) fits in (
       omega (arith, g.met.H.HashValues.few_lanes),
       (whole_within n len (c.each.block + 1) (omega arith), (c.least_of-least.ensures, c.requires)),
     )
@@ -28,7 +29,8 @@ unfolding taken
 each-preserved g c =
     let k : ℕ = c.each.block in
     let count : ℕ → ℕ = slice_index c.args.counts.now in
-    let block : ℕ → List ℕ = λ i. take g.row.N (drop (slice_index c.args.starts.now i + g.row.N * k) c.args.bytes.now) in
+    let start : ℕ → ℕ = slice_index c.args.starts.now in
+    let block : ℕ → List ℕ = λ i. take g.row.N (drop (start i + g.row.N * k) c.args.bytes.now) in
     let more : (i : ℕ) → i < g.row.LANES → k < count i → g.H.HashValues.lane i c.take_next.new.values
     ≡ taken g.H.HashValues.made g.row.N (g.H.HashValues.lane i c.args.values.now) c.args.bytes.now
     (slice_index c.args.starts.now i) (k + 1) =

@@ -4,7 +4,7 @@ use Rattle.pieces.proofs.chunk_lanes.chunk_digests.Goals as goal
 
 pub lanes-preserved : goal.lanes-preserved
 lanes-preserved c =
-    digests_more c.args.bytes.now c.args.starts.now c.args.len c.lanes.digests c.lanes.i _ c.lanes.invariant
+    digests_more c.args.bytes.now c.args.starts.now (λ k. c.args.len) c.lanes.digests c.lanes.i _ c.lanes.invariant
     (omega arith)
     (c.bytes32.ensures.written
     ∙ digest_of_words _ _ (c.lane_rows-rows.ensures c.lanes.i (omega arith)

@@ -1,5 +1,6 @@
-use Rattle.std.proofs.Common.{◌≡◌, ◌+◌, ◌*◌, ◌≤◌, [], ap, subst, ◌∙◌, arith, sym}
+use Rattle.std.proofs.Common.{◌≡◌, ◌+◌, ◌*◌, ◌≤◌, [], ℕ, ap, subst, ◌∙◌, arith, sym}
 use Rattle.std.proofs.Common.{length, take, drop, slice_index, slice_index_or}
+use Rattle.std.proofs.lemmas.List.{get_or-replicate}
 use Rattle.pieces.specs.Pieces.{first_digests}
 use Rattle.pieces.proofs.PieceLemmas.{digest_more, rows_small, start_within}
 use Rattle.pieces.proofs.digests.put_group.Goals as goal
@@ -8,14 +9,17 @@ pub starts_of-starts-requires : goal.starts_of-starts-requires
 starts_of-starts-requires g c =
     (omega (arith, g.met.H.PieceHash.few_lanes), (c.requires.piece, (c.requires.some, c.requires.whole)))
 
-pub side_by_side-rows-requires : goal.side_by_side-rows-requires
-side_by_side-rows-requires g c =
+pub rows-rows-requires : goal.rows-rows-requires
+rows-rows-requires g c =
     let few = g.met.H.PieceHash.few_lanes in
     let small = g.met.H.PieceHash.small in (
       omega arith,
       (
         rows_small g.row.LANES g.row.LANES g.row.MOST (omega arith) few (omega (arith, small)),
-        (omega arith, (c.requires.piece, c.starts_of-starts.ensures.fits)),
+        (
+          omega arith,
+          λ i lt. rw (get_or-replicate g.row.LANES i c.args.piece_len 0 lt) (c.starts_of-starts.ensures.fits i lt),
+        ),
       ),
     )
 
@@ -34,7 +38,7 @@ put_digest-requires g c =
     let inside = start_within size c.args.done c.args.count c.rows.i (length c.args.out.now) (omega arith) room in (
       omega (arith, g.met.H.PieceHash.small),
       (
-        omega (arith, c.digest_len-size.ensures.most, c.side_by_side-rows.ensures.whole c.rows.i (omega arith)),
+        omega (arith, c.digest_len-size.ensures.most, c.rows-rows.ensures.whole c.rows.i (omega arith)),
         omega (arith, c.rows.invariant.length),
       ),
     )
@@ -46,10 +50,12 @@ rows-preserved g c =
     let size = c.digest_len-size.result in
     let digest = g.H.PieceHash.digest c.args.hash.now in
     let out = c.put_digest.new.out in
-    let row = slice_index_or c.side_by_side-rows.result i [] in
+    let row = slice_index_or c.rows-rows.result i [] in
     let at = c.rows.invariant in
     let made : take size row ≡ digest (take n (drop (slice_index c.starts_of-starts.result i) c.args.bytes.now)) =
-    ap (λ s. take s row) c.digest_len-size.ensures.value ∙ c.side_by_side-rows.ensures.value i (omega arith) in
+    ap (λ s. take s row) c.digest_len-size.ensures.value ∙ c.rows-rows.ensures.value i (omega arith)
+    ∙ ap (λ (k : ℕ). digest (take k (drop (slice_index c.starts_of-starts.result i) c.args.bytes.now)))
+    (get_or-replicate g.row.LANES i n 0 (omega arith)) in
     record {
       length = c.put_digest.ensures.length ∙ at.length;
       value = subst (λ k. take (size * k) out ≡ first_digests digest n c.args.bytes.now k) (omega arith)

@@ -21,7 +21,8 @@ returns g c = λ i lt p is.
     rw (← size) at c.counts_left-left.ensures.filled i lt
     ∙ omega (arith, length-append (replicate zeros 0) count, length-replicate {A = ℕ} zeros 0) in
     let whole = c.take_each.ensures i lt
-    ∙ ap (taken g.H.HashValues.made n (g.H.HashValues.lane i c.args.first) x start) (c.whole_blocks-whole.ensures i lt) in
+    ∙ ap (taken g.H.HashValues.made n (g.H.HashValues.lane i c.args.first) x start)
+    (c.whole_blocks-whole.ensures i lt) in
     ended g.V.HashValue.words_after g.V.HashValue.compressed g.H.HashValues.made n v.positive v.on_front v.next_block
     c.requires.made x c.as_flattened-rest.result.now (slice_index_or c.tails-tails.result i []) (padding n count len) p
     _ _ _ start len (slice_index c.starts_of.result i) left (c.requires.fits i lt) (c.requires.begun i lt) whole

@@ -1,4 +1,5 @@
-use Rattle.std.proofs.Common.{◌≡◌, ◌≤◌, ◌+◌, ◌-◌, ◌*◌, ◌%◌, ◌++◌, ◌∷◌, ◌∙◌, ℕ, List, append_assoc, ap, arith, drop, length, length-append}
+use Rattle.std.proofs.Common.{◌≡◌, ◌≤◌, ◌+◌, ◌-◌, ◌*◌, ◌%◌, ◌++◌, ◌∷◌, ◌∙◌, ℕ, List}
+use Rattle.std.proofs.Common.{append_assoc, ap, arith, drop, length, length-append}
 use Rattle.std.proofs.Common.{replicate, take}
 use Rattle.std.proofs.lemmas.List.{length-replicate}
 use Rattle.std.proofs.Math.Nat.{mul-le-mul_left}

@@ -2,7 +2,7 @@ use Rattle.std.proofs.Common.{arith}
 use Rattle.words.specs.Blake2.{blake2b}
 use Rattle.words.proofs.LaneLemmas.{below_four}
 use Rattle.pieces.proofs.PieceChains.{digest_of}
-use Rattle.pieces.proofs.blake2b_lanes.Lanes2bPieceHash464.side_by_side.Goals as goal
+use Rattle.pieces.proofs.blake2b_lanes.Lanes2bPieceHash464.rows.Goals as goal
 
 pub returns-clause-value : goal.returns-clause-value
 returns-clause-value c =

@@ -1,9 +1,0 @@
-use Rattle.std.proofs.Common.{◌≡◌, ℕ, ◌<◌, take, drop, slice_index}
-use Rattle.words.specs.Blake2.{blake2s}
-use Rattle.words.specs.inside.Lanes.{lane8}
-use Rattle.blake2.specs.Blake2.{chain}
-use Rattle.pieces.proofs.blake2s_lanes.final_values.Given as goal
-
-abbrev pub invariant-each_block : goal.invariant-each_block
-invariant-each_block l = (i : ℕ) → i < 8
-    → lane8 i l.values ≡ chain blake2s l.first (take l.len (drop (slice_index l.starts i) l.bytes)) l.j
