@@ -1,3 +1,4 @@
 pub mod Rounds
 pub mod Words
 pub mod Blocks
+pub mod Rows

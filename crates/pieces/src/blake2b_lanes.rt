@@ -17,6 +17,7 @@ use crate::fault::Fault;
 use crate::lanes2::words64::{lane_rows, message_lanes, next_lanes, same_lanes};
 use crate::last_blocks::{blocks_before, last_blocks};
 use crate::piece_hash::PieceHash;
+use crate::rows::write_rows;
 use blake2::Blake2b;
 use std::simd::u64x4;
 use words::{Absorb, IV64, bytes64, write_at};
@@ -162,7 +163,7 @@ impl PieceHash<4, 64> for Lanes2b {
         row
     }
 
-    ghost some_lanes = { Prim.search rules };
+    ghost two_lanes = { Prim.search rules };
 
     ghost few_lanes = { Prim.search rules };
 
@@ -190,4 +191,27 @@ pub fn blake2b(
         return Err(Fault::DigestLength);
     }
     write_digests(&Lanes2b::new(digest_len), bytes, piece_len, out)
+}
+
+/// Fills `out` with the BLAKE2b digests of `digest_len` bytes, without a key (RFC 7693, section 3.3), of the
+/// messages of `lens` bytes that begin at `starts`, one after the other.
+pub fn blake2b_messages(
+    digest_len: usize,
+    bytes: &[u8],
+    starts: &[usize],
+    lens: &[usize],
+    out: &mut [u8],
+)
+    requires some { 0 < digest_len }
+    requires most { digest_len ≤ 64 }
+    requires same { length lens.now ≡ length starts.now }
+    requires fits { (i : ℕ) → i < length starts.now
+        → slice_index starts.now i + slice_index lens.now i ≤ length bytes.now }
+    requires room { length out.old ≡ digest_len * length starts.now }
+    ensures value { (i : ℕ) → i < length starts.now → take digest_len (drop (digest_len * i) out.new)
+        ≡ blake2 blake2b (unsalted blake2b digest_len [])
+        (take (slice_index lens.now i) (drop (slice_index starts.now i) bytes.now)) }
+    ensures length { length out.new ≡ length out.old }
+{
+    write_rows(&Lanes2b::new(digest_len), bytes, starts, lens, out);
 }

@@ -17,6 +17,7 @@ use crate::fault::Fault;
 use crate::lanes2::words32::next_lanes;
 use crate::last_blocks::{block_words, blocks_before, last_blocks};
 use crate::piece_hash::PieceHash;
+use crate::rows::write_rows;
 use blake2::Blake2s;
 use std::simd::prelude::*;
 use words::lanes::{lane_rows, message_lanes, same_lanes};
@@ -158,7 +159,7 @@ impl PieceHash<8, 32> for Lanes2s {
         row
     }
 
-    ghost some_lanes = { Prim.search rules };
+    ghost two_lanes = { Prim.search rules };
 
     ghost few_lanes = { Prim.search rules };
 
@@ -186,4 +187,27 @@ pub fn blake2s(
         return Err(Fault::DigestLength);
     }
     write_digests(&Lanes2s::new(digest_len), bytes, piece_len, out)
+}
+
+/// Fills `out` with the BLAKE2s digests of `digest_len` bytes, without a key (RFC 7693, section 3.3), of the
+/// messages of `lens` bytes that begin at `starts`, one after the other.
+pub fn blake2s_messages(
+    digest_len: usize,
+    bytes: &[u8],
+    starts: &[usize],
+    lens: &[usize],
+    out: &mut [u8],
+)
+    requires some { 0 < digest_len }
+    requires most { digest_len ≤ 32 }
+    requires same { length lens.now ≡ length starts.now }
+    requires fits { (i : ℕ) → i < length starts.now
+        → slice_index starts.now i + slice_index lens.now i ≤ length bytes.now }
+    requires room { length out.old ≡ digest_len * length starts.now }
+    ensures value { (i : ℕ) → i < length starts.now → take digest_len (drop (digest_len * i) out.new)
+        ≡ blake2 blake2s (unsalted blake2s digest_len [])
+        (take (slice_index lens.now i) (drop (slice_index starts.now i) bytes.now)) }
+    ensures length { length out.new ≡ length out.old }
+{
+    write_rows(&Lanes2s::new(digest_len), bytes, starts, lens, out);
 }

@@ -49,7 +49,7 @@ impl PieceHash<8, 32> for LanesBlake3 {
         digest_of(piece)
     }
 
-    ghost some_lanes = { Prim.search rules };
+    ghost two_lanes = { Prim.search rules };
 
     ghost few_lanes = { Prim.search rules };
 

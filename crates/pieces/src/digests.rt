@@ -1,6 +1,6 @@
 // The loop over the pieces of a buffer, for every hash function.
 
-ghost use Rattle.std.specs.Prelude.{◌≡◌, ◌<◌, ◌≤◌, ◌+◌, ◌*◌, ◌++◌, ℕ, length, take, slice_index};
+ghost use Rattle.std.specs.Prelude.{◌≡◌, ◌<◌, ◌≤◌, ◌+◌, ◌*◌, ◌++◌, ℕ, length, take, drop, slice_index};
 ghost use Rattle.std.specs.Prelude.{None, Some, MatchResult};
 ghost use Rattle.pieces.specs.Pieces.{digests, first_digests, piece_count};
 ghost use Rattle.pieces.specs.Faults.{piece_fault};
@@ -55,11 +55,17 @@ pub(crate) fn starts_of<const LANES: usize>(
     starts
 }
 
-// Writes a digest of `size` bytes after others.
-fn put_digest<const MOST: usize>(row: &[u8; MOST], size: usize, out: &mut [u8], at: usize)
+/// Writes a digest of `size` bytes at `at`.
+pub(crate) fn put_digest<const MOST: usize>(
+    row: &[u8; MOST],
+    size: usize,
+    out: &mut [u8],
+    at: usize,
+)
     requires most { size ≤ length row.now }
     requires room { at + size ≤ length out.old }
     ensures front { take (at + size) out.new ≡ take at out.old ++ take size row.now }
+    ensures rest { drop (at + size) out.new ≡ drop (at + size) out.old }
     ensures length { length out.new ≡ length out.old }
 {
     out[at..at + size].copy_from_slice(&row[..size]);

@@ -38,7 +38,7 @@ pub(crate) trait PieceHash<const LANES: usize, const MOST: usize> {
         ensures value { take (size self.now) result ≡ digest self.now piece.now }
         ensures whole { length result ≡ MOST };
 
-    ghost some_lanes: { 0 < LANES };
+    ghost two_lanes: { 1 < LANES };
 
     ghost few_lanes: { LANES ≤ 8 };
 

@@ -12,6 +12,7 @@ ghost use Rattle.pieces.specs.Faults.{piece_fault};
 use crate::digests::write_digests;
 use crate::fault::Fault;
 use crate::piece_hash::PieceHash;
+use crate::rows::write_rows;
 use crate::sha_lanes::final_values;
 use sha_blocks::{Value256, digest256};
 use std::simd::prelude::*;
@@ -100,7 +101,7 @@ impl PieceHash<8, 32> for Lanes256 {
         digest256(piece)
     }
 
-    ghost some_lanes = { Prim.search rules };
+    ghost two_lanes = { Prim.search rules };
 
     ghost few_lanes = { Prim.search rules };
 
@@ -118,4 +119,18 @@ pub fn sha256(bytes: &[u8], piece_len: usize, out: &mut [u8]) -> Result<(), Faul
         (λ e. (piece_fault 32 piece_len (length bytes.now) (length out.old) ≡ Some e) × (out.new ≡ out.old)) }
 {
     write_digests(&Lanes256, bytes, piece_len, out)
+}
+
+/// Fills `out` with the SHA-256 digests (FIPS 180-4, section 6.2) of the messages of `lens` bytes that begin at
+/// `starts`, one after the other.
+pub fn sha256_messages(bytes: &[u8], starts: &[usize], lens: &[usize], out: &mut [u8])
+    requires same { length lens.now ≡ length starts.now }
+    requires fits { (i : ℕ) → i < length starts.now
+        → slice_index starts.now i + slice_index lens.now i ≤ length bytes.now }
+    requires room { length out.old ≡ 32 * length starts.now }
+    ensures value { (i : ℕ) → i < length starts.now → take 32 (drop (32 * i) out.new)
+        ≡ Sha256.sha256 (take (slice_index lens.now i) (drop (slice_index starts.now i) bytes.now)) }
+    ensures length { length out.new ≡ length out.old }
+{
+    write_rows(&Lanes256, bytes, starts, lens, out);
 }

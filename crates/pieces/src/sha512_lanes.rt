@@ -13,6 +13,7 @@ use crate::digests::write_digests;
 use crate::fault::Fault;
 use crate::lanes2::words64::{lane_rows, same_lanes};
 use crate::piece_hash::PieceHash;
+use crate::rows::write_rows;
 use crate::sha_lanes::final_values;
 use sha_blocks::{Value512, digest512};
 use std::simd::prelude::*;
@@ -91,7 +92,7 @@ impl PieceHash<4, 64> for Lanes512 {
         digest512(piece)
     }
 
-    ghost some_lanes = { Prim.search rules };
+    ghost two_lanes = { Prim.search rules };
 
     ghost few_lanes = { Prim.search rules };
 
@@ -109,4 +110,18 @@ pub fn sha512(bytes: &[u8], piece_len: usize, out: &mut [u8]) -> Result<(), Faul
         (λ e. (piece_fault 64 piece_len (length bytes.now) (length out.old) ≡ Some e) × (out.new ≡ out.old)) }
 {
     write_digests(&Lanes512, bytes, piece_len, out)
+}
+
+/// Fills `out` with the SHA-512 digests (FIPS 180-4, section 6.4) of the messages of `lens` bytes that begin at
+/// `starts`, one after the other.
+pub fn sha512_messages(bytes: &[u8], starts: &[usize], lens: &[usize], out: &mut [u8])
+    requires same { length lens.now ≡ length starts.now }
+    requires fits { (i : ℕ) → i < length starts.now
+        → slice_index starts.now i + slice_index lens.now i ≤ length bytes.now }
+    requires room { length out.old ≡ 64 * length starts.now }
+    ensures value { (i : ℕ) → i < length starts.now → take 64 (drop (64 * i) out.new)
+        ≡ Sha512.sha512 (take (slice_index lens.now i) (drop (slice_index starts.now i) bytes.now)) }
+    ensures length { length out.new ≡ length out.old }
+{
+    write_rows(&Lanes512, bytes, starts, lens, out);
 }

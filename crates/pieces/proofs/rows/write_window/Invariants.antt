@@ -1,0 +1,23 @@
+use Rattle.std.proofs.Common.{◌≡◌, ◌<◌, ◌+◌, ℕ, length}
+use Rattle.pieces.specs.inside.Rows.{AreWritten, IsRow}
+use Rattle.pieces.proofs.rows.write_window.Given as goal
+
+abbrev pub invariant-groups : goal.invariant-groups
+invariant-groups g l = record {
+  length : length l.out ≡ length l.fn.out;
+  right : AreWritten (g.H.PieceHash.digest l.hash) (g.H.PieceHash.size l.hash) l.bytes l.starts l.lens l.out l.first
+      l.written;
+  kept : (i : ℕ) → IsRow (g.H.PieceHash.digest l.hash) (g.H.PieceHash.size l.hash) l.bytes l.starts l.lens l.fn.out i
+      → IsRow (g.H.PieceHash.digest l.hash) (g.H.PieceHash.size l.hash) l.bytes l.starts l.lens l.out i;
+}
+
+abbrev pub invariant-rest : goal.invariant-rest
+invariant-rest g l = record {
+  length : length l.out ≡ length l.fn.out;
+  right : AreWritten (g.H.PieceHash.digest l.hash) (g.H.PieceHash.size l.hash) l.bytes l.starts l.lens l.out l.first
+      l.written;
+  done : (i : ℕ) → i < l.k
+      → IsRow (g.H.PieceHash.digest l.hash) (g.H.PieceHash.size l.hash) l.bytes l.starts l.lens l.out (l.first + i);
+  kept : (i : ℕ) → IsRow (g.H.PieceHash.digest l.hash) (g.H.PieceHash.size l.hash) l.bytes l.starts l.lens l.fn.out i
+      → IsRow (g.H.PieceHash.digest l.hash) (g.H.PieceHash.size l.hash) l.bytes l.starts l.lens l.out i;
+}
