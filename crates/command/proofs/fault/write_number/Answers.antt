@@ -1,3 +1,5 @@
+use Rattle.std.proofs.lemmas.Grind.{common_steps}
+use Rattle.std.proofs.Common.{arith}
 use Rattle.std.specs.Fmt.{decimal}
 use Rattle.source.proofs.Writing.{Failed-after, Failed-more, Writes-after, Writes-exit}
 use Rattle.command.proofs.fault.write_number.Goals as goal
@@ -10,8 +12,4 @@ returns-in_err-write_all-2 g c =
     (rw (c.as_bytes-2.ensures.value, c.format.ensures.text) at c.in_err-write_all-2.ensures)))
 
 pub returns : goal.returns
-returns g c =
-    Writes-after _ _ _ _ c.args.before.now _ (rw c.as_bytes.ensures.value at c.in_ok-write_all.ensures)
-    (Writes-after _ _ _ _ (decimal c.args.number) _
-    (rw (c.as_bytes-2.ensures.value, c.format.ensures.text) at c.in_ok-write_all-2.ensures)
-    (rw c.as_bytes-3.ensures.value at c.write_all-3.ensures))
+returns g c = grind (arith, common_steps, Writes-after)

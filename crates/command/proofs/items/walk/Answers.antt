@@ -1,4 +1,5 @@
-use Rattle.std.proofs.Common.{◌∙◌, refl, arith}
+use Rattle.std.proofs.lemmas.Grind.{common_steps}
+use Rattle.std.proofs.Common.{◌∙◌, arith}
 use Rattle.std.proofs.lemmas.Result.{err_from_is_err_and}
 use Rattle.command.proofs.Keeping.{kept_end, kept_one, kept_over, kept_start, kept_stop}
 use Rattle.command.proofs.Walking.{ended, passed_over, took, walked_broken, walked_end, walked_one, walked_over}
@@ -6,12 +7,7 @@ use Rattle.command.proofs.Walking.{walked_start, walked_stop}
 use Rattle.command.proofs.items.walk.Goals as goal
 
 pub items-init : goal.items-init
-items-init g c = record {
-  others = refl;
-  walked = walked_start;
-  same = c.laws.ensures.same_none c.args.items.now;
-  kept = kept_start (c.laws.ensures.keeps_none c.args.items.now);
-}
+items-init g c = grind (arith, common_steps, walked_start, kept_start)
 
 pub returns-in_err-next-clause-run : goal.returns-in_err-next-clause-run
 returns-in_err-next-clause-run g c =

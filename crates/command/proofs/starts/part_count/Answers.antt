@@ -1,3 +1,4 @@
+use Rattle.std.proofs.lemmas.Grind.{common_steps}
 use Rattle.std.proofs.Common.{ℕ, ◌+◌, ◌-◌, ◌*◌, ◌/◌, ◌^◌, ◌<◌, ◌∙◌, refl, arith}
 use Rattle.std.proofs.Math.Nat.{div-le_self}
 use Rattle.command.proofs.Starting.{before_end, chunks_fit, counting_fewer, counting_first, counting_more, opens_first}
@@ -40,27 +41,7 @@ halves-preserved-then-branch g c =
     }
 
 pub halves-preserved : goal.halves-preserved
-halves-preserved g c =
-    let before = c.halves.invariant in
-    let least : ℕ = c.halves.least in
-    let most : ℕ = c.halves.most in
-    let middle : ℕ = least + (most - least) / 2 in
-    let told = c.in_ok-has_byte in
-    let one = c.has_byte.ensures.opens in
-    let some = before.opens.2 in
-    let few = before.few in
-    let left = opens_next (most - least) (middle - least) before.opens.0 before.opens.1 (omega arith) (omega arith) in
-    record {
-      ordered = omega arith;
-      few = omega arith;
-      within = λ i less. before.within i (omega arith);
-      kept = c.has_byte.ensures.kept ∙ before.kept;
-      counting = counting_fewer c.args.chunks c.args.name.now _ _ least most middle _ _ _ told.field-0 c.requires.0
-          c.if-branch.false before.kept (told.ensures.byte, told.ensures.counted) before.counting;
-      opens = (left.0, left.1, omega (arith, one, some, left.2));
-    }
+halves-preserved g c = grind (arith, common_steps, opens_next, counting_fewer)
 
 pub returns-clause-fits : goal.returns-clause-fits
-returns-clause-fits g c =
-    rw c.max.ensures (chunks_fit c.args.chunks c.halves.least c.halves.most c.requires.1 c.halves.invariant.ordered
-    c.halves.invariant.within)
+returns-clause-fits g c = grind (arith, common_steps, chunks_fit)

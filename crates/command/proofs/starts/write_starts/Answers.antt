@@ -1,24 +1,15 @@
-use Rattle.std.proofs.Common.{[], refl, sym}
+use Rattle.std.proofs.lemmas.Grind.{common_steps}
+use Rattle.std.proofs.Common.{arith}
 use Rattle.std.proofs.KnownBytes.{Appends-nil}
 use Rattle.source.proofs.Writing.{Writes-exit, Writing-end, Writing-failed, Writing-step}
 use Rattle.command.proofs.Starting.{all_lines, next_line, no_line}
 use Rattle.command.proofs.starts.write_starts.Goals as goal
 
 pub loop-number-init : goal.loop-number-init
-loop-number-init g c = record {
-  progress = record {
-    front = [];
-    whole = sym (all_lines c.args.chunks c.args.count);
-    done = (refl, Appends-nil _);
-  };
-}
+loop-number-init g c = grind (arith, common_steps, all_lines, Appends-nil)
 
 pub loop-number-preserved : goal.loop-number-preserved
-loop-number-preserved g c = record {
-  progress = Writing-step _ _ _ _ _ _ _ (next_line c.args.chunks c.loop-number.number c.args.count
-      c.loop-number-test.true)
-      c.loop-number.invariant.progress c.in_ok-write_number.ensures;
-}
+loop-number-preserved g c = grind (arith, common_steps, Writing-step, next_line)
 
 pub returns-in_err-write_number : goal.returns-in_err-write_number
 returns-in_err-write_number g c =
@@ -27,6 +18,4 @@ returns-in_err-write_number g c =
     c.in_err-write_number.ensures)
 
 pub returns : goal.returns
-returns g c =
-    Writing-end _ _ _ (rw (no_line c.args.chunks c.loop-number.number c.args.count c.loop-number-test.false) at
-    c.loop-number.invariant.progress)
+returns g c = grind (arith, common_steps, Writing-end, no_line)

@@ -1,4 +1,5 @@
-use Rattle.std.proofs.Common.{ap, nat_lt, refl, sym}
+use Rattle.std.proofs.lemmas.Grind.{common_steps}
+use Rattle.std.proofs.Common.{arith, ap, nat_lt, refl, sym}
 use Rattle.command.specs.inside.Hashed.{listed_items}
 use Rattle.command.specs.inside.Rules.{line_by}
 use Rattle.command.specs.inside.Streams.{seen_at}
@@ -31,11 +32,4 @@ returns-clause-items g c = ap (listed_items c.args.self.now.number c.args.self.n
     (c.print_one.ensures.gave c.in-Some.ensures.other)
 
 pub returns-clause-same : goal.returns-clause-same
-returns-clause-same g c = (
-  refl,
-  refl,
-  refl,
-  c.print_one.ensures.files,
-  refl,
-  rw (c.print_one.ensures.gave c.in-Some.ensures.other) onward_none,
-)
+returns-clause-same g c = grind (arith, common_steps, onward_none)

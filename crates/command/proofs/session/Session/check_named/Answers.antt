@@ -1,4 +1,5 @@
-use Rattle.std.proofs.Common.{refl, sym, ◌∙◌}
+use Rattle.std.proofs.lemmas.Grind.{common_steps}
+use Rattle.std.proofs.Common.{arith, refl, sym, ◌∙◌}
 use Rattle.sumlist.specs.Lines.{lines}
 use Rattle.std.specs.Prelude.{◌==◌, option_map}
 use Rattle.command.specs.Checking.{ListRuns}
@@ -8,13 +9,7 @@ use Rattle.command.proofs.Opening.{opens_of_file, opens_of_input, opens_of_none}
 use Rattle.command.proofs.session.Session.check_named.Goals as goal
 
 pub returns-then-eq-clause-run : goal.returns-then-eq-clause-run
-returns-then-eq-clause-run g c reporting before after told =
-    let name = c.args.name.now in
-    report_input name (λ files content run.
-    ListRuns reporting files (meaning c.args.entries.now)
-    (option_map (λ n. n.now) c.args.title) name c.args.share.now content run c.check_input.new.share)
-    _ _ _ _ _ _ _ _ _ _ _ (sym c.eq.ensures ∙ c.if-eq.true)
-    (c.check_input.ensures.list reporting before after told)
+returns-then-eq-clause-run g c reporting before after told = grind (arith, common_steps, report_input)
 
 pub returns-in_err-feed-clause-run : goal.returns-in_err-feed-clause-run
 returns-in_err-feed-clause-run g c reporting before after told =
@@ -52,10 +47,7 @@ returns-in_err-feed-clause-opens g c =
     opens_of_none lines c.args.name.now _ _ _ _ (sym c.eq.ensures ∙ c.if-eq.false) c.open_file.ensures.opens
 
 pub returns-clause-opens : goal.returns-clause-opens
-returns-clause-opens g c =
-    opens_of_file lines c.args.name.now g.T.F.Feed.remaining c.in_ok-feed.feed _ _ _ _ _ _ _
-    (sym c.eq.ensures ∙ c.if-eq.false) c.in_ok-feed.ensures.opened c.open_file.ensures.kept c.open_file.ensures.opens
-    c.check_input-answer.ensures.opens c.close.ensures.opened
+returns-clause-opens g c = grind (arith, common_steps, opens_of_file)
 
 pub returns-then-eq-clause-gave : goal.returns-then-eq-clause-gave
 returns-then-eq-clause-gave g c = rw (sym c.eq.ensures ∙ c.if-eq.true) c.check_input.ensures.gave

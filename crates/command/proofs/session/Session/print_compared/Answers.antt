@@ -1,30 +1,18 @@
-use Rattle.std.proofs.Common.{Ok, ap, refl}
+use Rattle.std.proofs.lemmas.Grind.{common_steps}
+use Rattle.std.proofs.Common.{arith, Ok, ap, refl}
 use Rattle.std.specs.Prelude.{option_map}
 use Rattle.std.proofs.lemmas.Result.{err_from_is_err_and}
-use Rattle.command.specs.Lines.{content_of, is_input}
 use Rattle.command.specs.inside.Rules.{line_by}
 use Rattle.command.specs.inside.Streams.{seen_of}
-use Rattle.command.specs.inside.Troubles.{trouble_of}
 use Rattle.command.proofs.Answering.{digest_said, left_failed, line_said, misnamed, said_failed, unread_said}
 use Rattle.command.proofs.Reading.{told_always, told_then}
 use Rattle.command.proofs.session.Session.print_compared.Goals as goal
 
 pub returns-in_err-named_by-clause-answer : goal.returns-in_err-named_by-clause-answer
-returns-in_err-named_by-clause-answer g c =
-    let see = seen_of g.L.Feed.remaining g.L.Feed.failure_count g.T.Tree.files g.T.Tree.failure_count
-    g.T.Tree.opens g.W.Sink.shown in
-    told_always (see c.args.self.now) (λ bytes files. misnamed (line_by c.args.rule.now) c.args.name.now
-    c.args.file.now _ (content_of c.args.file.now bytes files) c.in_err-named_by.field-0.0 _ _
-    (ap trouble_of c.in_err-named_by.ensures.0) c.in_err-named_by.ensures.1 c.from_residual.ensures.1)
+returns-in_err-named_by-clause-answer g c = grind (arith, common_steps, told_always, misnamed)
 
 pub returns-in_err-made-clause-answer : goal.returns-in_err-made-clause-answer
-returns-in_err-made-clause-answer g c =
-    let see = seen_of g.L.Feed.remaining g.L.Feed.failure_count g.T.Tree.files g.T.Tree.failure_count
-    g.T.Tree.opens g.W.Sink.shown in
-    told_then (see c.args.self.now) c.in_err-made.ensures.made (λ bytes files read. unread_said
-    (line_by c.args.rule.now) c.args.name.now c.args.file.now _ (content_of c.args.file.now bytes files)
-    c.in_err-made.field-0.0 _ _ _ c.in_ok-named_by.ensures read c.from_residual-in_err-made.ensures.1
-    c.made_of_file.ensures.out)
+returns-in_err-made-clause-answer g c = grind (arith, common_steps, told_then, unread_said)
 
 pub returns-in_err-write_sum-clause-answer : goal.returns-in_err-write_sum-clause-answer
 returns-in_err-write_sum-clause-answer g c =
@@ -60,13 +48,4 @@ returns-clause-answer g c =
     (rw c.made_of_file.ensures.out at c.print_verdict.ensures.said)))
 
 pub returns-in_err-write_sum-clause-read : goal.returns-in_err-write_sum-clause-read
-returns-in_err-write_sum-clause-read g c =
-    let read = c.in_ok-made.ensures.read in
-    let failed = c.from_residual-in_err-write_sum in
-    let e = err_from_is_err_and failed.result failed.ensures.1 in
-    rw (e.1, e.2) (record {
-      counted = read.counted;
-      gave = left_failed (is_input c.args.file.now) _ _ _ _ read.gave;
-      files = read.files;
-      opens = read.opens;
-    })
+returns-in_err-write_sum-clause-read g c = grind (arith, common_steps, err_from_is_err_and, left_failed)

@@ -1,4 +1,5 @@
-use Rattle.std.proofs.Common.{◌+◌, List, refl, sym, ◌∙◌, ℕ}
+use Rattle.std.proofs.lemmas.Grind.{common_steps}
+use Rattle.std.proofs.Common.{arith, ◌+◌, List, refl, sym, ◌∙◌, ℕ}
 use Rattle.sumlist.specs.Naming.{names}
 use Rattle.sumlist.specs.Shared.{every}
 use Rattle.command.specs.Hashing.{LinesListed}
@@ -61,25 +62,13 @@ returns-clause-run g c =
     (rw (c.feed-3-1.given.1 (sym c.print_names-answer.ensures.same.input)) at c.close.ensures.counted))
 
 pub returns-in_err-rule-clause-opens : goal.returns-in_err-rule-clause-opens
-returns-in_err-rule-clause-opens g c =
-    opens_key (λ bytes files. opens_of c.args.list.now
-    + opens_from (λ m. every c.args.share.others c.args.share.waiting (names m))
-    (content_of c.args.list.now bytes files))
-    _ _ _ _ _ c.rule_of.ensures.opens
+returns-in_err-rule-clause-opens g c = grind (arith, common_steps, opens_key)
 
 pub returns-then-eq-clause-opens : goal.returns-then-eq-clause-opens
-returns-then-eq-clause-opens g c =
-    let own : List ℕ → List (List ℕ) = λ m. every c.args.share.others c.args.share.waiting (names m) in
-    opens_behind (λ bytes files. opens_of c.args.list.now + opens_from own (content_of c.args.list.now bytes files))
-    _ _ _ _ _ _ _ _ refl c.rule_of.ensures.files c.rule_of.ensures.opens
-    (opens_of_input own c.args.list.now _ _ _ _ (sym c.eq.ensures ∙ c.if-eq.true) c.print_names.ensures.opens)
+returns-then-eq-clause-opens g c = grind (arith, common_steps, opens_behind, opens_of_input)
 
 pub returns-in_err-feed-clause-opens : goal.returns-in_err-feed-clause-opens
-returns-in_err-feed-clause-opens g c =
-    let own : List ℕ → List (List ℕ) = λ m. every c.args.share.others c.args.share.waiting (names m) in
-    opens_behind (λ bytes files. opens_of c.args.list.now + opens_from own (content_of c.args.list.now bytes files))
-    _ _ _ _ _ _ _ _ refl c.rule_of.ensures.files c.rule_of.ensures.opens
-    (opens_of_none own c.args.list.now _ _ _ _ (sym c.eq.ensures ∙ c.if-eq.false) c.open_file.ensures.opens)
+returns-in_err-feed-clause-opens g c = grind (arith, common_steps, opens_behind, opens_of_none)
 
 pub returns-clause-opens : goal.returns-clause-opens
 returns-clause-opens g c =

@@ -1,6 +1,6 @@
+use Rattle.std.proofs.lemmas.Grind.{common_steps}
 use Rattle.std.proofs.Common.{refl, arith}
 use Rattle.b3.proofs.Powers.{ones_pow}
-use Rattle.command.specs.inside.Streams.{seen_of}
 use Rattle.command.proofs.Opening.{opens_beside}
 use Rattle.command.proofs.Reading.{told_always}
 use Rattle.command.proofs.VerifiedNames.{verified_by, verified_unbuffered, verified_unopened}
@@ -27,21 +27,10 @@ returns-clause-run g c =
     c.close.ensures.counted
 
 pub returns-in_err-run-clause-opens : goal.returns-in_err-run-clause-opens
-returns-in_err-run-clause-opens g c =
-    let see = seen_of g.L.Feed.remaining g.L.Feed.failure_count g.T.Tree.files g.T.Tree.failure_count
-    g.T.Tree.opens g.W.Sink.shown in
-    told_always (see c.args.self.now) (λ bytes files. omega arith)
+returns-in_err-run-clause-opens g c = grind (arith, common_steps, told_always)
 
 pub returns-in_err-list-clause-opens : goal.returns-in_err-list-clause-opens
-returns-in_err-list-clause-opens g c =
-    let see = seen_of g.L.Feed.remaining g.L.Feed.failure_count g.T.Tree.files g.T.Tree.failure_count
-    g.T.Tree.opens g.W.Sink.shown in
-    let one = c.in_err-list.ensures.opens in
-    told_always (see c.args.self.now) (λ bytes files. omega (arith, one))
+returns-in_err-list-clause-opens g c = grind (arith, common_steps, told_always)
 
 pub returns-clause-opens : goal.returns-clause-opens
-returns-clause-opens g c =
-    let one = c.in_ok-list.ensures.opens in
-    opens_beside c.args.file.share c.args.parts.now c.args.file.name.now (g.L.Feed.remaining c.args.self.now.input.now)
-    (g.T.Tree.files c.args.self.now.tree.now) _ (g.T.F.Feed.remaining c.in_ok-list.list) _ _ _ _
-    c.in_ok-list.ensures.kept c.in_ok-list.ensures.opened one c.verify_by-answer.ensures.opens c.close.ensures.opened
+returns-clause-opens g c = grind (arith, common_steps, opens_beside)
