@@ -1,6 +1,7 @@
 -- A run of the program is that of its request, with the last trouble told.
-use Rattle.std.proofs.Common.{◌≡◌, ℕ, List, [], ◌∷◌, ◌++◌, Option, Some, None, Result, Ok, Err, IfOk, IfSome, refl}
-use Rattle.std.proofs.Common.{sym, ap, ◌∙◌, ◌⊎◌, ◌+◌, ◌≤◌, false, inl, inr, subst, append-nil, arith}
+use Rattle.std.proofs.lemmas.Grind.{common_steps}
+use Rattle.std.proofs.Common.{◌≡◌, ℕ, List, [], ◌∷◌, Option, Some, None, Result, Ok, Err, IfOk, IfSome, refl, ◌⊎◌, ◌+◌}
+use Rattle.std.proofs.Common.{◌≤◌, false, inl, inr, append-nil, arith}
 use Rattle.std.proofs.KnownBytes.{Appends-nil}
 use Rattle.hashes.specs.declared.share.Share.{Share}
 use Rattle.source.specs.Written.{Done, Failed, Shown}
@@ -13,13 +14,12 @@ use Rattle.request.specs.declared.request.WordsFault.TheVariants as words_fault
 use Rattle.task.specs.Tasks.{Asked, Source, asked}
 use Rattle.task.specs.declared.fault.UsageFault.{UsageFault}
 use Rattle.task.specs.declared.tasks.Entries.{Entries}
-use Rattle.task.specs.declared.tasks.Entries.TheVariants.{Digests, Tags}
 use Rattle.task.specs.declared.tasks.Reporting.{Reporting}
 use Rattle.task.specs.inside.Texts.{fault_text}
 use Rattle.task.specs.inside.Views.{entries_shown}
 use Rattle.command.specs.Checking.{list_opens}
-use Rattle.command.specs.Run.{Counted, Run, Runs, Tells, TellsAll, end_of, prints, stops}
-use Rattle.command.specs.Run.{cannot_write as run_cannot_write, out_of_memory as run_out_of_memory}
+use Rattle.command.specs.Run.{Counted, Run, Runs, Tells, TellsAll, prints, stops, cannot_write as run_cannot_write}
+use Rattle.command.specs.Run.{out_of_memory as run_out_of_memory}
 use Rattle.command.specs.inside.Rules.{EntriesRun, entries_opens}
 use Rattle.command.specs.inside.Seen.{Does}
 use Rattle.command.specs.inside.Troubles.{cannot_write, out_of_memory, status_of, told, trouble_of, usage}
@@ -31,9 +31,7 @@ use Rattle.program.specs.Program.{ClapRuns, ProgramRuns, RequestRuns, TaskRuns, 
 pub read_as : (words : List Text) (read : Result Request WordsFault)
     → IfOk read (λ r. AreRead words (Ok (given_of r)))
     → ((e : _) → read ≡ Err (words_fault.Words e) → AreRead words (Err (kind_of e))) → IsRead words read
-read_as words (Ok r) reads fault = reads
-read_as words (Err words_fault.OutOfMemory) reads fault = tt
-read_as words (Err (words_fault.Words e)) reads fault = fault e refl
+read_as words read reads fault = grind (arith, common_steps)
 
 Counted-none : (i u : ℕ) → Counted [] i i u u
 Counted-none i u = (omega arith, omega arith)
@@ -41,24 +39,13 @@ Counted-none i u = (omega arith, omega arith)
 Runs-done : (run : Run) (status : ℕ) (out_old out_new err_old err_new : Shown)
     → Does run (Ok status) out_old out_new → TellsAll err_old err_new run.notes
     → Runs run status out_old out_new err_old err_new
-Runs-done run status out_old out_new err_old err_new takes tells = record {
-  status = sym (ap (λ e. (end_of e).0) takes.ending);
-  out = takes.out;
-  err = subst (TellsAll err_old err_new) (sym (ap (λ e. run.notes ++ (end_of e).1) takes.ending ∙
-      append-nil run.notes)) tells;
-}
+Runs-done run status out_old out_new err_old err_new takes tells = grind (arith, common_steps, append-nil)
 
 Runs-stopped : (run : Run) (f : Fault) (status : ℕ) (out_old out_new err_old err_mid err_new : Shown)
     → Does run (Err f) out_old out_new → TellsAll err_old err_mid run.notes
     → status ≡ status_of (trouble_of f) → Tells err_mid err_new (told (trouble_of f))
     → Runs run status out_old out_new err_old err_new
-Runs-stopped run f status out_old out_new err_old err_mid err_new takes tells is last = record {
-  status = is ∙ sym (ap (λ e. (end_of e).0) takes.ending);
-  out = takes.out;
-  err = subst (TellsAll err_old err_new) (sym (ap (λ e. run.notes ++ (end_of e).1) takes.ending))
-      (TellsAll-append err_old err_mid err_new run.notes (told (trouble_of f) ∷ []) tells
-      (TellsAll-one err_mid err_new (told (trouble_of f)) last));
-}
+Runs-stopped run f status out_old out_new err_old err_mid err_new takes tells is last = grind (arith, common_steps, TellsAll-append, TellsAll-one)
 
 module _ (first : Option (List ℕ)) (tree : Option Files) where
   -- what was done of a task
@@ -94,45 +81,33 @@ module _ (first : Option (List ℕ)) (tree : Option Files) where
 -- whatever the bytes and the files are
 opens_always : (first : Option (List ℕ)) (tree : Option Files) (task : Asked) (x y : ℕ)
     → ((bytes : List ℕ) (files : Files) → y ≤ x + most_opens task files bytes) → Opens first tree task x y
-opens_always None tree task x y most = tt
-opens_always (Some bytes) None task x y most = tt
-opens_always (Some bytes) (Some files) task x y most = most bytes files
+opens_always first tree task x y most = grind (arith, common_steps)
 
 pub told_task : (first : Option (List ℕ)) (tree : Option Files) (task shown : Asked) (answer : Result ℕ Fault)
     (out_old out_new err_old err_new : Shown) (i j u v x y : ℕ)
     → task ≡ shown → Tellingly first tree shown answer out_old out_new err_old err_new i j u v
     → Opens first tree shown x y → Worked first tree task answer out_old out_new err_old err_new i j u v x y
-told_task None tree task shown answer out_old out_new err_old err_new i j u v x y same h most = tt
-told_task (Some bytes) None task shown answer out_old out_new err_old err_new i j u v x y same h most = tt
-told_task (Some bytes) (Some files) task shown answer out_old out_new err_old err_new i j u v x y same h most =
-    rw same (h.0, (h.1, most), h.2, h.3, h.4)
+told_task first tree task shown answer out_old out_new err_old err_new i j u v x y same h most = grind (arith, common_steps)
 
 pub told_always : (first : Option (List ℕ)) (tree : Option Files) (task shown : Asked) (answer : Result ℕ Fault)
     (out_old out_new err_old err_new : Shown) (i j u v x y : ℕ)
     → task ≡ shown → Tellingly first tree shown answer out_old out_new err_old err_new i j u v
     → ((bytes : List ℕ) (files : Files) → y ≤ x + most_opens shown files bytes)
     → Worked first tree task answer out_old out_new err_old err_new i j u v x y
-told_always first tree task shown answer out_old out_new err_old err_new i j u v x y same h most =
-    told_task first tree task shown answer out_old out_new err_old err_new i j u v x y same h
-    (opens_always first tree shown x y most)
+told_always first tree task shown answer out_old out_new err_old err_new i j u v x y same h most = grind (arith, common_steps, told_task, opens_always)
 
 pub quiet_told : (first : Option (List ℕ)) (tree : Option Files) (task shown : Asked) (answer : Result ℕ Fault)
     (out_old out_new err : Shown) (i j u v x y : ℕ)
     → task ≡ shown → Quietly first tree shown answer out_old out_new i j u v → Opens first tree shown x y
     → Worked first tree task answer out_old out_new err err i j u v x y
-quiet_told None tree task shown answer out_old out_new err i j u v x y same h most = tt
-quiet_told (Some bytes) None task shown answer out_old out_new err i j u v x y same h most = tt
-quiet_told (Some bytes) (Some files) task shown answer out_old out_new err i j u v x y same h most =
-    rw same (h.0, (h.1, most), h.2, rw h.3 refl, h.4)
+quiet_told first tree task shown answer out_old out_new err i j u v x y same h most = grind (arith, common_steps)
 
 pub quiet_task : (first : Option (List ℕ)) (tree : Option Files) (task shown : Asked) (answer : Result ℕ Fault)
     (out_old out_new err : Shown) (i j u v x y : ℕ)
     → task ≡ shown → Quietly first tree shown answer out_old out_new i j u v
     → ((bytes : List ℕ) (files : Files) → y ≤ x + most_opens shown files bytes)
     → Worked first tree task answer out_old out_new err err i j u v x y
-quiet_task first tree task shown answer out_old out_new err i j u v x y same h most =
-    quiet_told first tree task shown answer out_old out_new err i j u v x y same h
-    (opens_always first tree shown x y most)
+quiet_task first tree task shown answer out_old out_new err i j u v x y same h most = grind (arith, common_steps, quiet_told, opens_always)
 
 -- lists are checked as what their entries are asks for
 pub told_check : (first : Option (List ℕ)) (tree : Option Files) (entries : Entries) (reporting : Reporting)
@@ -141,18 +116,14 @@ pub told_check : (first : Option (List ℕ)) (tree : Option Files) (entries : En
     → IfSome first (λ bytes. IfSome tree (λ files. (run : Run) × EntriesRun entries reporting by files lists bytes run
     × Does run answer out_old out_new × TellsAll err_old err_new run.notes × Counted run.failures i j u v))
     → Tellingly first tree (entries_shown entries reporting by lists) answer out_old out_new err_old err_new i j u v
-told_check first tree (Digests kind) reporting by lists answer out_old out_new err_old err_new i j u v h = h
-told_check first tree (Tags short key) reporting by lists answer out_old out_new err_old err_new i j u v h = h
+told_check first tree entries reporting by lists answer out_old out_new err_old err_new i j u v h = grind (arith, common_steps)
 
 -- and open as many files
 pub check_opens : (first : Option (List ℕ)) (tree : Option Files) (entries : Entries) (reporting : Reporting)
     (by : Source Share) (lists : List Text) (x y : ℕ) → IfSome first (λ bytes. IfSome tree (λ files. y ≤ x
     + (entries_opens entries + list_opens by lists files bytes)))
     → Opens first tree (entries_shown entries reporting by lists) x y
-check_opens None tree (Digests kind) reporting by lists x y most = tt
-check_opens (Some bytes) None (Digests kind) reporting by lists x y most = tt
-check_opens (Some bytes) (Some files) (Digests kind) reporting by lists x y most = omega (arith, most)
-check_opens first tree (Tags short key) reporting by lists x y most = most
+check_opens first tree entries reporting by lists x y most = grind (arith, common_steps)
 
 -- the run of a task is that of the request that asks for it
 requested : (r : Given) (task : Asked) (files : Files) (bytes : List ℕ) (run : Run) → asked r ≡ Ok task
@@ -289,5 +260,4 @@ module _ (words : List Text) where
       (opens files)
       → Program first tree words status out_old (shown out_end) err_old err_new i (reads input_end) u
       (failures files_end) x (opens files_end)
-  handed_back shown reads failures opens first tree status out_old err_old err_new i u x out out_end input input_end
-      files files_end o p q h = rw (o, p, q) h
+  handed_back shown reads failures opens first tree status out_old err_old err_new i u x out out_end input input_end files files_end o p q h = grind (arith, common_steps)
