@@ -5,7 +5,6 @@ use Rattle.std.proofs.Common.{ap₂, replicate}
 use Rattle.source.specs.Counts.{count_after}
 use Rattle.std.proofs.lemmas.List.Sums.{sum_by-append}
 use Rattle.command.specs.Checking.{Beside}
-use Rattle.command.specs.Run.{Counted}
 use Rattle.command.specs.inside.Hashed.{ListCounted}
 use Rattle.command.specs.inside.Told.{ReportCounted}
 use Rattle.command.specs.inside.Troubles.{Failures, counts, failures_from, no_failures, plus}
@@ -16,10 +15,6 @@ plus-none f from_input = grind (arith, common_steps, pair)
 
 pub counts-append : (xs ys : List Bool) → counts (xs ++ ys) ≡ plus (counts xs) (counts ys)
 counts-append xs ys = grind (arith, common_steps, pair, sum_by-append)
-
-pub counted_more : (f g : List Bool) (i j k u v w : ℕ) → Counted f i j u v → Counted g j k v w
-    → Counted (f ++ g) i k u w
-counted_more f g i j k u v w p q = grind (arith, common_steps, sum_by-append)
 
 pub list_counted_more : (from_input : Bool) (f g : List Bool) (i j k u v w : ℕ) → ListCounted from_input f i j u v
     → ListCounted from_input g j k v w → ListCounted from_input (f ++ g) i k u w

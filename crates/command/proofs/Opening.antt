@@ -61,9 +61,6 @@ opens_beside s parts name first tree then_tree list k l h i same opened one more
 
 -- ---- the names in a list
 
-pub opens_once : (name : Text) → opens_of name ≤ 1
-opens_once name = grind (arith, common_steps)
-
 -- what was opened of a list of such pieces, where its bytes and the files are told
 abbrev pub OpensListed : (List ℕ → List (List ℕ)) → Text → Option (List ℕ) → Option Files → (i j : ℕ) → Type 0
 OpensListed pieces list first tree i j = IfSome first (λ bytes. IfSome tree (λ files.

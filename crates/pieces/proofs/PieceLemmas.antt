@@ -34,12 +34,6 @@ whole_within n len k below =
 pub whole_counted : (n len : ℕ) → 0 < n → len / n ≤ piece_count n len
 whole_counted n len some = le-div (len / n) (len + (n - 1)) n some (omega (arith, div-mul-le_self len n))
 
--- a piece begins before the end
-pub begins_within : (n len k : ℕ) → 0 < n → k < piece_count n len → n * k < len
-begins_within n len k some below =
-    let inside : n * (k + 1) ≤ n * piece_count n len = mul-le-mul_left n (omega arith) in
-    omega (arith, div-mul-le_self (len + (n - 1)) n)
-
 -- the room for the digests of some pieces
 pub room_within : (size k total : ℕ) → k ≤ total → size * k ≤ size * total
 room_within size k total below = mul-le-mul_left size below

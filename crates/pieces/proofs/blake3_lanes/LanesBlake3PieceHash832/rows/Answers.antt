@@ -1,4 +1,4 @@
-use Rattle.std.proofs.Common.{◌≡◌, ◌<◌, ℕ, List, slice_index, ap, ◌∙◌, arith}
+use Rattle.std.proofs.Common.{◌≡◌, ℕ, List, slice_index, ap, ◌∙◌, arith}
 use Rattle.b3.specs.Bytes.{slice}
 use Rattle.b3.specs.Modes.{hash_root}
 use Rattle.pieces.proofs.Chunks.{digest_row, digests_more, message}
