@@ -1,21 +1,21 @@
 // The BLAKE2s digests of pieces, eight of them side by side.
 
-ghost use Rattle.std.specs.Prelude.{◌≡◌, ◌<◌, ◌≤◌, ◌+◌, ◌*◌, [], ℕ, List, false};
+ghost use Rattle.std.specs.Prelude.{◌≡◌, ◌<◌, ◌≤◌, ◌+◌, ◌-◌, ◌*◌, ◌/◌, [], ℕ, List, false};
 ghost use Rattle.std.specs.Prelude.{length, take, drop, slice_index, slice_index_or};
 ghost use Rattle.std.specs.Prelude.{None, Some, MatchResult};
 ghost use Rattle.std.proofs.Common.{rules};
 ghost use Rattle.words.specs.Blake2.{blake2s, compress};
-ghost use Rattle.words.specs.Words.{words};
-ghost use Rattle.words.specs.inside.Lanes.{lane8};
+ghost use Rattle.words.specs.Words.{padded, words};
+ghost use Rattle.words.specs.inside.Lanes.{lane, lane8};
 ghost use Rattle.blake2.specs.Blake2.{blake2, final_value, start, unsalted};
 ghost use Rattle.pieces.specs.Pieces.{digests};
 ghost use Rattle.pieces.specs.Faults.{sized_fault};
 
-use crate::block_lanes::{HashValues, choose32, take_each};
+use crate::block_lanes::{HashValues, choose32, least_of, most_of, take_each};
 use crate::digests::write_digests;
 use crate::fault::Fault;
 use crate::lanes2::words32::next_lanes;
-use crate::last_blocks::{block_words, blocks_before, last_blocks};
+use crate::last_blocks::{block_words, blocks_before, last_blocks, last_lanes};
 use crate::piece_hash::PieceHash;
 use crate::rows::write_rows;
 use blake2::Blake2s;
@@ -77,6 +77,28 @@ impl HashValues<Blake2s, 8, 64> for [u32x8; 8] {
     ghost positive = { Prim.search rules };
 }
 
+// The words of the last blocks of the messages, by lanes. Before them are `counts` blocks.
+#[inline(always)]
+fn last_words(
+    bytes: &[u8],
+    starts: &[usize; 8],
+    lens: &[usize; 8],
+    counts: &[usize; 8],
+) -> [u32x8; 16]
+    requires fits { (i : ℕ) → i < 8 → slice_index starts.now i + slice_index lens.now i ≤ length bytes.now }
+    requires before { (i : ℕ) → i < 8 → slice_index counts.now i ≡ (slice_index lens.now i - 1) / 64 }
+    ensures { (i : ℕ) → i < 8 → let done = 64 * slice_index counts.now i in
+        let last = take (slice_index lens.now i - done) (drop (slice_index starts.now i + done) bytes.now) in
+        lane i result ≡ words 4 16 (padded 64 last) }
+{
+    let len = most_of(lens);
+    if least_of(lens) == len {
+        let done = 64 * counts[0];
+        return last_lanes(bytes, starts, done, len - done);
+    }
+    block_words(&last_blocks::<64, 8>(bytes, starts, lens, counts))
+}
+
 // The final chaining values of the eight messages of `lens` bytes that begin at `starts`, from the value `first` on.
 fn final_values(
     first: &[u32; 8],
@@ -91,7 +113,7 @@ fn final_values(
     let counts = blocks_before::<64, 8>(lens);
     let mut values = same_lanes(first);
     take_each::<Blake2s, [u32x8; 8], 8, 64>(&mut values, &mut (), bytes, starts, &counts);
-    let message = block_words(&last_blocks::<64, 8>(bytes, starts, lens, &counts));
+    let message = last_words(bytes, starts, lens, &counts);
     lane_rows(next_lanes(values, &message, lens, true))
 }
 

@@ -63,34 +63,35 @@ fn whole_blocks<const N: usize, const LANES: usize>(lens: &[usize; LANES]) -> [u
     counts
 }
 
-// The last bytes of a message and its padding, which ends with the count of bits, at the front of two blocks.
+// Puts the last bytes of a message and its padding, which ends with the count of bits, at the front of two blocks of
+// zeros.
 #[inline(always)]
-fn tail<const N: usize, const TWO: usize>(
+fn put_tail<const N: usize, const TWO: usize>(
+    tail: &mut [u8; TWO],
     bytes: &[u8],
     start: usize,
     len: usize,
     count: &[u8],
-) -> [u8; TWO]
+)
     requires two { TWO ≡ 2 * N }
     requires fits { start + len ≤ length bytes.now }
     requires count { length count.now < N }
-    ensures value { take (len % N + length (padding N count.now len)) result
+    requires zeros { tail.old ≡ replicate TWO 0 }
+    ensures value { take (len % N + length (padding N count.now len)) tail.new
         ≡ take (len % N) (drop (start + (len - len % N)) bytes.now) ++ padding N count.now len }
-    ensures whole { length result ≡ TWO }
+    ensures whole { length tail.new ≡ TWO }
 {
     let used = len % N;
     let at = start + (len - used);
-    let mut tail = [0; TWO];
-    put_marked(&mut tail, &bytes[at..at + used]);
+    put_marked(tail, &bytes[at..at + used]);
     write_at(
-        &mut tail,
+        tail,
         N * blocks_left::<N>(len, count.len()) - count.len(),
         count,
     );
-    tail
 }
 
-// Those of each message.
+// Such blocks for each message.
 #[inline(always)]
 fn tails<const N: usize, const TWO: usize, const C: usize, const LANES: usize>(
     bytes: &[u8],
@@ -109,7 +110,7 @@ fn tails<const N: usize, const TWO: usize, const C: usize, const LANES: usize>(
 {
     let mut rows = [[0; TWO]; LANES];
     'rows: for i in 0..LANES {
-        rows[i] = tail::<N, TWO>(bytes, starts[i], lens[i], &counts[i]);
+        put_tail::<N, TWO>(&mut rows[i], bytes, starts[i], lens[i], &counts[i]);
     }
     rows
 }

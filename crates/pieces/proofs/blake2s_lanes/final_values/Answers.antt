@@ -19,8 +19,8 @@ returns c = λ i lt.
     c.take_each.ensures i lt ∙ rw (c.same_lanes-values.ensures i lt, before)
     (chain_taken blake2s 64 first x start len ((len - 1) / 64) block_len_2s (omega arith) (c.requires i lt)) in
     let tail : ℕ → List ℕ = λ k. words 4 16 (padded 64 (take (len - 64 * k) (drop (start + 64 * k) x))) in
-    let read : lane i c.block_words-message.result ≡ tail ((len - 1) / 64) =
-    c.block_words-message.ensures i lt ∙ ap (words 4 16) (c.last_blocks.ensures.value i lt) ∙ ap tail before in
+    let read : lane i c.last_words-message.result ≡ tail ((len - 1) / 64) =
+    c.last_words-message.ensures i lt ∙ ap tail before in
     c.lane_rows.ensures i lt
     ∙ chain_last blake2s 64 first x _ _ _ start len block_len_2s (omega arith) (c.requires i lt) chained read
     (omega arith) (omega arith) (c.next_lanes.ensures i lt)

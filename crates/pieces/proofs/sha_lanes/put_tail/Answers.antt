@@ -6,7 +6,7 @@ use Rattle.std.proofs.Math.Nat.{mul-le-mul_left}
 use Rattle.pieces.specs.inside.Blocks.{padding}
 use Rattle.pieces.proofs.PieceChains.{length_piece}
 use Rattle.pieces.proofs.Tails.{length_written, marked_front}
-use Rattle.pieces.proofs.sha_lanes.tail.Goals as goal
+use Rattle.pieces.proofs.sha_lanes.put_tail.Goals as goal
 
 pub returns-clause-value : goal.returns-clause-value
 returns-clause-value g c =
