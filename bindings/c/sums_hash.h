@@ -286,8 +286,8 @@ enum {
 };
 
 typedef struct {
-    uint64_t number;   /* of the line, from 1 */
-    uint64_t taken;    /* how many bytes of the piece were read */
+    uint64_t number;   /* of the line, from 1; it stays if no line has ended */
+    uint64_t taken;    /* how many bytes of the piece were read: 0 at the end */
     uint32_t kind;     /* SUMS_LINE_..; only an entry changes what follows */
     uint32_t hash;     /* SUMS_SHA256 to SUMS_BLAKE3 */
     uint32_t digest_len;

@@ -2,10 +2,11 @@
 
 ghost use Rattle.std.specs.Prelude.{◌≡◌, ◌≢◌, ◌+◌, ◌-◌, ◌<◌, ◌^◌, ◌↔◌, [], ℕ, List, Option};
 ghost use Rattle.hashes.specs.declared.kind.Kind.{Kind};
+ghost use Rattle.listing.specs.Line.{KeepsEntry};
 ghost use Rattle.listing.specs.Numbers.{number_of};
 ghost use Rattle.listing.specs.Read.{EndsLine, IsBegun, ReadsPiece};
 ghost use Rattle.listing.specs.inside.State.{HoldsAfter, ListHolds};
-ghost use Rattle.listing.specs.declared.line.TheConstants.{LINE_NONE};
+ghost use Rattle.listing.specs.declared.line.TheConstants.{LINE_ENTRY, LINE_NONE};
 ghost use Rattle.hash_c.specs.declared.statuses.TheConstants.{SUMS_INPUT_TOO_LONG, SUMS_NOT_BEGUN};
 ghost use Rattle.hash_c.specs.declared.statuses.TheConstants.{SUMS_NO_HASH, SUMS_OK};
 
@@ -37,6 +38,8 @@ pub extern "C" fn sums_list_read(state: &mut ListState, line: &mut ListLine, pie
         → result ≡ SUMS_OK → ReadsPiece kind n begun piece.now line.new }
     ensures held { (kind : Option Kind) (n : ℕ) (begun : List ℕ) → ListHolds state.old kind n begun
         → result ≡ SUMS_OK → HoldsAfter state.new kind n begun piece.now line.new }
+    ensures number { result ≡ SUMS_OK → line.new.kind ≡ LINE_NONE → line.new.number ≡ line.old.number }
+    ensures entry { result ≡ SUMS_OK → line.new.kind ≢ LINE_ENTRY → KeepsEntry line.old line.new }
     ensures fits { IsBegun state.old → state.old.lines < 2 ^ 64 - 1 → result ≡ SUMS_OK }
     ensures not_begun { (result ≡ SUMS_NOT_BEGUN) ↔ (IsBegun state.old → ⊥) }
     ensures too_long { (result ≡ SUMS_INPUT_TOO_LONG) ↔ (IsBegun state.old × (state.old.lines ≡ 2 ^ 64 - 1)) }
@@ -56,6 +59,9 @@ pub extern "C" fn sums_list_end(state: &mut ListState, line: &mut ListLine) -> u
         → (line.new.kind ≡ LINE_NONE) × ListHolds state.new kind n [] }
     ensures last { (kind : Option Kind) (n : ℕ) (begun : List ℕ) → ListHolds state.old kind n begun
         → begun ≢ [] → result ≡ SUMS_OK → EndsLine kind n begun line.new × ListHolds state.new kind (n + 1) [] }
+    ensures taken { result ≡ SUMS_OK → line.new.taken ≡ 0 }
+    ensures number { result ≡ SUMS_OK → line.new.kind ≡ LINE_NONE → line.new.number ≡ line.old.number }
+    ensures entry { result ≡ SUMS_OK → line.new.kind ≢ LINE_ENTRY → KeepsEntry line.old line.new }
     ensures fits { IsBegun state.old → state.old.lines < 2 ^ 64 - 1 → result ≡ SUMS_OK }
     ensures not_begun { (result ≡ SUMS_NOT_BEGUN) ↔ (IsBegun state.old → ⊥) }
     ensures too_long { (result ≡ SUMS_INPUT_TOO_LONG) ↔ (IsBegun state.old × (state.old.lines ≡ 2 ^ 64 - 1)) }

@@ -14,6 +14,11 @@ pub record HasEntry (l : ListLine) (e : Listing) : Type 0 where
   pub digest : (l.digest_len ≡ length e.tag) × (take l.digest_len l.digest ≡ e.tag)
   pub name : (l.name_len ≡ length e.name) × (take l.name_len l.name ≡ e.name)
 
+-- the numbers of an entry stay as they were
+abbrev pub KeepsEntry : ListLine → ListLine → Type 0
+KeepsEntry a b = (b.hash ≡ a.hash) × (b.digest_len ≡ a.digest_len) × (b.name_len ≡ a.name_len) × (b.digest ≡ a.digest)
+    × (b.name ≡ a.name)
+
 -- what a line means in a list whose untagged lines have this kind
 pub record Means (text : List ℕ) (kind : Option Kind) (l : ListLine) : Type 0 where
   pub some : (LINE_SKIPPED ≤ l.kind) × (l.kind ≤ LINE_ENTRY)

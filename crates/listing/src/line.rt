@@ -1,8 +1,8 @@
 // A line of a list as plain numbers.
 
-ghost use Rattle.std.specs.Prelude.{◌≡◌, ◌≤◌, ℕ, List, Some, length};
+ghost use Rattle.std.specs.Prelude.{◌≡◌, ◌≢◌, ◌≤◌, ℕ, List, Some, length};
 ghost use Rattle.sumlist.specs.inside.Body.{name_of};
-ghost use Rattle.listing.specs.Line.{HasEntry, Means};
+ghost use Rattle.listing.specs.Line.{HasEntry, KeepsEntry, Means};
 
 use crate::numbers::kind_number;
 use source::Alg;
@@ -37,9 +37,9 @@ fn line_kind_laws()
 #[repr(C)]
 #[derive(Clone, Copy)]
 pub struct ListLine {
-    /// The number of the line, from 1.
+    /// The number of the line, from 1. It stays if no line has ended.
     pub number: u64,
-    /// How many bytes of the piece were read.
+    /// How many bytes of the piece were read: none at the end.
     pub taken: u64,
     /// What the line is: one of the five constants above.
     pub kind: u32,
@@ -76,6 +76,7 @@ impl ListLine {
 /// Writes into `line` what this line means in a list whose untagged lines have this kind.
 pub(crate) fn read_line(text: &[u8], kind: Option<Kind>, line: &mut ListLine)
     ensures means { Means text.now kind line.new }
+    ensures entry { line.new.kind ≢ LINE_ENTRY → KeepsEntry line.old line.new }
     ensures kept { (line.new.number ≡ line.old.number) × (line.new.taken ≡ line.old.taken) }
 {
     match split_line(text, kind) {

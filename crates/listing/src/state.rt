@@ -6,11 +6,11 @@ ghost use Rattle.hashes.specs.declared.kind.Kind.{Kind};
 ghost use Rattle.sumlist.specs.Lines.{IsKept};
 ghost use Rattle.sumlist.specs.inside.Held.{held_after};
 ghost use Rattle.listing.specs.Numbers.{number_of};
-ghost use Rattle.listing.specs.Line.{Means};
+ghost use Rattle.listing.specs.Line.{KeepsEntry, Means};
 ghost use Rattle.listing.specs.Read.{EndsLine, IsBegun, ReadsPiece};
 ghost use Rattle.listing.specs.inside.State.{HoldsAfter, ListHolds, held};
 
-use crate::line::{LINE_MALFORMED, LINE_NONE, ListLine, read_line};
+use crate::line::{LINE_ENTRY, LINE_MALFORMED, LINE_NONE, LINE_SKIPPED, ListLine, read_line};
 use crate::numbers::{kind_number, kind_numbered};
 use sumlist::{Kind, LINE_LIMIT, split_at_byte};
 
@@ -77,6 +77,8 @@ impl ListState {
             → ReadsPiece k n b piece.now line.new) }
         ensures held { OnOk result ((k : Option Kind) (n : ℕ) (b : List ℕ) → ListHolds self.old k n b
             → HoldsAfter self.new k n b piece.now line.new) }
+        ensures number { OnOk result (line.new.kind ≡ LINE_NONE → line.new.number ≡ line.old.number) }
+        ensures entry { OnOk result (line.new.kind ≢ LINE_ENTRY → KeepsEntry line.old line.new) }
         ensures not_begun { IsErrOf result ListFault.NotBegun ↔ (IsBegun self.old → ⊥) }
         ensures too_long { IsErrOf result ListFault.TooLong
             ↔ (IsBegun self.old × (self.old.lines ≡ 2 ^ 64 - 1)) }
@@ -103,6 +105,9 @@ impl ListState {
             → EndsLine k n b line.new) }
         ensures next { OnOk result ((k : Option Kind) (n : ℕ) (b : List ℕ) → ListHolds self.old k n b → b ≢ []
             → ListHolds self.new k (n + 1) []) }
+        ensures taken { OnOk result (line.new.taken ≡ 0) }
+        ensures number { OnOk result (line.new.kind ≡ LINE_NONE → line.new.number ≡ line.old.number) }
+        ensures entry { OnOk result (line.new.kind ≢ LINE_ENTRY → KeepsEntry line.old line.new) }
         ensures not_begun { IsErrOf result ListFault.NotBegun ↔ (IsBegun self.old → ⊥) }
         ensures too_long { IsErrOf result ListFault.TooLong
             ↔ (IsBegun self.old × (self.old.lines ≡ 2 ^ 64 - 1)) }
@@ -142,6 +147,8 @@ impl ListState {
         ensures next { (k : Option Kind) (n : ℕ) (b : List ℕ) → ListHolds self.old k n b
             → ListHolds self.new k (n + 1) [] }
         ensures taken { line.new.taken ≡ line.old.taken }
+        ensures some { LINE_SKIPPED ≤ line.new.kind }
+        ensures entry { line.new.kind ≢ LINE_ENTRY → KeepsEntry line.old line.new }
     {
         self.read_with(front, line);
         self.held = 0;
@@ -156,6 +163,8 @@ impl ListState {
             → Means (b ++ front.now) k line.new }
         ensures same { (self.new.mark ≡ self.old.mark) × (self.new.lines ≡ self.old.lines) }
         ensures taken { line.new.taken ≡ line.old.taken }
+        ensures some { LINE_SKIPPED ≤ line.new.kind }
+        ensures entry { line.new.kind ≢ LINE_ENTRY → KeepsEntry line.old line.new }
     {
         if self.held == 0 {
             read_line(front, self.kind(), line);
@@ -171,6 +180,8 @@ impl ListState {
         ensures means { (k : Option Kind) (b : List ℕ) → self.now.mark ≡ 1 + number_of k → IsKept (held self.now) b
             → Means b k line.new }
         ensures taken { line.new.taken ≡ line.old.taken }
+        ensures some { LINE_SKIPPED ≤ line.new.kind }
+        ensures entry { line.new.kind ≢ LINE_ENTRY → KeepsEntry line.old line.new }
     {
         if self.held > MOST {
             line.kind = LINE_MALFORMED;
