@@ -3,7 +3,8 @@
 documents, and what apt, pip, Cargo and Go take packages from. tools/package site calls it.
 usage: packaging/site.py PACKAGES OUT [EARLIER]..     PACKAGES is a folder that tools/package has made, and each EARLIER
                                                one of a release before it; OUT is a folder that is not there yet
-SITE is the address that OUT will have, and no other name of a host is written. SITE_KEY names the key by which gpg
+SITE is the address that OUT will have, and SITE_CONTACT one of mail or of a page that takes reports of faults; no other
+name of a host is written, and none of example.org, unless SITE is this machine. SITE_KEY names the key by which gpg
 signs the lists that have no signature yet, and the Debian repository; those of PACKAGES have none of another key. Each
 signature is of the time SOURCE_DATE_EPOCH, so that the key has to be older; the bytes of OUT depend on these, the
 packages and the key alone.
@@ -34,11 +35,19 @@ KINDS = {"deb": r".*\.deb", "tar": r"sums-.*-linux-.*\.tar\.xz", "wheel": r".*\.
 # the version in the name of a package
 VERSION = re.compile(r"[-_]([0-9]+\.[0-9]+\.[0-9]+)[-_.]")
 ADDRESS = re.compile(r"https?://[\w.:~/-]*[\w~]")
+MAIL = re.compile(r"[\w.+-]+@[\w.-]*\w")
+# a site that nobody else reaches, in which names may stand that are nobody's
+OWN = re.compile(r"https?://(?:localhost|127\.0\.0\.1)(?:[:/]|$)")
+NOBODY = re.compile(r"(?<![\w.])example\.(?:org|com|net)\b")
 # the registry that a crate's own dependencies are from, as the protocol of Cargo names it
 CRATES_IO = "https://github.com/rust-lang/crates.io-index"
-# what README says as long as the packages have no address, and what it says in a site, which is one
-NO_ADDRESS = "The packages have no public address yet: ask whoever showed you this page."
-ADDRESS_OF_SITE = 'The <a href="../index.html">first page</a> of this site installs the packages.'
+# what README and SECURITY say as long as the packages have no address, and what they say in a site, which is one
+IN_SITE = {
+    "The packages have no public address yet: ask whoever showed you this page.":
+        'The <a href="../index.html">first page</a> of this site installs the packages.',
+    "Tell whoever gave you this repository or a package, by an issue if it has a tracker.":
+        'The <a href="../../index.html#report-a-fault">first page</a> says whom to tell.',
+}
 # what a page shows as it is; any other file gets a page with its text
 SHOWN = ".svg", ".png"
 HEAD = """<!doctype html>
@@ -290,7 +299,8 @@ def document(out, path, place, version):
         return
     text = read(path)
     body = linked(body_of(text), os.path.dirname(path)) if path.endswith(".md") else text_of(text)
-    body = body.replace(NO_ADDRESS, ADDRESS_OF_SITE)
+    for said, says in IN_SITE.items():
+        body = body.replace(said, says)
     page(out, place, place.removeprefix("doc/").removesuffix(".html"), body, version)
 
 
@@ -331,7 +341,18 @@ def check(release, program):
         raise Refused(f"{release.folder}/B3SUMS is not of the packages")
 
 
-def make(out, releases, key, site):
+def refuse_nobody(out, release, *names):
+    """Refuses names that are nobody's, which stand in the repository until a release has its own: these, and those of
+    whoever makes Debian's packages."""
+    listed = read(out, "dists/stable/main/binary-amd64/Packages").split("\n\n")
+    own = [text for text in listed if f"\nVersion: {release.version}\n" in text]
+    makers = re.findall(r"^Maintainer: (.*)$", "\n".join(own), re.M)
+    found = [name for name in dict.fromkeys((*names, *makers)) if NOBODY.search(name)]
+    if found:
+        raise Refused(f"names that are nobody's: {', '.join(found)}")
+
+
+def make(out, releases, key, site, contact):
     """The site of these releases, the newest first."""
     release = releases[0]
     for kind in KINDS:
@@ -344,8 +365,10 @@ def make(out, releases, key, site):
     debian(out, releases, key)
     pip(out, releases)
     cargo(out, releases, site)
-    words = {"SITE": site, "FINGERPRINT": key.fingerprint, "MODULE": go(out, releases),
+    words = {"SITE": site, "CONTACT": contact, "FINGERPRINT": key.fingerprint, "MODULE": go(out, releases),
              "PROCESSORS": " and ".join(release.processors())}
+    if not OWN.match(site):
+        refuse_nobody(out, release, site, contact, words["MODULE"])
     write(key.export(), out, "key.asc")
     shutil.copyfile(os.path.join(HERE, "site.css"), os.path.join(out, "style.css"))
     run(os.path.join(TOP, "tools/page.py"), "--list", os.path.join(release.folder, "SHA256SUMS"), "--into",
@@ -376,6 +399,9 @@ def main(words):
         site, key = setting("SITE").rstrip("/"), Key(setting("SITE_KEY"), int(setting("SOURCE_DATE_EPOCH")))
         if not ADDRESS.fullmatch(site):
             raise Refused(f"SITE is no address of a web server: {site}")
+        contact = setting("SITE_CONTACT")
+        if not ADDRESS.fullmatch(contact) and not MAIL.fullmatch(contact):
+            raise Refused(f"SITE_CONTACT is no address of mail or of a page: {contact}")
         releases = [Release(folder) for folder in (words[0], *words[2:])]
         numbers = [tuple(map(int, release.version.split("."))) for release in releases]
         if len(set(numbers)) < len(numbers):
@@ -383,7 +409,7 @@ def main(words):
         if max(numbers) != numbers[0]:
             raise Refused(f"{words[0]} has not the newest packages")
         os.mkdir(words[1])
-        make(words[1], releases, key, site)
+        make(words[1], releases, key, site, contact)
     except (OSError, Refused) as fault:
         sys.exit(f"packaging/site.py: {fault}")
 

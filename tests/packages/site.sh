@@ -13,8 +13,8 @@ serve() {
         [ -z "$port" ] || break
         sleep 0.1
     done
-    SITE=http://127.0.0.1:$port
-    export SITE
+    SITE=http://127.0.0.1:$port SITE_CONTACT=faults@localhost
+    export SITE SITE_CONTACT
 }
 
 # make_key: a key of gpg that signs, older than what it is for

@@ -51,6 +51,8 @@ def lost(folder):
     read = pages(folder)
     for path, page in read.items():
         for link in page.links:
+            if link.startswith("mailto:"):
+                continue
             to, _, place = link.partition("#")
             target = os.path.normpath(os.path.join(os.path.dirname(path), urllib.parse.unquote(to))) if to else path
             if to.endswith("/"):
