@@ -46,7 +46,7 @@ NO_NAME, UNTAGGED = map(tables.text, ("{no name}", "{need -a}"))
 ARMOUR = b"-----BEGIN PGP SIGNED MESSAGE-----"
 # What is said of a malformed line, by how it begins, and by the digits of a digest that is none of its list.
 LOOKS = [(rb"MD5 \(.*", MD5), (rb"SHA1 \(.*", SHA_1), (rb"\xef\xbb\xbf.*", MARK), (ARMOUR + b".*", SIGNED),
-         (rb"[0-9a-fA-F]+[ \t\r\f]*", NO_NAME)]
+         (rb"[0-9a-fA-F]{16,}[ \t\r\f]*", NO_NAME)]
 DIGESTS = {32: MD5, 40: SHA_1}
 # the fewest and the most bytes of a tag in a list, and those without -l
 TAGS = {

@@ -66,8 +66,11 @@ look_of_mark = refl
 look_of_signed : look_of (codes "-----BEGIN PGP SIGNED MESSAGE-----" ++ 13 ∷ []) ≡ Some Signed
 look_of_signed = refl
 
-look_of_digits : look_of (codes "0aF9  " ++ 13 ∷ []) ≡ Some Nameless
+look_of_digits : look_of (codes "0123456789abcdEF  " ++ 13 ∷ []) ≡ Some Nameless
 look_of_digits = refl
+
+look_of_few_digits : look_of (codes "0123456789abcdE  ") ≡ None
+look_of_few_digits = refl
 
 look_of_blanks : look_of (codes "  " ++ 13 ∷ []) ≡ None
 look_of_blanks = refl

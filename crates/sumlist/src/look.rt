@@ -17,7 +17,7 @@ pub enum Look {
     Digest(u8),
     /// A line after a byte order mark.
     Marked,
-    /// A digest without a name.
+    /// A digest of 8 bytes or more without a name.
     Nameless,
     /// The first line of a text that PGP signed in clear.
     Signed,
@@ -58,11 +58,12 @@ fn look_of(line: &[u8]) -> Option<Look>
     }
 }
 
+// Whether a line is digits alone, and so many that it is no line of any other file.
 fn is_nameless(line: &[u8]) -> bool
     ensures { result ≡ is_nameless_line line.now }
 {
     let digits = line.trim_ascii_end();
-    !digits.is_empty() && are_digits(digits)
+    digits.len() >= 16 && are_digits(digits)
 }
 
 fn are_digits(text: &[u8]) -> bool
