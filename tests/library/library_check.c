@@ -130,6 +130,8 @@ static void hint(const char *list, uint32_t hash) {
     unsigned long failed = counts[SUMS_VERDICT_FAILED], missing = counts[SUMS_VERDICT_MISSING];
     const char *text = NULL;
     if (lacks_hash) text = "digests of another length than those of -a";
+    else if (counts[MALFORMED] && !failed && !missing && !counts[SUMS_VERDICT_OK] && !counts[SUMS_VERDICT_UNREADABLE])
+        text = "no line is an entry";
     else if (!counts[SUMS_VERDICT_OK] && !counts[SUMS_VERDICT_UNREADABLE] && !counts[MALFORMED])
         text = !failed ? missing ? "all MISSING, names count from the current folder" : "no entries"
             : missing || !hash ? NULL : "all FAILED, untagged lines may need another -a";
