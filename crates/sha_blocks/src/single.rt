@@ -60,27 +60,16 @@ fn rotated(x: u32x4, r: u32) -> u32x4
     (x >> u32x4::splat(r)) | (x << u32x4::splat(32 - r))
 }
 
-// Each word shifted right by r.
+// Each word rotated right by r and by s, and shifted right by n.
 #[inline(always)]
-fn shifted(x: u32x4, r: u32) -> u32x4
-    requires { r < 32 }
-    ensures { (i : ℕ) → i < 4 → slice_index result i ≡ slice_index x i / 2 ^ r }
+fn small_sigma(x: u32x4, r: u32, s: u32, n: u32) -> u32x4
+    requires r { (0 < r) × (r < 32) }
+    requires s { (0 < s) × (s < 32) }
+    requires n { n < 32 }
+    ensures { (i : ℕ) → i < 4 → slice_index result i ≡ bit_xor (bit_xor (rotate_right w32 (slice_index x i) r)
+        (rotate_right w32 (slice_index x i) s)) (slice_index x i / 2 ^ n) }
 {
-    x >> u32x4::splat(r)
-}
-
-#[inline(always)]
-fn small_sigma0(x: u32x4) -> u32x4
-    ensures { (i : ℕ) → i < 4 → slice_index result i ≡ Sha256.small_sigma0 (slice_index x i) }
-{
-    xor(rotated(x, 7), rotated(x, 18), shifted(x, 3))
-}
-
-#[inline(always)]
-fn small_sigma1(x: u32x4) -> u32x4
-    ensures { (i : ℕ) → i < 4 → slice_index result i ≡ Sha256.small_sigma1 (slice_index x i) }
-{
-    xor(rotated(x, 17), rotated(x, 19), shifted(x, 10))
+    xor(rotated(x, r), rotated(x, s), x >> u32x4::splat(n))
 }
 
 // The word after sixteen others in each lane, given the first, the second, the tenth and the fifteenth of
@@ -91,8 +80,8 @@ fn next_words(first: u32x4, second: u32x4, tenth: u32x4, fifteenth: u32x4) -> u3
         (Sha256.small_sigma1 (slice_index fifteenth i)) (slice_index tenth i))
         (Sha256.small_sigma0 (slice_index second i))) (slice_index first i) }
 {
-    let known = add(add(first, tenth), small_sigma0(second));
-    add(known, small_sigma1(fifteenth))
+    let known = add(add(first, tenth), small_sigma(second, 7, 18, 3));
+    add(known, small_sigma(fifteenth, 17, 19, 10))
 }
 
 // The last three words of four, and the first of the next four.
@@ -153,16 +142,6 @@ fn block_quad(block: &[u8; 64], t: usize) -> u32x4
     ])
 }
 
-// Four words, each with the constant of its round added.
-#[inline(always)]
-fn keyed(x: u32x4, t: usize) -> [u32; 4]
-    requires { t + 4 ≤ 64 }
-    ensures { (i : ℕ) → i < 4
-        → slice_index result i ≡ Sha256.add32 (slice_index Sha256.round_constants (t + i)) (slice_index x i) }
-{
-    add(u32x4::from_array([K[t], K[t + 1], K[t + 2], K[t + 3]]), x).to_array()
-}
-
 // One round, with the sum of its constant and its word.
 #[inline(always)]
 fn round(v: [u32; 8], keyed: u32) -> [u32; 8]
@@ -178,7 +157,7 @@ fn four_rounds(v: [u32; 8], x: u32x4, t: usize) -> [u32; 8]
     ensures { (h b : List ℕ) → v ≡ Sha256.rounds h (Sha256.schedule b 48) t → IsQuad b t x
         → result ≡ Sha256.rounds h (Sha256.schedule b 48) (t + 4) }
 {
-    let keys = keyed(x, t);
+    let keys = add(u32x4::from_array([K[t], K[t + 1], K[t + 2], K[t + 3]]), x).to_array();
     let v = round(v, keys[0]);
     let v = round(v, keys[1]);
     let v = round(v, keys[2]);
@@ -194,17 +173,6 @@ fn step(v: &mut [u32; 8], w: &mut [u32x4; 4], t: usize)
     let next = next_quad(*w);
     *v = four_rounds(*v, w[0], t);
     *w = [w[1], w[2], w[3], next];
-}
-
-// The last sixteen rounds.
-#[inline(always)]
-fn last_rounds(v: [u32; 8], w: [u32x4; 4]) -> [u32; 8]
-    ensures { (h b : List ℕ) → IsAtRound h b 48 v w → result ≡ Sha256.rounds h (Sha256.schedule b 48) 64 }
-{
-    let v = four_rounds(v, w[0], 48);
-    let v = four_rounds(v, w[1], 52);
-    let v = four_rounds(v, w[2], 56);
-    four_rounds(v, w[3], 60)
 }
 
 /// Takes a block into the hash value.
@@ -224,5 +192,9 @@ pub(crate) fn compress_block(h: &mut [u32; 8], block: &[u8; 64])
         step(&mut v, &mut w, 16 * turn + 8);
         step(&mut v, &mut w, 16 * turn + 12);
     }
-    *h = sums(*h, last_rounds(v, w));
+    let v = four_rounds(v, w[0], 48);
+    let v = four_rounds(v, w[1], 52);
+    let v = four_rounds(v, w[2], 56);
+    let v = four_rounds(v, w[3], 60);
+    *h = sums(*h, v);
 }

@@ -1,6 +1,6 @@
-use Rattle.std.proofs.Common.{◌≡◌, ◌*◌, ◌∙◌, ap, arith, refl}
+use Rattle.std.proofs.Common.{◌≡◌, ℕ, ◌*◌, ◌∙◌, ap, arith, refl}
 use Rattle.sha2.specs.Sha256.{add_state, compress, rounds}
-use Rattle.sha_blocks.proofs.Quads.{at_round, quads_of}
+use Rattle.sha_blocks.proofs.Quads.{at_round, quad_of, quads_of}
 use Rattle.sha_blocks.proofs.single.compress_block.Goals as goal
 
 pub turns-init : goal.turns-init
@@ -23,6 +23,12 @@ turns-preserved c =
 pub returns : goal.returns
 unfolding compress
 returns c =
+    let h = c.args.h.now in
+    let b = c.args.block.now in
     let done : 16 * c.turns.turn ≡ 48 = omega arith in
-    c.sums.ensures ∙ ap (add_state c.args.h.now)
-    (c.last_rounds.ensures c.args.h.now c.args.block.now (rw done at c.turns.invariant))
+    let held = rw done at c.turns.invariant in
+    let quad = λ (u k : ℕ). quad_of b 48 u k c.turns.w in
+    let v1 = c.four_rounds-v.ensures h b held.0 (quad 48 0 (omega arith) (omega arith) held.1) in
+    let v2 = c.four_rounds-v-2.ensures h b v1 (quad 52 1 (omega arith) (omega arith) held.1) in
+    let v3 = c.four_rounds-v-3.ensures h b v2 (quad 56 2 (omega arith) (omega arith) held.1) in
+    c.sums.ensures ∙ ap (add_state h) (c.four_rounds-v-4.ensures h b v3 (quad 60 3 (omega arith) (omega arith) held.1))

@@ -8,7 +8,7 @@ returns c i h =
       c.add-2.ensures i h,
       c.add-known.ensures i h,
       c.add.ensures i h,
-      c.small_sigma0.ensures i h,
-      c.small_sigma1.ensures i h,
+      c.small_sigma.ensures i h,
+      c.small_sigma-2.ensures i h,
     )
     (word_around (2 ^ 32) _ _ _ _)
