@@ -9,6 +9,7 @@ use Rattle.std.proofs.lemmas.List.{drop-drop, drop-take, drop_at, length-take-le
 use Rattle.std.proofs.lemmas.List.{take_min}
 use Rattle.std.proofs.lemmas.Nat.{le-div}
 use Rattle.std.proofs.Math.Nat.{mul-le-mul_left, mul-le-mul_right, div-mul-le_self}
+use Rattle.pieces.specs.declared.messages.Messages.{Messages}
 use Rattle.pieces.specs.inside.Rows.{IsRow}
 use Rattle.pieces.specs.Pieces.{first_digests, piece, piece_count}
 
@@ -89,13 +90,13 @@ row_before size j k x below =
     ∙ take-take size (k - size * j) (drop (size * j) x) (omega arith))
 
 -- a row that was right is right after another was written, and that one is right too
-pub row_written : (hash : List ℕ → List ℕ) (size : ℕ) (x starts lens out next row : List ℕ) (i j : ℕ)
+pub row_written : (hash : List ℕ → List ℕ) (size : ℕ) (m : Messages) (out next row : List ℕ) (i j : ℕ)
     → size * i + size ≤ length out → size ≤ length row
-    → take size row ≡ hash (take (slice_index lens i) (drop (slice_index starts i) x))
+    → take size row ≡ hash (take (slice_index m.lens.now i) (drop (slice_index m.starts.now i) m.bytes.now))
     → take (size * i + size) next ≡ take (size * i) out ++ take size row
     → drop (size * i + size) next ≡ drop (size * i + size) out
-    → ((j ≢ i) → IsRow hash size x starts lens out j) → IsRow hash size x starts lens next j
-row_written hash size x starts lens out next row i j room whole right front back before =
+    → ((j ≢ i) → IsRow hash size m out j) → IsRow hash size m next j
+row_written hash size m out next row i j room whole right front back before =
     let place : ℕ = size * i in
     let written : take size (drop place next) ≡ take size row =
     sym (ap (λ (m : List ℕ). m) (drop-take place size next)) ∙ ap (drop place) front

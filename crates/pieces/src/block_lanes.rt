@@ -75,7 +75,7 @@ pub(crate) fn least_of<const LANES: usize>(counts: &[usize; LANES]) -> usize
     least
 }
 
-// The place of block `block` of a message that begins at `start`, if it has that block, or else the front of the buffer.
+// The place of block `block` of a message that begins at `start`, if it has that block; else the front of the buffer.
 #[inline(always)]
 fn place_of(start: usize, count: usize, size: usize, block: usize, len: usize) -> usize
     requires counted { size * (block + 1) ≤ len }

@@ -19,6 +19,7 @@ mod digests;
 mod fault;
 mod lanes2;
 mod last_blocks;
+mod messages;
 mod piece_hash;
 mod rows;
 mod sha256_lanes;

@@ -5,6 +5,7 @@ ghost use Rattle.std.specs.Prelude.{slice_index, slice_index_or};
 ghost use Rattle.pieces.specs.inside.Rows.{AreWritten, IsRow};
 
 use crate::digests::put_digest;
+use crate::messages::Messages;
 use crate::piece_hash::PieceHash;
 
 // So many messages at most are put in order together.
@@ -90,33 +91,28 @@ fn at_places<const LANES: usize>(
 // Writes the rows of a group, and marks its messages.
 fn write_group<H: PieceHash<LANES, MOST>, const LANES: usize, const MOST: usize>(
     hash: &H,
-    bytes: &[u8],
-    starts: &[usize],
-    lens: &[usize],
+    messages: &Messages<'_>,
     first: usize,
     places: &[usize; LANES],
     written: &mut [bool; WINDOW],
     out: &mut [u8],
 )
-    requires same { length lens.now ≡ length starts.now }
-    requires fits { (i : ℕ) → i < length starts.now
-        → slice_index starts.now i + slice_index lens.now i ≤ length bytes.now }
-    requires room { H.size hash.now * length starts.now ≤ length out.old }
-    requires inside { (k : ℕ) → k < LANES → first + slice_index places.now k < length starts.now }
+    requires room { H.size hash.now * length messages.now.starts.now ≤ length out.old }
+    requires inside { (k : ℕ) → k < LANES → first + slice_index places.now k < length messages.now.starts.now }
     requires window { (k : ℕ) → k < LANES → slice_index places.now k < 64 }
-    requires right { AreWritten (H.digest hash.now) (H.size hash.now) bytes.now starts.now lens.now out.old first
+    requires right { AreWritten (H.digest hash.now) (H.size hash.now) messages.now out.old first
         written.old }
-    ensures right { AreWritten (H.digest hash.now) (H.size hash.now) bytes.now starts.now lens.now out.new first
+    ensures right { AreWritten (H.digest hash.now) (H.size hash.now) messages.now out.new first
         written.new }
-    ensures kept { (i : ℕ) → IsRow (H.digest hash.now) (H.size hash.now) bytes.now starts.now lens.now out.old i
-        → IsRow (H.digest hash.now) (H.size hash.now) bytes.now starts.now lens.now out.new i }
+    ensures kept { (i : ℕ) → IsRow (H.digest hash.now) (H.size hash.now) messages.now out.old i
+        → IsRow (H.digest hash.now) (H.size hash.now) messages.now out.new i }
     ensures length { length out.new ≡ length out.old }
 {
     let size = hash.digest_len();
     let rows = hash.rows(
-        bytes,
-        &at_places(starts, first, places),
-        &at_places(lens, first, places),
+        messages.bytes,
+        &at_places(messages.starts, first, places),
+        &at_places(messages.lens, first, places),
     );
     'rows: for k in 0..LANES {
         put_digest(&rows[k], size, out, size * (first + places[k]));
@@ -127,79 +123,61 @@ fn write_group<H: PieceHash<LANES, MOST>, const LANES: usize, const MOST: usize>
 // Writes the row of message `i`, unless it is written.
 fn write_left<H: PieceHash<LANES, MOST>, const LANES: usize, const MOST: usize>(
     hash: &H,
-    bytes: &[u8],
-    starts: &[usize],
-    lens: &[usize],
+    messages: &Messages<'_>,
     i: usize,
     written: bool,
     out: &mut [u8],
 )
-    requires same { length lens.now ≡ length starts.now }
-    requires fits { (i : ℕ) → i < length starts.now
-        → slice_index starts.now i + slice_index lens.now i ≤ length bytes.now }
-    requires room { H.size hash.now * length starts.now ≤ length out.old }
-    requires inside { i < length starts.now }
+    requires room { H.size hash.now * length messages.now.starts.now ≤ length out.old }
+    requires inside { i < length messages.now.starts.now }
     requires right { written ≡ true
-        → IsRow (H.digest hash.now) (H.size hash.now) bytes.now starts.now lens.now out.old i }
-    ensures right { IsRow (H.digest hash.now) (H.size hash.now) bytes.now starts.now lens.now out.new i }
-    ensures kept { (j : ℕ) → IsRow (H.digest hash.now) (H.size hash.now) bytes.now starts.now lens.now out.old j
-        → IsRow (H.digest hash.now) (H.size hash.now) bytes.now starts.now lens.now out.new j }
+        → IsRow (H.digest hash.now) (H.size hash.now) messages.now out.old i }
+    ensures right { IsRow (H.digest hash.now) (H.size hash.now) messages.now out.new i }
+    ensures kept { (j : ℕ) → IsRow (H.digest hash.now) (H.size hash.now) messages.now out.old j
+        → IsRow (H.digest hash.now) (H.size hash.now) messages.now out.new j }
     ensures length { length out.new ≡ length out.old }
 {
     if written {
         return;
     }
     let size = hash.digest_len();
-    let row = hash.one(&bytes[starts[i]..starts[i] + lens[i]]);
+    let start = messages.starts[i];
+    let row = hash.one(&messages.bytes[start..start + messages.lens[i]]);
     put_digest(&row, size, out, size * i);
 }
 
 // Writes the rows of `count` messages, from the first on.
 fn write_window<H: PieceHash<LANES, MOST>, const LANES: usize, const MOST: usize>(
     hash: &H,
-    bytes: &[u8],
-    starts: &[usize],
-    lens: &[usize],
+    messages: &Messages<'_>,
     first: usize,
     count: usize,
     out: &mut [u8],
 )
-    requires same { length lens.now ≡ length starts.now }
-    requires fits { (i : ℕ) → i < length starts.now
-        → slice_index starts.now i + slice_index lens.now i ≤ length bytes.now }
-    requires room { H.size hash.now * length starts.now ≤ length out.old }
+    requires room { H.size hash.now * length messages.now.starts.now ≤ length out.old }
     requires some { 0 < count }
     requires most { count ≤ 64 }
-    requires inside { first + count ≤ length starts.now }
+    requires inside { first + count ≤ length messages.now.starts.now }
     ensures right { (i : ℕ) → first ≤ i → i < first + count
-        → IsRow (H.digest hash.now) (H.size hash.now) bytes.now starts.now lens.now out.new i }
-    ensures kept { (i : ℕ) → IsRow (H.digest hash.now) (H.size hash.now) bytes.now starts.now lens.now out.old i
-        → IsRow (H.digest hash.now) (H.size hash.now) bytes.now starts.now lens.now out.new i }
+        → IsRow (H.digest hash.now) (H.size hash.now) messages.now out.new i }
+    ensures kept { (i : ℕ) → IsRow (H.digest hash.now) (H.size hash.now) messages.now out.old i
+        → IsRow (H.digest hash.now) (H.size hash.now) messages.now out.new i }
     ensures length { length out.new ≡ length out.old }
 {
-    let own = &lens[first..first + count];
+    let own = &messages.lens[first..first + count];
     let mut waiting = [true; WINDOW];
     let mut written = [false; WINDOW];
     'groups: for _turn in 0..count {
         let group = longest::<LANES>(own, &waiting);
         if goes_together(&group, own, hash.fewest(own[group.places[0]])) {
-            write_group(
-                hash,
-                bytes,
-                starts,
-                lens,
-                first,
-                &group.places,
-                &mut written,
-                out,
-            );
+            write_group(hash, messages, first, &group.places, &mut written, out);
             stop_waiting(&mut waiting, &group.places);
         } else {
             waiting[group.places[0]] = false;
         }
     }
     'rest: for k in 0..count {
-        write_left(hash, bytes, starts, lens, first + k, written[k], out);
+        write_left(hash, messages, first + k, written[k], out);
     }
 }
 
@@ -226,14 +204,19 @@ pub(crate) fn write_rows<H: PieceHash<LANES, MOST>, const LANES: usize, const MO
     requires fits { (i : ℕ) → i < length starts.now
         → slice_index starts.now i + slice_index lens.now i ≤ length bytes.now }
     requires room { H.size hash.now * length starts.now ≤ length out.old }
-    ensures right { (i : ℕ) → i < length starts.now
-        → IsRow (H.digest hash.now) (H.size hash.now) bytes.now starts.now lens.now out.new i }
+    ensures right { (i : ℕ) → i < length starts.now → take (H.size hash.now) (drop (H.size hash.now * i) out.new)
+        ≡ H.digest hash.now (take (slice_index lens.now i) (drop (slice_index starts.now i) bytes.now)) }
     ensures length { length out.new ≡ length out.old }
 {
+    let messages = Messages {
+        bytes,
+        starts,
+        lens,
+    };
     let mut first = 0;
     'windows: while first < starts.len() {
         let count = WINDOW.min(starts.len() - first);
-        write_window(hash, bytes, starts, lens, first, count, out);
+        write_window(hash, &messages, first, count, out);
         first += count;
     }
 }

@@ -5,19 +5,19 @@ use Rattle.pieces.proofs.rows.write_window.Given as goal
 abbrev pub invariant-groups : goal.invariant-groups
 invariant-groups g l = record {
   length : length l.out ≡ length l.fn.out;
-  right : AreWritten (g.H.PieceHash.digest l.hash) (g.H.PieceHash.size l.hash) l.bytes l.starts l.lens l.out l.first
+  right : AreWritten (g.H.PieceHash.digest l.hash) (g.H.PieceHash.size l.hash) l.messages l.out l.first
       l.written;
-  kept : (i : ℕ) → IsRow (g.H.PieceHash.digest l.hash) (g.H.PieceHash.size l.hash) l.bytes l.starts l.lens l.fn.out i
-      → IsRow (g.H.PieceHash.digest l.hash) (g.H.PieceHash.size l.hash) l.bytes l.starts l.lens l.out i;
+  kept : (i : ℕ) → IsRow (g.H.PieceHash.digest l.hash) (g.H.PieceHash.size l.hash) l.messages l.fn.out i
+      → IsRow (g.H.PieceHash.digest l.hash) (g.H.PieceHash.size l.hash) l.messages l.out i;
 }
 
 abbrev pub invariant-rest : goal.invariant-rest
 invariant-rest g l = record {
   length : length l.out ≡ length l.fn.out;
-  right : AreWritten (g.H.PieceHash.digest l.hash) (g.H.PieceHash.size l.hash) l.bytes l.starts l.lens l.out l.first
+  right : AreWritten (g.H.PieceHash.digest l.hash) (g.H.PieceHash.size l.hash) l.messages l.out l.first
       l.written;
   done : (i : ℕ) → i < l.k
-      → IsRow (g.H.PieceHash.digest l.hash) (g.H.PieceHash.size l.hash) l.bytes l.starts l.lens l.out (l.first + i);
-  kept : (i : ℕ) → IsRow (g.H.PieceHash.digest l.hash) (g.H.PieceHash.size l.hash) l.bytes l.starts l.lens l.fn.out i
-      → IsRow (g.H.PieceHash.digest l.hash) (g.H.PieceHash.size l.hash) l.bytes l.starts l.lens l.out i;
+      → IsRow (g.H.PieceHash.digest l.hash) (g.H.PieceHash.size l.hash) l.messages l.out (l.first + i);
+  kept : (i : ℕ) → IsRow (g.H.PieceHash.digest l.hash) (g.H.PieceHash.size l.hash) l.messages l.fn.out i
+      → IsRow (g.H.PieceHash.digest l.hash) (g.H.PieceHash.size l.hash) l.messages l.out i;
 }
