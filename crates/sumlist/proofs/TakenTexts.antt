@@ -1,11 +1,12 @@
 -- Texts that are taken of a report, one after another.
 use Rattle.sumlist.proofs.Common.{◌≡◌, ◌<◌, ◌≤◌, ◌+◌, ◌++◌, ◌∷◌, ℕ, List, [], Option, None, Some, IfSome, Bool, true}
-use Rattle.sumlist.proofs.Common.{false, append_assoc, ap, arith, drop, take, length, Verdict, Err, Ok, Result}
+use Rattle.sumlist.proofs.Common.{false, append_assoc, arith, drop, take, length, Verdict, Err, Ok, Result}
 use Rattle.sumlist.proofs.Common.{length-take-le, slice_index, escaped, common_steps}
 use Rattle.std.proofs.Common.{get_or}
 use Rattle.std.proofs.lemmas.List.{append_cancel_left, drop_more, get_or-take}
 use Rattle.std.proofs.lemmas.Option.{same_Some, none-some}
 use Rattle.source.proofs.Writing.{flat_map-drop}
+use Rattle.std.specs.Bool.{then_some}
 use Rattle.std.specs.List.{flat_map}
 use Rattle.std.specs.Prelude.{IfOk, option_map}
 use Rattle.sumlist.specs.Report.{verdict_text}
@@ -142,10 +143,8 @@ module _ (name : List ℕ) (old one new : Option (List ℕ)) where
         → NextVerdict name old new None
     verdict-never three q a = verdict-none name old new (λ v. after-colon q v false (ahead-never two three new a v))
 
-    pub verdict-other : (three : Option (List ℕ)) (v : Verdict) → Next one colon two true → Ahead two three (Some v)
-        → Next three (drop 2 (verdict_text v)) new false → NextVerdict name old new None
-    verdict-other three v q a s = grind (arith, common_steps, verdict-none, after-colon, ahead-other)
-
-    pub verdict-taken : (three : Option (List ℕ)) (v : Verdict) → Next one colon two true → Ahead two three (Some v)
-        → Next three (drop 2 (verdict_text v)) new true → NextVerdict name old new (Some v)
-    verdict-taken three v q a s = grind (arith, common_steps, after-colon, ahead-then)
+    pub verdict-ends : (three : Option (List ℕ)) (v : Verdict) (r : Bool) → Next one colon two true
+        → Ahead two three (Some v) → Next three (drop 2 (verdict_text v)) new r
+        → NextVerdict name old new (then_some r v)
+    verdict-ends three v true q a s = grind (arith, common_steps, after-colon, ahead-then)
+    verdict-ends three v false q a s = grind (arith, common_steps, verdict-none, after-colon, ahead-other)

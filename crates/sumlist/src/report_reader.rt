@@ -78,11 +78,7 @@ impl<'f, F: Feed> ReportReader<'f, F> {
             return Ok(None);
         };
         let (_, rest) = verdict_text(verdict).as_bytes().split_at(2);
-        if self.take(rest)? {
-            Ok(Some(verdict))
-        } else {
-            Ok(None)
-        }
+        Ok(self.take(rest)?.then_some(verdict))
     }
 
     // Takes the line of a malformed line with this number, and answers whether it came.
@@ -96,35 +92,15 @@ impl<'f, F: Feed> ReportReader<'f, F> {
         ensures counted { CountsFailure result (F.failure_count self.old.feed.now) (F.failure_count self.new.feed.now) }
         ensures same { self.new.feed.ghost_name ≡ self.old.feed.ghost_name }
     {
-        match list {
-            Some(name) => self.take_malformed_of(name, number),
-            None => self.take_malformed_line(number),
-        }
-    }
-
-    fn take_malformed_of(&mut self, list: &str, number: u64) -> Result<bool, ReadFailed>
-        ensures taken { IfSome (left F.remaining self.old) (λ bytes.
-            IfOk result (Takes (text (Some list.now) number malformed) bytes (left F.remaining self.new))) }
-        ensures counted { CountsFailure result (F.failure_count self.old.feed.now) (F.failure_count self.new.feed.now) }
-        ensures same { self.new.feed.ghost_name ≡ self.old.feed.ghost_name }
-    {
-        if !self.take_name(list)? {
+        let mut digits = Buffer::new();
+        let digits = digits.format(number).as_bytes();
+        let Some(name) = list else {
+            return self.take_pieces(&[b"line ", digits, b": MALFORMED\n"]);
+        };
+        if !self.take_name(name)? {
             return Ok(false);
         }
-        let mut digits = Buffer::new();
-        let digits = digits.format(number).as_bytes();
         self.take_pieces(&[b": line ", digits, b": MALFORMED\n"])
-    }
-
-    fn take_malformed_line(&mut self, number: u64) -> Result<bool, ReadFailed>
-        ensures taken { IfSome (left F.remaining self.old) (λ bytes.
-            IfOk result (Takes (text None number malformed) bytes (left F.remaining self.new))) }
-        ensures counted { CountsFailure result (F.failure_count self.old.feed.now) (F.failure_count self.new.feed.now) }
-        ensures same { self.new.feed.ghost_name ≡ self.old.feed.ghost_name }
-    {
-        let mut digits = Buffer::new();
-        let digits = digits.format(number).as_bytes();
-        self.take_pieces(&[b"line ", digits, b": MALFORMED\n"])
     }
 
     // Takes the escaped form of a name, and answers whether it came.
