@@ -1,6 +1,6 @@
 // Lines as they are read.
 
-ghost use Rattle.std.specs.Prelude.{◌≡◌, ◌≤◌, ◌↔◌, ℕ, List, Some, length, IsTrue, MatchBool, MatchOption};
+ghost use Rattle.std.specs.Prelude.{◌≡◌, ◌≤◌, ◌↔◌, ℕ, List, Some, length, IsTrue, MatchOption};
 ghost use Rattle.sumlist.specs.Entry.{Listing};
 ghost use Rattle.sumlist.specs.inside.Body.{name_of};
 ghost use Rattle.sumlist.specs.inside.Reading.{IsStated, is_slashed, unslashed};
@@ -88,19 +88,8 @@ pub fn split_line(line: &[u8], kind: Option<Kind>) -> Said<'_>
     }
     match read_core(without_cr(line), kind) {
         Some((alg, tag, name)) => Said::Entry(alg, tag, name),
-        None => malformed_said(line, kind),
-    }
-}
-
-// Whether a malformed line lacks only its kind.
-fn malformed_said<'a>(line: &[u8], kind: Option<Kind>) -> Said<'a>
-    requires { IsMalformed line.now kind }
-    ensures { IsSaid line.now kind result }
-{
-    if needs_kind(line, kind) {
-        Said::Untagged
-    } else {
-        Said::Malformed
+        None if untagged_len(line, kind).is_some() => Said::Untagged,
+        None => Said::Malformed,
     }
 }
 
@@ -117,14 +106,6 @@ pub(crate) fn read_line(alloc: Global, line: &[u8], kind: Option<Kind>) -> Resul
             Ok(Line::Entry(Entry::from_parts(name, alg, tag)))
         }
     }
-}
-
-// Whether a malformed line is so only for want of its kind.
-fn needs_kind(line: &[u8], kind: Option<Kind>) -> bool
-    requires { IsMalformed line.now kind }
-    ensures { MatchBool result (IsUntagged line.now kind) (IsUntagged line.now kind → ⊥) }
-{
-    is_line(line) && untagged_len(line, kind).is_some()
 }
 
 // How many bytes the digest has of a malformed line that is so only for want of its kind: of some other kind it would
