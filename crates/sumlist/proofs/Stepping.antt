@@ -5,12 +5,12 @@ use Rattle.sumlist.proofs.Common.{◌∙◌, IfSome, ap, refl, IfSome_then, IsEr
 use Rattle.sumlist.proofs.Common.{Appends-trans, AppendsPrefix, Mark, Meaning, Summary, CheckFault, Files}
 use Rattle.sumlist.proofs.Common.{IsCounted, ListChecked, MatchResult-from_err, Outcome, lines_of, no_lines}
 use Rattle.sumlist.proofs.Common.{Consumes, true, with_line, ℕ, common_steps}
-use Rattle.std.specs.Io.KnownBytes.{IsAtEnd}
 use Rattle.std.proofs.KnownBytes.{Consumes-trans}
 use Rattle.std.proofs.lemmas.Result.{MatchResult-weaker}
 use Rattle.source.proofs.Writing.{AppendsPrefix-after, AppendsPrefix-more, AppendsPrefix-none}
 use Rattle.sumlist.specs.Lines.{IsKept}
-use Rattle.std.specs.Prelude.{MatchResult, fold}
+use Rattle.std.specs.Borrow.{Bor}
+use Rattle.std.specs.Prelude.{MatchOption, MatchResult, fold, option_map}
 use Rattle.sumlist.specs.Report.{report_from, summary_of}
 use Rattle.sumlist.specs.inside.Ahead.{Checks, OpensEach, RestChecked}
 use Rattle.sumlist.specs.inside.Marks.{mark_of, outcome_of}
@@ -129,10 +129,18 @@ module _ {rest : Option (List ℕ)} {known : Option Files} {k : Meaning} {name :
 
 -- no line is left
 pub checks-none : {rest : Option (List ℕ)} {known : Option Files} {k : Meaning} {name : Option (List ℕ)}
-    {share : Share} {ahead : List ℕ} {s : Summary} {n : ℕ} {c : Option (List ℕ)} → (ahead ≡ []) × IsAtEnd rest
+    {share : Share} {ahead : List ℕ} {s : Summary} {n : ℕ} {c : Option (List ℕ)} (rest' : Option (List ℕ))
+    (ahead' : List ℕ) → IfSome rest (λ bytes. (left : List ℕ) × (rest' ≡ Some left)
+    × ((ahead ++ bytes ≡ []) × (ahead' ++ left ≡ [])))
     → Checks rest known k name share share ahead s (Ok s) n n c c
-checks-none {rest = None} end = record { of = tt }
-checks-none {rest = Some bytes} {known} end = record { of = IfSome-all known (λ _. rw (end.0, end.1) rest-none) }
+checks-none {rest} {known} rest' ahead' ended = record {
+  of = IfSome_then rest ended (λ _ t. IfSome-all known (λ _. rw t.2.0 rest-none));
+}
+
+-- what is kept of a line, as it was handed out
+pub kept-line : (line : Option (Bor (List ℕ))) (kept : Option (List ℕ))
+    → MatchOption line (kept ≡ None) (λ l. kept ≡ Some l.now) → option_map (λ l. l.now) line ≡ kept
+kept-line line kept is = grind (arith, common_steps)
 
 -- the next line was taken
 abbrev pub NextTaken : Option (List ℕ) → Option (List ℕ) → List ℕ → Option (List ℕ) → List ℕ → Type 0

@@ -1,16 +1,17 @@
 -- A list that is read beside its report: a line's outcome comes before those of the lines that are left.
 use Rattle.sumlist.proofs.Common.{◌≡◌, ◌<◌, ◌≤◌, ◌∙◌, ◌+◌, ◌-◌, ◌*◌, ◌^◌, ◌++◌, ◌∷◌, ℕ, List, [], Option, None, Some}
 use Rattle.sumlist.proofs.Common.{true, false, append_assoc, append-nil, ap, sym, refl, subst, arith, length, Verdict}
-use Rattle.sumlist.proofs.Common.{Err, IsEntryIn, Listing, Mark, Meaning, Ok, Outcome, Result, Summary}
+use Rattle.sumlist.proofs.Common.{Bool, Err, IsEntryIn, Listing, Mark, Meaning, Ok, Outcome, Result, Summary}
 use Rattle.sumlist.proofs.Common.{IsCounted, escaped, foreign, inl, length-append, lines, lines_of, malformed}
 use Rattle.sumlist.proofs.Common.{IfSome, IfSome_then, no_lines, skipped, text, told, with_line, common_steps}
+use Rattle.std.specs.Bool.{then_some}
+use Rattle.std.specs.Option.{ok_or}
 use Rattle.std.specs.List.{AllZip}
-use Rattle.std.specs.Io.KnownBytes.{IsAtEnd}
 use Rattle.std.specs.Borrow.{Bor}
 use Rattle.std.specs.Prelude.{MatchOption, option_map}
 use Rattle.std.proofs.lemmas.List.Sums.{fold-append}
 use Rattle.sumlist.proofs.MeaningCases.{entry_one, foreign_unskipped, not_foreign, not_skipped}
-use Rattle.sumlist.proofs.Stepping.{NextTaken, same_line}
+use Rattle.sumlist.proofs.Stepping.{NextTaken, kept-line, same_line}
 use Rattle.sumlist.proofs.TakenTexts.{Next, NextVerdict}
 use Rattle.sumlist.specs.Line.{IsSkipped}
 use Rattle.sumlist.specs.Lines.{IsKept}
@@ -58,7 +59,7 @@ module _ (m : Meaning) (name : Option (List ℕ)) (line : List ℕ) (n : ℕ) wh
   other-entry e s (Some bytes) new p = no_entry e s bytes p
 
   -- the line of a malformed one came
-  pub told-malformed : (mark : Mark) → MarksMalformed m line mark → (old new : Option (List ℕ))
+  told-malformed : (mark : Mark) → MarksMalformed m line mark → (old new : Option (List ℕ))
       → Next old (text name n malformed) new true → NextTold m name line n old new (Ok mark)
   told-malformed mark marks None new p = tt
   told-malformed Malformed marks (Some bytes) new p = (malformed, marks, refl, p.0, p.1, p.2)
@@ -78,9 +79,16 @@ module _ (m : Meaning) (name : Option (List ℕ)) (line : List ℕ) (n : ℕ) wh
       → (o : Outcome) (behind : List ℕ) → IsPossible m line o → bytes ≡ text name n o ++ behind → ⊥
   no_malformed mark marks bytes none o behind q is = grind (arith, common_steps, unskipped, same_text, entryless)
 
-  pub other-malformed : (mark : Mark) → MarksMalformed m line mark → (old new : Option (List ℕ))
+  other-malformed : (mark : Mark) → MarksMalformed m line mark → (old new : Option (List ℕ))
       → Next old (text name n malformed) new false → NextTold m name line n old new (Err fault.OtherLine)
   other-malformed mark marks old new p = grind (arith, no_malformed)
+
+  -- the line of a malformed one came, or another
+  pub malformed-or-other : (mark : Mark) → MarksMalformed m line mark → (old new : Option (List ℕ)) (came : Bool)
+      → Next old (text name n malformed) new came
+      → NextTold m name line n old new (ok_or (then_some came mark) fault.OtherLine)
+  malformed-or-other mark marks old new true p = told-malformed mark marks old new p
+  malformed-or-other mark marks old new false p = other-malformed mark marks old new p
 
 -- a fault that is neither one of the list nor one of the count of the report's lines
 abbrev pub IsOther : TellFault → Type 0
@@ -92,11 +100,6 @@ counts-other T f old new h = grind (arith, common_steps)
 
 pub counted-more : (mark : Mark) (s u : Summary) → IsCounted mark s u → lines_of u ≡ lines_of s + 1
 counted-more mark s u counted = grind arith
-
--- what is kept of a line, as it was handed out
-kept-line : (line : Option (Bor (List ℕ))) (kept : Option (List ℕ))
-    → MatchOption line (kept ≡ None) (λ l. kept ≡ Some l.now) → option_map (λ l. l.now) line ≡ kept
-kept-line line kept is = grind (arith, common_steps)
 
 -- ---- lines so far
 
@@ -231,14 +234,6 @@ module _ {m : Meaning} {name : Option (List ℕ)} where
     -- a growth was refused
     pub told-stopped : (end : Option (List ℕ)) → Listed m name list report i j end (Err fault.OutOfMemory)
     told-stopped end = grind (arith, common_steps, IfSome_then, listed)
-
-    -- no line is left
-    ended : (bytes text : List ℕ) (left more : List ℕ) → Beside m name bytes text i j (lines (ahead ++ left)) more s
-        → ahead ≡ [] → left ≡ [] → behind ≡ Some more → ListBeside m name bytes text i j behind (Ok s)
-    ended bytes text left more b none end is = grind (arith, common_steps, listed)
-
-    pub told-all : (ahead ≡ []) × IsAtEnd rest → Listed m name list report i j behind (Ok s)
-    told-all end = grind (arith, common_steps, IfSome_then, ended)
 
     -- a line was read, and this was handed out of it
     module _ (kept rest' : Option (List ℕ)) (ahead' : List ℕ) {n : ℕ} (count : n ≡ lines_of s)

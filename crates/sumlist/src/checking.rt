@@ -1,19 +1,18 @@
 // Lists checked against the files that they name.
 
-ghost use Rattle.std.specs.Prelude.{◌≡◌, ◌+◌, ◌-◌, ◌<◌, ◌≤◌, ◌^◌, ◌↔◌, ℕ, List, [], Option, Result, false, true};
-ghost use Rattle.std.specs.Prelude.{length, None, Some, option_map, IfOk, IfSome, IsErr, IsErrOf, MatchBool};
+ghost use Rattle.std.specs.Prelude.{◌≡◌, ◌+◌, ◌-◌, ◌<◌, ◌≤◌, ◌^◌, ◌↔◌, ℕ, List};
+ghost use Rattle.std.specs.Prelude.{length, None, Some, option_map, IfOk, IfSome, IsErrOf, MatchBool};
 ghost use Rattle.std.specs.Prelude.{MatchResult, OnOk};
 ghost use Rattle.std.specs.Io.KnownBytes.{Consumes, IsAtEnd};
 ghost use Rattle.source.specs.Counts.{count_after};
 ghost use Rattle.sumlist.specs.Checked.{CountsOnly, ListChecked};
 ghost use Rattle.sumlist.specs.Line.{IsSkipped};
 ghost use Rattle.sumlist.specs.Lines.{IsKept, lines};
-ghost use Rattle.sumlist.specs.inside.Ahead.{Checks, OpensEach};
 ghost use Rattle.sumlist.specs.Report.{maker_of, unkeyed};
 ghost use Rattle.sumlist.specs.inside.Stepped.{IsAllowed, LineChecked, LineShared, StepCounts, meaning_of};
 ghost use Rattle.sumlist.specs.inside.Stepped.{stop_of};
 ghost use Rattle.sumlist.specs.Tally.{entries_of};
-ghost use Rattle.sumlist.specs.inside.Marks.{entry_by, lines_of, part, unreadable_by};
+ghost use Rattle.sumlist.specs.inside.Marks.{entry_by, part, unreadable_by};
 ghost use Rattle.sumlist.specs.declared.checking.CheckFault.TheVariants.{OutOfMemory, Write};
 
 use crate::line::is_skipped;
@@ -146,21 +145,36 @@ pub fn check_list<L: Feed, M: MakesTag, T: Tree, W: Sink>(
         × Consumes (L.remaining list.old) (L.remaining list.new) given
         × (IsErrOf result CheckFault.ListTooLong ↔ (2 ^ 64 - 1 < length given))) }
 {
+    let mut reader = LineReader::new(alloc)?;
+    let mut summary = Summary::new();
+    let mut number: u64 = 0;
     let mut checker = Checker {
         alloc,
         entries,
         name,
         share: *share,
-        reader: LineReader::new(alloc)?,
-        summary: Summary::new(),
-        lines: 0,
     };
-    while checker.step(list, tree, out)? {}
+    while reader.next(b'\n', list)? {
+        number += 1;
+        let mark = checker.next_mark(reader.line(), number, tree, out)?;
+        summary.count(mark);
+    }
     *share = checker.share;
-    Ok(checker.summary)
+    Ok(summary)
 }
 
-// A list that is being checked, line by line.
+// Whether a line is not skipped. One that was not kept is too long for that.
+fn has_entry(line: Option<&[u8]>) -> bool
+    ensures { (whole : List ℕ) → IsKept (option_map (λ l. l.now) line.entry) whole
+        → MatchBool result (IsSkipped whole → ⊥) (IsSkipped whole) }
+{
+    match line {
+        Some(line) => !is_skipped(line),
+        None => true,
+    }
+}
+
+// What the lines of a list are checked by.
 #[derive(Drop)]
 struct Checker<'e, 'k, 'n, M> {
     alloc: Global,
@@ -168,143 +182,53 @@ struct Checker<'e, 'k, 'n, M> {
     name: Option<&'n str>,
     // which of the entries that are left are checked
     share: Share,
-    reader: LineReader,
-    summary: Summary,
-    // how many lines were checked
-    lines: u64,
-    ghost counted: { lines ≡ lines_of summary },
-    ghost foreign: { summary.foreign ≤ summary.malformed },
 }
 
 impl<'e, 'k, 'n, M: MakesTag> Checker<'e, 'k, 'n, M> {
-    // Checks the next line, and answers whether another may follow.
-    fn step<L: Feed, T: Tree, W: Sink>(
+    // What became of the line with this number: another share's is passed over as a skipped one is. A line that was not
+    // kept is too long.
+    fn next_mark<T: Tree, W: Sink>(
         &mut self,
-        list: &mut L,
+        line: Option<&[u8]>,
+        number: u64,
         tree: &mut T,
         out: &mut W,
-    ) -> Result<bool, CheckFault>
-        requires few { lines_of self.old.summary + length self.old.reader.ahead ≤ self.old.reader.total }
-        ensures few { OnOk result
-            (lines_of self.new.summary + length self.new.reader.ahead ≤ self.new.reader.total) }
-        ensures checked { MatchResult result
-            (λ _. (r : Result Summary CheckFault) (n : ℕ) (c : Option (List ℕ)) (behind : Share)
-            → Checks (L.remaining list.new) (T.files tree.old)
-            (meaning_of M.limit M.makes self.old.entries.now) (option_map (λ n. n.now) self.old.name)
-            self.new.share behind self.new.reader.ahead self.new.summary
-            r (T.failure_count tree.new) n (W.shown out.new).contents c
-            → Checks (L.remaining list.old) (T.files tree.old)
-            (meaning_of M.limit M.makes self.old.entries.now) (option_map (λ n. n.now) self.old.name)
-            self.old.share behind self.old.reader.ahead self.old.summary
-            r (T.failure_count tree.old) n (W.shown out.old).contents c)
-            (λ _. (r : Result Summary CheckFault) (behind : Share) → IsErr r
-            → Checks (L.remaining list.old) (T.files tree.old)
-            (meaning_of M.limit M.makes self.old.entries.now) (option_map (λ n. n.now) self.old.name)
-            self.old.share behind self.old.reader.ahead self.old.summary
-            r (T.failure_count tree.old) (T.failure_count tree.new)
-            (W.shown out.old).contents (W.shown out.new).contents) }
-        ensures unreadable { OnOk result
-            ((k : ℕ) → T.failure_count tree.old ≡ count_after k self.old.summary.unreadable
-            → T.failure_count tree.new ≡ count_after k self.new.summary.unreadable) }
-        ensures opens { OnOk result
-            ((k : ℕ) → T.opens tree.old ≤ k + entries_of self.old.summary
-            → T.opens tree.new ≤ k + entries_of self.new.summary) }
-        ensures once { MatchResult result
-            (λ _. (n : ℕ) → OpensEach (L.remaining list.new) self.new.reader.ahead (T.opens tree.new) n
-            → OpensEach (L.remaining list.old) self.old.reader.ahead (T.opens tree.old) n)
-            (λ _. OpensEach (L.remaining list.old) self.old.reader.ahead (T.opens tree.old) (T.opens tree.new)) }
-        ensures kept { (T.files tree.new ≡ T.files tree.old)
-            × (self.new.entries ≡ self.old.entries) × (self.new.name ≡ self.old.name) }
-        ensures end { IfOk result (λ more. more ≡ false
-            → (self.new.reader.ahead ≡ []) × IsAtEnd (L.remaining list.new)) }
-        ensures forth { IfOk result (λ more. more ≡ true
-            → self.old.reader.total + length self.new.reader.ahead
-            < self.new.reader.total + length self.old.reader.ahead) }
-        ensures reads { CountsOnly CheckFault.ListRead result (L.failure_count list.old) (L.failure_count list.new) }
-        ensures writes { CountsOnly CheckFault.Write result (W.shown out.old).failures (W.shown out.new).failures }
-        ensures gave { (given : List ℕ) × Consumes (L.remaining list.old) (L.remaining list.new) given
-            × (IsErrOf result CheckFault.ListTooLong ↔ (2 ^ 64 - 1 < self.old.reader.total + length given))
-            × OnOk result (self.new.reader.total ≡ self.old.reader.total + length given) }
-    {
-        if !self.reader.next(b'\n', list)? {
-            return Ok(false);
-        }
-        let mark = self.next_mark(tree, out)?;
-        self.summary.count(mark);
-        self.lines += 1;
-        Ok(!self.reader.is_at_end())
-    }
-
-    // What became of the line that was read last: another share's is passed over as a skipped one is.
-    fn next_mark<T: Tree, W: Sink>(&mut self, tree: &mut T, out: &mut W) -> Result<Mark, CheckFault>
-        requires few { lines_of self.old.summary + 1 < 2 ^ 64 }
-        ensures checked { IfSome (T.files tree.old) (λ files. (line : List ℕ) → IsKept self.old.reader.kept line
+    ) -> Result<Mark, CheckFault>
+        ensures checked { IfSome (T.files tree.old) (λ files. (whole : List ℕ)
+            → IsKept (option_map (λ l. l.now) line.entry) whole
             → LineShared files (meaning_of M.limit M.makes self.old.entries.now)
-            (option_map (λ n. n.now) self.old.name) self.old.share self.new.share line
-            (lines_of self.old.summary + 1) result (T.failure_count tree.old) (T.failure_count tree.new)
+            (option_map (λ n. n.now) self.old.name) self.old.share self.new.share whole number result
+            (T.failure_count tree.old) (T.failure_count tree.new)
             (W.shown out.old).contents (W.shown out.new).contents) }
         ensures unreadable { IfOk result (λ mark. T.failure_count tree.new
             ≡ count_after (T.failure_count tree.old) (part (Mark.Told Verdict.Unreadable) mark)) }
         ensures opens { IfOk result (λ mark. T.opens tree.new ≤ T.opens tree.old + entry_by mark) }
         ensures once { T.opens tree.new ≤ T.opens tree.old + 1 }
         ensures kept { (T.files tree.new ≡ T.files tree.old)
-            × (self.new.entries ≡ self.old.entries) × (self.new.name ≡ self.old.name)
-            × (self.new.reader ≡ self.old.reader) × (self.new.summary ≡ self.old.summary) }
+            × (self.new.entries ≡ self.old.entries) × (self.new.name ≡ self.old.name) }
         ensures writes { StepCounts result (W.shown out.old).failures (W.shown out.new).failures }
     {
-        if !self.has_entry() {
+        if !has_entry(line) {
             return Ok(Mark::Skipped);
         }
         if !self.share.takes_next() {
             return Ok(Mark::Skipped);
         }
-        self.check(tree, out)
-    }
-
-    // Whether the line that was read last is not skipped.
-    fn has_entry(&self) -> bool
-        ensures { (line : List ℕ) → IsKept self.now.reader.kept line
-            → MatchBool result (IsSkipped line → ⊥) (IsSkipped line) }
-    {
-        match self.reader.line() {
-            Some(line) => !is_skipped(line),
-            None => true,
-        }
-    }
-
-    // Checks the line that was read last, and writes its part of the report.
-    fn check<T: Tree, W: Sink>(&self, tree: &mut T, out: &mut W) -> Result<Mark, CheckFault>
-        requires few { lines_of self.now.summary + 1 < 2 ^ 64 }
-        ensures checked { IfSome (T.files tree.old) (λ files. (line : List ℕ) → IsKept self.now.reader.kept line
-            → LineChecked files (meaning_of M.limit M.makes self.now.entries.now)
-            (option_map (λ n. n.now) self.now.name) line (lines_of self.now.summary + 1) result
-            (T.failure_count tree.old) (T.failure_count tree.new)
-            (W.shown out.old).contents (W.shown out.new).contents) }
-        ensures unreadable { IfOk result (λ mark. T.failure_count tree.new
-            ≡ count_after (T.failure_count tree.old) (part (Mark.Told Verdict.Unreadable) mark)) }
-        ensures opens { IfOk result (λ mark. T.opens tree.new ≤ T.opens tree.old + entry_by mark) }
-        ensures once { T.opens tree.new ≤ T.opens tree.old + 1 }
-        ensures kept { T.files tree.new ≡ T.files tree.old }
-        ensures writes { StepCounts result (W.shown out.old).failures (W.shown out.new).failures }
-    {
-        let Some(line) = self.reader.line() else {
-            write_malformed(self.name, self.lines + 1, out)?;
-            return Ok(Mark::Malformed);
-        };
-        self.check_line(line, tree, out)
+        self.check(line, number, tree, out)
     }
 
     // Checks the line, and writes its part of the report.
-    fn check_line<T: Tree, W: Sink>(
+    fn check<T: Tree, W: Sink>(
         &self,
-        line: &[u8],
+        line: Option<&[u8]>,
+        number: u64,
         tree: &mut T,
         out: &mut W,
     ) -> Result<Mark, CheckFault>
-        requires few { lines_of self.now.summary + 1 < 2 ^ 64 }
-        ensures checked { IfSome (T.files tree.old) (λ files.
-            LineChecked files (meaning_of M.limit M.makes self.now.entries.now)
-            (option_map (λ n. n.now) self.now.name) line.now (lines_of self.now.summary + 1) result
+        ensures checked { IfSome (T.files tree.old) (λ files. (whole : List ℕ)
+            → IsKept (option_map (λ l. l.now) line.entry) whole
+            → LineChecked files (meaning_of M.limit M.makes self.now.entries.now)
+            (option_map (λ n. n.now) self.now.name) whole number result
             (T.failure_count tree.old) (T.failure_count tree.new)
             (W.shown out.old).contents (W.shown out.new).contents) }
         ensures unreadable { IfOk result (λ mark. T.failure_count tree.new
@@ -314,6 +238,10 @@ impl<'e, 'k, 'n, M: MakesTag> Checker<'e, 'k, 'n, M> {
         ensures kept { T.files tree.new ≡ T.files tree.old }
         ensures writes { StepCounts result (W.shown out.old).failures (W.shown out.new).failures }
     {
+        let Some(line) = line else {
+            write_malformed(self.name, number, out)?;
+            return Ok(Mark::Malformed);
+        };
         match self.entries.read(self.alloc, line) {
             Ok(Line::Skipped) => Ok(Mark::Skipped),
             Ok(Line::Entry(entry)) => {
@@ -323,7 +251,7 @@ impl<'e, 'k, 'n, M: MakesTag> Checker<'e, 'k, 'n, M> {
             }
             Err(LineFault::Malformed) => {
                 let mark = self.entries.malformed_mark(line);
-                write_malformed(self.name, self.lines + 1, out)?;
+                write_malformed(self.name, number, out)?;
                 Ok(mark)
             }
             Err(LineFault::OutOfMemory) => Err(CheckFault::OutOfMemory),

@@ -8,7 +8,7 @@ ghost use Rattle.sumlist.specs.inside.Taking.{IsNextPiece, IsTaken, none_taken};
 
 use crate::line_buffer::LineBuffer;
 use crate::lines::split_at_byte;
-use source::{Feed, ReadFailed, SourceFault};
+use source::{Feed, SourceFault};
 use std::alloc::{AllocError, Global};
 use std::marker::Model;
 
@@ -63,19 +63,22 @@ impl LineReader {
         })
     }
 
-    // Restarts the count of bytes read at those that are ahead.
+    // Restarts the count of bytes read at those that are ahead, and asks the feed again after its end.
     pub(crate) fn count_anew(&mut self)
         ensures ahead { self.new.ahead ≡ self.old.ahead }
         ensures kept { self.new.kept ≡ self.old.kept }
         ensures total { self.new.total ≡ length self.old.ahead }
+        ensures going { self.new.is_at_end ≡ false }
     {
+        self.is_at_end = false;
         self.total = (self.end - self.start) as u64;
     }
 
     // Reads the next line that ends at this byte, and answers whether there was one; the last line may lack
-    // the byte. A line longer than 65,536 bytes is skipped, and not kept. `TooLong` comes exactly if the
-    // count of bytes read exceeds 2^64 - 1.
+    // the byte. A line longer than 65,536 bytes is skipped, and not kept. After its end the feed is not read
+    // again. `TooLong` comes exactly if the count of bytes read exceeds 2^64 - 1.
     pub(crate) fn next<F: Feed>(&mut self, end: u8, feed: &mut F) -> Result<bool, SourceFault>
+        requires { self.old.is_at_end ≡ true → (self.old.ahead ≡ []) × IsAtEnd (F.remaining feed.old) }
         ensures line { IfOk result (λ found. IfSome (F.remaining feed.old) (λ bytes.
             (left : List ℕ) × (F.remaining feed.new ≡ Some left)
             × IsNextPiece end found self.new.kept (self.old.ahead ++ bytes) (self.new.ahead ++ left))) }
@@ -89,9 +92,11 @@ impl LineReader {
             × OnOk result (self.new.total ≡ self.old.total + length given) }
         ensures count { PumpCounts result (F.failure_count feed.old) (F.failure_count feed.new) }
     {
+        if self.is_at_end {
+            return Ok(false);
+        }
         self.held.clear();
         self.is_whole = false;
-        self.is_at_end = false;
         'lines: loop {
             if self.take(end) {
                 return Ok(true);
@@ -113,9 +118,8 @@ impl LineReader {
             × (more ≡ false → (given ≡ []) × IsAtEnd (F.remaining feed.new) × (self.new.is_at_end ≡ true))) }
         ensures count { PumpCounts result (F.failure_count feed.old) (F.failure_count feed.new) }
     {
-        let count = match feed.read(&mut self.buffer) {
-            Ok(count) => count,
-            Err(ReadFailed) => return Err(SourceFault::Read),
+        let Ok(count) = feed.read(&mut self.buffer) else {
+            return Err(SourceFault::Read);
         };
         self.start = 0;
         self.end = count;
@@ -125,13 +129,6 @@ impl LineReader {
         };
         self.total = total;
         Ok(count != 0)
-    }
-
-    // Whether the feed has ended, so that no line follows.
-    pub(crate) fn is_at_end(&self) -> bool
-        ensures { result ≡ self.now.is_at_end }
-    {
-        self.is_at_end
     }
 
     // The line that was read last, unless it is longer than 65,536 bytes.

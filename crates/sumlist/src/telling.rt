@@ -5,9 +5,8 @@ ghost use Rattle.std.specs.Io.KnownBytes.{Consumes, IsAtEnd};
 ghost use Rattle.sumlist.specs.Checked.{CountsOnly};
 ghost use Rattle.sumlist.specs.declared.telling.TellFault.TheVariants.{OutOfMemory, ReportRead};
 ghost use Rattle.sumlist.specs.Lines.{IsKept};
-ghost use Rattle.sumlist.specs.Report.{Meaning};
 ghost use Rattle.sumlist.specs.inside.Marks.{part};
-ghost use Rattle.sumlist.specs.inside.Stepped.{MarksMalformed, meaning_of};
+ghost use Rattle.sumlist.specs.inside.Stepped.{meaning_of};
 ghost use Rattle.sumlist.specs.inside.Telling.{ListBeside, TellCounts, Tells, left, of_list};
 
 use crate::line_reader::LineReader;
@@ -94,9 +93,6 @@ pub fn tell_list<L: Feed, M: MakesTag, F: Feed>(
         };
         *lines = more;
         summary.count(mark);
-        if reader.is_at_end() {
-            return Ok(summary);
-        }
     }
     Ok(summary)
 }
@@ -125,7 +121,8 @@ fn tell_line<M: MakesTag, F: Feed>(
     ensures same { report.new.feed.ghost_name ≡ report.old.feed.ghost_name }
 {
     let Some(line) = line else {
-        return tell_malformed(Mark::Malformed, name, number, report);
+        let came = report.take_malformed(name, number)?;
+        return came.then_some(Mark::Malformed).ok_or(TellFault::OtherLine);
     };
     match entries.read(alloc, line) {
         Ok(Line::Skipped) => Ok(Mark::Skipped),
@@ -134,29 +131,10 @@ fn tell_line<M: MakesTag, F: Feed>(
             None => Err(TellFault::OtherLine),
         },
         Err(LineFault::Malformed) => {
-            tell_malformed(entries.malformed_mark(line), name, number, report)
+            let came = report.take_malformed(name, number)?;
+            came.then_some(entries.malformed_mark(line))
+                .ok_or(TellFault::OtherLine)
         }
         Err(LineFault::OutOfMemory) => Err(TellFault::OutOfMemory),
-    }
-}
-
-// The mark of a malformed line, if the report has its line next.
-fn tell_malformed<F: Feed>(
-    mark: Mark,
-    name: Option<&str>,
-    number: u64,
-    report: &mut ReportReader<'_, F>,
-) -> Result<Mark, TellFault>
-    ensures told { (m : Meaning) (line : List ℕ) → MarksMalformed m line mark
-        → IfSome (left F.remaining report.old) (λ bytes. Tells m
-        (option_map (λ n. n.now) name.entry) line number bytes (left F.remaining report.new) result) }
-    ensures counted { TellCounts result (F.failure_count report.old.feed.now)
-        (F.failure_count report.new.feed.now) }
-    ensures same { report.new.feed.ghost_name ≡ report.old.feed.ghost_name }
-{
-    if report.take_malformed(name, number)? {
-        Ok(mark)
-    } else {
-        Err(TellFault::OtherLine)
     }
 }

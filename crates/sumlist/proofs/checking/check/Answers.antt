@@ -1,6 +1,6 @@
 use Rattle.hashes.specs.declared.share.Share.{Share}
-use Rattle.sumlist.proofs.Common.{◌≡◌, CheckFault, Err, Files, IfSome_then, List, ListChecked, Meaning, None, Ok, Option}
-use Rattle.sumlist.proofs.Common.{Outcome, Result, Some, Summary, [], refl, skipped, subst, unkeyed, ℕ, ◌∷◌}
+use Rattle.sumlist.proofs.Common.{◌≡◌, CheckFault, Err, Files, IfSome_then, List, ListChecked, Meaning, None, Ok}
+use Rattle.sumlist.proofs.Common.{Option, Outcome, Result, Some, Summary, [], refl, skipped, subst, unkeyed, ℕ, ◌∷◌}
 use Rattle.sumlist.specs.Shared.{shared}
 use Rattle.sumlist.proofs.checking.check.Goals as goal
 

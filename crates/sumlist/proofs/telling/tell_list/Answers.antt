@@ -1,7 +1,7 @@
-use Rattle.sumlist.proofs.Common.{◌∙◌, ◌+◌, ◌-◌, ◌++◌, [], Mark, arith, err_from_is_err_and, lines_of}
-use Rattle.sumlist.proofs.Common.{Err, length-append, refl, rules, sym, ℕ}
+use Rattle.sumlist.proofs.Common.{◌++◌, [], Mark, arith, err_from_is_err_and}
+use Rattle.sumlist.proofs.Common.{Err, length-append, refl, rules, ℕ}
 use Rattle.std.specs.Prelude.{IsErrOf}
-use Rattle.sumlist.proofs.ToldLines.{Telling, counted-more, counts-other, told-all, told-fault, told-line, told-none}
+use Rattle.sumlist.proofs.ToldLines.{counted-more, counts-other, told-fault, told-line, told-none}
 use Rattle.sumlist.proofs.ToldLines.{told-stopped, told-too-long}
 use Rattle.std.proofs.KnownBytes.{Consumes-nil, Consumes-trans}
 use Rattle.sumlist.proofs.Stepping.{all_read}
@@ -28,6 +28,7 @@ loop-reader-init g c = rw (c.in_ok-reader.ensures, c.new-summary.ensures) record
   said = told-none _ _ _;
   read = [];
   consumed = Consumes-nil _;
+  ended = search rules;
   counts = search rules;
 }
 
@@ -39,15 +40,6 @@ returns-in_err-mark-clause-told g c =
     rw (fault.1, fault.2) (told-fault i.said c.next.new.self.kept (g.L.Feed.remaining c.next.new.feed)
     c.next.new.self.ahead i.counts.number (rw c.if-branch.true at c.in_ok-next.ensures.line) c.line.result
     c.line.ensures _ _ (counts-other Mark _ _ _ c.in_err-mark.ensures.counted) c.in_err-mark.ensures.told)
-
-pub returns-then-is_at_end-clause-told : goal.returns-then-is_at_end-clause-told
-returns-then-is_at_end-clause-told g c =
-    let i = c.loop-reader.invariant in
-    told-all (told-line i.said c.next.new.self.kept (g.L.Feed.remaining c.next.new.feed) c.next.new.self.ahead
-    i.counts.number (rw c.if-branch.true at c.in_ok-next.ensures.line) c.line.result c.line.ensures c.in_ok-mark.mark
-    (left g.F.Feed.remaining c.tell_line.new.report) (grind (arith, c.in-Some.ensures, c.line_count.ensures))
-    c.count.ensures.counted c.in_ok-mark.ensures.told)
-    (c.in_ok-next.ensures.end (sym c.is_at_end.ensures ∙ c.if-is_at_end.true))
 
 pub loop-reader-preserved : goal.loop-reader-preserved
 loop-reader-preserved g c =
@@ -61,6 +53,7 @@ loop-reader-preserved g c =
           c.in_ok-mark.ensures.told;
       read = i.read ++ gave.0;
       consumed = Consumes-trans _ _ _ _ _ i.consumed gave.1;
+      ended = c.in_ok-next.ensures.end;
       counts = grind (arith, length-append {A = ℕ}, counted-more, forth);
     }
 
@@ -92,12 +85,6 @@ returns-in_default-clause-told g c =
 
 pub returns-in_default-clause-gave : goal.returns-in_default-clause-gave
 returns-in_default-clause-gave g c =
-    let i = c.loop-reader.invariant in
-    let gave = c.in_ok-next.ensures.gave in
-    all_read _ _ _ i.read gave.0 _ i.consumed gave.1 (λ long. let no = long in cc)
-
-pub returns-then-is_at_end-clause-gave : goal.returns-then-is_at_end-clause-gave
-returns-then-is_at_end-clause-gave g c =
     let i = c.loop-reader.invariant in
     let gave = c.in_ok-next.ensures.gave in
     all_read _ _ _ i.read gave.0 _ i.consumed gave.1 (λ long. let no = long in cc)

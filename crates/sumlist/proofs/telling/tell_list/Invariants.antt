@@ -1,4 +1,5 @@
-use Rattle.sumlist.proofs.Common.{◌≡◌, ◌+◌, ◌-◌, ◌^◌, ◌≤◌, Consumes, List, length, lines_of, ℕ}
+use Rattle.sumlist.proofs.Common.{◌≡◌, ◌+◌, ◌-◌, ◌^◌, ◌≤◌, [], Consumes, List, length, lines_of, true, ℕ}
+use Rattle.std.specs.Io.KnownBytes.{IsAtEnd}
 use Rattle.std.specs.Prelude.{option_map}
 use Rattle.sumlist.proofs.ToldLines.{Telling}
 use Rattle.sumlist.specs.inside.Stepped.{meaning_of}
@@ -12,6 +13,7 @@ invariant-loop-reader g l = record {
       l.reader.ahead (g.L.Feed.remaining l.list) (left g.F.Feed.remaining l.report) l.summary;
   read : List ℕ;
   consumed : Consumes (g.L.Feed.remaining l.initial.list) (g.L.Feed.remaining l.list) read;
+  ended : l.reader.is_at_end ≡ true → (l.reader.ahead ≡ []) × IsAtEnd (g.L.Feed.remaining l.list);
   counts : record {
     total : l.reader.total ≡ length read;
     reads : g.L.Feed.failure_count l.list ≡ g.L.Feed.failure_count l.initial.list;

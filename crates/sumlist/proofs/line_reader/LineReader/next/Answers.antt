@@ -1,6 +1,6 @@
-use Rattle.std.proofs.KnownBytes.{Consumes-trans}
-use Rattle.sumlist.proofs.Common.{◌≡◌, ◌++◌, [], All-append, Bool, List, Option, Some, append-nil, append_assoc}
-use Rattle.sumlist.proofs.Common.{ap, arith, eqb, err_from_is_err_and, false, length, length-append, subst}
+use Rattle.std.proofs.KnownBytes.{Consumes-nil, Consumes-trans}
+use Rattle.sumlist.proofs.Common.{◌≡◌, ◌∙◌, ◌++◌, [], All-append, Bool, List, Option, Some, append-nil, append_assoc}
+use Rattle.sumlist.proofs.Common.{ap, arith, eqb, err_from_is_err_and, false, length, length-append, refl, subst}
 use Rattle.sumlist.proofs.Common.{sym, true, ℕ}
 use Rattle.std.specs.Io.KnownBytes.{IsAtEnd}
 use Rattle.std.specs.Prelude.{IsTrue, not, ◌↔◌}
@@ -27,6 +27,16 @@ module _ (end : ℕ) (r s : Cutting) (front whole : List ℕ) (kept : IsKept r.k
 ended : (end : ℕ) (is_empty : Bool) (kept : Option (List ℕ)) (whole : List ℕ) → IsTrue is_empty ↔ (kept ≡ Some [])
     → IsKept kept whole × HasNo end whole → IsNextPiece end (not is_empty) kept whole []
 ended end is_empty kept whole empty h = grind (arith, pieces-last, some_kept)
+
+pub returns-then-self-clause-line : goal.returns-then-self-clause-line
+returns-then-self-clause-line g c =
+    let end = c.requires (sym (ap (λ (r : Cutting). r.is_at_end) c.self.view_is) ∙ c.if-self.true) in
+    IfSome-read (g.F.Feed.remaining c.args.feed.now) _ [] _ (Consumes-nil _)
+    (λ left is. let over : left ≡ [] = subst IsAtEnd is end.1 in
+    let none : c.args.self.now.ahead ++ left ≡ [] = rw (end.0, over) refl in (left, is, (none, none)))
+
+pub returns-then-self-clause-gave : goal.returns-then-self-clause-gave
+returns-then-self-clause-gave g c = ([], Consumes-nil _, grind arith, grind arith)
 
 pub returns-then-take-clause-line : goal.returns-then-take-clause-line
 returns-then-take-clause-line g c =
