@@ -4,9 +4,9 @@ use Rattle.hashes.specs.declared.kind.Kind.TheVariants.{Blake2b}
 use Rattle.sumlist.proofs.Common.{◌*◌, ◌+◌, ◌∙◌, ◌≡◌, ◌⊎◌, Alg, Fits, HasForm, IsBlank, IsEntry, IsInRange, IsLine}
 use Rattle.sumlist.proofs.Common.{IsMalformed, IsUntagged, IsUtf8, Kind, Says, digest_len}
 use Rattle.sumlist.proofs.Common.{List, Listing, escaped}
-use Rattle.sumlist.proofs.Common.{None, Option, Some, Spells, [], ap, arith, bytes_eq-Decides, core, false}
-use Rattle.sumlist.proofs.Common.{false≢true, inl, inr}
-use Rattle.sumlist.proofs.Common.{length, refl, lead, slice_index, subst, sym, true, ℕ}
+use Rattle.sumlist.proofs.Common.{None, Option, Some, Spells, [], ap, arith, bytes_eq-Decides, core}
+use Rattle.sumlist.proofs.Common.{inl, inr}
+use Rattle.sumlist.proofs.Common.{length, refl, lead, slice_index, sym, ℕ}
 use Rattle.std.proofs.lemmas.Bool.Decides.{Decides-and, Decides-eqb, Decides-like, Decides-ltb, Decides-not, Decides-or}
 use Rattle.std.proofs.lemmas.Map.Made.{is_member-Decides}
 use Rattle.std.proofs.lemmas.Option.{none-some, same_Some}

@@ -2,7 +2,7 @@
 use Rattle.hashes.specs.declared.alg.Alg.TheVariants.{Blake2b, Blake2s}
 use Rattle.hashes.specs.declared.alg.TheConstants.{BLAKE2B_LEN, BLAKE2S_LEN}
 use Rattle.hashes.specs.Kinds.{alg_kind}
-use Rattle.sumlist.proofs.Common.{◌⊎◌, ◌*◌, ◌++◌, ◌+◌, ◌-◌, ◌<◌, ◌∙◌, ◌∷◌, ◌≡◌, ◌≤◌, Alg, Bool, Decides, Ended, HasForm}
+use Rattle.sumlist.proofs.Common.{◌⊎◌, ◌*◌, ◌++◌, ◌<◌, ◌∙◌, ◌∷◌, ◌≡◌, ◌≤◌, Alg, Bool, Decides, Ended, HasForm}
 use Rattle.sumlist.proofs.Common.{IsCut, IsInRange, IsLabel, IsMark, Kind, List, None, Ok, Option, Some, [], ap}
 use Rattle.sumlist.proofs.Common.{common_steps, arith, bytes_eq-Decides, closing, codes, cond, decimal, decode_of, drop}
 use Rattle.sumlist.proofs.Common.{false≢true, inl, inr, length, length-append, nat_tests, refl, subst, sym, digest_len}
@@ -82,7 +82,8 @@ module _ (l : List ℕ) (a : Alg) where
   number_told : (of : ℕ → Alg) (front : List ℕ) (most : ℕ)
       → ((n : ℕ) → IsNumbered l front most n → Named l (of n)) → take 8 l ≡ front
       → alg_told of (drop 8 l) most ≡ Some a → Named l a
-  number_told of front most named s e = grind (arith, common_steps, option_and_then_some, take-append-drop, bytes_told-some, same_Some)
+  number_told of front most named s e =
+      grind (arith, common_steps, option_and_then_some, take-append-drop, bytes_told-some, same_Some)
 
   pub alg_labelled-some : alg_labelled l ≡ Some a → Named l a
   alg_labelled-some e = elim (either_told (alg_whole l) _ a e) [
@@ -110,7 +111,15 @@ end_cut-some rest n p e = grind (arith, nat_tests, bytes_eq-Decides)
 
 pub end_cut-is : (rest : List ℕ) (n : ℕ) (body digits : List ℕ) → Ended rest n body digits
     → end_cut n rest ≡ Some (body, digits)
-end_cut-is rest n body digits e = grind (arith, common_steps, length-append, take-append_seam, drop-append-add, nat_tests, bytes_eq-Decides)
+end_cut-is rest n body digits e = grind (
+  arith,
+  common_steps,
+  length-append,
+  take-append_seam,
+  drop-append-add,
+  nat_tests,
+  bytes_eq-Decides,
+)
 
 pub end_cut-none : (rest : List ℕ) (n : ℕ) → NotEnded rest n → end_cut n rest ≡ None
 end_cut-none rest n none = none_if (end_cut n rest) (λ p e. none p.0 p.1 (end_cut-some rest n p e))

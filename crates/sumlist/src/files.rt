@@ -53,10 +53,8 @@ impl<'r, R: Files> FileTree<'r, R> {
         ensures opens { ⟦<FileTree<'r, R> as Tree>⟧.opens result ≡ 0 }
     {
         FileTree {
-            rt,
             taken: rt.metadata(name).ok().filter(gives_once),
-            is_shared: false,
-            failures: 0,
+            ..FileTree::new(rt)
         }
     }
 
@@ -70,10 +68,8 @@ impl<'r, R: Files> FileTree<'r, R> {
         ensures shared { IsTrue (tree_is_shared result) }
     {
         FileTree {
-            rt: self.rt,
-            taken: self.taken,
             is_shared: true,
-            failures: self.failures,
+            ..self
         }
     }
 

@@ -28,13 +28,8 @@ pub fn entry_len(alg: Alg, is_tagged: bool, name: &[u8]) -> Option<usize>
     ensures { MatchOption result (HasLine is_tagged alg name.now → ⊥)
         (λ n. HasLine is_tagged alg name.now × (n ≡ line_len is_tagged alg name.now)) }
 {
-    let Ok(name) = str::from_utf8(name) else {
-        return None;
-    };
-    if !fits(2 * alg.digest_len(), name) {
-        return None;
-    }
-    if is_tagged && !tagged_fits(alg, name) {
+    let name = str::from_utf8(name).ok()?;
+    if !fits(2 * alg.digest_len(), name) || is_tagged && !tagged_fits(alg, name) {
         return None;
     }
     Some(counted(alg, is_tagged, name))

@@ -35,11 +35,7 @@ pub(crate) fn cut_end(rest: &[u8], digits: usize) -> Option<(&[u8], &[u8])>
     }
     let (body, back) = rest.split_at(rest.len() - (digits + 4));
     let (close, end) = back.split_at(4);
-    if close == b") = ".as_slice() {
-        Some((body, end))
-    } else {
-        None
-    }
+    (close == b") = ".as_slice()).then_some((body, end))
 }
 
 // The algorithm that a label names.
@@ -52,10 +48,7 @@ pub(crate) fn label_alg(label: &[u8]) -> Option<Alg>
     if let Some(n) = find_number(label, b"BLAKE2b-", BLAKE2B_LEN) {
         return Some(Alg::Blake2b(n));
     }
-    if let Some(n) = find_number(label, b"BLAKE2s-", BLAKE2S_LEN) {
-        return Some(Alg::Blake2s(n));
-    }
-    None
+    find_number(label, b"BLAKE2s-", BLAKE2S_LEN).map(Alg::Blake2s)
 }
 
 // The length of a tag in bytes, up to a bound, if its number of bits follows the front, without a leading

@@ -1,14 +1,12 @@
 -- What the steps of reading a label, a body and digits find.
 use Rattle.std.specs.Prelude.{◌≡◌, ◌==◌, ◌&&◌, ℕ, ◌*◌, ◌/◌, ◌<◌, ◌≤◌, nat_le, Bool, true, List, ◌∷◌, ◌++◌, length}
-use Rattle.std.specs.Prelude.{if◌then◌else◌, Option, None, Some, map}
+use Rattle.std.specs.Prelude.{if◌then◌else◌, Option, None, Some}
 use Rattle.std.specs.Fmt.{decimal}
-use Rattle.std.specs.Map.{lookup}
-use Rattle.std.specs.Str.{bytes_eq}
 use Rattle.hashes.specs.declared.alg.Alg.{Alg}
 use Rattle.hashes.specs.declared.alg.Alg.TheVariants.{Blake2b, Blake2s}
 use Rattle.hashes.specs.declared.alg.TheConstants.{BLAKE2B_LEN, BLAKE2S_LEN}
 use Rattle.hashes.specs.Digest.{IsInRange, digest_len}
-use Rattle.hashes.specs.Kinds.{kinds, label_of, longest}
+use Rattle.hashes.specs.Kinds.{longest}
 use Rattle.hashes.specs.declared.kind.Kind.{Kind}
 use Rattle.hashes.specs.declared.kind.Kind.TheVariants as variant
 use Rattle.sumlist.specs.Tagged.{IsLabel}

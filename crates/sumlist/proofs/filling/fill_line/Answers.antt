@@ -21,8 +21,8 @@ pub fill_between-requires : goal.fill_between-requires
 fill_between-requires c =
     (rw c.if-is_tagged.true at c.requires.room)
     ∙ tagged_sum c.as_bytes.result.now _ c.as_bytes-then-is_tagged.result.now c.as_bytes-then-is_tagged-2.result.now
-    (label_of c.args.alg) (escaped c.args.name.now) c.tag_digits-digits.result.now c.args.tag.now (digest_len c.args.alg)
-    (c.as_bytes.ensures.value ∙ c.lead.ensures)
+    (label_of c.args.alg) (escaped c.args.name.now) c.tag_digits-digits.result.now c.args.tag.now
+    (digest_len c.args.alg) (c.as_bytes.ensures.value ∙ c.lead.ensures)
     (rw (c.as_bytes-then-is_tagged.ensures.value, c.as_bytes-then-is_tagged-2.ensures.value) c.label.ensures.value)
     c.tag_digits-digits.ensures c.requires.sized.1
 
