@@ -20,7 +20,7 @@ use kdf::{Extract, expand};
 use mac::{Blake2b512, Blake2s256, BlockHash, Sha256Stream, Sha512Stream, hash_laws};
 use source::{Feed, Sink, write_all};
 use sumlist::Tree;
-use task::{Derivation, Hkdf, HmacHash, Setting, UsageFault};
+use task::{Derivation, Hkdf, HmacHash, UsageFault};
 use words::Tag;
 
 // The longest output of HKDF: 255 times 64 bytes.
@@ -118,7 +118,7 @@ impl<'i, 't, 'o, L: Feed, T: Tree, W: Sink> Session<'i, 't, 'o, L, T, W> {
         ensures memory { IsErrOf result Fault.OutOfMemory → T.wants_memory ≡ true }
     {
         let Ok(mut extract) = Extract::<H>::new(slice_of(&hkdf.salt)) else {
-            return Err(Fault::Usage(UsageFault::OutOfRange(Setting::Salt)));
+            return Err(Fault::from(UsageFault::out_of_range("--salt")));
         };
         absorb_named(&mut extract, material, self.tree)?;
         Ok(extract.finish())
@@ -174,6 +174,6 @@ fn write_expanded<H: BlockHash, W: Sink>(
     let (key, _) = key.split_at_mut(hkdf.length);
     match expand::<H>(prk, hkdf.info.as_slice(), key) {
         Ok(()) => Ok(write_bytes(key, is_raw, out)?),
-        Err(_) => Err(Fault::Usage(UsageFault::OutOfRange(Setting::Info))),
+        Err(_) => Err(Fault::from(UsageFault::out_of_range("--info"))),
     }
 }

@@ -12,10 +12,8 @@ use Rattle.request.specs.declared.request.Request.{Request}
 use Rattle.request.specs.declared.request.WordsFault.{WordsFault}
 use Rattle.request.specs.declared.request.WordsFault.TheVariants as words_fault
 use Rattle.task.specs.Tasks.{Asked, Source, asked}
-use Rattle.task.specs.declared.fault.UsageFault.{UsageFault}
 use Rattle.task.specs.declared.tasks.Entries.{Entries}
 use Rattle.task.specs.declared.tasks.Reporting.{Reporting}
-use Rattle.task.specs.inside.Texts.{fault_text}
 use Rattle.task.specs.inside.Views.{entries_shown}
 use Rattle.command.specs.Checking.{list_opens}
 use Rattle.command.specs.Run.{Counted, Run, Runs, Tells, TellsAll, prints, stops, cannot_write as run_cannot_write}
@@ -203,14 +201,14 @@ module _ (words : List Text) where
       )
 
   -- a setting is at fault
-  pub run_refused : (first : Option (List ℕ)) (tree : Option Files) (r : Given) (fault : UsageFault) (status : ℕ)
-      (out err_old err_new : Shown) (i u x : ℕ) → AreRead words (Ok r) → asked r ≡ Err (fault_text fault)
+  pub run_refused : (first : Option (List ℕ)) (tree : Option Files) (r : Given) (fault : Text) (status : ℕ)
+      (out err_old err_new : Shown) (i u x : ℕ) → AreRead words (Ok r) → asked r ≡ Err fault
       → status ≡ 2 → Tells err_old err_new (told (usage fault))
       → Program first tree words status out out err_old err_new i i u u x x
   run_refused None tree r fault status out err_old err_new i u x read is same last = tt
   run_refused (Some bytes) None r fault status out err_old err_new i u x read is same last = tt
   run_refused (Some bytes) (Some files) r fault status out err_old err_new i u x read is same last = (
-    stops (2, fault_text fault),
+    stops (2, fault),
     0,
     record {
       status = same;
@@ -219,7 +217,7 @@ module _ (words : List Text) where
     },
     Counted-none i u,
     omega arith,
-    inl (r, read, refused r (fault_text fault) files bytes is),
+    inl (r, read, refused r fault files bytes is),
   )
 
   pub run_without_memory : (first : Option (List ℕ)) (tree : Option Files) (status : ℕ) (out err_old err_new : Shown)

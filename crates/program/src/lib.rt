@@ -20,15 +20,15 @@ use request::{Error, Request, WordsFault, line, text_of};
 use source::{Feed, Sink, WriteFailed, write_all};
 use std::alloc::Global;
 use sumlist::Tree;
-use task::{Names, Task, TaskFault, UsageFault};
+use task::{Names, Task, TaskFault};
 
 /// Why words ask for no task.
 #[derive(Drop)]
-pub enum NoTask {
+pub enum NoTask<'a> {
     /// They are wrong, or ask for help or the version: `clap`'s error says which.
     Words(Error),
-    /// A setting of their request has a fault.
-    Usage(UsageFault),
+    /// A setting of their request has a fault: its word, or nothing, and what is said of it.
+    Usage(&'a str, &'a str),
     /// Memory ran out.
     OutOfMemory,
 }
@@ -60,13 +60,16 @@ pub fn run<L: Feed, T: Tree, W: Sink, E: Sink>(
 }
 
 /// The task that words ask for, after `line` has read them.
-pub fn task_of<'a>(alloc: Global, read: Result<Request<'a>, WordsFault>) -> Result<Task<'a>, NoTask>
+pub fn task_of<'a>(
+    alloc: Global,
+    read: Result<Request<'a>, WordsFault>,
+) -> Result<Task<'a>, NoTask<'a>>
     ensures { (words : List Text) → IsRead words read.entry → IsJudged words result }
 {
     match read {
         Ok(request) => match Task::of(alloc, request) {
             Ok(task) => Ok(task),
-            Err(TaskFault::Usage(fault)) => Err(NoTask::Usage(fault)),
+            Err(TaskFault::Usage(fault)) => Err(NoTask::Usage(fault.word, fault.complaint)),
             Err(TaskFault::OutOfMemory) => Err(NoTask::OutOfMemory),
         },
         Err(WordsFault::Words(error)) => Err(NoTask::Words(error)),
@@ -77,7 +80,7 @@ pub fn task_of<'a>(alloc: Global, read: Result<Request<'a>, WordsFault>) -> Resu
 /// The run of words with a known task, as `run` does it.
 pub fn run_task<L: Feed, T: Tree, W: Sink, E: Sink>(
     alloc: Global,
-    judged: Result<Task<'_>, NoTask>,
+    judged: Result<Task<'_>, NoTask<'_>>,
     input: &mut L,
     tree: &mut T,
     out: &mut W,
@@ -92,7 +95,7 @@ pub fn run_task<L: Feed, T: Tree, W: Sink, E: Sink>(
 {
     let task = match judged {
         Ok(task) => task,
-        Err(NoTask::Usage(fault)) => return tell(err, Fault::Usage(fault)),
+        Err(NoTask::Usage(word, complaint)) => return tell(err, Fault::Usage(word, complaint)),
         Err(NoTask::OutOfMemory) => return tell(err, Fault::OutOfMemory),
         Err(NoTask::Words(error)) => {
             let Ok(text) = text_of(alloc, &error) else {

@@ -19,21 +19,17 @@ use Rattle.clap.specs.declared.builder.action.ArgAction.TheVariants.{Append, Set
 abbrev pub NameList : Type 0
 NameList = Bor (List (Bor Text))
 
--- an option `-x` that takes a value; the id of an option or a flag is its name
+-- an option `-x` that takes a value; the id of an option or a flag is its word, with the dashes
 abbrev pub letter : Text → Rule
-letter name = record (new_rule name) { short = slice_get name 0; value_names = 1 }
+letter name = record (new_rule (codes "-" ++ name)) { short = slice_get name 0; value_names = 1 }
 
 -- an option `--name` that takes a value
 abbrev pub option : Text → Rule
-option name = record (new_rule name) { long = Some name; value_names = 1 }
-
--- the same by another name too
-abbrev pub also : Text → Rule → Rule
-also name rule = record rule { aliases = name ∷ [] }
+option name = record (new_rule (codes "--" ++ name)) { long = Some name; value_names = 1 }
 
 -- a flag `--name`, which takes no value
 abbrev pub flag : Text → Rule
-flag name = record (new_rule name) { long = Some name; action = Some SetTrue }
+flag name = record (new_rule (codes "--" ++ name)) { long = Some name; action = Some SetTrue }
 
 -- its value is a number below 2^64
 abbrev pub number : Rule → Rule
@@ -74,7 +70,7 @@ commands names macs both = command (codes "hash") (required (algorithm names) �
     ∷ required (number (letter (codes "l"))) ∷ flag (codes "raw") ∷ [])
     ∷ command (codes "check") (algorithm both ∷ option (codes "key") ∷ option (codes "key-file")
     ∷ number (letter (codes "l")) ∷ flag (codes "summary") ∷ flag (codes "progress") ∷ option (codes "share")
-    ∷ also (codes "told") (option (codes "report")) ∷ files ∷ [])
+    ∷ record (option (codes "report")) { aliases = codes "told" ∷ [] } ∷ files ∷ [])
     ∷ command (codes "part") (required (algorithm names) ∷ number (option (codes "first"))
     ∷ number (option (codes "chunks")) ∷ flag (codes "list") ∷ number (option (codes "each"))
     ∷ option (codes "verify") ∷ flag (codes "progress") ∷ option (codes "share") ∷ file ∷ [])
@@ -84,9 +80,8 @@ commands names macs both = command (codes "hash") (required (algorithm names) �
 
 -- the program's command on its own
 abbrev pub program_app : App
-program_app = record (new_app (codes "sums")) {
-  top = record (new_app (codes "sums")).top { subcommand_required = true; has_version = true };
-}
+program_app = let app = new_app (codes "sums") in
+    record app { top = record app.top { subcommand_required = true; has_version = true } }
 
 -- the program's command with the six commands below it
 unfoldable pub sums_app : NameList → NameList → NameList → App

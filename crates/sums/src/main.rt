@@ -156,7 +156,7 @@ fn asks_for_progress(read: &Result<Request<'_>, WordsFault>) -> bool
     ensures { (words : List Text) → IsRead words read.now → (read.now ≢ Err OutOfMemory) → IsAsked result words }
 {
     match read {
-        Ok(request) => request.has("progress"),
+        Ok(request) => request.has("--progress"),
         Err(_) => false,
     }
 }

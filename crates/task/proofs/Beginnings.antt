@@ -1,7 +1,7 @@
 -- A text with a name and a colon before the rest.
 use Rattle.std.proofs.lemmas.Grind.{common_steps}
 use Rattle.std.proofs.Common.{◌≡◌, ◌≢◌, Bool, true, [], ◌∷◌, ◌++◌, Option, None, MatchOption, ◌∙◌}
-use Rattle.std.proofs.Common.{ap, codes, length, sym, unwrap_or, arith}
+use Rattle.std.proofs.Common.{codes, length, sym, unwrap_or, arith}
 use Rattle.std.specs.Borrow.{Bor}
 use Rattle.std.specs.Prelude.{◌==◌, drop, if◌then◌else◌}
 use Rattle.std.proofs.Math.Seq.{drop-append_seam}
@@ -38,11 +38,11 @@ unbegun : (b : Bool) (t start : Text) → (b ≡ true → t ≡ start ++ drop (l
 unbegun b t start has lacks = grind (arith, common_steps)
 
 -- the digits in the text of `--verify`
-pub digits_behind : (g : Given) (t b n d : Text) → b ≡ t → n ≡ unwrap_or (text_of (codes "a") g) []
+pub digits_behind : (g : Given) (t b n d : Text) → b ≡ t → n ≡ unwrap_or (text_of (codes "-a") g) []
     → b ≡ n ++ 58 ∷ d → d ≡ digits_of g t
 digits_behind g t b n d same is p =
     rw (← is, sym same ∙ p ∙ sym (append_assoc n (58 ∷ []) d)) (sym (begun (n ++ 58 ∷ []) d))
 
-pub digits_alone : (g : Given) (t b n : Text) → b ≡ t → n ≡ unwrap_or (text_of (codes "a") g) []
+pub digits_alone : (g : Given) (t b n : Text) → b ≡ t → n ≡ unwrap_or (text_of (codes "-a") g) []
     → ((rest : Text) → b ≢ n ++ 58 ∷ rest) → b ≡ digits_of g t
 digits_alone g t b n same is lacks = grind (arith, unbegun, starts_is, Decides-eqb, append_assoc)

@@ -1,4 +1,5 @@
 mod Beginnings
+mod Keys
 mod Lists
 mod Numbers
 mod Powers

@@ -1,5 +1,5 @@
 -- What a `hash` request prints, or the first fault of its settings.
-use Rattle.std.specs.Prelude.{ℕ, ◌-◌, ◌/◌, ◌^◌, ◌++◌, ◌&&◌, ◌||◌, ◌==◌, Bool, List, [], ◌∷◌, length, Option, Some}
+use Rattle.std.specs.Prelude.{ℕ, ◌-◌, ◌/◌, ◌^◌, ◌++◌, ◌||◌, ◌==◌, Bool, List, [], ◌∷◌, length, Option, Some}
 use Rattle.std.specs.Prelude.{Result, Ok, codes, drop, is_some, max, min, nat_lt, unwrap_or, if◌then◌else◌}
 use Rattle.std.specs.List.{starts_with}
 use Rattle.std.specs.Option.{option_map_or}
@@ -21,21 +21,21 @@ use Rattle.task.specs.declared.hashing.Stretch.{Stretch}
 
 -- the settings that a hash does not have
 abbrev pub others : Kind → List Text
-others kind.Blake2b = codes "seek" ∷ codes "parts" ∷ []
-others kind.Blake2s = codes "seek" ∷ codes "parts" ∷ []
-others kind.Blake3 = codes "salt" ∷ codes "personal" ∷ []
-others _ = codes "l" ∷ codes "seek" ∷ codes "salt" ∷ codes "personal" ∷ codes "parts" ∷ []
+others kind.Blake2b = codes "--seek" ∷ codes "--parts" ∷ []
+others kind.Blake2s = codes "--seek" ∷ codes "--parts" ∷ []
+others kind.Blake3 = codes "--salt" ∷ codes "--personal" ∷ []
+others _ = codes "-l" ∷ codes "--seek" ∷ codes "--salt" ∷ codes "--personal" ∷ codes "--parts" ∷ []
 
 -- the request may name more than one file
 abbrev pub names_several : Given → Bool
-names_several g = nat_lt 1 (length (files g)) || is_some (text_of (codes "files0-from") g)
+names_several g = nat_lt 1 (length (files g)) || is_some (text_of (codes "--files0-from") g)
 
 -- how a digest is printed: as raw bytes there is no line, and one file only
 abbrev pub form_of : Given → Result Form Text
-form_of g = do
-  unless (has_flag (codes "raw") g && has_flag (codes "tag") g) (codes "--raw: not with --tag\n")
-  unless (has_flag (codes "raw") g && names_several g) (codes "--raw: one file only\n")
-  Ok (if has_flag (codes "raw") g then Raw else if has_flag (codes "tag") g then Tagged else Plain)
+form_of g = if has_flag (codes "--raw") g then (do
+  unless (has_flag (codes "--tag") g) (codes "--raw: not with --tag\n")
+  unless (names_several g) (codes "--raw: one file only\n")
+  Ok Raw) else Ok (if has_flag (codes "--tag") g then Tagged else Plain)
 
 -- the least and the greatest length of a digest; the label of BLAKE3 stands for the first 32 bytes of its output, which
 -- is much longer without it
@@ -48,7 +48,7 @@ lengths k form = (digest_len (longest k), digest_len (longest k))
 
 -- the digits in the text of `--verify`, which the name of `-a` and a colon may precede
 abbrev pub digits_of : Given → Text → Text
-digits_of g t = let name = unwrap_or (text_of (codes "a") g) [] ++ codes ":" in
+digits_of g t = let name = unwrap_or (text_of (codes "-a") g) [] ++ codes ":" in
     if starts_with ◌==◌ t name then drop (length name) t else t
 
 -- the length of a digest if `-l` is not given: 32 for BLAKE3; otherwise the greatest, or as many bytes as the digits of
@@ -56,22 +56,22 @@ digits_of g t = let name = unwrap_or (text_of (codes "a") g) [] ++ codes ":" in
 abbrev pub default_len : Kind → ℕ × ℕ → Given → ℕ
 default_len kind.Blake3 (least, most) g = 32
 default_len k (least, most) g =
-    option_map_or (λ t. max least (min most (length (digits_of g t) / 2))) (text_of (codes "verify") g) most
+    option_map_or (λ t. max least (min most (length (digits_of g t) / 2))) (text_of (codes "--verify") g) most
 
 -- the bytes that `-l` and `--seek` select, none of them after the last one
 abbrev pub stretch_of : ℕ → ℕ → ℕ → Given → Result Stretch Text
 stretch_of default least most g = do
-  n ← number default least most (codes "l") g
-  position ← number 0 0 (most - n) (codes "seek") g
+  n ← number default least most (codes "-l") g
+  position ← number 0 0 (most - n) (codes "--seek") g
   Ok (record { position = position; length = n })
 
 -- a salt and a personalization of n bytes each: the digits of both are checked before the length of either
 abbrev pub salts : ℕ → Given → Result (List ℕ × List ℕ) Text
 salts n g = do
-  salt ← given hexadecimal (codes "salt") g
-  personal ← given hexadecimal (codes "personal") g
-  salt ← sized n (codes "salt") salt
-  personal ← sized n (codes "personal") personal
+  salt ← given hexadecimal (codes "--salt") g
+  personal ← given hexadecimal (codes "--personal") g
+  salt ← sized n (codes "--salt") salt
+  personal ← sized n (codes "--personal") personal
   Ok (salt, personal)
 
 -- the hash, and what BLAKE2 takes besides its input
@@ -84,12 +84,12 @@ hash_of k g = Ok (hash.Whole k)
 -- what is printed for each file, by `-a`; the number of chunks in a part is checked, and makes no difference to it
 abbrev pub requested : Given → Result Requested Text
 requested g = do
-  kind ← needed (named kinds) (codes "a") g
+  kind ← needed (named kinds) (codes "-a") g
   absent not_for (others kind) g
   form ← form_of g
   stretch ← stretch_of (default_len kind (lengths kind form) g) (lengths kind form).0 (lengths kind form).1 g
   hash ← hash_of kind g
-  given (power_in 1024) (codes "parts") g
+  given (power_in 1024) (codes "--parts") g
   Ok (record { hash = hash; stretch = stretch; form = form })
 
 -- the algorithm of a digest of n bytes
@@ -106,7 +106,7 @@ compared n g s t = hexadecimal s (digits_of g t) >>= (λ bytes. sized n s (Some 
 -- the digest of `--verify`, which is for one file, in the form of digits
 abbrev pub wanted : ℕ → Given → Result (Option (List ℕ)) Text
 wanted n g = given (λ s t. do
-  unless (has_flag (codes "tag") g) (codes "--verify: not with --tag\n")
-  unless (has_flag (codes "raw") g) (codes "--verify: not with --raw\n")
+  unless (has_flag (codes "--tag") g) (codes "--verify: not with --tag\n")
+  unless (has_flag (codes "--raw") g) (codes "--verify: not with --raw\n")
   unless (names_several g) (codes "--verify: one file only\n")
-  compared n g s t) (codes "verify") g
+  compared n g s t) (codes "--verify") g

@@ -1,4 +1,4 @@
--- What the text of a setting says, or the fault that is reported. A setting goes by its name on the command line, and a
+-- What the text of a setting says, or the fault that is reported. A setting goes by its word on the command line, and a
 -- fault is the text that reports it.
 use Rattle.std.specs.Prelude.{◌++◌, ℕ, ◌==◌, ◌&&◌, Bool, List, [], ◌∷◌, if◌then◌else◌, nat_le, nat_lt, length}
 use Rattle.std.specs.Prelude.{Option, Some, None, Result, Ok, Err, codes, count_ones, is_some, ok_or, replicate}
@@ -22,10 +22,6 @@ infixl 10 ◌>>◌
 abbrev pub ◌>>◌ : {A B : Type 0} → Result A Text → Result B Text → Result B Text
 first >> second = first >>= (λ _. second)
 
--- a setting as it stands on the command line: a letter after one dash, or a name after two
-abbrev pub word : Text → Text
-word s = if length s == 1 then 45 ∷ s else 45 ∷ 45 ∷ s
-
 -- what is wrong is refused with this fault
 abbrev pub unless : Bool → Text → Result (Unit {0}) Text
 unless is_wrong fault = if is_wrong then Err fault else Ok tt
@@ -33,27 +29,23 @@ unless is_wrong fault = if is_wrong then Err fault else Ok tt
 -- settings that may not be given, and what is reported of the first one that is
 abbrev pub absent : Text → List Text → Given → Result (Unit {0}) Text
 absent complaint [] g = Ok tt
-absent complaint (s ∷ settings) g = unless (is_some (text_of s g)) (word s ++ complaint) >> absent complaint settings g
+absent complaint (s ∷ settings) g = unless (is_some (text_of s g)) (s ++ complaint) >> absent complaint settings g
 
 -- what is reported if the algorithm does not have them
 abbrev pub not_for : Text
 not_for = codes ": not for this algorithm\n"
 
--- what a setting says, if it was given: a reading takes its name and its text
+-- what a setting says, if it was given: a reading takes its word and its text
 abbrev pub given : {A : Type 0} → (Text → Text → Result A Text) → Text → Given → Result (Option A) Text
 given read s g = option_map_or (λ t. read s t >>= (λ x. Ok (Some x))) (text_of s g) (Ok None)
 
 -- what a setting says that is required
 abbrev pub needed : {A : Type 0} → (Text → Text → Result A Text) → Text → Given → Result A Text
-needed read s g = ok_or (text_of s g) (word s ++ codes ": needed\n") >>= read s
+needed read s g = ok_or (text_of s g) (s ++ codes ": needed\n") >>= read s
 
 -- the fault of a setting that does not say what it has to
 abbrev pub out_of_range : Text → Text
-out_of_range s = word s ++ codes ": out of range\n"
-
--- a text is read as it is
-abbrev pub text : Text → Text → Result Text Text
-text s t = Ok t
+out_of_range s = s ++ codes ": out of range\n"
 
 -- a text is read as what stands beside this name
 abbrev pub named : {A : Type 0} → List (Text × A) → Text → Text → Result A Text
@@ -71,7 +63,7 @@ power_in most s t = number_in 1 most s t >>= (λ n. if count_ones n == 1 then Ok
 
 -- a text is read as the bytes that hexadecimal digits spell
 abbrev pub hexadecimal : Text → Text → Result (List ℕ) Text
-hexadecimal s t = result_map_both (λ bytes. bytes) (λ _. word s ++ codes ": not hexadecimal\n") (decode_of t)
+hexadecimal s t = result_map_both (λ bytes. bytes) (λ _. s ++ codes ": not hexadecimal\n") (decode_of t)
 
 -- the number of a setting, or its default
 abbrev pub number : ℕ → ℕ → ℕ → Text → Given → Result ℕ Text
@@ -80,7 +72,7 @@ number default least most s g = given (number_in least most) s g >>= (λ n. Ok (
 -- the bytes of a setting that has n of them, or zeros if it was not given
 abbrev pub sized : ℕ → Text → Option (List ℕ) → Result (List ℕ) Text
 sized n s None = Ok (replicate n 0)
-sized n s (Some bytes) = if length bytes == n then Ok bytes else Err (word s ++ codes ": wrong length\n")
+sized n s (Some bytes) = if length bytes == n then Ok bytes else Err (s ++ codes ": wrong length\n")
 
 -- the files or lists that were named
 abbrev pub files : Given → List Text

@@ -2,14 +2,15 @@
 
 ghost use Rattle.std.specs.Prelude.{◌≡◌, ◌*◌, ◌≤◌};
 ghost use Rattle.hashes.specs.Digest.{digest_len};
+ghost use Rattle.hashes.specs.declared.kind.Kind.TheVariants as kind;
 ghost use Rattle.request.specs.CommandLine.{given_of};
-ghost use Rattle.task.specs.Tasks as spec;
-ghost use Rattle.task.specs.Tasks.{hmac_alg};
+ghost use Rattle.task.specs.Tasks.{derived, hmac_alg};
 ghost use Rattle.task.specs.inside.Seen.{IsAsDefined, seen};
+ghost use Rattle.task.specs.inside.Steps as steps;
 ghost use Rattle.task.specs.inside.Steps.{derivation_of};
 
-use crate::fault::{Setting, TaskFault, UsageFault};
-use crate::parameters::{HmacHash, absent, given_bytes, needed, needed_kind, number_in};
+use crate::fault::{TaskFault, UsageFault};
+use crate::parameters::{HmacHash, NOT_FOR, absent, given_bytes, needed, needed_kind, number_in};
 use hashes::Kind;
 use request::Request;
 use std::alloc::Global;
@@ -54,14 +55,14 @@ impl<'a> Derivation<'a> {
         request: &Request<'a>,
         hash: HmacHash,
     ) -> Result<Derivation<'a>, TaskFault>
-        ensures { IsAsDefined derivation_shown (spec.hkdf (hmac_alg hash) (given_of request.now)) result }
+        ensures { IsAsDefined derivation_shown (steps.hkdf (hmac_alg hash) (given_of request.now)) result }
     {
-        absent(request, &[Setting::Context])?;
-        let length = needed(request, Setting::Length)?;
+        absent(request, NOT_FOR, &["--context"])?;
+        let length = needed(request, "-l")?;
         let most = 255 * hash.digest_len();
-        let length = number_in(Setting::Length, 1, most, length)? as usize;
-        let salt = given_bytes(alloc, request, Setting::Salt)?;
-        let info = given_bytes(alloc, request, Setting::Info)?;
+        let length = number_in("-l", 1, most, length)? as usize;
+        let salt = given_bytes(alloc, request, "--salt")?;
+        let info = given_bytes(alloc, request, "--info")?;
         Ok(Derivation::Hkdf(Hkdf {
             hash,
             length,
@@ -71,12 +72,12 @@ impl<'a> Derivation<'a> {
     }
 
     fn blake3(request: &Request<'a>) -> Result<Derivation<'a>, UsageFault>
-        ensures { seen derivation_shown result ≡ spec.blake3 (given_of request.now) }
+        ensures { seen derivation_shown result ≡ derived kind.Blake3 (given_of request.now) }
     {
-        absent(request, &[Setting::Salt, Setting::Info])?;
-        let context = needed(request, Setting::Context)?;
-        let length = needed(request, Setting::Length)?;
-        let length = number_in(Setting::Length, 1, u64::MAX, length)?;
+        absent(request, NOT_FOR, &["--salt", "--info"])?;
+        let context = needed(request, "--context")?;
+        let length = needed(request, "-l")?;
+        let length = number_in("-l", 1, u64::MAX, length)?;
         Ok(Derivation::Blake3 { context, length })
     }
 }

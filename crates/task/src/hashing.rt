@@ -12,10 +12,10 @@ ghost use Rattle.task.specs.declared.hashing.Form.{Form};
 ghost use Rattle.task.specs.inside.Possible.{HasDigest, IsPartSize, lengths_of};
 ghost use Rattle.task.specs.inside.Seen.{IsAsDefined, judged};
 
-use crate::fault::{Setting, TaskFault, UsageFault};
+use crate::fault::{TaskFault, UsageFault};
 use crate::parameters::{
-    absent, file_count, given_bytes, hexadecimal, needed_kind, number, of_length, power_in, sized,
-    text_of, unless,
+    NOT_FOR, absent, file_count, given_bytes, hexadecimal, needed_kind, number, of_length,
+    power_in, sized, unless,
 };
 use hashes::{Alg, BLAKE2B_LEN, BLAKE2S_LEN, BLAKE3_LEN, Kind};
 use request::Request;
@@ -112,12 +112,12 @@ pub(crate) fn wanted(
 ) -> Result<Option<Vec<u8>>, TaskFault>
     ensures { IsAsDefined (option_map (λ v. v.items)) (spec.wanted length (given_of request.now)) result }
 {
-    let Some(text) = text_of(request, Setting::Verify) else {
+    let Some(text) = request.text("--verify") else {
         return Ok(None);
     };
-    unless(request.has("tag"), UsageFault::NotWithTag(Setting::Verify))?;
-    unless(request.has("raw"), UsageFault::NotWithRaw(Setting::Verify))?;
-    unless(names_several(request), UsageFault::OneFile(Setting::Verify))?;
+    unless(request.has("--tag"), "--verify", ": not with --tag\n")?;
+    unless(request.has("--raw"), "--verify", ": not with --raw\n")?;
+    unless(names_several(request), "--verify", ": one file only\n")?;
     Ok(Some(compared(alloc, request, text, length)?))
 }
 
@@ -128,9 +128,9 @@ pub(crate) fn given_digest(
     length: u64,
 ) -> Result<Option<Vec<u8>>, TaskFault>
     ensures { IsAsDefined (option_map (λ v. v.items))
-        (given (spec.compared length (given_of request.now)) (codes "verify") (given_of request.now)) result }
+        (given (spec.compared length (given_of request.now)) (codes "--verify") (given_of request.now)) result }
 {
-    match text_of(request, Setting::Verify) {
+    match request.text("--verify") {
         Some(text) => Ok(Some(compared(alloc, request, text, length)?)),
         None => Ok(None),
     }
@@ -143,11 +143,11 @@ fn compared(
     text: &str,
     length: u64,
 ) -> Result<Vec<u8>, TaskFault>
-    ensures { IsAsDefined (λ v. v.items) (spec.compared length (given_of request.now) (codes "verify") text.now)
+    ensures { IsAsDefined (λ v. v.items) (spec.compared length (given_of request.now) (codes "--verify") text.now)
         result }
 {
-    let bytes = hexadecimal(alloc, Setting::Verify, digits_of(request, text))?;
-    Ok(of_length(Setting::Verify, length, bytes)?)
+    let bytes = hexadecimal(alloc, "--verify", digits_of(request, text))?;
+    Ok(of_length("--verify", length, bytes)?)
 }
 
 // The digits in the text of `--verify`, which the name of `-a` and a colon may precede.
@@ -162,9 +162,9 @@ fn digits_of<'a>(request: &Request<'_>, text: &'a str) -> &'a [u8]
 
 // The name that `-a` gives, or an empty text.
 fn algorithm_name<'a>(request: &Request<'a>) -> &'a str
-    ensures { result.now ≡ unwrap_or (request_text (codes "a") (given_of request.now)) [] }
+    ensures { result.now ≡ unwrap_or (request_text (codes "-a") (given_of request.now)) [] }
 {
-    text_of(request, Setting::Algorithm).unwrap_or("")
+    request.text("-a").unwrap_or("")
 }
 
 // What follows this name and a colon, if a text begins with them.
@@ -180,17 +180,11 @@ fn refused_others(request: &Request<'_>, kind: Kind) -> Result<(), UsageFault>
     ensures { judged result ≡ absent not_for (spec.others kind) (given_of request.now) }
 {
     match kind {
-        Kind::Blake2b | Kind::Blake2s => absent(request, &[Setting::Seek, Setting::Parts]),
-        Kind::Blake3 => absent(request, &[Setting::Salt, Setting::Personal]),
-        _ => {
-            let others = [
-                Setting::Length,
-                Setting::Seek,
-                Setting::Salt,
-                Setting::Personal,
-                Setting::Parts,
-            ];
-            absent(request, &others)
+        Kind::Blake2b | Kind::Blake2s => absent(request, NOT_FOR, &["--seek", "--parts"]),
+        Kind::Blake3 => absent(request, NOT_FOR, &["--salt", "--personal"]),
+        Kind::Sha256 | Kind::Sha512 => {
+            let others = ["-l", "--seek", "--salt", "--personal", "--parts"];
+            absent(request, NOT_FOR, &others)
         }
     }
 }
@@ -200,14 +194,11 @@ impl Form {
     pub(crate) fn of(request: &Request<'_>) -> Result<Form, UsageFault>
         ensures { judged result ≡ spec.form_of (given_of request.now) }
     {
-        let is_raw = request.has("raw");
-        let is_tagged = request.has("tag");
-        unless(is_raw && is_tagged, UsageFault::NotWithTag(Setting::Raw))?;
-        let several = is_raw && names_several(request);
-        unless(several, UsageFault::OneFile(Setting::Raw))?;
-        if is_raw {
+        if request.has("--raw") {
+            unless(request.has("--tag"), "--raw", ": not with --tag\n")?;
+            unless(names_several(request), "--raw", ": one file only\n")?;
             Ok(Form::Raw)
-        } else if is_tagged {
+        } else if request.has("--tag") {
             Ok(Form::Tagged)
         } else {
             Ok(Form::Plain)
@@ -243,7 +234,7 @@ fn default_len(request: &Request<'_>, kind: Kind, least: u64, most: u64) -> u64
     if kind == Kind::Blake3 {
         return BLAKE3_LEN as u64;
     }
-    match text_of(request, Setting::Verify) {
+    match request.text("--verify") {
         Some(text) => {
             let digits = digits_of(request, text);
             most.min(digits.len() as u64 / 2).max(least)
@@ -280,10 +271,14 @@ fn salts<const N: usize>(
 ) -> Result<([u8; N], [u8; N]), TaskFault>
     ensures { IsAsDefined (λ s. s) (spec.salts N (given_of request.now)) result }
 {
-    let salt = given_bytes(alloc, request, Setting::Salt)?;
-    let personal = given_bytes(alloc, request, Setting::Personal)?;
-    let salt = sized(Setting::Salt, salt)?;
-    let personal = sized(Setting::Personal, personal)?;
+    let salt = given_bytes(alloc, request, "--salt")?;
+    let personal = given_bytes(alloc, request, "--personal")?;
+    let Some(salt) = sized(salt) else {
+        return Err(TaskFault::Usage(UsageFault::wrong_length("--salt")));
+    };
+    let Some(personal) = sized(personal) else {
+        return Err(TaskFault::Usage(UsageFault::wrong_length("--personal")));
+    };
     Ok((salt, personal))
 }
 
@@ -291,7 +286,7 @@ fn salts<const N: usize>(
 pub(crate) fn names_several(request: &Request<'_>) -> bool
     ensures { result ≡ spec.names_several (given_of request.now) }
 {
-    file_count(request) > 1 || request.text("files0-from").is_some()
+    file_count(request) > 1 || request.text("--files0-from").is_some()
 }
 
 /// The bytes of a digest that `-l` and `--seek` select, none of them after the last one.
@@ -305,18 +300,18 @@ pub(crate) fn stretch_of(
     ensures within { least ≤ default → default ≤ most
         → IfOk result (λ s. (least ≤ s.length) × (s.position + s.length ≤ most)) }
 {
-    let length = number(request, Setting::Length, default, least, most)?;
-    let position = number(request, Setting::Seek, 0, 0, most.saturating_sub(length))?;
+    let length = number(request, "-l", default, least, most)?;
+    let position = number(request, "--seek", 0, 0, most.saturating_sub(length))?;
     Ok(Stretch { position, length })
 }
 
 // The number of chunks in the parts in which files are hashed, if given.
 fn chunks_of(request: &Request<'_>) -> Result<Option<u64>, UsageFault>
-    ensures value { judged result ≡ given (power_in 1024) (codes "parts") (given_of request.now) }
+    ensures value { judged result ≡ given (power_in 1024) (codes "--parts") (given_of request.now) }
     ensures size { IfOk result (λ m. IfSome m IsPartSize) }
 {
-    match text_of(request, Setting::Parts) {
-        Some(text) => Ok(Some(power_in(Setting::Parts, 1024, text)?)),
+    match request.text("--parts") {
+        Some(text) => Ok(Some(power_in("--parts", 1024, text)?)),
         None => Ok(None),
     }
 }

@@ -2,7 +2,7 @@
 #![tactic(auto)]
 
 pub use derivation::{Derivation, Hkdf};
-pub use fault::{Setting, TaskFault, UsageFault};
+pub use fault::{TaskFault, UsageFault};
 pub use hashing::{Form, Hash, Hashing, Requested, Stretch};
 pub use parameters::HmacHash;
 pub use parting::{Joining, PartLength, Place};

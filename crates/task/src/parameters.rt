@@ -7,13 +7,11 @@ ghost use Rattle.hashes.specs.Digest.{digest_len};
 ghost use Rattle.hashes.specs.Kinds.{kinds};
 ghost use Rattle.request.specs.CommandLine.{Text, given_of, text_of};
 ghost use Rattle.task.specs.Settings as spec;
-ghost use Rattle.task.specs.Settings.{given, named, needed, number_in, out_of_range, power_in, word};
+ghost use Rattle.task.specs.Settings.{given, named, needed, number_in, out_of_range, power_in};
 ghost use Rattle.task.specs.Tasks.{hmac_alg};
-ghost use Rattle.task.specs.inside.Seen.{IsAsDefined, judged, seen};
-ghost use Rattle.task.specs.inside.Texts.{fault_text, setting_name};
-ghost use Rattle.task.specs.declared.fault.UsageFault.TheVariants.{OutOfRange, WrongLength};
+ghost use Rattle.task.specs.inside.Seen.{IsAsDefined, fault_text, judged, seen};
 
-use crate::fault::{Setting, TaskFault, UsageFault};
+use crate::fault::{TaskFault, UsageFault};
 use hashes::{Alg, BLAKE2B_LEN, BLAKE2S_LEN, Kind};
 use hex::FromHexError;
 use request::Request;
@@ -49,13 +47,6 @@ impl HmacHash {
     }
 }
 
-/// The text of a setting, if it was given.
-pub(crate) fn text_of<'a>(request: &Request<'a>, setting: Setting) -> Option<&'a str>
-    ensures { option_map (λ t. t.now) result ≡ text_of (setting_name setting) (given_of request.now) }
-{
-    request.text(setting.name())
-}
-
 /// How many files or lists were named.
 pub(crate) fn file_count(request: &Request<'_>) -> usize
     ensures { result ≡ length (spec.files (given_of request.now)) }
@@ -75,144 +66,140 @@ pub(crate) fn file_or_input<'a>(request: &Request<'a>) -> &'a str
 
 /// The hash that a request names.
 pub(crate) fn needed_kind(request: &Request<'_>) -> Result<Kind, UsageFault>
-    ensures { judged result ≡ needed (named kinds) (codes "a") (given_of request.now) }
+    ensures { judged result ≡ needed (named kinds) (codes "-a") (given_of request.now) }
 {
-    kind_named(needed(request, Setting::Algorithm)?)
+    let name = needed(request, "-a")?;
+    Kind::named(name).ok_or(UsageFault::out_of_range("-a"))
 }
 
-fn kind_named(name: &str) -> Result<Kind, UsageFault>
-    ensures { judged result ≡ named kinds (codes "a") name.now }
-{
-    Kind::named(name).ok_or(UsageFault::OutOfRange(Setting::Algorithm))
-}
+/// What is said of a setting that the algorithm does not have.
+pub(crate) const NOT_FOR: &str = ": not for this algorithm\n";
 
-/// Refuses the settings that the algorithm does not have.
-pub(crate) fn absent(request: &Request<'_>, settings: &[Setting]) -> Result<(), UsageFault>
-    ensures { judged result ≡ spec.absent spec.not_for (map setting_name settings.now) (given_of request.now) }
+/// Refuses the first of these settings that was given, with this complaint.
+pub(crate) fn absent(
+    request: &Request<'_>,
+    complaint: &'static str,
+    words: &[&'static str],
+) -> Result<(), UsageFault>
+    ensures { judged result ≡ spec.absent complaint.now (map (λ w. w.now) words.now) (given_of request.now) }
 {
-    match first_given(request, settings) {
-        Some(setting) => Err(UsageFault::NotForAlgorithm(setting)),
-        None => Ok(()),
+    for &word in words {
+        unless(request.text(word).is_some(), word, complaint)?;
     }
+    Ok(())
 }
 
-/// The first of these settings that was given.
-pub(crate) fn first_given(request: &Request<'_>, settings: &[Setting]) -> Option<Setting>
-    ensures { (complaint : Text) → MatchOption result
-        (spec.absent complaint (map setting_name settings.now) (given_of request.now) ≡ Ok tt)
-        (λ s. spec.absent complaint (map setting_name settings.now) (given_of request.now)
-        ≡ Err (word (setting_name s) ++ complaint)) }
+/// Refuses a setting with this complaint, if that is so.
+pub(crate) fn unless(
+    is_wrong: bool,
+    word: &'static str,
+    complaint: &'static str,
+) -> Result<(), UsageFault>
+    ensures { judged result ≡ spec.unless is_wrong (word.now ++ complaint.now) }
 {
-    for &setting in settings {
-        if text_of(request, setting).is_some() {
-            return Some(setting);
-        }
+    if is_wrong {
+        Err(UsageFault { word, complaint })
+    } else {
+        Ok(())
     }
-    None
-}
-
-/// Refuses what is wrong, with this fault.
-pub(crate) fn unless(is_wrong: bool, fault: UsageFault) -> Result<(), UsageFault>
-    ensures { judged result ≡ spec.unless is_wrong (fault_text fault) }
-{
-    if is_wrong { Err(fault) } else { Ok(()) }
 }
 
 /// The text of a setting that is required.
-pub(crate) fn needed<'a>(request: &Request<'a>, setting: Setting) -> Result<&'a str, UsageFault>
-    ensures { seen (λ t. t.now) result ≡ ok_or (text_of (setting_name setting) (given_of request.now))
-        (word (setting_name setting) ++ codes ": needed\n") }
+pub(crate) fn needed<'a>(request: &Request<'a>, word: &'static str) -> Result<&'a str, UsageFault>
+    ensures { seen (λ t. t.now) result ≡ ok_or (text_of word.now (given_of request.now))
+        (word.now ++ codes ": needed\n") }
 {
-    match text_of(request, setting) {
-        Some(text) => Ok(text),
-        None => Err(UsageFault::Needed(setting)),
-    }
+    let complaint = ": needed\n";
+    request.text(word).ok_or(UsageFault { word, complaint })
 }
 
 /// The number of a setting, at least `least` and at most `most`, or the default.
 pub(crate) fn number(
     request: &Request<'_>,
-    setting: Setting,
+    word: &'static str,
     default: u64,
     least: u64,
     most: u64,
 ) -> Result<u64, UsageFault>
-    ensures value { judged result ≡ spec.number default least most (setting_name setting) (given_of request.now) }
+    ensures value { judged result ≡ spec.number default least most word.now (given_of request.now) }
     ensures range { least ≤ default → default ≤ most → IfOk result (λ n. (least ≤ n) × (n ≤ most)) }
 {
-    Ok(given_number(request, setting, least, most)?.unwrap_or(default))
+    Ok(given_number(request, word, least, most)?.unwrap_or(default))
 }
 
 /// The number of a setting, at least `least` and at most `most`, if it was given.
 pub(crate) fn given_number(
     request: &Request<'_>,
-    setting: Setting,
+    word: &'static str,
     least: u64,
     most: u64,
 ) -> Result<Option<u64>, UsageFault>
-    ensures value { judged result ≡ given (number_in least most) (setting_name setting) (given_of request.now) }
+    ensures value { judged result ≡ given (number_in least most) word.now (given_of request.now) }
     ensures range { IfOk result (λ m. IfSome m (λ n. (least ≤ n) × (n ≤ most))) }
 {
-    match text_of(request, setting) {
-        Some(text) => Ok(Some(number_in(setting, least, most, text)?)),
+    match request.text(word) {
+        Some(text) => Ok(Some(number_in(word, least, most, text)?)),
         None => Ok(None),
     }
 }
 
 /// The number that the text of a setting spells, at least `least` and at most `most`.
 pub(crate) fn number_in(
-    setting: Setting,
+    word: &'static str,
     least: u64,
     most: u64,
     text: &str,
 ) -> Result<u64, UsageFault>
-    ensures value { judged result ≡ number_in least most (setting_name setting) text.now }
+    ensures value { judged result ≡ number_in least most word.now text.now }
     ensures range { IfOk result (λ n. (least ≤ n) × (n ≤ most)) }
 {
     match text.parse::<u64>() {
-        Ok(value) => within(setting, least, most, value),
-        Err(_) => Err(UsageFault::OutOfRange(setting)),
+        Ok(value) => within(word, least, most, value),
+        Err(_) => Err(UsageFault::out_of_range(word)),
     }
 }
 
-fn within(setting: Setting, least: u64, most: u64, value: u64) -> Result<u64, UsageFault>
+fn within(word: &'static str, least: u64, most: u64, value: u64) -> Result<u64, UsageFault>
     ensures value { judged result ≡ (if nat_le least value && nat_le value most then Ok value
-        else Err (out_of_range (setting_name setting))) }
+        else Err (out_of_range word.now)) }
     ensures range { IfOk result (λ n. (least ≤ n) × (n ≤ most)) }
 {
     if least <= value && value <= most {
         Ok(value)
     } else {
-        Err(UsageFault::OutOfRange(setting))
+        Err(UsageFault::out_of_range(word))
     }
 }
 
 /// The power of two that the text of a setting spells, at most `most`.
-pub(crate) fn power_in(setting: Setting, most: u64, text: &str) -> Result<u64, UsageFault>
-    ensures value { judged result ≡ power_in most (setting_name setting) text.now }
+pub(crate) fn power_in(word: &'static str, most: u64, text: &str) -> Result<u64, UsageFault>
+    ensures value { judged result ≡ power_in most word.now text.now }
     ensures range { IfOk result (λ n. (1 ≤ n) × (n ≤ most)) }
     ensures power { IfOk result (λ n. count_ones n ≡ 1) }
 {
-    let number = number_in(setting, 1, most, text)?;
+    let number = number_in(word, 1, most, text)?;
     if number.is_power_of_two() {
         Ok(number)
     } else {
-        Err(UsageFault::OutOfRange(setting))
+        Err(UsageFault::out_of_range(word))
     }
 }
 
 /// The bytes that a setting's hexadecimal digits spell.
 pub(crate) fn hexadecimal(
     alloc: Global,
-    setting: Setting,
+    word: &'static str,
     digits: &[u8],
 ) -> Result<Vec<u8>, TaskFault>
-    ensures { IsAsDefined (λ v. v.items) (spec.hexadecimal (setting_name setting) digits.now) result }
+    ensures { IsAsDefined (λ v. v.items) (spec.hexadecimal word.now digits.now) result }
 {
     match hex::decode(alloc, digits) {
         Ok(bytes) => Ok(bytes),
         Err(FromHexError::OutOfMemory) => Err(TaskFault::OutOfMemory),
-        Err(_) => Err(TaskFault::Usage(UsageFault::NotHexadecimal(setting))),
+        Err(_) => {
+            let complaint = ": not hexadecimal\n";
+            Err(TaskFault::Usage(UsageFault { word, complaint }))
+        }
     }
 }
 
@@ -220,42 +207,42 @@ pub(crate) fn hexadecimal(
 pub(crate) fn given_bytes(
     alloc: Global,
     request: &Request<'_>,
-    setting: Setting,
+    word: &'static str,
 ) -> Result<Option<Vec<u8>>, TaskFault>
     ensures { IsAsDefined (option_map (λ v. v.items))
-        (given spec.hexadecimal (setting_name setting) (given_of request.now)) result }
+        (given spec.hexadecimal word.now (given_of request.now)) result }
 {
-    match text_of(request, setting) {
-        Some(text) => Ok(Some(hexadecimal(alloc, setting, text.as_bytes())?)),
+    match request.text(word) {
+        Some(text) => Ok(Some(hexadecimal(alloc, word, text.as_bytes())?)),
         None => Ok(None),
     }
 }
 
 /// The bytes of a setting, if there are `count` of them.
-pub(crate) fn of_length(setting: Setting, count: u64, bytes: Vec<u8>) -> Result<Vec<u8>, UsageFault>
-    ensures { seen (λ v. v.items) result ≡ spec.sized count (setting_name setting) (Some bytes.items) }
+pub(crate) fn of_length(
+    word: &'static str,
+    count: u64,
+    bytes: Vec<u8>,
+) -> Result<Vec<u8>, UsageFault>
+    ensures { seen (λ v. v.items) result ≡ spec.sized count word.now (Some bytes.items) }
 {
     if bytes.len() as u64 == count {
         Ok(bytes)
     } else {
-        Err(UsageFault::WrongLength(setting))
+        Err(UsageFault::wrong_length(word))
     }
 }
 
-/// The bytes of a setting that has `N` of them, or zeros if it was not given.
-pub(crate) fn sized<const N: usize>(
-    setting: Setting,
-    bytes: Option<Vec<u8>>,
-) -> Result<[u8; N], UsageFault>
-    ensures { MatchResult result
-        (λ a. (length a ≡ N) × (a ≡ unwrap_or (option_map (λ b. b.items) bytes) (replicate N 0)))
-        (λ e. (e ≡ WrongLength setting) × IsSomeAnd bytes (λ b. length b.items ≢ N)) }
+/// The `N` bytes of a setting, or zeros if it was not given.
+pub(crate) fn sized<const N: usize>(bytes: Option<Vec<u8>>) -> Option<[u8; N]>
+    ensures { MatchOption result (IsSomeAnd bytes (λ b. length b.items ≢ N))
+        (λ a. (length a ≡ N) × (a ≡ unwrap_or (option_map (λ b. b.items) bytes) (replicate N 0))) }
 {
     let Some(bytes) = bytes else {
-        return Ok([0; N]);
+        return Some([0; N]);
     };
     match bytes.as_slice().split_first_chunk::<N>() {
-        Some((bytes, [])) => Ok(*bytes),
-        _ => Err(UsageFault::WrongLength(setting)),
+        Some((bytes, [])) => Some(*bytes),
+        _ => None,
     }
 }

@@ -1,20 +1,19 @@
 // What `part` and `join` read and print.
 
 ghost use Rattle.std.specs.Prelude.{◌≡◌, ◌+◌, ◌-◌, ◌<◌, ◌≤◌, ◌^◌, ◌%◌, ◌↔◌, false, true, IfSome, IsTrue};
-ghost use Rattle.std.specs.Prelude.{MatchResult, count_ones, nat_lt};
+ghost use Rattle.std.specs.Prelude.{MatchResult, codes, count_ones, nat_lt};
 ghost use Rattle.std.proofs.Props.{props};
 ghost use Rattle.std.specs.Option.{option_map_or};
 ghost use Rattle.request.specs.CommandLine.{given_of};
+ghost use Rattle.task.specs.Settings.{out_of_range};
 ghost use Rattle.task.specs.Tasks.{least_power};
-ghost use Rattle.task.specs.declared.fault.Setting.TheVariants.{First};
-ghost use Rattle.task.specs.declared.fault.UsageFault.TheVariants.{OutOfRange};
 ghost use Rattle.task.specs.inside.Possible.{HasRoom};
-ghost use Rattle.task.specs.inside.Seen.{judged};
+ghost use Rattle.task.specs.inside.Seen.{fault_text, judged};
 ghost use Rattle.task.specs.inside.Steps.{names_blake3};
 
-use crate::fault::{Setting, UsageFault};
+use crate::fault::UsageFault;
 use crate::hashing::Stretch;
-use crate::parameters::needed_kind;
+use crate::parameters::{needed_kind, unless};
 use hashes::Kind;
 use request::Request;
 
@@ -48,10 +47,8 @@ pub struct Joining {
 pub(crate) fn names_blake3(request: &Request<'_>) -> Result<(), UsageFault>
     ensures { judged result ≡ names_blake3 (given_of request.now) }
 {
-    match needed_kind(request)? {
-        Kind::Blake3 => Ok(()),
-        _ => Err(UsageFault::NotForCommand(Setting::Algorithm)),
-    }
+    let kind = needed_kind(request)?;
+    unless(kind != Kind::Blake3, "-a", ": not for this command\n")
 }
 
 impl Place {
@@ -61,12 +58,12 @@ impl Place {
         requires chunks { IfSome chunks (λ n. (1 ≤ n) × (n ≤ 2 ^ 54)) }
         ensures { let is_wrong = option_map_or (λ n. nat_lt 0 (first % least_power n)) chunks false in
             MatchResult result (λ place. (is_wrong ≡ false) × (place.first ≡ first) × (place.chunks ≡ chunks))
-            (λ fault. (is_wrong ≡ true) × (fault ≡ OutOfRange First)) }
+            (λ fault. (is_wrong ≡ true) × (fault_text fault ≡ out_of_range (codes "--first"))) }
     {
         match chunks {
             None => Ok(Place { first, chunks }),
             Some(most) if has_room(first, most) => Ok(Place { first, chunks }),
-            Some(_) => Err(UsageFault::OutOfRange(Setting::First)),
+            Some(_) => Err(UsageFault::out_of_range("--first")),
         }
     }
 }

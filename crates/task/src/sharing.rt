@@ -9,8 +9,8 @@ ghost use Rattle.task.specs.Tasks as tasks;
 ghost use Rattle.task.specs.inside.Seen.{judged, seen};
 ghost use Rattle.task.specs.inside.Steps as steps;
 
-use crate::fault::{Setting, UsageFault};
-use crate::parameters::{file_or_input, number_in, text_of, unless};
+use crate::fault::UsageFault;
+use crate::parameters::{file_or_input, number_in, unless};
 use hashes::Share;
 use request::Request;
 
@@ -31,11 +31,11 @@ impl<'a> SharedFile<'a> {
         ensures name { IfOk result (λ f. f.name.now ≡ spec.file_or_input (given_of request.now)) }
     {
         let name = file_or_input(request);
-        let Some(text) = text_of(request, Setting::Share) else {
+        let Some(text) = request.text("--share") else {
             let share = Share::whole();
             return Ok(SharedFile { name, share });
         };
-        unless(name == "-", UsageFault::FileOnly(Setting::Share))?;
+        unless(name == "-", "--share", ": not of standard input\n")?;
         let share = share_in(text)?;
         Ok(SharedFile { name, share })
     }
@@ -46,12 +46,12 @@ pub(crate) fn share_of_files(request: &Request<'_>, is_compared: bool) -> Result
     ensures { judged result ≡ tasks.share_of (steps.allows_share is_compared (given_of request.now))
         (given_of request.now) }
 {
-    let Some(text) = text_of(request, Setting::Share) else {
+    let Some(text) = request.text("--share") else {
         return Ok(Share::whole());
     };
-    unless(request.has("raw"), UsageFault::NotWithRaw(Setting::Share))?;
-    unless(is_compared, UsageFault::NotWithVerify(Setting::Share))?;
-    unless(reads_input(request), UsageFault::FileOnly(Setting::Share))?;
+    unless(request.has("--raw"), "--share", ": not with --raw\n")?;
+    unless(is_compared, "--share", ": not with --verify\n")?;
+    unless(reads_input(request), "--share", ": not of standard input\n")?;
     share_in(text)
 }
 
@@ -59,7 +59,7 @@ pub(crate) fn share_of_files(request: &Request<'_>, is_compared: bool) -> Result
 pub(crate) fn share_of_entries(request: &Request<'_>) -> Result<Share, UsageFault>
     ensures { judged result ≡ tasks.share_of (Ok tt) (given_of request.now) }
 {
-    match text_of(request, Setting::Share) {
+    match request.text("--share") {
         Some(text) => share_in(text),
         None => Ok(Share::whole()),
     }
@@ -71,10 +71,10 @@ fn share_in(text: &str) -> Result<Share, UsageFault>
     ensures within { IfOk result (λ s. s.waiting ≤ s.others) }
 {
     let Some((number, count)) = text.split_once('/') else {
-        return Err(UsageFault::OutOfRange(Setting::Share));
+        return Err(UsageFault::out_of_range("--share"));
     };
-    let count = number_in(Setting::Share, 1, u64::MAX, count)?;
-    let number = number_in(Setting::Share, 0, count - 1, number)?;
+    let count = number_in("--share", 1, u64::MAX, count)?;
+    let number = number_in("--share", 0, count - 1, number)?;
     Ok(Share {
         others: count - 1,
         waiting: number,
@@ -85,7 +85,7 @@ fn share_in(text: &str) -> Result<Share, UsageFault>
 fn reads_input(request: &Request<'_>) -> bool
     ensures { result ≡ steps.reads_input (given_of request.now) }
 {
-    request.text("files0-from").is_none() && names_input(request)
+    request.text("--files0-from").is_none() && names_input(request)
 }
 
 fn names_input(request: &Request<'_>) -> bool

@@ -8,13 +8,16 @@ ghost use Rattle.task.specs.Tasks as spec;
 ghost use Rattle.task.specs.Tasks.{in_file, these};
 ghost use Rattle.task.specs.inside.Possible.{HasTag, mac_len};
 ghost use Rattle.task.specs.inside.Seen.{IsAsDefined, judged, seen};
-ghost use Rattle.task.specs.inside.Steps.{mac_of};
+ghost use Rattle.task.specs.inside.Steps.{hmac, key_of, mac_of};
 
-use crate::fault::{Setting, TaskFault, UsageFault};
+use crate::fault::{TaskFault, UsageFault};
 use crate::parameters::{HmacHash, given_bytes, needed, number, unless};
 use hashes::{BLAKE2B_LEN, BLAKE2S_LEN, BLAKE3_LEN};
 use request::Request;
 use std::alloc::Global;
+
+/// What is said of a key that is given in none of two ways, or in both.
+pub(crate) const ONE_KEY: &str = "give one of --key and --key-file\n";
 
 /// A keyed function, and the length in bytes of the tags that it prints.
 #[derive(Clone, Copy)]
@@ -65,21 +68,15 @@ impl Mac {
         ensures has { IfOk result HasTag }
         ensures few { IfOk result (λ mac. mac_len mac ≤ max 64 most) }
     {
-        match needed(request, Setting::Algorithm)? {
+        match needed(request, "-a")? {
             "hmac-sha256" => hmac(request, HmacHash::Sha256),
             "hmac-sha512" => hmac(request, HmacHash::Sha512),
             "hmac-blake2b" => hmac(request, HmacHash::Blake2b),
             "hmac-blake2s" => hmac(request, HmacHash::Blake2s),
             "blake2b" => Ok(Mac::Blake2b(blake2_len(request, BLAKE2B_LEN as u64)? as usize)),
             "blake2s" => Ok(Mac::Blake2s(blake2_len(request, BLAKE2S_LEN as u64)? as usize)),
-            "blake3" => Ok(Mac::Blake3(number(
-                request,
-                Setting::Length,
-                BLAKE3_LEN as u64,
-                1,
-                most,
-            )?)),
-            _ => Err(UsageFault::OutOfRange(Setting::Algorithm)),
+            "blake3" => Ok(Mac::Blake3(number(request, "-l", BLAKE3_LEN as u64, 1, most)?)),
+            _ => Err(UsageFault::out_of_range("-a")),
         }
     }
 
@@ -95,19 +92,19 @@ impl Mac {
 }
 
 fn hmac(request: &Request<'_>, hash: HmacHash) -> Result<Mac, UsageFault>
-    ensures value { seen (λ m. (m, mac_len m)) result ≡ spec.hmac hash (given_of request.now) }
+    ensures value { seen (λ m. (m, mac_len m)) result ≡ hmac hash (given_of request.now) }
     ensures has { IfOk result HasTag }
 {
     let whole = hash.digest_len();
-    let length = number(request, Setting::Length, whole, whole / 2, whole)?;
+    let length = number(request, "-l", whole, whole / 2, whole)?;
     Ok(Mac::Hmac(hash, length as usize))
 }
 
 fn blake2_len(request: &Request<'_>, most: u64) -> Result<u64, UsageFault>
-    ensures value { judged result ≡ number most 1 most (codes "l") (given_of request.now) }
+    ensures value { judged result ≡ number most 1 most (codes "-l") (given_of request.now) }
     ensures range { 1 ≤ most → IfOk result (λ n. (1 ≤ n) × (n ≤ most)) }
 {
-    number(request, Setting::Length, most, 1, most)
+    number(request, "-l", most, 1, most)
 }
 
 impl<'a> Key<'a> {
@@ -115,11 +112,11 @@ impl<'a> Key<'a> {
 
     /// The key of a request, which is given in one of two ways.
     pub(crate) fn given(alloc: Global, request: &Request<'a>) -> Result<Key<'a>, TaskFault>
-        ensures { IsAsDefined key_shown (spec.key_of (given_of request.now)) result }
+        ensures { IsAsDefined key_shown (key_of (given_of request.now)) result }
     {
-        let given = given_bytes(alloc, request, Setting::Key)?;
-        let file = request.text("key-file");
-        unless(given.is_some() == file.is_some(), UsageFault::OneKey)?;
+        let given = given_bytes(alloc, request, "--key")?;
+        let file = request.text("--key-file");
+        unless(given.is_some() == file.is_some(), "", ONE_KEY)?;
         Ok(Key::of(alloc, file, given))
     }
 

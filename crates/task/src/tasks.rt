@@ -1,7 +1,7 @@
 // What a run is to do.
 
 ghost use Rattle.std.specs.Prelude.{◌≡◌, ◌≢◌, ◌&&◌, ◌||◌, IfOk, IsErrOf, codes, is_some, length, map, nat_lt, not};
-ghost use Rattle.std.specs.Prelude.{ok_or};
+ghost use Rattle.std.specs.Prelude.{ok_or, option_map};
 ghost use Rattle.std.specs.Map.{lookup};
 ghost use Rattle.std.specs.Option.{option_map_or};
 ghost use Rattle.std.specs.Str.{bytes_eq};
@@ -14,22 +14,25 @@ ghost use Rattle.task.specs.Tasks as spec;
 ghost use Rattle.task.specs.Tasks.{asked, in_file, these};
 ghost use Rattle.task.specs.inside.Reading as reading;
 ghost use Rattle.task.specs.inside.Seen.{IsAsDefined, judged, seen};
-ghost use Rattle.task.specs.inside.Steps.{entries};
+ghost use Rattle.task.specs.inside.Steps.{entries, input_name};
 ghost use Rattle.task.specs.inside.Views.{entries_shown, names_shown, sum_shown, task_shown, texts_of, verdicts_shown};
 
 use crate::derivation::Derivation;
-use crate::fault::{Setting, TaskFault, UsageFault};
+use crate::fault::{TaskFault, UsageFault};
 use crate::hashing::{Form, Hashing, given_digest, names_several, stretch_of, wanted};
 use crate::parameters::{
-    absent, file_count, file_or_input, first_given, given_number, needed, number, power_in, unless,
+    NOT_FOR, absent, file_count, file_or_input, given_number, needed, number, power_in, unless,
 };
 use crate::parting::{Joining, PartLength, Place, names_blake3};
 use crate::sharing::{SharedFile, share_of_entries, share_of_files};
-use crate::tagging::{Key, Mac, ShortMac, Tagging};
+use crate::tagging::{Key, Mac, ONE_KEY, ShortMac, Tagging};
 use b3::MOST_CHUNKS;
 use hashes::{BLAKE3_LEN, Kind, Share};
 use request::Request;
 use std::alloc::{AllocError, Global};
+
+// What is said of names that are given both by words and in a file.
+const ONE_SOURCE: &str = "give only one of FILE and --files0-from\n";
 
 // The tags in a list have at most so many bytes.
 const LISTED_LEN: u64 = 64;
@@ -151,7 +154,15 @@ impl<'a> Task<'a> {
     pub fn of(alloc: Global, request: Request<'a>) -> Result<Task<'a>, TaskFault>
         ensures { IsAsDefined task_shown (asked (given_of request.entry)) result }
     {
-        task_of(alloc, &request)
+        match request.command() {
+            "hash" => hash(alloc, &request),
+            "mac" => mac(alloc, &request),
+            "kdf" => kdf(alloc, &request),
+            "check" => check(alloc, &request),
+            "part" => Ok(part(&request)?),
+            "join" => join(alloc, &request),
+            _ => Err(TaskFault::Usage(UsageFault::out_of_range("COMMAND"))),
+        }
     }
 }
 
@@ -214,21 +225,6 @@ fn have_input(names: &[&str]) -> bool
     names.contains(&"-")
 }
 
-fn task_of<'a>(alloc: Global, request: &Request<'a>) -> Result<Task<'a>, TaskFault>
-    ensures task { IsAsDefined task_shown (asked (given_of request.now)) result }
-    ensures memory { IsErrOf result TaskFault.OutOfMemory → (given_of request.now).0 ≢ codes "part" }
-{
-    match request.command() {
-        "hash" => hash(alloc, request),
-        "mac" => mac(alloc, request),
-        "kdf" => kdf(alloc, request),
-        "check" => check(alloc, request),
-        "part" => Ok(part(request)?),
-        "join" => join(alloc, request),
-        _ => Err(TaskFault::Usage(UsageFault::NoCommand)),
-    }
-}
-
 fn hash<'a>(alloc: Global, request: &Request<'a>) -> Result<Task<'a>, TaskFault>
     ensures { IsAsDefined task_shown (spec.hash (given_of request.now)) result }
 {
@@ -246,14 +242,10 @@ fn of_files<'a>(
 ) -> Result<Task<'a>, TaskFault>
     ensures { IsAsDefined task_shown (spec.of_files (sum_shown sum.entry) length (given_of request.now)) result }
 {
-    unless(has_two_sources(request), UsageFault::OneSource)?;
-    unless(
-        has_useless_name(request),
-        UsageFault::InputOnly(Setting::Name),
-    )?;
+    let names = Names::of(alloc, request)?;
+    let name = input_name(request)?;
     let wanted = wanted(alloc, request, length)?;
     let share = share_of_files(request, wanted.is_some())?;
-    let name = request.text("name");
     if name.is_some() || wanted.is_some() {
         let file = file_or_input(request);
         return Ok(Task::Line {
@@ -263,37 +255,31 @@ fn of_files<'a>(
             file,
         });
     }
-    let names = Names::of(alloc, request)?;
     Ok(Task::Lines { sum, names, share })
 }
 
-// Whether files are named both by words and in a file.
-fn has_two_sources(request: &Request<'_>) -> bool
-    ensures { result ≡ (is_some (text_of (codes "files0-from") (given_of request.now))
-        && nat_lt 0 (length (files (given_of request.now)))) }
+// The name that is given to standard input, which then stands alone.
+fn input_name<'a>(request: &Request<'a>) -> Result<Option<&'a str>, UsageFault>
+    ensures { seen (option_map (λ n. n.now)) result ≡ input_name (given_of request.now) }
 {
-    request.text("files0-from").is_some() && file_count(request) > 0
-}
-
-// Whether standard input is given a name, and does not stand alone.
-fn has_useless_name(request: &Request<'_>) -> bool
-    ensures { result ≡ (is_some (text_of (codes "name") (given_of request.now))
-        && (hashing.names_several (given_of request.now)
-        || not (bytes_eq (settings.file_or_input (given_of request.now)) (codes "-")))) }
-{
-    request.text("name").is_some() && (names_several(request) || file_or_input(request) != "-")
+    let Some(name) = request.text("--name") else {
+        return Ok(None);
+    };
+    let is_other = names_several(request) || file_or_input(request) != "-";
+    unless(is_other, "--name", ": standard input only\n")?;
+    Ok(Some(name))
 }
 
 impl<'a> Names<'a> {
-    fn of(alloc: Global, request: &Request<'a>) -> Result<Names<'a>, AllocError>
-        ensures { IfOk result (λ names. names_shown names
-            ≡ option_map_or (λ list. in_file list) (text_of (codes "files0-from") (given_of request.now))
-            (these (settings.names_or_input (given_of request.now)))) }
+    // The files are named by words, or in a file.
+    fn of(alloc: Global, request: &Request<'a>) -> Result<Names<'a>, TaskFault>
+        ensures { IsAsDefined names_shown (spec.names_of (given_of request.now)) result }
     {
-        match request.text("files0-from") {
-            Some(list) => Ok(Names::From(list)),
-            None => Ok(Names::Given(names_or_input(alloc, request)?)),
-        }
+        let Some(list) = request.text("--files0-from") else {
+            return Ok(Names::Given(names_or_input(alloc, request)?));
+        };
+        unless(file_count(request) > 0, "", ONE_SOURCE)?;
+        Ok(Names::From(list))
     }
 }
 
@@ -317,7 +303,7 @@ fn mac<'a>(alloc: Global, request: &Request<'a>) -> Result<Task<'a>, TaskFault>
     Form::of(request)?;
     let mac = Mac::of(request, u64::MAX)?;
     let key = Key::given(alloc, request)?;
-    let is_raw = request.has("raw");
+    let is_raw = request.has("--raw");
     of_files(
         alloc,
         request,
@@ -330,10 +316,10 @@ fn kdf<'a>(alloc: Global, request: &Request<'a>) -> Result<Task<'a>, TaskFault>
     ensures { IsAsDefined task_shown (spec.kdf (given_of request.now)) result }
 {
     let derivation = Derivation::of(alloc, request)?;
-    let material = needed(request, Setting::IkmFile)?;
+    let material = needed(request, "--ikm-file")?;
     Ok(Task::Kdf {
         derivation,
-        is_raw: request.has("raw"),
+        is_raw: request.has("--raw"),
         material,
     })
 }
@@ -345,7 +331,7 @@ fn check<'a>(alloc: Global, request: &Request<'a>) -> Result<Task<'a>, TaskFault
     let verdicts = Verdicts::of(request)?;
     let lists = names_or_input(alloc, request)?;
     let reporting = Reporting {
-        is_summed: request.has("summary"),
+        is_summed: request.has("--summary"),
     };
     Ok(Task::Check {
         entries,
@@ -359,12 +345,10 @@ impl<'a> Verdicts<'a> {
     fn of(request: &Request<'a>) -> Result<Verdicts<'a>, UsageFault>
         ensures { seen verdicts_shown result ≡ spec.verdicts (given_of request.now) }
     {
-        let Some(report) = request.text("report") else {
+        let Some(report) = request.text("--report") else {
             return Ok(Verdicts::Files(share_of_entries(request)?));
         };
-        if let Some(setting) = first_given(request, &[Setting::Share]) {
-            return Err(UsageFault::NotWithReport(setting));
-        }
+        absent(request, ": not with --report\n", &["--share"])?;
         Ok(Verdicts::Report(report))
     }
 }
@@ -374,26 +358,29 @@ impl<'a> Entries<'a> {
     fn of(alloc: Global, request: &Request<'a>) -> Result<Entries<'a>, TaskFault>
         ensures { IsAsDefined entries_shown (entries (given_of request.now)) result }
     {
-        if request.text("key").is_some() || request.text("key-file").is_some() {
+        if request.text("--key").is_some() || request.text("--key-file").is_some() {
             let mac = Mac::of(request, LISTED_LEN)?;
             let key = Key::given(alloc, request)?;
             return Ok(Entries::Tags(ShortMac { mac }, key));
         }
         let kind = unkeyed_kind(request)?;
-        absent(request, &[Setting::Length])?;
+        absent(request, NOT_FOR, &["-l"])?;
         Ok(Entries::Digests(kind))
     }
 }
 
 // The hash that a request without a key names, if it names one. Any other name is one of HMAC.
 fn unkeyed_kind(request: &Request<'_>) -> Result<Option<Kind>, UsageFault>
-    ensures { judged result ≡ settings.given (λ s t. ok_or (lookup (bytes_eq t) kinds) spec.one_key) (codes "a")
+    ensures { judged result ≡ settings.given (λ s t. ok_or (lookup (bytes_eq t) kinds) spec.one_key) (codes "-a")
         (given_of request.now) }
 {
-    match request.text("a") {
+    match request.text("-a") {
         Some(name) => match Kind::named(name) {
             Some(kind) => Ok(Some(kind)),
-            None => Err(UsageFault::OneKey),
+            None => Err(UsageFault {
+                word: "",
+                complaint: ONE_KEY,
+            }),
         },
         None => Ok(None),
     }
@@ -403,11 +390,11 @@ fn part<'a>(request: &Request<'a>) -> Result<Task<'a>, UsageFault>
     ensures { seen task_shown result ≡ spec.part (given_of request.now) }
 {
     names_blake3(request)?;
-    if request.has("list") {
+    if request.has("--list") {
         starts(request)
-    } else if let Some(parts) = request.text("verify") {
+    } else if let Some(parts) = request.text("--verify") {
         verify(request, parts)
-    } else if request.text("each").is_some() {
+    } else if request.text("--each").is_some() {
         each(request)
     } else {
         one_part(request)
@@ -417,22 +404,11 @@ fn part<'a>(request: &Request<'a>) -> Result<Task<'a>, UsageFault>
 fn starts<'a>(request: &Request<'a>) -> Result<Task<'a>, UsageFault>
     ensures { seen task_shown result ≡ spec.starts (given_of request.now) }
 {
-    let chunks = power_in(
-        Setting::Chunks,
-        MOST_CHUNKS,
-        needed(request, Setting::Chunks)?,
-    )?;
-    let others = [
-        Setting::First,
-        Setting::Each,
-        Setting::Verify,
-        Setting::Share,
-    ];
-    if let Some(setting) = first_given(request, &others) {
-        return Err(UsageFault::NotWithList(setting));
-    }
+    let chunks = power_in("--chunks", MOST_CHUNKS, needed(request, "--chunks")?)?;
+    let others = ["--first", "--each", "--verify", "--share"];
+    absent(request, ": not with --list\n", &others)?;
     let file = file_or_input(request);
-    unless(file == "-", UsageFault::FileOnly(Setting::Starts))?;
+    unless(file == "-", "--list", ": not of standard input\n")?;
     let parts = PartLength { chunks };
     Ok(Task::Starts { parts, file })
 }
@@ -440,10 +416,8 @@ fn starts<'a>(request: &Request<'a>) -> Result<Task<'a>, UsageFault>
 fn verify<'a>(request: &Request<'a>, parts: &'a str) -> Result<Task<'a>, UsageFault>
     ensures { seen task_shown result ≡ spec.verify parts.now (given_of request.now) }
 {
-    let others = [Setting::First, Setting::Chunks, Setting::Each];
-    if let Some(setting) = first_given(request, &others) {
-        return Err(UsageFault::NotWithVerify(setting));
-    }
+    let others = ["--first", "--chunks", "--each"];
+    absent(request, ": not with --verify\n", &others)?;
     let file = SharedFile::of(request)?;
     Ok(Task::Verify { parts, file })
 }
@@ -451,10 +425,8 @@ fn verify<'a>(request: &Request<'a>, parts: &'a str) -> Result<Task<'a>, UsageFa
 fn each<'a>(request: &Request<'a>) -> Result<Task<'a>, UsageFault>
     ensures { seen task_shown result ≡ spec.each (given_of request.now) }
 {
-    let chunks = power_in(Setting::Each, MOST_CHUNKS, needed(request, Setting::Each)?)?;
-    if let Some(setting) = first_given(request, &[Setting::First, Setting::Chunks]) {
-        return Err(UsageFault::NotWithEach(setting));
-    }
+    let chunks = power_in("--each", MOST_CHUNKS, needed(request, "--each")?)?;
+    absent(request, ": not with --each\n", &["--first", "--chunks"])?;
     let parts = PartLength { chunks };
     let file = SharedFile::of(request)?;
     Ok(Task::Parts { parts, file })
@@ -463,11 +435,9 @@ fn each<'a>(request: &Request<'a>) -> Result<Task<'a>, UsageFault>
 fn one_part<'a>(request: &Request<'a>) -> Result<Task<'a>, UsageFault>
     ensures { seen task_shown result ≡ spec.one_part (given_of request.now) }
 {
-    if let Some(setting) = first_given(request, &[Setting::Share]) {
-        return Err(UsageFault::NotOfOnePart(setting));
-    }
-    let first = number(request, Setting::First, 0, 0, MOST_CHUNKS - 1)?;
-    let chunks = given_number(request, Setting::Chunks, 1, MOST_CHUNKS)?;
+    absent(request, ": not of one part\n", &["--share"])?;
+    let first = number(request, "--first", 0, 0, MOST_CHUNKS - 1)?;
+    let chunks = given_number(request, "--chunks", 1, MOST_CHUNKS)?;
     let place = Place::of(first, chunks)?;
     let file = file_or_input(request);
     Ok(Task::Part { place, file })
@@ -478,9 +448,9 @@ fn join<'a>(alloc: Global, request: &Request<'a>) -> Result<Task<'a>, TaskFault>
 {
     names_blake3(request)?;
     let stretch = stretch_of(request, BLAKE3_LEN as u64, 1, u64::MAX)?;
-    let bytes = given_number(request, Setting::Bytes, 0, u64::MAX)?;
+    let bytes = given_number(request, "--bytes", 0, u64::MAX)?;
     let wanted = given_digest(alloc, request, stretch.length)?;
-    let name = request.text("name").unwrap_or("-");
+    let name = request.text("--name").unwrap_or("-");
     let lists = names_or_input(alloc, request)?;
     Ok(Task::Join {
         joining: Joining { stretch, bytes },

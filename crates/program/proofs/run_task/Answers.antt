@@ -12,8 +12,7 @@ returns-in-Err-OutOfMemory g c words judged =
 pub returns-in-Err-Usage : goal.returns-in-Err-Usage
 returns-in-Err-Usage g c words judged =
     let given = rw (c.in-Err-Usage.is, c.in-Err-Usage.field-0-is) at judged in
-    run_refused words _ _ given.0 c.in-Err-Usage.fault _ _ _ _ _ _ _ given.1 given.2 c.tell.ensures.status
-    c.tell.ensures.told
+    run_refused words _ _ given.0 _ _ _ _ _ _ _ _ given.1 given.2 c.tell.ensures.status c.tell.ensures.told
 
 pub returns-in-Err-Words : goal.returns-in-Err-Words
 returns-in-Err-Words g c words judged =

@@ -1,11 +1,14 @@
 -- What contracts see of an answer of the code.
-use Rattle.std.specs.Prelude.{◌≡◌, ⊤, Result, Ok, Err}
+use Rattle.std.specs.Prelude.{◌≡◌, ◌++◌, ⊤, Result, Ok, Err}
 use Rattle.std.specs.Result.{result_map_both}
 use Rattle.request.specs.CommandLine.{Text}
 use Rattle.task.specs.declared.fault.TaskFault.{TaskFault}
 use Rattle.task.specs.declared.fault.TaskFault.TheVariants.{OutOfMemory, Usage}
 use Rattle.task.specs.declared.fault.UsageFault.{UsageFault}
-use Rattle.task.specs.inside.Texts.{fault_text}
+
+-- the text of a fault
+abbrev pub fault_text : UsageFault → Text
+fault_text fault = fault.word.now ++ fault.complaint.now
 
 -- its value as the definitions have it, or the text of its fault
 abbrev pub seen : {A B : Type 0} → (A → B) → Result A UsageFault → Result B Text

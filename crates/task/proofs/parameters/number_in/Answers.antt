@@ -1,4 +1,4 @@
-use Rattle.std.proofs.Common.{◌∙◌, arith}
+use Rattle.std.proofs.Common.{◌∙◌, Err, ap, arith}
 use Rattle.task.proofs.Numbers.{number-parsed, number-refused}
 use Rattle.task.proofs.parameters.number_in.Goals as goal
 
@@ -8,5 +8,6 @@ returns-in-Ok-clause-value c =
 
 pub returns-in-Err-clause-value : goal.returns-in-Err-clause-value
 returns-in-Err-clause-value c =
-    number-refused c.args.least _ _ c.args.text.now c.parse.result _ c.parse.ensures.value.0
+    ap Err c.out_of_range.ensures
+    ∙ number-refused c.args.least _ _ c.args.text.now c.parse.result _ c.parse.ensures.value.0
     (omega (arith, c.ranges.most)) c.in-Err.is

@@ -3,7 +3,7 @@ use Rattle.command.proofs.VisibleNames.{visible-none}
 use Rattle.command.proofs.fault.Fault.message.Goals as goal
 
 pub returns-in-Usage : goal.returns-in-Usage
-returns-in-Usage c = rw c.in-Usage.is (rw (c.texts.ensures.subject, c.texts.ensures.complaint) (visible-none _))
+returns-in-Usage c = rw c.in-Usage.is (visible-none _)
 
 pub returns-in-KeyFileTooLong : goal.returns-in-KeyFileTooLong
 returns-in-KeyFileTooLong c = rw c.in-KeyFileTooLong.is (c.of.ensures ∙ visible-none _)
