@@ -309,62 +309,29 @@ module _ (reporting : Reporting) (m : Meaning) (lists : List Text) (report name 
         λ s ends. absurd (refused_ends (2 ^ 64 - 1) false report (Some whole) run s p ends),
       )
       on None at (inr (inr p)) = absurd p
-      on (Some m) at (inr (inr (
-        os,
-        front,
-        after,
-        cut,
-        possible,
-        behind,
-        split,
-        inl
-            (none, is_run, rest_is, next_is),
-      ))) =
+      on (Some m) at (inr (inr (os, front, after, cut, possible, behind, split, inl ended))) =
+          let next_is = ended.3 in
           let few = lines_few title os in
           let longer = length-append (report_from title 1 os) behind in
           let long = ap length split in
-          let over : List ℕ = if is_input name then [] else bytes in (
-            record { left = behind; number = next; input = over },
+          let over : List ℕ = if is_input name then [] else bytes in
+          let end : Beside = record { left = behind; number = next; input = over } in (
+            end,
             inr (inr (rw (of, at) (
               os,
               front,
               after,
               cut,
               possible,
-              rw (← called) (
-                behind,
-                split,
-                inl (none, is_run, ap (λ k. record { left = behind; number = k; input = over }) next_is),
-              ),
+              rw (← called) (behind, split, inl (ended.0, ended.1, ap (λ k. record end { number = k }) next_is)),
             ))),
-            λ s ends now still. known_told report behind over files whole rest next c.bytes c.files rest_is now
+            λ s ends now still. known_told report behind over files whole rest next c.bytes c.files ended.2 now
                 (still ∙ of) is (omega (arith, few, longer, long, next_is, room)),
           )
-      on (Some m) at (inr (inr (
-        os,
-        front,
-        after,
-        cut,
-        possible,
-        behind,
-        split,
-        inr
-            (line, others, more, so, other),
-      ))) = (
+      on (Some m) at (inr (inr (os, front, after, cut, possible, behind, split, inr wrong))) = (
         here,
-        inr (inr (rw (of, at) (
-          os,
-          front,
-          after,
-          cut,
-          possible,
-          rw (← called) (
-            behind,
-            split,
-            inr (line, others, more, so, other),
-          ),
-        ))),
-        λ s ends. absurd (not_both run _ s (ap (λ (q : Run). q.ending) so) ends),
+        inr (inr (rw (of, at) (os, front, after, cut, possible, rw (← called) (behind, split, inr wrong)))),
+        λ s ends. absurd (not_both run _ s (ap (λ (q : Run). q.ending) wrong.3) ends),
       )
 
   -- what was done of it, from a state on

@@ -3,6 +3,7 @@
 ghost use Rattle.std.specs.Prelude.{◌≡◌, ◌<◌, ◌≤◌, ◌++◌, ◌∷◌, ℕ, Bool, List, Option, [], IfOk, IfSome, IsErrOf};
 ghost use Rattle.std.specs.Prelude.{MatchBool, MatchResult, OnOk, length, map, nat_lt, true, ⊤};
 ghost use Rattle.hashes.specs.declared.share.Share.{Share};
+ghost use Rattle.source.specs.Written.{Shown};
 ghost use Rattle.command.specs.Run.{Run};
 ghost use Rattle.command.specs.Walks.{Walk};
 ghost use Rattle.command.specs.inside.Items.{Breaks, DoesWalk, EndsBy, MovesOn, Once, Passes, Within, names_left};
@@ -24,6 +25,9 @@ pub(crate) trait Items<'n> {
     ghost state: { Self → Option State };
 
     ghost items: { Self → Option (List Item) };
+
+    // What standard output shows.
+    ghost out: { Self → Shown };
 
     ghost at: { Self → Item → Type 0 };
 
@@ -54,22 +58,18 @@ pub(crate) trait Items<'n> {
         ensures broken { (start : Self) → same start self.old → IfSome (state start) (λ _. IfSome (state self.old) (λ _.
             MatchResult result (λ _. ⊤) (λ fault. Breaks (walk start).broken fault
             (λ failures. counted failures self.old self.new)))) }
+        ensures unwritten { out self.new ≡ out self.old }
         ensures same { same self.old self.new }
         ensures kept { keeps [] self.old self.new }
         ensures memory { IsErrOf result Fault.OutOfMemory → wants self.old }
         ensures fewer { IfOk result (λ found. found ≡ true → most self.new < most self.old) };
 
     /// Writes the line of the item, reports what there is to say of it, and answers its status.
-    fn print<W: Sink, E: Sink>(
-        &mut self,
-        share: Share,
-        out: &mut W,
-        err: &mut E,
-    ) -> Result<u8, Fault<'n>>
+    fn print<E: Sink>(&mut self, share: Share, err: &mut E) -> Result<u8, Fault<'n>>
         requires { takes share }
         ensures printed { IfSome (state self.old) (λ x. (i : Item) → at self.old i → Once (λ run. (y : State)
             × (walk self.old).step x i run y × OnOk result (state self.new ≡ Some y)) GOES_ON (nat_lt 0 share.others)
-            (λ failures. counted failures self.old self.new) result (W.shown out.old) (W.shown out.new)
+            (λ failures. counted failures self.old self.new) result (out self.old) (out self.new)
             (E.shown err.old) (E.shown err.new)) }
         ensures items { items self.new ≡ items self.old }
         ensures same { same self.old self.new }
@@ -81,6 +81,7 @@ pub(crate) trait Items<'n> {
     fn end(&mut self, status: u8) -> Result<u8, Fault<'n>>
         ensures ended { IfSome (state self.old) (λ x.
             EndsBy ((walk self.old).ending x status) result (λ failures. counted failures self.old self.new)) }
+        ensures unwritten { out self.new ≡ out self.old }
         ensures same { same self.old self.new }
         ensures kept { keeps [] self.old self.new }
         ensures memory { IsErrOf result Fault.OutOfMemory → wants self.old };
@@ -100,16 +101,15 @@ pub(crate) trait Items<'n> {
 }
 
 /// Goes through a share of the items, and answers the greatest status.
-pub(crate) fn walk<'n, I: Items<'n>, W: Sink, E: Sink>(
+pub(crate) fn walk<'n, I: Items<'n>, E: Sink>(
     items: &mut I,
     share: Share,
-    out: &mut W,
     err: &mut E,
 ) -> Result<u8, Fault<'n>>
     requires { I.takes share }
     ensures run { IfSome (I.state items.old) (λ x. IfSome (I.items items.old) (λ l. DoesWalk I.GOES_ON
         (I.walk items.old) share x l (λ failures. I.counted failures items.old items.new) result
-        (W.shown out.old) (W.shown out.new) (E.shown err.old) (E.shown err.new))) }
+        (I.out items.old) (I.out items.new) (E.shown err.old) (E.shown err.new))) }
     ensures same { I.same items.old items.new }
     ensures kept { IfSome (I.items items.old) (λ l. Within I.keeps share l items.old items.new) }
     ensures memory { IsErrOf result Fault.OutOfMemory → I.wants items.old }
@@ -119,7 +119,7 @@ pub(crate) fn walk<'n, I: Items<'n>, W: Sink, E: Sink>(
     let mut status: u8 = 0;
     'items: while items.next()? {
         if left.takes_next() {
-            status = status.max(items.print(share, out, err)?);
+            status = status.max(items.print(share, err)?);
         }
     }
     items.end(status)

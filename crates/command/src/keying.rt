@@ -94,7 +94,7 @@ fn takes(mac: Mac, key: &[u8]) -> bool
     }
 }
 
-// The bytes of a key.
+// The bytes of a key, given or in a file.
 fn key_of<'n, T: Tree>(alloc: Global, key: Key<'n>, tree: &mut T) -> Result<Vec<u8>, Fault<'n>>
     ensures key { IfSome (T.files tree.old) (λ files. MatchResult result
         (λ bytes. IsKey files (key_shown key.entry) bytes.items)
@@ -106,22 +106,10 @@ fn key_of<'n, T: Tree>(alloc: Global, key: Key<'n>, tree: &mut T) -> Result<Vec<
     ensures files { T.files tree.new ≡ T.files tree.old }
     ensures memory { IsErrOf result Fault.OutOfMemory → source_opens (key_shown key.entry) ≡ 1 }
 {
-    match key {
-        Key::Given(key) => Ok(key),
-        Key::File(name) => key_in(alloc, name, tree),
-    }
-}
-
-// The bytes of a key file.
-fn key_in<'n, T: Tree>(alloc: Global, name: &'n str, tree: &mut T) -> Result<Vec<u8>, Fault<'n>>
-    ensures key { IfSome (T.files tree.old) (λ files. MatchResult result
-        (λ key. (files name.entry.now ≡ Some key.items) × (length key.items ≤ key_file_limit))
-        (λ fault. MayRefuseFile name.entry.now (files name.entry.now) (trouble_of fault))) }
-    ensures counted { IfSome (T.files tree.old) (λ files. T.failure_count tree.new
-        ≡ count_after (T.failure_count tree.old) (failed false (files name.entry.now) result).files) }
-    ensures opens { T.opens tree.new ≤ T.opens tree.old + 1 }
-    ensures files { T.files tree.new ≡ T.files tree.old }
-{
+    let name = match key {
+        Key::Given(key) => return Ok(key),
+        Key::File(name) => name,
+    };
     let mut feed = open_file(name, 0, tree)?;
     let answer = read_key(alloc, name, &mut feed);
     tree.close(feed);

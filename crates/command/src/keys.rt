@@ -11,10 +11,8 @@ ghost use Rattle.task.specs.Tasks.{by_blake3};
 ghost use Rattle.task.specs.inside.Views.{derivation_shown};
 
 use crate::fault::Fault;
-use crate::making::{Made, write_made};
-use crate::output::write_bytes;
+use crate::making::{Made, slice_of, write_bytes, write_made};
 use crate::session::{Session, Streams, absorb_named};
-use crate::verifying::slice_of;
 use b3::Blake3;
 use kdf::{Extract, expand};
 use mac::{Blake2b512, Blake2s256, BlockHash, Sha256Stream, Sha512Stream, hash_laws};

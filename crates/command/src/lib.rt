@@ -41,6 +41,18 @@ macro_rules! read_as_input {
     }};
 }
 
+// The session over the streams that items hold.
+macro_rules! session_of {
+    ($items:ident) => {
+        Session {
+            alloc: $items.alloc,
+            input: $items.input,
+            tree: $items.tree,
+            out: $items.out,
+        }
+    };
+}
+
 mod cutting;
 mod digests;
 mod each;
@@ -53,14 +65,9 @@ mod laws;
 mod lines;
 mod listed;
 mod making;
-mod output;
 mod places;
 mod reports;
 mod rule;
 mod session;
-mod starts;
-mod tags;
 mod told;
-mod verified;
-mod verifying;
 mod visible;

@@ -22,32 +22,31 @@ ghost use Rattle.command.specs.inside.Seen.{DoesRun, IfTold, OpensAtMost};
 ghost use Rattle.command.specs.inside.Streams.{AfterReading, IfContent, SameStreams};
 ghost use Rattle.command.specs.declared.fault.Fault.TheVariants.{BadName};
 
-use crate::digests::{digest_of_feed, listable, part_buffer};
+use crate::digests::{digest_of_feed, part_buffer, tag_digits, tag_of_feed};
 use crate::fault::Fault;
 use crate::items::{Items, Names, pass_over, walk};
 use crate::keying::rule_of;
-use crate::making::{Made, is_made, write_beside};
-use crate::output::named;
+use crate::making::{Made, is_made, named, print_verdict, slice_of, write_beside};
 use crate::rule::Rule;
 use crate::session::{Session, Streams, open_file};
-use crate::tags::{tag_digits, tag_of_feed};
-use crate::verifying::{print_verdict, slice_of};
 use source::{Feed, Sink, WriteFailed};
 use std::alloc::{AllocError, Global};
-use sumlist::{Share, Tree, write_tagged_line};
-use task::{Form, Sum};
+use sumlist::{Share, Tree, tagged_fits, write_tagged_line};
+use task::{Form, Hashing, Sum};
 
 // Names that the words give, and the rule of their lines.
 #[derive(Drop)]
-struct Given<'i, 't, 'r, 'a, 'n, L: Feed, T: Tree> {
+struct Given<'i, 't, 'o, 'r, 'a, 'n, L: Feed, T: Tree, W: Sink> {
     alloc: Global,
     input: &'i mut L,
     tree: &'t mut T,
+    out: &'o mut W,
     rule: &'r Rule,
     names: Names<'a, 'n>,
 }
 
-impl<'i, 't, 'r, 'a, 'n, L: Feed, T: Tree> Items<'n> for Given<'i, 't, 'r, 'a, 'n, L, T> {
+impl<'i, 't, 'o, 'r, 'a, 'n, L: Feed, T: Tree, W: Sink> Items<'n>
+    for Given<'i, 't, 'o, 'r, 'a, 'n, L, T, W> {
     ghost State = { List ℕ };
 
     ghost Item = { Text };
@@ -58,6 +57,8 @@ impl<'i, 't, 'r, 'a, 'n, L: Feed, T: Tree> Items<'n> for Given<'i, 't, 'r, 'a, '
 
     ghost items = { λ s. Some (names_left s.names) };
 
+    ghost out = { λ s. W.shown s.out.now };
+
     ghost at = { λ s i. i ≡ s.names.name.now };
 
     ghost most = { λ s. length (names_left s.names) };
@@ -66,7 +67,8 @@ impl<'i, 't, 'r, 'a, 'n, L: Feed, T: Tree> Items<'n> for Given<'i, 't, 'r, 'a, '
         (T.failure_count a.tree.now) (T.failure_count b.tree.now) };
 
     ghost same = { λ a b. (b.rule ≡ a.rule) × (b.input.ghost_name ≡ a.input.ghost_name)
-        × (b.tree.ghost_name ≡ a.tree.ghost_name) × (T.files b.tree.now ≡ T.files a.tree.now) };
+        × (b.tree.ghost_name ≡ a.tree.ghost_name) × (b.out.ghost_name ≡ a.out.ghost_name)
+        × (T.files b.tree.now ≡ T.files a.tree.now) };
 
     ghost keeps = { λ i a b. T.opens b.tree.now ≤ T.opens a.tree.now + sum_by opens_of i };
 
@@ -80,18 +82,8 @@ impl<'i, 't, 'r, 'a, 'n, L: Feed, T: Tree> Items<'n> for Given<'i, 't, 'r, 'a, '
         Ok(self.names.next())
     }
 
-    fn print<W: Sink, E: Sink>(
-        &mut self,
-        share: Share,
-        out: &mut W,
-        err: &mut E,
-    ) -> Result<u8, Fault<'n>> {
-        let mut session = Session {
-            alloc: self.alloc,
-            input: self.input,
-            tree: self.tree,
-            out,
-        };
+    fn print<E: Sink>(&mut self, share: Share, err: &mut E) -> Result<u8, Fault<'n>> {
+        let mut session = session_of!(self);
         session.print_one(self.rule, self.names.name, share, err)
     }
 
@@ -132,10 +124,11 @@ impl<'i, 't, 'o, L: Feed, T: Tree, W: Sink> Session<'i, 't, 'o, L, T, W> {
             alloc: self.alloc,
             input: self.input,
             tree: self.tree,
+            out: self.out,
             rule: &rule,
             names: Names::new(names),
         };
-        walk(&mut given, share, self.out, err)
+        walk(&mut given, share, err)
     }
 
     /// Prints the line of a file under a name, or where a digest or tag is wanted whether it is the file's,
@@ -248,11 +241,13 @@ fn buffer_of(alloc: Global, rule: &Rule) -> Result<Vec<u8>, AllocError>
     ensures memory { IsErr result → TakesRoom rule.now }
 {
     match rule {
-        Rule::Digest(hashing) => match hashing.chunks {
-            Some(chunks) => part_buffer(alloc, chunks),
-            None => Ok(Vec::new(alloc)),
-        },
-        Rule::Tag(_) => Ok(Vec::new(alloc)),
+        Rule::Digest(
+            Hashing {
+                chunks: Some(chunks),
+                ..
+            },
+        ) => part_buffer(alloc, *chunks),
+        _ => Ok(Vec::new(alloc)),
     }
 }
 
@@ -290,7 +285,13 @@ fn named_by<'n>(rule: &Rule, name: &'n str) -> Result<(), Fault<'n>>
         (λ fault. (fault ≡ BadName name.entry) × (FitsPlace (line_by rule.now).place name.now → ⊥)) }
 {
     match rule {
-        Rule::Digest(hashing) => listable(hashing.requested, name),
+        Rule::Digest(hashing) => {
+            let alg = hashing.requested.alg();
+            if hashing.requested.form == Form::Tagged && !tagged_fits(alg, name) {
+                return Err(Fault::BadName(name));
+            }
+            named(2 * alg.digest_len(), name)
+        }
         Rule::Tag(keyed) => named(tag_digits(keyed.tagging), name),
     }
 }

@@ -1,17 +1,22 @@
-// A digest or tag that is to be printed or compared.
+// A digest or tag that is printed, in bytes or digits, or compared with the one that is wanted.
 
-ghost use Rattle.std.specs.Prelude.{◌≡◌, ◌+◌, ◌-◌, ◌^◌, ◌≤◌, ◌↔◌, IsTrue, length};
+ghost use Rattle.std.specs.Prelude.{◌≡◌, ◌+◌, ◌-◌, ◌^◌, ◌≤◌, ◌↔◌, IsTrue, length, MatchResult, IsErrOf, option_map};
 ghost use Rattle.b3.specs.Bytes.{slice};
 ghost use Rattle.b3.specs.inside.Output.{output_position, output_root};
 ghost use Rattle.source.specs.Written.{Writes};
-ghost use Rattle.command.specs.inside.Keys.{HasBytes, IsWanted, made_bytes};
+ghost use Rattle.command.specs.inside.Keys.{HasBytes, IsWanted, made_bytes, PrintsSaid, verdict};
 ghost use Rattle.command.specs.inside.Making.{made_len};
 ghost use Rattle.command.specs.inside.Printing.{printed, printed_beside};
+ghost use Rattle.command.specs.declared.fault.Fault.TheVariants.{BadName};
+ghost use Rattle.sumlist.specs.Entry.{Fits};
+ghost use Rattle.task.specs.declared.hashing.Stretch.{Stretch};
+ghost use Rattle.command.specs.Joining.{output_line};
+ghost use Rattle.command.specs.Keying.{answer};
 
-use crate::output::write_bytes;
+use crate::fault::Fault;
 use b3::Output;
-use source::{Sink, WriteFailed};
-use sumlist::{write_end, write_lead};
+use source::{Sink, WriteFailed, write_all};
+use sumlist::{Verdict, fits, write_end, write_lead, write_verdict};
 use words::Tag;
 
 // This many bytes of an output are written, or compared, at a time.
@@ -130,4 +135,90 @@ fn is_next(output: &mut Output, wanted: &[u8]) -> bool
     let (bytes, _) = bytes.split_at_mut(wanted.len());
     output.fill(bytes).unwrap();
     &*bytes == wanted
+}
+
+// The digits of so many bytes are written at a time: those of the longest tag at once.
+const SHORT_PIECE: usize = 256;
+
+/// Refuses a name that cannot stand after this many digits.
+pub(crate) fn named(digits: usize, name: &str) -> Result<(), Fault<'_>>
+    ensures { MatchResult result (λ _. Fits digits name.entry.now)
+        (λ fault. (fault ≡ BadName name.entry) × (Fits digits name.entry.now → ⊥)) }
+{
+    if fits(digits, name) {
+        Ok(())
+    } else {
+        Err(Fault::BadName(name))
+    }
+}
+
+/// Writes the bytes themselves, or their lower-case hexadecimal digits.
+pub(crate) fn write_bytes<W: Sink>(
+    bytes: &[u8],
+    is_raw: bool,
+    out: &mut W,
+) -> Result<(), WriteFailed>
+    ensures { Writes result (W.shown out.old) (W.shown out.new) (printed is_raw bytes.now) }
+{
+    if is_raw {
+        return write_all(out, bytes);
+    }
+    let mut buffer = [0; 2 * SHORT_PIECE];
+    let mut rest = bytes;
+    while !rest.is_empty() {
+        let (piece, after) = rest.split_at(rest.len().min(SHORT_PIECE));
+        let (digits, _) = buffer.split_at_mut(2 * piece.len());
+        hex::encode_to_slice(piece, digits).unwrap();
+        write_all(out, digits)?;
+        rest = after;
+    }
+    Ok(())
+}
+
+/// Prints the line of a digest in digits, or if one is wanted, whether it is that one, and answers the
+/// status.
+pub(crate) fn print_made<'f, W: Sink>(
+    made: Made,
+    wanted: Option<&[u8]>,
+    name: &str,
+    out: &mut W,
+) -> Result<u8, Fault<'f>>
+    requires { HasBytes made }
+    ensures said { (stretch : Stretch) → PrintsSaid (answer (option_map (λ tag. tag.now) wanted.entry)
+        (output_line stretch) name.now (made_bytes made)) result (W.shown out.old) (W.shown out.new) }
+    ensures memory { IsErrOf result Fault.OutOfMemory → ⊥ }
+{
+    let Some(digest) = wanted else {
+        write_beside(made, false, name, out)?;
+        return Ok(0);
+    };
+    print_verdict(is_made(made, digest), name, out)
+}
+
+/// Prints whether a digest or tag is the one that is wanted, and answers the status.
+pub(crate) fn print_verdict<'f, W: Sink>(
+    right: bool,
+    name: &str,
+    out: &mut W,
+) -> Result<u8, Fault<'f>>
+    ensures said { PrintsSaid (verdict name.now right) result (W.shown out.old) (W.shown out.new) }
+    ensures memory { IsErrOf result Fault.OutOfMemory → ⊥ }
+{
+    if right {
+        write_verdict(name, Verdict::Matches, out)?;
+        Ok(0)
+    } else {
+        write_verdict(name, Verdict::Differs, out)?;
+        Ok(1)
+    }
+}
+
+/// The bytes of a digest or tag, if there is one.
+pub(crate) fn slice_of(bytes: &Option<Vec<u8>>) -> Option<&[u8]>
+    ensures { option_map (λ t. t.now) result ≡ option_map (λ v. v.items) bytes.now }
+{
+    match bytes {
+        Some(bytes) => Some(bytes.as_slice()),
+        None => None,
+    }
 }

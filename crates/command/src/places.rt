@@ -10,10 +10,9 @@ ghost use Rattle.command.specs.inside.Places.{EndsAt, GoesOn, HoldsFile, IsAsked
 ghost use Rattle.command.specs.inside.Reading.{behind_answer};
 ghost use Rattle.command.specs.inside.Troubles.{out_of_memory, trouble_of};
 
-use crate::cutting::next_part;
+use crate::cutting::{gives_byte, has_byte, next_part};
 use crate::fault::Fault;
 use crate::session::open_file;
-use crate::starts::{gives_byte, has_byte};
 use b3::{CHUNK_LEN, PartValue};
 use source::Feed;
 use sumlist::Tree;

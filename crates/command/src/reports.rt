@@ -3,7 +3,7 @@
 ghost use Rattle.std.specs.Prelude.{◌≡◌, ◌==◌, ◌≤◌, ◌+◌, ◌++◌, ◌∷◌, [], map, IfSome, MatchOption, Some, codes, true};
 ghost use Rattle.std.specs.Prelude.{List, MatchResult, None, false, ℕ, if◌then◌else◌, length, option_map, ⊤};
 ghost use Rattle.source.specs.Counts.{count_after};
-ghost use Rattle.source.specs.Written.{Shown, Writes};
+ghost use Rattle.source.specs.Written.{Writes};
 ghost use Rattle.sumlist.specs.Lines.{lines};
 ghost use Rattle.sumlist.specs.Report.{unkeyed};
 ghost use Rattle.sumlist.specs.Tally.{is_clean, summary_text};
@@ -16,7 +16,7 @@ ghost use Rattle.command.specs.Lines.{content_of, is_input, opens_of};
 ghost use Rattle.command.specs.Run.{Counted, TellsAll};
 ghost use Rattle.request.specs.CommandLine.{Text};
 ghost use Rattle.hashes.specs.declared.share.Share.{Share};
-ghost use Rattle.command.specs.inside.Faults.{graded, heading, hinted, of_check, remarks};
+ghost use Rattle.command.specs.inside.Faults.{IfRemarked, graded, heading, hinted, of_check};
 ghost use Rattle.command.specs.inside.Messages.{message_text};
 ghost use Rattle.command.specs.inside.Listing.{ListTaken};
 ghost use Rattle.command.specs.inside.Reading.{Leaves, failed};
@@ -103,39 +103,21 @@ impl<'i, 't, 'o, L: Feed, T: Tree, W: Sink> Session<'i, 't, 'o, L, T, W> {
         ensures same { SameStreams self.old self.new }
     {
         match verdicts {
-            Verdicts::Files(share) => self.print_lists(entries, reporting, share, lists, err),
+            Verdicts::Files(share) => {
+                let mut checked = Checked {
+                    alloc: self.alloc,
+                    input: self.input,
+                    tree: self.tree,
+                    out: self.out,
+                    entries,
+                    reporting,
+                    lists: Names::new(lists),
+                    share,
+                };
+                walk(&mut checked, Share::whole(), err)
+            }
             Verdicts::Report(name) => self.tell_lists(entries, reporting, name, lists, err),
         }
-    }
-
-    // Prints the reports of lists whose entries are these.
-    fn print_lists<'n, E: Sink>(
-        &mut self,
-        entries: &sumlist::Entries<'_, ShortKeyed>,
-        reporting: Reporting,
-        share: Share,
-        lists: &[&'n str],
-        err: &mut E,
-    ) -> Result<u8, Fault<'n>>
-        ensures run { DoesRun (λ bytes files. ListsRun (meaning entries.now) reporting (these share) files
-            (map (λ n. n.now) lists.entry.now) bytes)
-            (λ notes. TellsAll (E.shown err.old) (E.shown err.new) notes)
-            result (⟦<Self as Streams>⟧.seen self.old) (⟦<Self as Streams>⟧.seen self.new) }
-        ensures opens { IfTold (⟦<Self as Streams>⟧.seen self.old) (λ bytes files. OpensAtMost
-            (list_opens (these share) (map (λ n. n.now) lists.entry.now) files bytes)
-            (⟦<Self as Streams>⟧.seen self.old) (⟦<Self as Streams>⟧.seen self.new)) }
-        ensures same { SameStreams self.old self.new }
-    {
-        let mut checked = Checked {
-            alloc: self.alloc,
-            input: self.input,
-            tree: self.tree,
-            entries,
-            reporting,
-            lists: Names::new(lists),
-            share,
-        };
-        walk(&mut checked, Share::whole(), self.out, err)
     }
 
     // Prints the report of a list, or reports why it was not read to its end, and answers the status of
@@ -179,13 +161,11 @@ impl<'i, 't, 'o, L: Feed, T: Tree, W: Sink> Session<'i, 't, 'o, L, T, W> {
         name: &'n str,
         share: &mut Share,
     ) -> Result<Summary, Fault<'n>>
-        ensures run { (reporting : Reporting) (before after : Shown) → TellsAll before after
-            (remarks (share.old.others == 0) reporting (option_map (λ n. n.now) title.entry) name.entry.now
-            (meaning entries.now) result)
-            → DoesRun (λ bytes files run. ListRuns reporting files (meaning entries.now)
-            (option_map (λ n. n.now) title.entry) name.entry.now share.old (content_of name.entry.now bytes files) run
-            share.new) (λ notes. TellsAll before after notes)
-            (graded result) (⟦<Self as Streams>⟧.seen self.old) (⟦<Self as Streams>⟧.seen self.new) }
+        ensures run { IfRemarked (share.old.others == 0) (option_map (λ n. n.now) title.entry) name.entry.now
+            (meaning entries.now) result (λ reporting before after. DoesRun (λ bytes files run.
+            ListRuns reporting files (meaning entries.now) (option_map (λ n. n.now) title.entry) name.entry.now
+            share.old (content_of name.entry.now bytes files) run share.new) (λ notes. TellsAll before after notes)
+            (graded result) (⟦<Self as Streams>⟧.seen self.old) (⟦<Self as Streams>⟧.seen self.new)) }
         ensures gave { Leaves (is_input name.entry.now) result
             (⟦<Self as Streams>⟧.seen self.old).bytes (⟦<Self as Streams>⟧.seen self.new).bytes }
         ensures files { (⟦<Self as Streams>⟧.seen self.new).files ≡ (⟦<Self as Streams>⟧.seen self.old).files }
@@ -205,15 +185,13 @@ impl<'i, 't, 'o, L: Feed, T: Tree, W: Sink> Session<'i, 't, 'o, L, T, W> {
         name: &'n str,
         share: &mut Share,
     ) -> Result<Summary, Fault<'n>>
-        ensures list { (reporting : Reporting) (before after : Shown) → TellsAll before after
-            (remarks (share.old.others == 0) reporting (option_map (λ n. n.now) title.entry) name.entry.now
-            (meaning entries.now) result)
-            → IfTold (⟦<Self as Streams>⟧.seen self.old) (λ bytes files. ListTaken
-            (λ run. ListRuns reporting files (meaning entries.now) (option_map (λ n. n.now) title.entry)
+        ensures list { IfRemarked (share.old.others == 0) (option_map (λ n. n.now) title.entry) name.entry.now
+            (meaning entries.now) result (λ reporting before after. IfTold (⟦<Self as Streams>⟧.seen self.old)
+            (λ bytes files. ListTaken (λ run. ListRuns reporting files (meaning entries.now) (option_map (λ n. n.now) title.entry)
             name.entry.now share.old (Some bytes) run share.new) name.entry.now (graded result)
             (W.shown self.old.out.now) (W.shown self.new.out.now) before after
             (L.failure_count self.old.input.now) (L.failure_count self.new.input.now)
-            (T.failure_count self.old.tree.now) (T.failure_count self.new.tree.now)) }
+            (T.failure_count self.old.tree.now) (T.failure_count self.new.tree.now))) }
         ensures gave { Leaves true result (L.remaining self.old.input.now) (L.remaining self.new.input.now) }
         ensures files { T.files self.new.tree.now ≡ T.files self.old.tree.now }
         ensures opens { IfTold (⟦<Self as Streams>⟧.seen self.old) (λ bytes _. OpensAtMost
@@ -229,17 +207,19 @@ impl<'i, 't, 'o, L: Feed, T: Tree, W: Sink> Session<'i, 't, 'o, L, T, W> {
 
 // Lists that are checked, with the share of the entries to come.
 #[derive(Drop)]
-struct Checked<'i, 't, 'e, 'k, 'a, 'n, L: Feed, T: Tree> {
+struct Checked<'i, 't, 'o, 'e, 'k, 'a, 'n, L: Feed, T: Tree, W: Sink> {
     alloc: Global,
     input: &'i mut L,
     tree: &'t mut T,
+    out: &'o mut W,
     entries: &'e sumlist::Entries<'k, ShortKeyed>,
     reporting: Reporting,
     lists: Names<'a, 'n>,
     share: Share,
 }
 
-impl<'i, 't, 'e, 'k, 'a, 'n, L: Feed, T: Tree> Items<'n> for Checked<'i, 't, 'e, 'k, 'a, 'n, L, T> {
+impl<'i, 't, 'o, 'e, 'k, 'a, 'n, L: Feed, T: Tree, W: Sink> Items<'n>
+    for Checked<'i, 't, 'o, 'e, 'k, 'a, 'n, L, T, W> {
     ghost State = { Share × List ℕ };
 
     ghost Item = { Text };
@@ -251,6 +231,8 @@ impl<'i, 't, 'e, 'k, 'a, 'n, L: Feed, T: Tree> Items<'n> for Checked<'i, 't, 'e,
 
     ghost items = { λ s. Some (names_left s.lists) };
 
+    ghost out = { λ s. W.shown s.out.now };
+
     ghost at = { λ s i. i ≡ s.lists.name.now };
 
     ghost most = { λ s. length (names_left s.lists) };
@@ -260,7 +242,7 @@ impl<'i, 't, 'e, 'k, 'a, 'n, L: Feed, T: Tree> Items<'n> for Checked<'i, 't, 'e,
 
     ghost same = { λ a b. (b.entries ≡ a.entries) × (b.reporting ≡ a.reporting) × (b.lists.names ≡ a.lists.names)
         × (T.files b.tree.now ≡ T.files a.tree.now) × (b.input.ghost_name ≡ a.input.ghost_name)
-        × (b.tree.ghost_name ≡ a.tree.ghost_name) };
+        × (b.tree.ghost_name ≡ a.tree.ghost_name) × (b.out.ghost_name ≡ a.out.ghost_name) };
 
     ghost keeps = { λ i a b. KeepsLists i (L.remaining a.input.now) (L.remaining b.input.now) (T.files a.tree.now)
         (T.files b.tree.now) (T.opens a.tree.now) (T.opens b.tree.now) };
@@ -275,19 +257,9 @@ impl<'i, 't, 'e, 'k, 'a, 'n, L: Feed, T: Tree> Items<'n> for Checked<'i, 't, 'e,
         Ok(self.lists.next())
     }
 
-    fn print<W: Sink, E: Sink>(
-        &mut self,
-        _share: Share,
-        out: &mut W,
-        err: &mut E,
-    ) -> Result<u8, Fault<'n>> {
+    fn print<E: Sink>(&mut self, _share: Share, err: &mut E) -> Result<u8, Fault<'n>> {
         let title = title_of(self.lists.are_several(), self.lists.name);
-        let mut session = Session {
-            alloc: self.alloc,
-            input: self.input,
-            tree: self.tree,
-            out,
-        };
+        let mut session = session_of!(self);
         session.print_report(
             self.entries,
             title,

@@ -5,13 +5,12 @@ ghost use Rattle.std.specs.Prelude.{false, length, map, option_map, true, ⊤};
 ghost use Rattle.request.specs.CommandLine.{Text};
 ghost use Rattle.std.specs.List.{sum_by};
 ghost use Rattle.source.specs.Counts.{count_after};
-ghost use Rattle.source.specs.Written.{Shown};
 ghost use Rattle.sumlist.specs.inside.Telling.{left};
 ghost use Rattle.task.specs.Tasks.{in_file};
 ghost use Rattle.command.specs.Checking.{Beside, ListsRun};
 ghost use Rattle.command.specs.Lines.{is_input, opens_of};
 ghost use Rattle.command.specs.Run.{TellsAll};
-ghost use Rattle.command.specs.inside.Faults.{graded, of_tell, remarks};
+ghost use Rattle.command.specs.inside.Faults.{IfRemarked, graded, of_tell};
 ghost use Rattle.command.specs.inside.Reading.{Leaves, failed};
 ghost use Rattle.command.specs.inside.Rules.{meaning};
 ghost use Rattle.command.specs.inside.Seen.{DoesRun, OpensAtMost};
@@ -56,6 +55,7 @@ impl<'i, 't, 'o, L: Feed, T: Tree, W: Sink> Session<'i, 't, 'o, L, T, W> {
             alloc: self.alloc,
             input: self.input,
             tree: self.tree,
+            out: self.out,
             told: Telling {
                 alloc: self.alloc,
                 entries,
@@ -66,37 +66,9 @@ impl<'i, 't, 'o, L: Feed, T: Tree, W: Sink> Session<'i, 't, 'o, L, T, W> {
             reporting,
             lists: Names::new(lists),
         };
-        let answer = walk(&mut lists, Share::whole(), self.out, err);
+        let answer = walk(&mut lists, Share::whole(), err);
         self.tree.close(feed);
         answer
-    }
-
-    // Reports on the list of this name, and answers its status.
-    fn tell_one<'n, F: Feed, E: Sink>(
-        &mut self,
-        told: &mut Telling<'_, '_, '_, 'n, F>,
-        title: Option<&str>,
-        reporting: Reporting,
-        name: &'n str,
-        err: &mut E,
-    ) -> Result<u8, Fault<'n>>
-        ensures list { ToldOver reporting (meaning told.old.entries.now) (option_map (λ n. n.now) title.entry)
-            name.entry.now told.old.name.now (left F.remaining told.old.report) told.old.next
-            (left F.remaining told.new.report) told.new.next result
-            (⟦<Self as Streams>⟧.seen self.old) (⟦<Self as Streams>⟧.seen self.new)
-            (E.shown err.old) (E.shown err.new)
-            (F.failure_count told.old.report.feed.now) (F.failure_count told.new.report.feed.now) }
-        ensures gave { Leaves (is_input name.entry.now) result
-            (⟦<Self as Streams>⟧.seen self.old).bytes (⟦<Self as Streams>⟧.seen self.new).bytes }
-        ensures kept { KeepsReport told.old told.new (⟦<Self as Streams>⟧.seen self.old)
-            (⟦<Self as Streams>⟧.seen self.new) }
-        ensures opens { OpensAtMost (opens_of name.entry.now) (⟦<Self as Streams>⟧.seen self.old)
-            (⟦<Self as Streams>⟧.seen self.new) }
-        ensures same { SameStreams self.old self.new }
-    {
-        let summary = self.tell_named(told, title, name)?;
-        remark(title, reporting, name, told.entries, &summary, err);
-        Ok(status_of(&summary))
     }
 
     // The numbers of the list of this name.
@@ -106,14 +78,12 @@ impl<'i, 't, 'o, L: Feed, T: Tree, W: Sink> Session<'i, 't, 'o, L, T, W> {
         title: Option<&str>,
         name: &'n str,
     ) -> Result<Summary, Fault<'n>>
-        ensures list { (reporting : Reporting) (before after : Shown) → TellsAll before after
-            (remarks true reporting (option_map (λ n. n.now) title.entry) name.entry.now
-            (meaning told.old.entries.now) result)
-            → ToldOver reporting (meaning told.old.entries.now) (option_map (λ n. n.now) title.entry)
-            name.entry.now told.old.name.now (left F.remaining told.old.report) told.old.next
-            (left F.remaining told.new.report) told.new.next (graded result)
+        ensures list { IfRemarked true (option_map (λ n. n.now) title.entry) name.entry.now
+            (meaning told.old.entries.now) result (λ reporting before after. ToldOver reporting
+            (meaning told.old.entries.now) (option_map (λ n. n.now) title.entry) name.entry.now told.old.name.now
+            (left F.remaining told.old.report) told.old.next (left F.remaining told.new.report) told.new.next (graded result)
             (⟦<Self as Streams>⟧.seen self.old) (⟦<Self as Streams>⟧.seen self.new) before after
-            (F.failure_count told.old.report.feed.now) (F.failure_count told.new.report.feed.now) }
+            (F.failure_count told.old.report.feed.now) (F.failure_count told.new.report.feed.now)) }
         ensures gave { Leaves (is_input name.entry.now) result
             (⟦<Self as Streams>⟧.seen self.old).bytes (⟦<Self as Streams>⟧.seen self.new).bytes }
         ensures kept { KeepsReport told.old told.new (⟦<Self as Streams>⟧.seen self.old)
@@ -128,17 +98,18 @@ impl<'i, 't, 'o, L: Feed, T: Tree, W: Sink> Session<'i, 't, 'o, L, T, W> {
 
 // Lists whose verdicts are taken from a report.
 #[derive(Drop)]
-struct ByReport<'i, 't, 'e, 'k, 'f, 'a, 'n, L: Feed, T: Tree, F: Feed> {
+struct ByReport<'i, 't, 'o, 'e, 'k, 'f, 'a, 'n, L: Feed, T: Tree, W: Sink, F: Feed> {
     alloc: Global,
     input: &'i mut L,
     tree: &'t mut T,
+    out: &'o mut W,
     told: Telling<'e, 'k, 'f, 'n, F>,
     reporting: Reporting,
     lists: Names<'a, 'n>,
 }
 
-impl<'i, 't, 'e, 'k, 'f, 'a, 'n, L: Feed, T: Tree, F: Feed> Items<'n>
-    for ByReport<'i, 't, 'e, 'k, 'f, 'a, 'n, L, T, F> {
+impl<'i, 't, 'o, 'e, 'k, 'f, 'a, 'n, L: Feed, T: Tree, W: Sink, F: Feed> Items<'n>
+    for ByReport<'i, 't, 'o, 'e, 'k, 'f, 'a, 'n, L, T, W, F> {
     ghost State = { Beside };
 
     ghost Item = { Text };
@@ -151,6 +122,8 @@ impl<'i, 't, 'e, 'k, 'f, 'a, 'n, L: Feed, T: Tree, F: Feed> Items<'n>
 
     ghost items = { λ s. Some (names_left s.lists) };
 
+    ghost out = { λ s. W.shown s.out.now };
+
     ghost at = { λ s i. i ≡ s.lists.name.now };
 
     ghost most = { λ s. length (names_left s.lists) };
@@ -162,7 +135,7 @@ impl<'i, 't, 'e, 'k, 'f, 'a, 'n, L: Feed, T: Tree, F: Feed> Items<'n>
     ghost same = { λ a b. (b.told.entries ≡ a.told.entries) × (b.reporting ≡ a.reporting)
         × (b.lists.names ≡ a.lists.names) × (T.files b.tree.now ≡ T.files a.tree.now)
         × (b.told.name ≡ a.told.name) × (b.input.ghost_name ≡ a.input.ghost_name)
-        × (b.tree.ghost_name ≡ a.tree.ghost_name)
+        × (b.tree.ghost_name ≡ a.tree.ghost_name) × (b.out.ghost_name ≡ a.out.ghost_name)
         × (b.told.report.feed.ghost_name ≡ a.told.report.feed.ghost_name) };
 
     ghost keeps = { λ i a b. T.opens b.tree.now ≤ T.opens a.tree.now + sum_by opens_of i };
@@ -177,20 +150,19 @@ impl<'i, 't, 'e, 'k, 'f, 'a, 'n, L: Feed, T: Tree, F: Feed> Items<'n>
         Ok(self.lists.next())
     }
 
-    fn print<W: Sink, E: Sink>(
-        &mut self,
-        _share: Share,
-        out: &mut W,
-        err: &mut E,
-    ) -> Result<u8, Fault<'n>> {
+    fn print<E: Sink>(&mut self, _share: Share, err: &mut E) -> Result<u8, Fault<'n>> {
         let title = title_of(self.lists.are_several(), self.lists.name);
-        let mut session = Session {
-            alloc: self.alloc,
-            input: self.input,
-            tree: self.tree,
-            out,
-        };
-        session.tell_one(&mut self.told, title, self.reporting, self.lists.name, err)
+        let mut session = session_of!(self);
+        let summary = session.tell_named(&mut self.told, title, self.lists.name)?;
+        remark(
+            title,
+            self.reporting,
+            self.lists.name,
+            self.told.entries,
+            &summary,
+            err,
+        );
+        Ok(status_of(&summary))
     }
 
     fn end(&mut self, status: u8) -> Result<u8, Fault<'n>> {
@@ -258,16 +230,15 @@ fn tell_feed<'n, F: Feed, L: Feed>(
     name: &'n str,
     list: &mut L,
 ) -> Result<Summary, Fault<'n>>
-    ensures list { (reporting : Reporting) (before after : Shown) → TellsAll before after
-        (remarks true reporting (option_map (λ n. n.now) title.entry) name.entry.now
-        (meaning told.old.entries.now) result)
-        → (bytes coming whole : List ℕ) → L.remaining list.old ≡ Some bytes
+    ensures list { IfRemarked true (option_map (λ n. n.now) title.entry) name.entry.now
+        (meaning told.old.entries.now) result (λ reporting before after. (bytes coming whole : List ℕ)
+        → L.remaining list.old ≡ Some bytes
         → left F.remaining told.old.report ≡ Some coming → HasRoom whole coming told.old.next
         → IsTold (BesideRuns reporting (meaning told.old.entries.now) (option_map (λ n. n.now) title.entry)
         name.entry.now told.old.name.now (Some bytes) whole coming told.old.next
         (left F.remaining told.new.report) told.new.next) (graded result) before after
         (λ f. ListCounted (is_input name.entry.now) f (L.failure_count list.old) (L.failure_count list.new)
-        (F.failure_count told.old.report.feed.now) (F.failure_count told.new.report.feed.now)) }
+        (F.failure_count told.old.report.feed.now) (F.failure_count told.new.report.feed.now))) }
     ensures gave { Leaves true result (L.remaining list.old) (L.remaining list.new) }
     ensures kept { (told.new.name ≡ told.old.name) × (told.new.entries ≡ told.old.entries)
         × (told.new.report.feed.ghost_name ≡ told.old.report.feed.ghost_name) }

@@ -12,7 +12,7 @@ items-init g c = grind (arith, common_steps, walked_start, kept_start)
 pub returns-in_err-next-clause-run : goal.returns-in_err-next-clause-run
 returns-in_err-next-clause-run g c =
     let e = err_from_is_err_and c.from_residual.result c.from_residual.ensures.1 in
-    rw (e.1, e.2) (walked_broken c.laws.ensures.counted_more c.next.new.self c.items.invariant.walked _
+    rw (e.1, e.2, c.next.ensures.unwritten) (walked_broken c.laws.ensures.counted_more c.next.new.self c.items.invariant.walked _
     (c.in_err-next.ensures.broken c.args.items.now c.items.invariant.same))
 
 pub returns-in_err-next-clause-same : goal.returns-in_err-next-clause-same
@@ -32,7 +32,8 @@ returns-in_err-print-clause-run g c =
     (g.I.Items.state c.next.new.self) (g.I.Items.items c.next.new.self) (g.I.Items.at c.next.new.self) _
     c.in_ok-next.ensures.moved c.in_ok-next.ensures.had c.if-branch.true (g.I.Items.walk c.next.new.self)
     (c.laws.ensures.step_same _ _ (c.laws.ensures.same_both _ _ _ c.items.invariant.same c.next.ensures.same)) _
-    (g.I.Items.state c.print.new.self) c.print.new.self _ _ its.0 c.in_err-print.ensures.printed)
+    (g.I.Items.state c.print.new.self) c.print.new.self _ _ its.0
+    (rw c.next.ensures.unwritten at c.in_err-print.ensures.printed))
 
 pub returns-in_err-print-clause-kept : goal.returns-in_err-print-clause-kept
 returns-in_err-print-clause-kept g c =
@@ -52,7 +53,8 @@ items-preserved-then-takes_next g c =
           (g.I.Items.state c.next.new.self) (g.I.Items.items c.next.new.self) (g.I.Items.at c.next.new.self) _
           c.in_ok-next.ensures.moved c.in_ok-next.ensures.had c.if-branch.true (g.I.Items.walk c.next.new.self)
           (c.laws.ensures.step_same _ _ (c.laws.ensures.same_both _ _ _ c.items.invariant.same c.next.ensures.same)) _ _
-          c.print.new.self _ _ its (omega (arith, most)) c.in_ok-print.ensures.printed);
+          c.print.new.self _ _ its (omega (arith, most))
+          (rw c.next.ensures.unwritten at c.in_ok-print.ensures.printed));
       same = c.laws.ensures.same_both _ _ _ c.items.invariant.same
           (c.laws.ensures.same_both _ _ _ c.next.ensures.same c.print.ensures.same);
       kept = rw c.print.ensures.items (kept_one c.laws.ensures.keeps_both c.next.new.self c.items.invariant.kept
@@ -66,10 +68,10 @@ items-preserved g c =
     let its = passed_over c.items.invariant.others c.takes_next.ensures.taken c.takes_next.ensures.waiting
     c.if-takes_next.false in record {
       others = c.takes_next.ensures.others ∙ c.items.invariant.others;
-      walked = walked_over c.laws.ensures.counted_more c.next.new.self c.items.invariant.walked
+      walked = rw c.next.ensures.unwritten (walked_over c.laws.ensures.counted_more c.next.new.self c.items.invariant.walked
           (g.I.Items.state c.next.new.self)
           (g.I.Items.items c.next.new.self) (g.I.Items.at c.next.new.self) _ c.in_ok-next.ensures.moved
-          c.in_ok-next.ensures.had c.if-branch.true its;
+          c.in_ok-next.ensures.had c.if-branch.true its);
       same = c.laws.ensures.same_both _ _ _ c.items.invariant.same c.next.ensures.same;
       kept = kept_over c.laws.ensures.keeps_both c.next.new.self c.items.invariant.kept c.next.ensures.kept
           (g.I.Items.items c.next.new.self) (g.I.Items.at c.next.new.self)
@@ -77,13 +79,13 @@ items-preserved g c =
     }
 
 pub returns-clause-run : goal.returns-clause-run
-returns-clause-run g c = walked_end c.laws.ensures.counted_more c.next.new.self c.items.invariant.walked
+returns-clause-run g c = rw (c.end.ensures.unwritten, c.next.ensures.unwritten) (walked_end c.laws.ensures.counted_more c.next.new.self c.items.invariant.walked
     (g.I.Items.state c.next.new.self) (g.I.Items.items c.next.new.self) (g.I.Items.at c.next.new.self) _
     c.in_ok-next.ensures.moved c.in_ok-next.ensures.had c.if-branch.false _ c.end.new.self
     (ended (g.I.Items.walk c.next.new.self) (g.I.Items.walk c.args.items.now)
     (λ f. g.I.Items.counted f c.next.new.self c.end.new.self) (g.I.Items.state c.next.new.self) c.items.status
     c.end.result (c.laws.ensures.ending_same _ _ (c.laws.ensures.same_both _ _ _
-    c.items.invariant.same c.next.ensures.same)) c.end.ensures.ended)
+    c.items.invariant.same c.next.ensures.same)) c.end.ensures.ended))
 
 pub returns-clause-kept : goal.returns-clause-kept
 returns-clause-kept g c = kept_end c.laws.ensures.keeps_both c.next.new.self c.items.invariant.kept

@@ -8,13 +8,13 @@ pub returns-in-Err-clause-broken : goal.returns-in-Err-clause-broken
 returns-in-Err-clause-broken g c = λ start same. rw c.of_source.ensures (breaks_read c.args.self.now.list
     start.list same.4 start.number c.args.self.now.number start.names.now c.args.self.now.names.now _ _ _ _
     (line_by start.rule.now)
-    (g.T.Tree.files start.tree.now) same.5 _ c.in-Err.fault _ _ c.in-Err.ensures.count
+    (g.T.Tree.files start.tree.now) same.6 _ c.in-Err.fault _ _ c.in-Err.ensures.count
     (λ none long. c.in-Err.ensures.too_long none (rw long refl)) (λ k read. (refl, list_counted _ k _ _ _ _ read refl)))
 
 pub returns-in_default-clause-broken : goal.returns-in_default-clause-broken
 returns-in_default-clause-broken g c = λ start same. breaks_many c.args.self.now.list start.list same.4 start.number
     c.args.self.now.number start.names.now c.args.self.now.names.now _ _ _ _ (line_by start.rule.now)
-    (g.T.Tree.files start.tree.now) same.5 _ (let most = c.in_default.ensures in omega (arith, most))
+    (g.T.Tree.files start.tree.now) same.6 _ (let most = c.in_default.ensures in omega (arith, most))
     (some_names c.args.self.now.names.now c.next.new.self _ _
     (rw c.in-Ok-true.field-0-test at c.in-Ok-true.ensures.name)) (
       refl,
@@ -30,6 +30,7 @@ returns-in_default-clause-same g c = (
   refl,
   refl,
   refl,
+  refl,
   onward_fewer (omega arith)
       (onward_read c.args.self.now.number c.args.self.now.names.now c.next.new.self _ _ true
       (rw c.in-Ok-true.field-0-test at c.in-Ok-true.ensures.name)
@@ -38,6 +39,7 @@ returns-in_default-clause-same g c = (
 
 pub returns-clause-same : goal.returns-clause-same
 returns-clause-same g c = let next = c.in-Some.ensures in (
+  refl,
   refl,
   refl,
   refl,

@@ -1,5 +1,5 @@
 use Rattle.std.proofs.lemmas.Grind.{common_steps}
-use Rattle.std.proofs.Common.{arith, ap, nat_lt, refl, sym}
+use Rattle.std.proofs.Common.{arith, ap, nat_lt, refl}
 use Rattle.command.specs.inside.Hashed.{listed_items}
 use Rattle.command.specs.inside.Rules.{line_by}
 use Rattle.command.specs.inside.Streams.{seen_at}
@@ -10,7 +10,7 @@ pub returns-in_default-clause-printed : goal.returns-in_default-clause-printed
 returns-in_default-clause-printed g c =
     let at = seen_at g.L.Feed.remaining g.L.Feed.failure_count g.T.Tree.files g.T.Tree.failure_count
     g.T.Tree.opens g.W.Sink.shown in
-    let old = at c.args.self.now.input.now c.args.self.now.tree.now c.args.out.now in
+    let old = at c.args.self.now.input.now c.args.self.now.tree.now c.args.self.now.out.now in
     listed_bad (nat_lt 0 c.args.share.others) (line_by c.args.self.now.rule.now) c.args.self.now.list
     c.args.self.now.number c.args.self.now.names.now old (record old { out = g.W.Sink.shown c.pass_over.new.out }) _ _ _
     c.in_default.ensures.file refl c.pass_over.ensures.passes
@@ -19,13 +19,13 @@ pub returns-clause-printed : goal.returns-clause-printed
 returns-clause-printed g c =
     let at = seen_at g.L.Feed.remaining g.L.Feed.failure_count g.T.Tree.files g.T.Tree.failure_count
     g.T.Tree.opens g.W.Sink.shown in
-    let old = at c.args.self.now.input.now c.args.self.now.tree.now c.args.out.now in
+    let old = at c.args.self.now.input.now c.args.self.now.tree.now c.args.self.now.out.now in
     let gave = c.print_one.ensures.gave c.in-Some.ensures.other in
-    rw (c.out-1.given.1 (sym c.print_one.ensures.same.out)) (listed_printed (nat_lt 0 c.args.share.others)
+    listed_printed (nat_lt 0 c.args.share.others)
     (line_by c.args.self.now.rule.now) c.args.self.now.list c.args.self.now.number c.args.self.now.names.now old
     (at c.print_one.new.self.input.now c.print_one.new.self.tree.now c.print_one.new.self.out.now) _ _ _
     c.in-Some.name.now c.in-Some.ensures.file c.print_one.ensures.files gave
-    c.print_one.ensures.name)
+    c.print_one.ensures.name
 
 pub returns-clause-items : goal.returns-clause-items
 returns-clause-items g c = ap (listed_items c.args.self.now.number c.args.self.now.names.now)

@@ -21,7 +21,7 @@ returns-clause-run g c =
     let at = seen_at g.L.Feed.remaining g.L.Feed.failure_count g.T.Tree.files g.T.Tree.failure_count
     g.T.Tree.opens g.W.Sink.shown in
     let old = at c.args.self.now.input.now c.rule_of.new.tree c.args.self.now.out.now in
-    let new = at c.walk.new.items.input.now c.walk.new.items.tree.now c.walk.new.out in
+    let new = at c.walk.new.items.input.now c.walk.new.items.tree.now c.walk.new.items.out.now in
     sum_had (sum_shown c.args.sum)
     (λ l bytes files. LinesGiven c.args.share l files names bytes)
     (TellsAll (g.E.Sink.shown c.args.err.now) (g.E.Sink.shown c.walk.new.err)) _ _ _ _

@@ -1,24 +1,48 @@
-use Rattle.std.proofs.Common.{map, nat_lt, sym}
+use Rattle.std.proofs.Common.{Err, Ok, Result, map, nat_lt, refl}
+use Rattle.std.proofs.lemmas.Result.{err_from_is_err_and}
+use Rattle.sumlist.specs.declared.summary.Summary.{Summary}
 use Rattle.sumlist.specs.inside.Telling.{left}
+use Rattle.command.specs.Lines.{is_input}
 use Rattle.command.specs.inside.Rules.{meaning}
 use Rattle.command.specs.inside.Streams.{seen_at}
+use Rattle.command.specs.declared.fault.Fault.{Fault}
+use Rattle.command.proofs.Listing.{graded-leaves}
 use Rattle.command.proofs.ToldLists.{list_told}
 use Rattle.command.proofs.told.ByReportItems.print.Goals as goal
+
+pub returns-in_err-summary-clause-printed : goal.returns-in_err-summary-clause-printed
+returns-in_err-summary-clause-printed g c =
+    let at = seen_at g.L.Feed.remaining g.L.Feed.failure_count g.T.Tree.files g.T.Tree.failure_count
+    g.T.Tree.opens g.W.Sink.shown in
+    let its = c.args.self.now in
+    let after = c.tell_named.new.told in
+    let old = (at its.input.now its.tree.now its.out.now) in
+    let new = (at c.tell_named.new.self.input.now c.tell_named.new.self.tree.now c.tell_named.new.self.out.now) in
+    let r : Result Summary Fault = Err c.in_err-summary.field-0.0 in
+    let e = err_from_is_err_and c.from_residual.result c.from_residual.ensures.1 in
+    rw (e.1, e.2) (list_told its.reporting (meaning its.told.entries.now) (map (λ n. n.now) its.lists.names.now)
+    its.told.name.now its.lists.name.now _ (rw c.are_several.ensures at c.title_of-title.ensures) (left g.F.Feed.remaining its.told.report)
+    (left g.F.Feed.remaining after.report) its.told.next after.next (nat_lt 0 c.args._share.others) _ old new _ _
+    (g.F.Feed.failure_count its.told.report.feed.now) (g.F.Feed.failure_count after.report.feed.now)
+    (c.in_err-summary.ensures.list its.reporting (g.E.Sink.shown c.args.err.now) _ refl)
+    (graded-leaves (is_input its.lists.name.now) r _ _ c.in_err-summary.ensures.gave) c.tell_named.ensures.kept.files
+    c.tell_named.ensures.kept.out)
 
 pub returns-clause-printed : goal.returns-clause-printed
 returns-clause-printed g c =
     let at = seen_at g.L.Feed.remaining g.L.Feed.failure_count g.T.Tree.files g.T.Tree.failure_count
     g.T.Tree.opens g.W.Sink.shown in
-    let old = at c.args.self.now.input.now c.args.self.now.tree.now c.args.out.now in
-    rw (c.out-1.given.1 (sym c.tell_one.ensures.same.out), c.tell_one.ensures.kept.name)
-    (list_told c.args.self.now.reporting
-    (meaning c.args.self.now.told.entries.now) (map (λ n. n.now) c.args.self.now.lists.names.now)
-    c.args.self.now.told.name.now c.args.self.now.lists.name.now _
-    (rw c.are_several.ensures at c.title_of-title.ensures) (left g.F.Feed.remaining c.args.self.now.told.report)
-    (left g.F.Feed.remaining c.tell_one.new.told.report) c.args.self.now.told.next c.tell_one.new.told.next
-    (nat_lt 0 c.args._share.others) _ old (at c.tell_one.new.self.input.now c.tell_one.new.self.tree.now
-    c.tell_one.new.self.out.now) _ _
-    (g.F.Feed.failure_count c.args.self.now.told.report.feed.now)
-    (g.F.Feed.failure_count c.tell_one.new.told.report.feed.now) c.tell_one.ensures.list c.tell_one.ensures.gave
-    c.tell_one.ensures.kept.files
-    c.tell_one.ensures.kept.out)
+    let its = c.args.self.now in
+    let after = c.tell_named.new.told in
+    let old = (at its.input.now its.tree.now its.out.now) in
+    let new = (at c.tell_named.new.self.input.now c.tell_named.new.self.tree.now c.tell_named.new.self.out.now) in
+    let r : Result Summary Fault = Ok c.in_ok-summary.summary in
+    rw (c.status_of.ensures, c.tell_named.ensures.kept.name)
+    (list_told its.reporting (meaning its.told.entries.now) (map (λ n. n.now) its.lists.names.now)
+    its.told.name.now its.lists.name.now _ (rw c.are_several.ensures at c.title_of-title.ensures) (left g.F.Feed.remaining its.told.report)
+    (left g.F.Feed.remaining after.report) its.told.next after.next (nat_lt 0 c.args._share.others) _ old new _ _
+    (g.F.Feed.failure_count its.told.report.feed.now) (g.F.Feed.failure_count after.report.feed.now)
+    (c.in_ok-summary.ensures.list its.reporting (g.E.Sink.shown c.args.err.now) _
+    (rw c.tell_named.ensures.kept.entries at c.remark.ensures))
+    (graded-leaves (is_input its.lists.name.now) r _ _ c.in_ok-summary.ensures.gave) c.tell_named.ensures.kept.files
+    c.tell_named.ensures.kept.out)

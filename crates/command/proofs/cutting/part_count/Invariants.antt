@@ -1,6 +1,6 @@
 use Rattle.std.proofs.Common.{◌≡◌, ℕ, ◌+◌, ◌-◌, ◌*◌, ◌^◌, ◌<◌, ◌≤◌}
 use Rattle.command.proofs.Starting.{Counting}
-use Rattle.command.proofs.starts.part_count.Given as goal
+use Rattle.command.proofs.cutting.part_count.Given as goal
 
 abbrev pub invariant-halves : goal.invariant-halves
 invariant-halves g l = record {

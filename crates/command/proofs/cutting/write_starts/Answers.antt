@@ -3,7 +3,7 @@ use Rattle.std.proofs.Common.{arith}
 use Rattle.std.proofs.KnownBytes.{Appends-nil}
 use Rattle.source.proofs.Writing.{Writes-exit, Writing-end, Writing-failed, Writing-step}
 use Rattle.command.proofs.Starting.{all_lines, next_line, no_line}
-use Rattle.command.proofs.starts.write_starts.Goals as goal
+use Rattle.command.proofs.cutting.write_starts.Goals as goal
 
 pub loop-number-init : goal.loop-number-init
 loop-number-init g c = grind (arith, common_steps, all_lines, Appends-nil)

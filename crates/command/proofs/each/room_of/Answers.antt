@@ -1,6 +1,6 @@
 use Rattle.std.proofs.Common.{◌≡◌, ℕ, ◌+◌, ◌-◌, ◌/◌, ◌≤◌, arith}
 use Rattle.b3.proofs.Powers.{least_from}
-use Rattle.command.proofs.verified.room_of.Goals as goal
+use Rattle.command.proofs.each.room_of.Goals as goal
 
 pub returns : goal.returns
 returns c =

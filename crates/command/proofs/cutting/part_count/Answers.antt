@@ -3,7 +3,7 @@ use Rattle.std.proofs.Common.{ℕ, ◌+◌, ◌-◌, ◌*◌, ◌/◌, ◌^◌, 
 use Rattle.std.proofs.Math.Nat.{div-le_self}
 use Rattle.command.proofs.Starting.{before_end, chunks_fit, counting_fewer, counting_first, counting_more, opens_first}
 use Rattle.command.proofs.Starting.{opens_next}
-use Rattle.command.proofs.starts.part_count.Goals as goal
+use Rattle.command.proofs.cutting.part_count.Goals as goal
 
 pub halves-init : goal.halves-init
 halves-init g c =

@@ -5,7 +5,7 @@ use Rattle.partlist.specs.inside.Reader.{ahead}
 use Rattle.command.specs.inside.Verifying.{status_of}
 use Rattle.command.proofs.VerifiedParts.{gives_part, next_part, says_end, says_fault, says_unread, says_unwritten}
 use Rattle.command.proofs.VerifiedParts.{so_more, so_over, so_start}
-use Rattle.command.proofs.verified.compare_parts.Goals as goal
+use Rattle.command.proofs.each.compare_parts.Goals as goal
 
 pub parts-init : goal.parts-init
 parts-init g c = record {

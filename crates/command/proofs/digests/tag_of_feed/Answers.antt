@@ -10,7 +10,7 @@ use Rattle.command.proofs.MacLines.{room_under, within}
 use Rattle.command.proofs.Taken.{taken_made}
 use Rattle.command.proofs.Outputs.{output_of_all}
 use Rattle.command.specs.inside.Keys.{made_bytes}
-use Rattle.command.proofs.tags.tag_of_feed.Goals as goal
+use Rattle.command.proofs.digests.tag_of_feed.Goals as goal
 
 pub returns-in_ok-pump-in-Blake2b-clause-made : goal.returns-in_ok-pump-in-Blake2b-clause-made
 returns-in_ok-pump-in-Blake2b-clause-made g c =

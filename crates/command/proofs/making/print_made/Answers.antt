@@ -1,7 +1,7 @@
 use Rattle.std.proofs.Common.{ap, refl}
 use Rattle.std.specs.Prelude.{option_map}
 use Rattle.command.proofs.Answering.{said_failed, same_bytes}
-use Rattle.command.proofs.verifying.print_made.Goals as goal
+use Rattle.command.proofs.making.print_made.Goals as goal
 
 pub returns-in_err-write_beside-clause-said : goal.returns-in_err-write_beside-clause-said
 returns-in_err-write_beside-clause-said g c stretch =

@@ -3,7 +3,7 @@ use Rattle.std.specs.Fmt.{decimal}
 use Rattle.source.specs.Written.{Writes}
 use Rattle.source.proofs.Writing.{Failed-more, Writes-after, Writes-exit}
 use Rattle.sumlist.specs.Report.{verdict_text}
-use Rattle.command.proofs.verified.write_told.Goals as goal
+use Rattle.command.proofs.each.write_told.Goals as goal
 
 pieces : (first len number count verdict : List ℕ) → number ≡ first → count ≡ len
     → (number ++ 32 ∷ (count ++ [])) ++ verdict ≡ first ++ 32 ∷ (len ++ verdict)

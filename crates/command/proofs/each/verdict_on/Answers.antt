@@ -3,7 +3,7 @@ use Rattle.std.proofs.lemmas.Bool.{cases_lt}
 use Rattle.std.proofs.lemmas.List.{length-take}
 use Rattle.std.proofs.lemmas.Result.{err_from_is_err_and}
 use Rattle.command.proofs.VerifiedParts.{judged_fault}
-use Rattle.command.proofs.verified.verdict_on.Goals as goal
+use Rattle.command.proofs.each.verdict_on.Goals as goal
 
 pub part-requires : goal.part-requires
 part-requires g c =

@@ -2,7 +2,7 @@ use Rattle.std.proofs.Common.{◌≡◌, ◌-◌, ◌^◌, ℕ, List, Some, leng
 use Rattle.partlist.specs.inside.Joiner.{joined_count}
 use Rattle.partlist.specs.inside.Reader.{ahead}
 use Rattle.command.proofs.VerifiedParts.{SoFar}
-use Rattle.command.proofs.verified.compare_parts.Given as goal
+use Rattle.command.proofs.each.compare_parts.Given as goal
 
 abbrev pub invariant-parts : goal.invariant-parts
 invariant-parts g l = record {
