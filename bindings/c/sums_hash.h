@@ -20,8 +20,8 @@
 #include <stddef.h>
 #include <stdint.h>
 
-#define SUMS_HASH_VERSION "1.3.0" /* the shared library is libsums_hash.so.1 */
-#define SUMS_HASH_VERSION_NUMBER 10300 /* for #if, with two digits for each number after the first */
+#define SUMS_HASH_VERSION "1.4.0" /* the shared library is libsums_hash.so.1 */
+#define SUMS_HASH_VERSION_NUMBER 10400 /* for #if, with two digits for each number after the first */
 
 /* The compiler warns about an unused status, if it can and SUMS_HASH_UNCHECKED is not defined. */
 #if defined(__GNUC__) && !defined(SUMS_HASH_UNCHECKED)

@@ -37,7 +37,7 @@ if sys.version_info >= (3, 12):
 else:
     Buffer = Any  # what has the buffer protocol has no name there
 
-__version__ = "1.3.0"
+__version__ = "1.4.0"
 __all__ = [
     "Refused", "algorithms_available", "algorithms_guaranteed", "new", "file_digest",
     "blake2b", "blake2s", "blake3", "sha256", "sha512",
