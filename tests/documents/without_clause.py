@@ -20,7 +20,7 @@ ROOT = os.path.dirname(harness.HERE)
 TESTS = ("library_tests", "memory_tests")
 FUNCTION = re.compile(r"^( *)(?:pub(?:\(\w+\))? )?(?:const |unsafe |extern \"C\" )*fn (\w+)")
 # a branch, a loop, an early return, a comparison, or a choice made by a closure
-BRANCH = re.compile(r"\b(?:if|match|while|for)\b|matches!|\.(?:filter|unwrap_or|or|and|then|min|max)\w*\("
+BRANCH = re.compile(r"\b(?:if|match|while|for)\b|matches!|\.(?:filter|unwrap_or|or|and|then|min|max|map_err|is_ok_and)\w*\("
                     r"|\?(?=[;.,)\s]|$)|&&|\|\||[=!]=| [<>]=? ")
 # what only the system knows: its files and streams, by the runtime that is handed on
 ASKS = re.compile(r"\brt\b[.,)]|\bSeekFrom::|\.is_terminal\(")

@@ -91,13 +91,6 @@ pub fn check<L: Feed, T: Tree, W: Sink>(
         (record { others = 0; waiting = 0 }) (record { others = 0; waiting = 0 }) result
         (T.failure_count tree.old) (T.failure_count tree.new)
         (W.shown out.old).contents (W.shown out.new).contents)) }
-    ensures unreadable { IfOk result (λ s. T.failure_count tree.new
-        ≡ count_after (T.failure_count tree.old) s.unreadable) }
-    ensures opens { IfOk result (λ s. T.opens tree.new ≤ T.opens tree.old + entries_of s) }
-    ensures once { IfSome (L.remaining list.old) (λ bytes.
-        T.opens tree.new ≤ T.opens tree.old + length (lines bytes)) }
-    ensures kept { T.files tree.new ≡ T.files tree.old }
-
     ensures end { OnOk result (IsAtEnd (L.remaining list.new)) }
 
     // When each fault comes.
@@ -106,6 +99,14 @@ pub fn check<L: Feed, T: Tree, W: Sink>(
     ensures gave { IfSome (L.remaining list.old) (λ _. (given : List ℕ)
         × Consumes (L.remaining list.old) (L.remaining list.new) given
         × (IsErrOf result CheckFault.ListTooLong ↔ (2 ^ 64 - 1 < length given))) }
+
+    // What is opened.
+    ensures unreadable { IfOk result (λ s. T.failure_count tree.new
+        ≡ count_after (T.failure_count tree.old) s.unreadable) }
+    ensures opens { IfOk result (λ s. T.opens tree.new ≤ T.opens tree.old + entries_of s) }
+    ensures once { IfSome (L.remaining list.old) (λ bytes.
+        T.opens tree.new ≤ T.opens tree.old + length (lines bytes)) }
+    ensures kept { T.files tree.new ≡ T.files tree.old }
 {
     let entries: Entries<'_, Entry> = Entries::Digests(Some(kind));
     check_list(alloc, list, &entries, None, &mut Share::whole(), tree, out)
@@ -146,7 +147,7 @@ pub fn check_list<L: Feed, M: MakesTag, T: Tree, W: Sink>(
         × (IsErrOf result CheckFault.ListTooLong ↔ (2 ^ 64 - 1 < length given))) }
 {
     let mut reader = LineReader::new(alloc)?;
-    let mut summary = Summary::new();
+    let mut summary = Summary::default();
     let mut number: u64 = 0;
     let mut checker = Checker {
         alloc,

@@ -96,14 +96,9 @@ fn read_tag(alloc: Global, line: &[u8], length: usize) -> Result<Line, LineFault
         return Err(LineFault::Malformed);
     }
     match read_line(alloc, line, Some(Kind::Blake2b))? {
+        Line::Entry(entry) if entry.tag().bytes().len() != length => Err(LineFault::Malformed),
+        Line::Entry(entry) => Ok(Line::Entry(entry)),
         Line::Skipped => Ok(Line::Skipped),
-        Line::Entry(entry) => {
-            if entry.tag().bytes().len() == length {
-                Ok(Line::Entry(entry))
-            } else {
-                Err(LineFault::Malformed)
-            }
-        }
     }
 }
 

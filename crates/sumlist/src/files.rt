@@ -78,10 +78,8 @@ impl<'r, R: Files> FileTree<'r, R> {
         let Some(taken) = &self.taken else {
             return false;
         };
-        match self.rt.metadata(name) {
-            Ok(file) => is_same((file.dev(), file.ino()), (taken.dev(), taken.ino())),
-            Err(_) => false,
-        }
+        let found = self.rt.metadata(name);
+        found.is_ok_and(|file| is_same((file.dev(), file.ino()), (taken.dev(), taken.ino())))
     }
 
     /// Whether the others would miss what is read by this name, as by that of standard input.
@@ -156,10 +154,8 @@ impl<F: Seek + Drop> Moves for F {
         MovesTo (F.stream_position old) (F.stream_position new) position answer };
 
     fn move_to(&mut self, position: u64) -> Result<u64, ErrorKind> {
-        match self.seek(SeekFrom::Start(position)) {
-            Ok(position) => Ok(position),
-            Err(error) => Err(error.kind()),
-        }
+        self.seek(SeekFrom::Start(position))
+            .map_err(|error| error.kind())
     }
 }
 
@@ -170,10 +166,7 @@ fn opened_at<F: Moves>(opened: io::Result<F>, position: u64) -> Result<Either<F,
     ensures start { IfOk opened (λ file. position ≡ 0 → result ≡ Ok (Left file)) }
     ensures moved { IfOk opened (λ file. 0 < position → IsMoved F.moves file position result) }
 {
-    let mut file = match opened {
-        Ok(file) => file,
-        Err(error) => return Err(OpenFault::of(error.kind())),
-    };
+    let mut file = opened.map_err(|error| OpenFault::of(error.kind()))?;
     if position == 0 {
         return Ok(Either::Left(file));
     }

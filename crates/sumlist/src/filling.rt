@@ -78,19 +78,12 @@ pub fn fill_entry(
     if tag.len() != alg.digest_len() {
         return Err(FillFault::BadTag);
     }
-    let Some(len) = entry_len(alg, is_tagged, name) else {
-        return Err(FillFault::NoLine);
-    };
+    let len = entry_len(alg, is_tagged, name).ok_or(FillFault::NoLine)?;
     if len != out.len() {
         return Err(FillFault::Length);
     }
-    fill_line(
-        alg,
-        is_tagged,
-        str::from_utf8(name).unwrap(),
-        &Tag::of(tag).unwrap(),
-        out,
-    );
+    let (name, tag) = (str::from_utf8(name).unwrap(), Tag::of(tag).unwrap());
+    fill_line(alg, is_tagged, name, &tag, out);
     Ok(())
 }
 
@@ -101,22 +94,17 @@ fn fill_line(alg: Alg, is_tagged: bool, name: &str, tag: &Tag, out: &mut [u8])
     ensures { out.new ≡ line_text is_tagged (record { name = name.now; alg = alg; tag = tag.now }) }
 {
     let (mut room, mut number) = ([0; 128], Buffer::new());
-    let digits = tag_digits(tag, &mut room);
+    let (lead, digits) = (lead(name).as_bytes(), tag_digits(tag, &mut room));
     if is_tagged {
         let (front, bits) = label(alg, &mut number);
         fill_between(
-            &[
-                lead(name).as_bytes(),
-                front.as_bytes(),
-                bits.as_bytes(),
-                b" (",
-            ],
+            &[lead, front.as_bytes(), bits.as_bytes(), b" ("],
             name,
             &[b") = ", digits, b"\n"],
             out,
         );
     } else {
-        fill_between(&[lead(name).as_bytes(), digits, b"  "], name, &[b"\n"], out);
+        fill_between(&[lead, digits, b"  "], name, &[b"\n"], out);
     }
 }
 

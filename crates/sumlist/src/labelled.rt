@@ -38,10 +38,7 @@ pub fn write_tagged<W: Sink>(entry: &Entry, out: &mut W) -> Result<(), TaggedFau
     if !tagged_fits(entry.alg(), entry.name()) {
         return Err(TaggedFault::TooLong);
     }
-    match write_tagged_line(entry.alg(), entry.name(), entry.tag(), out) {
-        Ok(()) => Ok(()),
-        Err(_) => Err(TaggedFault::Write),
-    }
+    write_tagged_line(entry.alg(), entry.name(), entry.tag(), out).map_err(|_| TaggedFault::Write)
 }
 
 /// Writes the tagged line of an entry with this algorithm, name and tag, and its LF, however long it is. The
@@ -58,14 +55,9 @@ pub fn write_tagged_line<W: Sink>(
 {
     let (mut room, mut number) = ([0; 128], Buffer::new());
     let (front, bits) = label(alg, &mut number);
-    let digits = tag_digits(tag, &mut room);
+    let (lead, digits) = (lead(name).as_bytes(), tag_digits(tag, &mut room));
     write_name(
-        &[
-            lead(name).as_bytes(),
-            front.as_bytes(),
-            bits.as_bytes(),
-            b" (",
-        ],
+        &[lead, front.as_bytes(), bits.as_bytes(), b" ("],
         name,
         &[b") = ", digits, b"\n"],
         out,

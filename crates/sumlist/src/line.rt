@@ -15,7 +15,7 @@ use crate::fields::split_text;
 use crate::fitting::LINE_LIMIT;
 use crate::{Entry, Kind};
 use source::Alg;
-use std::alloc::{AllocError, Global};
+use std::alloc::Global;
 use thiserror::Error;
 use words::Tag;
 
@@ -50,14 +50,6 @@ pub enum LineFault {
     /// A growth for the name was refused.
     #[error("out of memory")]
     OutOfMemory,
-}
-
-impl From<AllocError> for LineFault {
-    ghost from_gives = { λ _ fault. fault ≡ OutOfMemory };
-
-    fn from(_error: AllocError) -> LineFault {
-        LineFault::OutOfMemory
-    }
 }
 
 /// Reads one line of a list, handed in without its LF; one CR at its end is ignored. It has at most 65,536
@@ -102,7 +94,7 @@ pub(crate) fn read_line(alloc: Global, line: &[u8], kind: Option<Kind>) -> Resul
         Said::Skipped => Ok(Line::Skipped),
         Said::Malformed | Said::Untagged => Err(LineFault::Malformed),
         Said::Entry(alg, tag, given) => {
-            let name = build_name(alloc, given)?;
+            let name = build_name(alloc, given).map_err(|_| LineFault::OutOfMemory)?;
             Ok(Line::Entry(Entry::from_parts(name, alg, tag)))
         }
     }

@@ -118,16 +118,13 @@ impl LineReader {
             × (more ≡ false → (given ≡ []) × IsAtEnd (F.remaining feed.new) × (self.new.is_at_end ≡ true))) }
         ensures count { PumpCounts result (F.failure_count feed.old) (F.failure_count feed.new) }
     {
-        let Ok(count) = feed.read(&mut self.buffer) else {
-            return Err(SourceFault::Read);
-        };
+        let read = feed.read(&mut self.buffer);
+        let count = read.map_err(|_| SourceFault::Read)?;
         self.start = 0;
         self.end = count;
         self.is_at_end = count == 0;
-        let Some(total) = self.total.checked_add(count as u64) else {
-            return Err(SourceFault::TooLong);
-        };
-        self.total = total;
+        let total = self.total.checked_add(count as u64);
+        self.total = total.ok_or(SourceFault::TooLong)?;
         Ok(count != 0)
     }
 
@@ -146,10 +143,7 @@ impl LineReader {
     fn is_empty(&self) -> bool
         ensures { IsTrue result ↔ (self.now.kept ≡ Some []) }
     {
-        match self.line() {
-            Some(line) => line.is_empty(),
-            None => false,
-        }
+        self.line().is_some_and(|line| line.is_empty())
     }
 
     // Takes what is ahead up to and including the first byte of this value, or all if there is none.

@@ -33,10 +33,11 @@ pub enum TellFault {
     OutOfMemory,
 }
 
-impl From<SourceFault> for TellFault {
-    ghost from_gives = { λ fault told. told ≡ of_list fault };
-
-    fn from(fault: SourceFault) -> TellFault {
+impl TellFault {
+    // The fault of a list that was not read to its end.
+    fn of_list(fault: SourceFault) -> TellFault
+        ensures { result ≡ of_list fault }
+    {
         match fault {
             SourceFault::Read => TellFault::ListRead,
             SourceFault::TooLong => TellFault::ListTooLong,
@@ -49,14 +50,6 @@ impl From<ReadFailed> for TellFault {
 
     fn from(_failed: ReadFailed) -> TellFault {
         TellFault::ReportRead
-    }
-}
-
-impl From<AllocError> for TellFault {
-    ghost from_gives = { λ _ fault. fault ≡ OutOfMemory };
-
-    fn from(_error: AllocError) -> TellFault {
-        TellFault::OutOfMemory
     }
 }
 
@@ -82,16 +75,14 @@ pub fn tell_list<L: Feed, M: MakesTag, F: Feed>(
         (F.failure_count report.new.feed.now) }
     ensures same { report.new.feed.ghost_name ≡ report.old.feed.ghost_name }
 {
-    let mut reader = LineReader::new(alloc)?;
-    let mut summary = Summary::new();
+    let mut reader = LineReader::new(alloc).map_err(|_| TellFault::OutOfMemory)?;
+    let mut summary = Summary::default();
     let mut number: u64 = 0;
-    while reader.next(b'\n', list)? {
+    while reader.next(b'\n', list).map_err(TellFault::of_list)? {
         number += 1;
         let mark = tell_line(alloc, reader.line(), entries, name, number, report)?;
-        let Some(more) = lines.checked_add(line_count(mark)) else {
-            return Err(TellFault::ReportTooLong);
-        };
-        *lines = more;
+        let more = lines.checked_add(line_count(mark));
+        *lines = more.ok_or(TellFault::ReportTooLong)?;
         summary.count(mark);
     }
     Ok(summary)

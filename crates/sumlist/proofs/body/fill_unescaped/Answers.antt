@@ -13,13 +13,16 @@ longer front name c (Some tail) e =
 
 pub returns-then-len-out : goal.returns-then-len-out
 returns-then-len-out c = λ name e.
-    let read = rw c.in-Some.ensures.name at c.loop-rest.invariant.read in
-    let long = longer (take c.loop-rest.len c.loop-rest.out) name c.in-Some.byte _ (sym read ∙ e) in
+    let next = rw c.unwrap-byte.ensures at c.next_byte.ensures in
+    let read = rw next.name at c.loop-rest.invariant.read in
+    let long = longer (take c.loop-rest.len c.loop-rest.out) name c.unwrap-byte.result.0 _ (sym read ∙ e) in
     let all = length-take-le c.loop-rest.len c.loop-rest.out c.loop-rest.invariant.within in
     omega (arith, long, all)
 
 pub loop-rest-preserved : goal.loop-rest-preserved
-loop-rest-preserved c = record {
-  read = c.loop-rest.invariant.read ∙ rw (c.in-Some.ensures.name, c.put_byte.ensures) (front_more _ _ _);
-  within = omega arith;
-}
+loop-rest-preserved c =
+    let next = rw c.unwrap-byte.ensures at c.next_byte.ensures in
+    record {
+      read = c.loop-rest.invariant.read ∙ rw (next.name, c.put_byte.ensures) (front_more _ _ _);
+      within = omega arith;
+    }

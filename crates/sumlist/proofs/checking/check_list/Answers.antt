@@ -1,4 +1,4 @@
-use Rattle.sumlist.proofs.Common.{◌++◌, [], arith}
+use Rattle.sumlist.proofs.Common.{◌≡◌, ◌++◌, [], arith, no_lines}
 use Rattle.sumlist.proofs.Common.{err_from_is_err_and, length-append, refl, rules, ℕ}
 use Rattle.std.proofs.KnownBytes.{Consumes-nil, Consumes-trans}
 use Rattle.sumlist.proofs.Stepping.{all_read, checks-all, checks-halted, checks-line, checks-none, checks-stopped}
@@ -9,15 +9,15 @@ pub returns-in_err-reader-clause-checked : goal.returns-in_err-reader-clause-che
 returns-in_err-reader-clause-checked g c = checks-all (λ _. refl) (checks-halted c.from_residual.ensures.0)
 
 pub loop-reader-init : goal.loop-reader-init
-loop-reader-init g c = record {
-  goes = rw (c.in_ok-reader.ensures, c.new-summary.ensures) (λ r n d behind h. h);
+loop-reader-init g c = let none : c.default-summary.result ≡ no_lines = grind arith in record {
+  goes = rw (c.in_ok-reader.ensures, none) (λ r n d behind h. h);
   read = [];
   consumed = Consumes-nil (g.L.Feed.remaining c.args.list.now);
   once = rw c.in_ok-reader.ensures (λ n h. h);
-  unreadable = rw c.new-summary.ensures (search rules);
+  unreadable = rw none (search rules);
   opens = omega arith;
   ended = rw c.in_ok-reader.ensures (search rules);
-  counts = rw (c.in_ok-reader.ensures, c.new-summary.ensures) (search rules);
+  counts = rw (c.in_ok-reader.ensures, none) (search rules);
 }
 
 pub returns-in_err-next-clause-checked : goal.returns-in_err-next-clause-checked

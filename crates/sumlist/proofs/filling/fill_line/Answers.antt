@@ -20,15 +20,15 @@ tagged_sum head front word bits label name digits tag n same labelled is sized =
 pub fill_between-requires : goal.fill_between-requires
 fill_between-requires c =
     (rw c.if-is_tagged.true at c.requires.room)
-    ∙ tagged_sum c.as_bytes.result.now _ c.as_bytes-then-is_tagged.result.now c.as_bytes-then-is_tagged-2.result.now
+    ∙ tagged_sum c.as_bytes-lead.result.now _ c.as_bytes.result.now c.as_bytes-then-is_tagged.result.now
     (label_of c.args.alg) (escaped c.args.name.now) c.tag_digits-digits.result.now c.args.tag.now
-    (digest_len c.args.alg) (c.as_bytes.ensures.value ∙ c.lead.ensures)
-    (rw (c.as_bytes-then-is_tagged.ensures.value, c.as_bytes-then-is_tagged-2.ensures.value) c.label.ensures.value)
+    (digest_len c.args.alg) (c.as_bytes-lead.ensures.value ∙ c.lead.ensures)
+    (rw (c.as_bytes.ensures.value, c.as_bytes-then-is_tagged.ensures.value) c.label.ensures.value)
     c.tag_digits-digits.ensures c.requires.sized.1
 
 pub fill_between-requires-else-is_tagged : goal.fill_between-requires-else-is_tagged
 fill_between-requires-else-is_tagged c =
     (rw c.if-is_tagged.false at c.requires.room)
-    ∙ plain_sum c.as_bytes-else-is_tagged.result.now _ (escaped c.args.name.now) c.tag_digits-digits.result.now
-    c.args.tag.now (digest_len c.args.alg) (c.as_bytes-else-is_tagged.ensures.value ∙ c.lead-else-is_tagged.ensures)
+    ∙ plain_sum c.as_bytes-lead.result.now _ (escaped c.args.name.now) c.tag_digits-digits.result.now
+    c.args.tag.now (digest_len c.args.alg) (c.as_bytes-lead.ensures.value ∙ c.lead.ensures)
     c.tag_digits-digits.ensures c.requires.sized.1
