@@ -168,11 +168,8 @@ module _ (chunks : ℕ) (name : Text) (files : Files) (input : List ℕ) where
   each_are_run n shares did =
       let shown = are_of text line code n xs shares are in (printed text line code xs, whole, shown.0, shown.1)
     where
-      at : (k : ℕ) → k ≤ n → Printed (record { others = n; waiting = k }) (shares k)
-      at k within = each_printed (record { others = n; waiting = k }) (shares k) (did k within).0 (did k within).1
-
       first : Printed (record { others = n; waiting = 0 }) (shares 0)
-      first = at 0 (omega arith)
+      first = let its = did 0 (omega arith) in each_printed (record { others = n; waiting = 0 }) (shares 0) its.0 its.1
 
       xs : List ℕ
       xs = numbers_of chunks first.bytes
@@ -192,7 +189,8 @@ module _ (chunks : ℕ) (name : Text) (files : Files) (input : List ℕ) where
 
       are : (k : ℕ) → k ≤ n → shares k ≡ printed text line code (every n k xs)
       are k within =
-          let here = at k within in
+          let its = did k within in
+          let here = each_printed (record { others = n; waiting = k }) (shares k) its.0 its.1 in
           let same : here.bytes ≡ first.bytes = same_Some _ _ (sym here.is ∙ first.is) in
           here.same ∙ ap (λ m. prints (lines_of (record { others = n; waiting = k }) chunks m) 0) same
           ∙ ap (prints (flat_map text (every n k xs))) (sym (zero_code (every n k xs)))
@@ -335,11 +333,8 @@ module _ (parts name : Text) (files : Files) (input : List ℕ) where
   verify_are_run n shares did =
       let shown = are_of text line code n xs shares are in (printed text line code xs, whole, shown.0, shown.1)
     where
-      at : (k : ℕ) → k ≤ n → Compared (record { others = n; waiting = k }) (shares k)
-      at k within = compared (record { others = n; waiting = k }) (shares k) (did k within).0 (did k within).1
-
       first : Compared (record { others = n; waiting = 0 }) (shares 0)
-      first = at 0 (omega arith)
+      first = let its = did 0 (omega arith) in compared (record { others = n; waiting = 0 }) (shares 0) its.0 its.1
 
       xs : List PartValue
       xs = first.told
@@ -355,7 +350,8 @@ module _ (parts name : Text) (files : Files) (input : List ℕ) where
 
       are : (k : ℕ) → k ≤ n → shares k ≡ printed text line code (every n k xs)
       are k within =
-          let here = at k within in
+          let its = did k within in
+          let here = compared (record { others = n; waiting = k }) (shares k) its.0 its.1 in
           let list : here.list ≡ first.list = same_Some _ _ (sym here.listed ∙ first.listed) in
           let same : here.bytes ≡ first.bytes = same_Some _ _ (sym here.is ∙ first.is) in
           let own = same_own n k here.told xs (same_parts (lines first.list) here.told xs

@@ -13,7 +13,6 @@ use Rattle.sumlist.specs.declared.verdict.Verdict.TheVariants.{Matches}
 use Rattle.sumlist.proofs.Cutting.{HasNo-from_none, lines-ended}
 use Rattle.sumlist.proofs.Deciding.{matches}
 use Rattle.sumlist.proofs.Spelling.{written_spells, written_untagged}
-use Rattle.task.specs.declared.tagging.Mac.TheVariants as mac
 use Rattle.command.specs.Laws.{IsTagged, TagsAreOk, line_of_file}
 use Rattle.command.specs.Lines.{LineRule, line_beside, tag_line}
 

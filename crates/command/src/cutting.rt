@@ -19,6 +19,7 @@ ghost use Rattle.command.specs.inside.Cutting as spec;
 
 use crate::digests::part_buffer;
 use crate::fault::{Fault, write_number};
+use crate::places::Wanted;
 use crate::session::{Session, Streams, open_file};
 use b3::{CHUNK_LEN, MOST_CHUNKS, Mode, PartValue};
 use partlist::write_part;
@@ -114,33 +115,35 @@ fn part_of_feed<'n, F: Feed>(
     }
 }
 
-/// The part of the next bytes of a feed, or of the first `bytes` of them, as bytes from the chunk `first` on
-/// in at most `room` chunks: `None` if there are none and `first` is not 0.
+/// The part that is wanted, whose bytes a feed gives next: `None` if there are none and its first chunk is not 0.
 pub(crate) fn next_part<'n, F: Feed>(
-    first: u64,
-    room: u64,
-    bytes: Option<u64>,
+    wanted: Wanted,
     run: &mut [u8],
     name: &'n str,
     feed: &mut F,
 ) -> Result<Option<PartValue>, Fault<'n>>
     requires run { (e : ℕ) × (length run.old ≡ 1024 * 2 ^ e) }
-    requires room { (e : ℕ) × (room ≡ 2 ^ e) }
-    requires within { length run.old ≤ 1024 * room }
-    requires aligned { first % room ≡ 0 }
-    ensures part { IfSome (up_to bytes (F.remaining feed.old))
-        (λ x. TakesPart first room name.entry.now x result) }
-    ensures first { IfOk result (λ found. IfSome found (λ part. part.first_chunk ≡ first)) }
-    ensures left { OnOk result (LeavesBehind bytes (F.remaining feed.old) (F.remaining feed.new)) }
+    requires room { (e : ℕ) × (wanted.room ≡ 2 ^ e) }
+    requires within { length run.old ≤ 1024 * wanted.room }
+    requires aligned { wanted.first % wanted.room ≡ 0 }
+    ensures part { IfSome (up_to wanted.bytes (F.remaining feed.old))
+        (λ x. TakesPart wanted.first wanted.room name.entry.now x result) }
+    ensures first { IfOk result (λ found. IfSome found (λ part. part.first_chunk ≡ wanted.first)) }
+    ensures left { OnOk result (LeavesBehind wanted.bytes (F.remaining feed.old) (F.remaining feed.new)) }
     ensures gave { Gives (F.remaining feed.old) (F.remaining feed.new) }
     ensures counted { F.failure_count feed.new
         ≡ count_after (F.failure_count feed.old) (failed true (Some []) result).input }
     ensures memory { IsErrOf result Fault.OutOfMemory → ⊥ }
 {
-    match part_of(Mode::Hash, first, room, bytes, feed, run) {
-        Ok(found) => Ok(found),
-        Err(fault) => Err(Fault::of_source(fault, name)),
-    }
+    part_of(
+        Mode::Hash,
+        wanted.first,
+        wanted.room,
+        wanted.bytes,
+        feed,
+        run,
+    )
+    .map_err(|fault| Fault::of_source(fault, name))
 }
 
 // The fault of a part that was not made, with room up to the chunk `end`. If that is the end of the longest

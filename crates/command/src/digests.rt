@@ -54,22 +54,16 @@ pub(crate) fn digest_of_feed<F: Feed>(
     let length = requested.stretch.length as usize;
     match requested.hash {
         Hash::Whole(kind) => {
-            let Ok(hasher) = AnyHash::new(kind.longest()) else {
-                unreachable!()
-            };
+            let hasher = AnyHash::new(kind.longest()).unwrap();
             Ok(Made::Tag(digest_of(hasher, feed)?))
         }
         Hash::Blake2b(salt, personal) => {
-            let Ok(mut hasher) = Blake2b::with_parameters(length, &[], &salt, &personal) else {
-                unreachable!()
-            };
+            let mut hasher = Blake2b::with_parameters(length, &[], &salt, &personal).unwrap();
             pump(&mut hasher, feed)?;
             Ok(Made::Tag(hasher.finish()))
         }
         Hash::Blake2s(salt, personal) => {
-            let Ok(mut hasher) = Blake2s::with_parameters(length, &[], &salt, &personal) else {
-                unreachable!()
-            };
+            let mut hasher = Blake2s::with_parameters(length, &[], &salt, &personal).unwrap();
             pump(&mut hasher, feed)?;
             Ok(Made::Tag(hasher.finish()))
         }
@@ -126,16 +120,12 @@ pub(crate) fn tag_of_feed<F: Feed>(keyed: &Keyed, feed: &mut F) -> Result<Made, 
             HmacHash::Blake2s => hmac::<Blake2s256, F>(length, key, feed),
         },
         Mac::Blake2b(length) => {
-            let Ok(mut hasher) = Blake2b::keyed(length, key) else {
-                unreachable!()
-            };
+            let mut hasher = Blake2b::keyed(length, key).unwrap();
             pump(&mut hasher, feed)?;
             Ok(Made::Tag(hasher.finish()))
         }
         Mac::Blake2s(length) => {
-            let Ok(mut hasher) = Blake2s::keyed(length, key) else {
-                unreachable!()
-            };
+            let mut hasher = Blake2s::keyed(length, key).unwrap();
             pump(&mut hasher, feed)?;
             Ok(Made::Tag(hasher.finish()))
         }

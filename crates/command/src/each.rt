@@ -25,7 +25,7 @@ ghost use Rattle.command.specs.inside.Verifying.{status_of};
 use crate::cutting::{RUN, chunk_bytes, room_for_run};
 use crate::digests::part_buffer;
 use crate::fault::Fault;
-use crate::places::{AtPlaces, Going, Places, end_at};
+use crate::places::{AtPlaces, Going, Places, Wanted, end_at};
 use crate::session::{Session, Streams, open_file};
 use b3::{CHUNK_LEN, MOST_CHUNKS, PartValue};
 use itoa::Buffer;
@@ -67,32 +67,8 @@ impl<'i, 't, 'o, L: Feed, T: Tree, W: Sink> Session<'i, 't, 'o, L, T, W> {
             return write_parts(chunks, run, file, self.out, &mut places);
         }
         let name = file.name;
-        read_named!(self, name, 0, write_all(chunks, run, file, self.out))
+        read_named!(self, name, 0, write_parts(chunks, run, file, self.out) in Going)
     }
-}
-
-// Writes the lines of all parts of what a feed gives.
-fn write_all<'n, F: Feed, W: Sink>(
-    chunks: u64,
-    run: &mut [u8],
-    file: SharedFile<'n>,
-    out: &mut W,
-    feed: &mut F,
-) -> Result<u8, Fault<'n>>
-    requires chunks { IsPartLength chunks }
-    requires run { (e : ℕ) × (length run.old ≡ 1024 * 2 ^ e) }
-    requires within { length run.old ≤ 1024 * chunks }
-    requires all { file.share.others ≡ 0 }
-    ensures printed { (m : List ℕ) → F.remaining feed.old ≡ Some m
-        → PrintsEach file.entry.share chunks file.entry.name.now (Some m) result (W.shown out.old) (W.shown out.new)
-        0 0 (F.failure_count feed.old) (F.failure_count feed.new) }
-    ensures memory { IsErrOf result Fault.OutOfMemory → ⊥ }
-{
-    let mut going = Going {
-        feed,
-        has_ended: false,
-    };
-    write_parts(chunks, run, file, out, &mut going)
 }
 
 // Writes the lines of the parts that a share takes. The file ends with a part that is not full, or before a part.
@@ -113,11 +89,12 @@ fn write_parts<'n, P: Places, W: Sink>(
     ensures same { P.lender places.new ≡ P.lender places.old }
     ensures memory { IsErrOf result Fault.OutOfMemory → P.wants_memory ≡ true }
 {
-    let bytes = chunk_bytes(Some(chunks));
+    let (room, bytes) = (chunks, chunk_bytes(Some(chunks)));
     let count = (MOST_CHUNKS - 1) / chunks + 1;
     let mut number = file.share.waiting;
     'parts: while number < count {
-        let Some(part) = places.part(chunks * number, chunks, bytes, run, file.name)? else {
+        let first = chunks * number;
+        let Some(part) = places.part(Wanted { first, room, bytes }, run, file.name)? else {
             return Ok(0);
         };
         write_part(&part, out)?;
@@ -198,32 +175,8 @@ impl<'i, 't, 'o, L: Feed, T: Tree, W: Sink> Session<'i, 't, 'o, L, T, W> {
             let mut places = AtPlaces { tree: self.tree };
             return compare_parts(run, parts, list, file, self.out, &mut places);
         }
-        read_named!(self, name, 0, compare_all(run, parts, list, file, self.out))
+        read_named!(self, name, 0, compare_parts(run, parts, list, file, self.out) in Going)
     }
-}
-
-// Writes this for all parts, by what a feed gives.
-fn compare_all<'n, P: Feed, F: Feed, W: Sink>(
-    run: &mut [u8],
-    parts: &'n str,
-    list: &mut P,
-    file: SharedFile<'n>,
-    out: &mut W,
-    feed: &mut F,
-) -> Result<u8, Fault<'n>>
-    requires run { length run.old ≡ 1024 * RUN }
-    requires all { file.share.others ≡ 0 }
-    ensures compared { (text m : List ℕ) → P.remaining list.old ≡ Some text → F.remaining feed.old ≡ Some m
-        → ComparesParts file.entry.share parts.entry.now file.entry.name.now text m result
-        (W.shown out.old) (W.shown out.new) (P.failure_count list.old) (P.failure_count list.new)
-        0 0 (F.failure_count feed.old) (F.failure_count feed.new) }
-    ensures memory { IsErrOf result Fault.OutOfMemory → ⊥ }
-{
-    let mut going = Going {
-        feed,
-        has_ended: false,
-    };
-    compare_parts(run, parts, list, file, out, &mut going)
 }
 
 // Writes, for each part that a share takes of those that the lines of a feed describe, whether it is that of a file,
@@ -260,13 +213,8 @@ fn compare_parts<'n, L: Feed, P: Places, W: Sink>(
             status = status.max(status_of(verdict));
         }
     }
-    end_at(
-        status,
-        joiner.count(),
-        file.name,
-        Fault::BytesBehind(file.name),
-        places,
-    )
+    let longer = Fault::BytesBehind(file.name);
+    end_at(status, joiner.count(), file.name, longer, places)
 }
 
 // The verdict on a part, by the bytes at its place.
@@ -287,10 +235,9 @@ fn verdict_on<'n, P: Places>(
     ensures same { P.lender places.new ≡ P.lender places.old }
     ensures memory { IsErrOf result Fault.OutOfMemory → P.wants_memory ≡ true }
 {
-    let room = room_of(told);
-    let few = CHUNK_LEN * room.min(RUN) as usize;
-    let run = &mut run[..few];
-    match places.part(told.first_chunk, room, Some(told.len), run, name)? {
+    let (first, room, bytes) = (told.first_chunk, room_of(told), Some(told.len));
+    let run = &mut run[..CHUNK_LEN * room.min(RUN) as usize];
+    match places.part(Wanted { first, room, bytes }, run, name)? {
         Some(found) => Ok(verdict_of(told, &found)),
         None => Ok(Verdict::Missing),
     }
@@ -322,10 +269,7 @@ fn verdict_of(told: &PartValue, found: &PartValue) -> Verdict
 fn status_of(verdict: Verdict) -> u8
     ensures { result ≡ status_of verdict }
 {
-    match verdict {
-        Verdict::Matches => 0,
-        _ => 1,
-    }
+    u8::from(verdict != Verdict::Matches)
 }
 
 // Writes a verdict after the numbers of its part.

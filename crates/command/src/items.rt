@@ -1,7 +1,8 @@
 // What a run goes through, one after another, and the one loop that does so.
 
 ghost use Rattle.std.specs.Prelude.{◌≡◌, ◌<◌, ◌≤◌, ◌++◌, ◌∷◌, ℕ, Bool, List, Option, [], IfOk, IfSome, IsErrOf};
-ghost use Rattle.std.specs.Prelude.{MatchBool, MatchResult, OnOk, length, map, nat_lt, true, ⊤};
+ghost use Rattle.std.specs.Prelude.{MatchBool, MatchResult, None, OnOk, Some, if◌then◌else◌, length, map, nat_lt};
+ghost use Rattle.std.specs.Prelude.{option_map, true, ⊤};
 ghost use Rattle.hashes.specs.declared.share.Share.{Share};
 ghost use Rattle.source.specs.Written.{Shown};
 ghost use Rattle.command.specs.Run.{Run};
@@ -184,10 +185,11 @@ impl<'a, 'n> Names<'a, 'n> {
         true
     }
 
-    /// Whether there are several.
-    pub(crate) fn are_several(&self) -> bool
-        ensures { result ≡ nat_lt 1 (length (map (λ n. n.now) self.now.names.now)) }
+    /// The name as that of a list in its report, if there are several.
+    pub(crate) fn title(&self) -> Option<&str>
+        ensures { option_map (λ n. n.now) result ≡ (if nat_lt 1 (length (map (λ n. n.now) self.now.names.now))
+            then Some self.now.name.now else None) }
     {
-        self.names.len() > 1
+        (self.names.len() > 1).then_some(self.name)
     }
 }

@@ -11,7 +11,7 @@ ghost use Rattle.task.specs.Tasks.{by_blake3};
 ghost use Rattle.task.specs.inside.Views.{derivation_shown};
 
 use crate::fault::Fault;
-use crate::making::{Made, slice_of, write_bytes, write_made};
+use crate::making::{Made, write_bytes, write_made};
 use crate::session::{Session, Streams, absorb_named};
 use b3::Blake3;
 use kdf::{Extract, expand};
@@ -115,9 +115,8 @@ impl<'i, 't, 'o, L: Feed, T: Tree, W: Sink> Session<'i, 't, 'o, L, T, W> {
         ensures same { SameStreams self.old self.new }
         ensures memory { IsErrOf result Fault.OutOfMemory → T.wants_memory ≡ true }
     {
-        let Ok(mut extract) = Extract::<H>::new(slice_of(&hkdf.salt)) else {
-            return Err(Fault::from(UsageFault::out_of_range("--salt")));
-        };
+        let extract = Extract::<H>::new(hkdf.salt.as_deref());
+        let mut extract = extract.map_err(|_| UsageFault::out_of_range("--salt"))?;
         absorb_named(&mut extract, material, self.tree)?;
         Ok(extract.finish())
     }
@@ -170,8 +169,7 @@ fn write_expanded<H: BlockHash, W: Sink>(
 {
     let mut key = [0; OUTPUT_LIMIT];
     let (key, _) = key.split_at_mut(hkdf.length);
-    match expand::<H>(prk, hkdf.info.as_slice(), key) {
-        Ok(()) => Ok(write_bytes(key, is_raw, out)?),
-        Err(_) => Err(Fault::from(UsageFault::out_of_range("--info"))),
-    }
+    let expanded = expand::<H>(prk, hkdf.info.as_slice(), key);
+    expanded.map_err(|_| UsageFault::out_of_range("--info"))?;
+    Ok(write_bytes(key, is_raw, out)?)
 }

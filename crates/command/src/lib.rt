@@ -8,15 +8,15 @@ pub use laws::{
 pub use session::{Session, Streams, session_laws};
 pub use visible::write_visible;
 
-// Calls a function on the feed of a name, as its last argument: standard input for `-`, otherwise the file
-// with the name from a position on, which is opened before the call and closed after it.
+// Calls a function on the feed of a name, as its last argument, or on what is made of the feed: standard input for `-`,
+// otherwise the file with the name from a position on, which is opened before the call and closed after it.
 macro_rules! read_named {
-    ($session:ident, $name:expr, $position:expr, $function:ident($($argument:expr),*)) => {{
+    ($session:ident, $name:expr, $position:expr, $function:ident($($argument:expr),*) $(in $made:ident)?) => {{
         if $name == "-" {
-            return $function($($argument,)* $session.input);
+            return $function($($argument,)* $(&mut $made::new)?($session.input));
         }
         let mut feed = open_file($name, $position, $session.tree)?;
-        let answer = $function($($argument,)* &mut feed);
+        let answer = $function($($argument,)* $(&mut $made::new)?(&mut feed));
         $session.tree.close(feed);
         answer
     }};

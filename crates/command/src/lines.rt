@@ -26,13 +26,13 @@ use crate::digests::{digest_of_feed, part_buffer, tag_digits, tag_of_feed};
 use crate::fault::Fault;
 use crate::items::{Items, Names, pass_over, walk};
 use crate::keying::rule_of;
-use crate::making::{Made, is_made, named, print_verdict, slice_of, write_beside};
+use crate::making::{Made, is_made, named, print_verdict, write_beside};
 use crate::rule::Rule;
 use crate::session::{Session, Streams, open_file};
 use source::{Feed, Sink, WriteFailed};
 use std::alloc::{AllocError, Global};
 use sumlist::{Share, Tree, tagged_fits, write_tagged_line};
-use task::{Form, Hashing, Sum};
+use task::{Form, Sum};
 
 // Names that the words give, and the rule of their lines.
 #[derive(Drop)]
@@ -153,7 +153,7 @@ impl<'i, 't, 'o, L: Feed, T: Tree, W: Sink> Session<'i, 't, 'o, L, T, W> {
             → WantsRoom sum.entry ⊎ (T.wants_memory ≡ true) }
     {
         let rule = rule_of(self.alloc, sum, self.tree)?;
-        self.print_compared(&rule, slice_of(&wanted), name, file)
+        self.print_compared(&rule, wanted.as_deref(), name, file)
     }
 
     /// Prints the line of a file, or reports why it has none, and answers the status of either. Only a
@@ -240,14 +240,13 @@ fn buffer_of(alloc: Global, rule: &Rule) -> Result<Vec<u8>, AllocError>
     ensures room { IfOk result (λ buffer. IsRoomFor rule.now (vec_len buffer)) }
     ensures memory { IsErr result → TakesRoom rule.now }
 {
-    match rule {
-        Rule::Digest(
-            Hashing {
-                chunks: Some(chunks),
-                ..
-            },
-        ) => part_buffer(alloc, *chunks),
-        _ => Ok(Vec::new(alloc)),
+    let chunks = match rule {
+        Rule::Digest(hashing) => hashing.chunks,
+        Rule::Tag(_) => None,
+    };
+    match chunks {
+        Some(chunks) => part_buffer(alloc, chunks),
+        None => Ok(Vec::new(alloc)),
     }
 }
 
@@ -273,10 +272,7 @@ fn made_of_feed<'n, F: Feed>(
         Rule::Digest(hashing) => digest_of_feed(hashing.requested, buffer, feed),
         Rule::Tag(keyed) => tag_of_feed(keyed, feed),
     };
-    match made {
-        Ok(made) => Ok(made),
-        Err(fault) => Err(Fault::of_source(fault, name)),
-    }
+    made.map_err(|fault| Fault::of_source(fault, name))
 }
 
 // Refuses a name that cannot stand on a line of this rule.
@@ -304,14 +300,13 @@ fn write_sum<W: Sink>(rule: &Rule, made: Made, name: &str, out: &mut W) -> Resul
         ((line_by rule.now).text name.now (made_bytes made)) }
 {
     match rule {
-        Rule::Digest(hashing) => {
-            let requested = hashing.requested;
-            match requested.form {
-                Form::Plain => write_beside(made, false, name, out),
-                Form::Raw => write_beside(made, true, name, out),
-                Form::Tagged => write_tagged_line(requested.alg(), name, &made.into_tag(), out),
+        Rule::Digest(hashing) => match hashing.requested.form {
+            Form::Plain => write_beside(made, false, name, out),
+            Form::Raw => write_beside(made, true, name, out),
+            Form::Tagged => {
+                write_tagged_line(hashing.requested.alg(), name, &made.into_tag(), out)
             }
-        }
+        },
         Rule::Tag(keyed) => write_beside(made, keyed.tagging.is_raw, name, out),
     }
 }

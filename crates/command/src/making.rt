@@ -145,11 +145,7 @@ pub(crate) fn named(digits: usize, name: &str) -> Result<(), Fault<'_>>
     ensures { MatchResult result (λ _. Fits digits name.entry.now)
         (λ fault. (fault ≡ BadName name.entry) × (Fits digits name.entry.now → ⊥)) }
 {
-    if fits(digits, name) {
-        Ok(())
-    } else {
-        Err(Fault::BadName(name))
-    }
+    fits(digits, name).then_some(()).ok_or(Fault::BadName(name))
 }
 
 /// Writes the bytes themselves, or their lower-case hexadecimal digits.
@@ -204,21 +200,11 @@ pub(crate) fn print_verdict<'f, W: Sink>(
     ensures said { PrintsSaid (verdict name.now right) result (W.shown out.old) (W.shown out.new) }
     ensures memory { IsErrOf result Fault.OutOfMemory → ⊥ }
 {
-    if right {
-        write_verdict(name, Verdict::Matches, out)?;
-        Ok(0)
+    let verdict = if right {
+        Verdict::Matches
     } else {
-        write_verdict(name, Verdict::Differs, out)?;
-        Ok(1)
-    }
-}
-
-/// The bytes of a digest or tag, if there is one.
-pub(crate) fn slice_of(bytes: &Option<Vec<u8>>) -> Option<&[u8]>
-    ensures { option_map (λ t. t.now) result ≡ option_map (λ v. v.items) bytes.now }
-{
-    match bytes {
-        Some(bytes) => Some(bytes.as_slice()),
-        None => None,
-    }
+        Verdict::Differs
+    };
+    write_verdict(name, verdict, out)?;
+    Ok(u8::from(!right))
 }

@@ -2,7 +2,7 @@
 
 ghost use Rattle.std.proofs.lemmas.Bool.{false≢true};
 ghost use Rattle.std.specs.Borrow.{GName};
-ghost use Rattle.std.specs.Prelude.{◌≡◌, ◌⊎◌, ℕ, ◌+◌, ◌*◌, ◌≤◌, Bool, List, OnOk, Option, IsErrOf, false, true};
+ghost use Rattle.std.specs.Prelude.{◌≡◌, ◌⊎◌, ℕ, ◌+◌, ◌*◌, ◌≤◌, Bool, List, OnOk, Option, IsErrOf, Some, false, true};
 ghost use Rattle.request.specs.CommandLine.{Text};
 ghost use Rattle.source.specs.Counts.{count_after};
 ghost use Rattle.command.specs.inside.Cutting.{TellsByte};
@@ -16,6 +16,14 @@ use crate::session::open_file;
 use b3::{CHUNK_LEN, PartValue};
 use source::Feed;
 use sumlist::Tree;
+
+/// The part that is asked for: the bytes from a chunk on in a room of so many chunks, at most so many.
+#[derive(Clone, Copy)]
+pub(crate) struct Wanted {
+    pub(crate) first: u64,
+    pub(crate) room: u64,
+    pub(crate) bytes: Option<u64>,
+}
 
 /// A file whose parts are asked for one after another. `Going` reads them from a feed, and `AtPlaces` opens the file at
 /// the place of each.
@@ -37,21 +45,19 @@ pub(crate) trait Places {
     // Which reference it reads through.
     ghost lender: { Self → GName };
 
-    /// The part of the bytes from a chunk on, at most so many: `None` if there are none there.
+    /// The part that is wanted: `None` if there are no bytes there.
     fn part<'n>(
         &mut self,
-        first: u64,
-        room: u64,
-        bytes: Option<u64>,
+        wanted: Wanted,
         run: &mut [u8],
         name: &'n str,
     ) -> Result<Option<PartValue>, Fault<'n>>
-        requires { IsAsked first room bytes run.old }
-        ensures part { (content : Option (List ℕ)) → gives self.old (1024 * first) name.entry.now content
-            → TakesAt first room bytes name.entry.now content result }
-        ensures left { (content : Option (List ℕ)) → gives self.old (1024 * first) name.entry.now content
-            → OnOk result (gives self.new (after_part first room bytes) name.entry.now content) }
-        ensures counted { (content : Option (List ℕ)) → gives self.old (1024 * first) name.entry.now content
+        requires { IsAsked wanted.first wanted.room wanted.bytes run.old }
+        ensures part { (content : Option (List ℕ)) → gives self.old (1024 * wanted.first) name.entry.now content
+            → TakesAt wanted.first wanted.room wanted.bytes name.entry.now content result }
+        ensures left { (content : Option (List ℕ)) → gives self.old (1024 * wanted.first) name.entry.now content
+            → OnOk result (gives self.new (after_part wanted.first wanted.room wanted.bytes) name.entry.now content) }
+        ensures counted { (content : Option (List ℕ)) → gives self.old (1024 * wanted.first) name.entry.now content
             → failures self.new ≡ count_after (failures self.old) (behind_answer content result) }
         ensures opens { opens self.new ≤ opens self.old + 1 }
         ensures same { lender self.new ≡ lender self.old }
@@ -97,8 +103,20 @@ pub(crate) fn end_at<'n, P: Places>(
 /// All parts of what a feed gives: it is read once, and no more after its end.
 #[derive(Drop)]
 pub(crate) struct Going<'f, F> {
-    pub(crate) feed: &'f mut F,
-    pub(crate) has_ended: bool,
+    feed: &'f mut F,
+    has_ended: bool,
+}
+
+impl<'f, F: Feed> Going<'f, F> {
+    /// The parts of all that a feed gives.
+    pub(crate) fn new(feed: &'f mut F) -> Going<'f, F>
+        ensures feed { result.feed ≡ feed.entry }
+        ensures gives { (m : List ℕ) → F.remaining feed.entry.now ≡ Some m
+            → GoesOn result.has_ended (F.remaining result.feed.now) 0 (Some m) }
+    {
+        let has_ended = false;
+        Going { feed, has_ended }
+    }
 }
 
 impl<'f, F: Feed> Places for Going<'f, F> {
@@ -116,17 +134,15 @@ impl<'f, F: Feed> Places for Going<'f, F> {
 
     fn part<'n>(
         &mut self,
-        first: u64,
-        room: u64,
-        bytes: Option<u64>,
+        wanted: Wanted,
         run: &mut [u8],
         name: &'n str,
     ) -> Result<Option<PartValue>, Fault<'n>> {
         if self.has_ended {
             return Ok(None);
         }
-        let found = next_part(first, room, bytes, run, name, self.feed)?;
-        self.has_ended = ends_by(&found, bytes);
+        let found = next_part(wanted, run, name, self.feed)?;
+        self.has_ended = ends_by(&found, wanted.bytes);
         Ok(found)
     }
 
@@ -171,14 +187,12 @@ impl<'t, T: Tree> Places for AtPlaces<'t, T> {
 
     fn part<'n>(
         &mut self,
-        first: u64,
-        room: u64,
-        bytes: Option<u64>,
+        wanted: Wanted,
         run: &mut [u8],
         name: &'n str,
     ) -> Result<Option<PartValue>, Fault<'n>> {
-        let mut feed = open_file(name, CHUNK_LEN as u64 * first, self.tree)?;
-        let answer = next_part(first, room, bytes, run, name, &mut feed);
+        let mut feed = open_file(name, CHUNK_LEN as u64 * wanted.first, self.tree)?;
+        let answer = next_part(wanted, run, name, &mut feed);
         self.tree.close(feed);
         answer
     }

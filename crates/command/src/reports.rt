@@ -258,16 +258,10 @@ impl<'i, 't, 'o, 'e, 'k, 'a, 'n, L: Feed, T: Tree, W: Sink> Items<'n>
     }
 
     fn print<E: Sink>(&mut self, _share: Share, err: &mut E) -> Result<u8, Fault<'n>> {
-        let title = title_of(self.lists.are_several(), self.lists.name);
+        let (title, name) = (self.lists.title(), self.lists.name);
+        let (entries, reporting) = (self.entries, self.reporting);
         let mut session = session_of!(self);
-        session.print_report(
-            self.entries,
-            title,
-            self.reporting,
-            self.lists.name,
-            &mut self.share,
-            err,
-        )
+        session.print_report(entries, title, reporting, name, &mut self.share, err)
     }
 
     fn end(&mut self, status: u8) -> Result<u8, Fault<'n>> {
@@ -293,19 +287,9 @@ pub(crate) fn short_keyed<'n, T: Tree>(
     ensures opens { T.opens tree.new ≤ T.opens tree.old + source_opens (key_shown key.entry) }
     ensures files { T.files tree.new ≡ T.files tree.old }
 {
-    let tagging = Tagging {
-        mac: short.mac,
-        is_raw: false,
-    };
-    let keyed = keyed_of(alloc, tagging, key, tree)?;
+    let (mac, is_raw) = (short.mac, false);
+    let keyed = keyed_of(alloc, Tagging { mac, is_raw }, key, tree)?;
     Ok(ShortKeyed { keyed })
-}
-
-// The name that a list has in its report, where there are several lists.
-pub(crate) fn title_of(are_named: bool, name: &str) -> Option<&str>
-    ensures { option_map (λ n. n.now) result ≡ (if are_named then Some name.now else None) }
-{
-    if are_named { Some(name) } else { None }
 }
 
 // Reports on standard error what there is to say of a list: its numbers, and what its report does not say, each in one
@@ -439,7 +423,7 @@ fn fitting(len: u8) -> &'static str
 pub(crate) fn status_of(summary: &Summary) -> u8
     ensures { result ≡ (if is_clean summary.now then 0 else 1) }
 {
-    if summary.is_clean() { 0 } else { 1 }
+    u8::from(!summary.is_clean())
 }
 
 // What the list of this name came to.

@@ -23,7 +23,7 @@ ghost use Rattle.command.specs.inside.Troubles.{cannot_read, other_line, trouble
 
 use crate::fault::Fault;
 use crate::items::{Items, Names, walk};
-use crate::reports::{remark, status_of, title_of};
+use crate::reports::{remark, status_of};
 use crate::rule::ShortKeyed;
 use crate::session::{Session, Streams, open_file};
 use source::{Feed, Sink};
@@ -151,17 +151,10 @@ impl<'i, 't, 'o, 'e, 'k, 'f, 'a, 'n, L: Feed, T: Tree, W: Sink, F: Feed> Items<'
     }
 
     fn print<E: Sink>(&mut self, _share: Share, err: &mut E) -> Result<u8, Fault<'n>> {
-        let title = title_of(self.lists.are_several(), self.lists.name);
+        let (title, name, entries) = (self.lists.title(), self.lists.name, self.told.entries);
         let mut session = session_of!(self);
-        let summary = session.tell_named(&mut self.told, title, self.lists.name)?;
-        remark(
-            title,
-            self.reporting,
-            self.lists.name,
-            self.told.entries,
-            &summary,
-            err,
-        );
+        let summary = session.tell_named(&mut self.told, title, name)?;
+        remark(title, self.reporting, name, entries, &summary, err);
         Ok(status_of(&summary))
     }
 
@@ -243,13 +236,7 @@ fn tell_feed<'n, F: Feed, L: Feed>(
     ensures kept { (told.new.name ≡ told.old.name) × (told.new.entries ≡ told.old.entries)
         × (told.new.report.feed.ghost_name ≡ told.old.report.feed.ghost_name) }
 {
-    let answer = tell_list(
-        told.alloc,
-        list,
-        told.entries,
-        title,
-        &mut told.report,
-        &mut told.next,
-    );
+    let (alloc, entries, next) = (told.alloc, told.entries, &mut told.next);
+    let answer = tell_list(alloc, list, entries, title, &mut told.report, next);
     told.settled(answer, name)
 }

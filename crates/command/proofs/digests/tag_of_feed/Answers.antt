@@ -15,7 +15,7 @@ use Rattle.command.proofs.digests.tag_of_feed.Goals as goal
 pub returns-in_ok-pump-in-Blake2b-clause-made : goal.returns-in_ok-pump-in-Blake2b-clause-made
 returns-in_ok-pump-in-Blake2b-clause-made g c =
     let key = c.args.keyed.now.key.items in
-    let made = rw c.as_slice-key.ensures.value at c.in-Ok.ensures in
+    let made = rw c.as_slice-key.ensures.value at (rw c.unwrap-hasher.ensures at c.keyed.ensures) in
     let takes = within 1 64 (length key) (rw c.in-Blake2b.is at c.args.keyed.now.takes) in
     rw c.in-Blake2b.is (taken_made Holds2b _ _ (g.F.Feed.remaining c.args.feed.now) _ _ (2 ^ 128 - 1 - 128)
     (λ m x. made_bytes x ≡ blake2 blake2b (unsalted blake2b c.in-Blake2b.length key) m) (Tag c.finish.result)

@@ -14,7 +14,7 @@ returns-clause-printed g c =
     c.print_report.new.share _ old (at c.print_report.new.self.input.now c.print_report.new.self.tree.now
     c.print_report.new.self.out.now) _ _ c.print_report.ensures.files
     c.print_report.ensures.report (map (λ n. n.now) c.args.self.now.lists.names.now) _ c.requires
-    (rw c.are_several.ensures at c.title_of-title.ensures)
+    c.title-title.ensures
 
 pub returns-clause-kept : goal.returns-clause-kept
 returns-clause-kept g c =

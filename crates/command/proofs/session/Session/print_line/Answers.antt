@@ -21,4 +21,4 @@ returns-clause-run g c =
     _ _ _ _ l _ _ _ _ _ _ _ _ _ _
     refl c.rule_of.ensures.files refl refl c.in_ok-rule.ensures.rule c.in_ok-rule.ensures.counted
     (line_run (option_map (λ v. v.items) c.args.wanted) l c.args.name.now c.args.file.now _ _ _ _ _ _ _ _ _
-    (rw c.slice_of.ensures at c.print_compared.ensures.answer) c.print_compared.ensures.read.counted)
+    (rw c.as_deref.ensures.value at c.print_compared.ensures.answer) c.print_compared.ensures.read.counted)

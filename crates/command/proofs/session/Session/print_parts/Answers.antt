@@ -1,8 +1,9 @@
-use Rattle.std.proofs.Common.{arith, refl, sym}
+use Rattle.std.proofs.lemmas.Grind.{common_steps}
+use Rattle.std.proofs.Common.{Some, arith, refl, sym}
 use Rattle.b3.proofs.Powers.{pow_from_ones}
 use Rattle.command.specs.inside.Cutting.{EachOf}
 use Rattle.command.proofs.EachPart.{each_run, each_starved, each_unread}
-use Rattle.command.proofs.Named.{of_file, of_input, of_none, of_opened}
+use Rattle.command.proofs.Named.{beside_then, of_file, of_input, of_none, of_opened}
 use Rattle.command.proofs.Turns.{not_input}
 use Rattle.command.proofs.session.Session.print_parts.Goals as goal
 
@@ -28,7 +29,9 @@ returns-then-eq-clause-run g c =
     let file = c.args.file in
     let is = EachOf file.share c.args.parts.chunks file.name.now in
     each_run file.share c.args.parts.chunks file.name.now _ _ _ _ _ _ _ _ _ (of_input is file.name.now _ _ _ _ _ _ _ _ _
-    _ (sym c.if-eq.ensures) (λ m at. (c.write_all.ensures.printed m at).printed))
+    _ (sym c.if-eq.ensures) (λ m at. beside_then
+    (c.write_parts-then-eq.ensures.printed (Some m) (c.new.ensures.gives m at)).printed
+    (λ f lost. grind (arith, common_steps))))
 
 pub returns-in_err-feed-clause-run : goal.returns-in_err-feed-clause-run
 returns-in_err-feed-clause-run g c =
@@ -42,11 +45,10 @@ returns-in_err-feed-clause-run g c =
 pub returns-clause-run : goal.returns-clause-run
 returns-clause-run g c =
     let file = c.args.file in
-    let fresh = c.in_ok-feed.ensures.fresh in
-    let closed = c.close.ensures.counted in
     let is = EachOf file.share c.args.parts.chunks file.name.now in
     each_run file.share c.args.parts.chunks file.name.now _ _ _ _ _ _ _ _ _
     (of_opened is file.name.now _ _ _ _ _ _ _ _ _
     _ _ _ _ (g.T.F.Feed.remaining c.in_ok-feed.feed) (sym c.if-eq.ensures) c.in_ok-feed.ensures.opened
-    c.in_ok-feed.ensures.counted (λ m at held. (c.write_all-answer.ensures.printed m at).printed)
-    (λ n none p. omega (arith, none, p, fresh, closed)))
+    c.in_ok-feed.ensures.counted (λ m at held.
+    (c.write_parts-answer.ensures.printed (Some m) (c.new-2.ensures.gives m at)).printed)
+    (λ n none p. grind (arith, common_steps)))

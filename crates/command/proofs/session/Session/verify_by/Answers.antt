@@ -1,7 +1,8 @@
+use Rattle.std.proofs.lemmas.Grind.{common_steps}
 use Rattle.std.proofs.Common.{◌∙◌, arith, refl, sym}
 use Rattle.sumlist.specs.Lines.{lines}
 use Rattle.command.specs.inside.Verifying.{ComparesName}
-use Rattle.command.proofs.Named.{of_input, of_none, of_opened, still_held}
+use Rattle.command.proofs.Named.{beside_then, of_input, of_none, of_opened, still_held}
 use Rattle.command.proofs.Opening.{part_opens-share}
 use Rattle.command.proofs.Reading.{known}
 use Rattle.command.proofs.Turns.{not_input}
@@ -46,7 +47,9 @@ returns-then-eq-clause-run g c =
     let file = c.args.file in
     known (g.P.Feed.remaining c.args.list.now) (λ text l. of_input
     (ComparesName file.share c.args.parts.now file.name.now text) file.name.now _ _ _ _ _ _ _ _ _ _
-    (sym c.if-eq.ensures) (λ m is. (c.compare_all.ensures.compared text m l is).compared))
+    (sym c.if-eq.ensures) (λ m is. beside_then
+    (c.compare_parts-then-eq.ensures.compared text m l (c.new.ensures.gives m is)).compared
+    (λ f lost. grind (arith, common_steps))))
 
 pub returns-in_err-feed-2-clause-run : goal.returns-in_err-feed-2-clause-run
 returns-in_err-feed-2-clause-run g c =
@@ -59,10 +62,9 @@ returns-in_err-feed-2-clause-run g c =
 pub returns-clause-run : goal.returns-clause-run
 returns-clause-run g c =
     let file = c.args.file in
-    let fresh = c.in_ok-feed-2.ensures.fresh in
-    let closed = c.close-2.ensures.counted in
     known (g.P.Feed.remaining c.args.list.now) (λ text l. of_opened
     (ComparesName file.share c.args.parts.now file.name.now text) file.name.now _ _ _ _ _ _ _ _ _ _ _ _ _
     (g.T.F.Feed.remaining c.in_ok-feed-2.feed) (sym c.if-eq.ensures) c.in_ok-feed-2.ensures.opened
-    c.in_ok-feed-2.ensures.counted (λ m is held. (c.compare_all-answer.ensures.compared text m l is).compared)
-    (λ n none p. omega (arith, none, p, fresh, closed)))
+    c.in_ok-feed-2.ensures.counted (λ m is held.
+    (c.compare_parts-answer.ensures.compared text m l (c.new-2.ensures.gives m is)).compared)
+    (λ n none p. grind (arith, common_steps)))

@@ -21,7 +21,7 @@ returns-in_err-summary-clause-printed g c =
     let r : Result Summary Fault = Err c.in_err-summary.field-0.0 in
     let e = err_from_is_err_and c.from_residual.result c.from_residual.ensures.1 in
     rw (e.1, e.2) (list_told its.reporting (meaning its.told.entries.now) (map (λ n. n.now) its.lists.names.now)
-    its.told.name.now its.lists.name.now _ (rw c.are_several.ensures at c.title_of-title.ensures) (left g.F.Feed.remaining its.told.report)
+    its.told.name.now its.lists.name.now _ c.title-title.ensures (left g.F.Feed.remaining its.told.report)
     (left g.F.Feed.remaining after.report) its.told.next after.next (nat_lt 0 c.args._share.others) _ old new _ _
     (g.F.Feed.failure_count its.told.report.feed.now) (g.F.Feed.failure_count after.report.feed.now)
     (c.in_err-summary.ensures.list its.reporting (g.E.Sink.shown c.args.err.now) _ refl)
@@ -39,10 +39,9 @@ returns-clause-printed g c =
     let r : Result Summary Fault = Ok c.in_ok-summary.summary in
     rw (c.status_of.ensures, c.tell_named.ensures.kept.name)
     (list_told its.reporting (meaning its.told.entries.now) (map (λ n. n.now) its.lists.names.now)
-    its.told.name.now its.lists.name.now _ (rw c.are_several.ensures at c.title_of-title.ensures) (left g.F.Feed.remaining its.told.report)
+    its.told.name.now its.lists.name.now _ c.title-title.ensures (left g.F.Feed.remaining its.told.report)
     (left g.F.Feed.remaining after.report) its.told.next after.next (nat_lt 0 c.args._share.others) _ old new _ _
     (g.F.Feed.failure_count its.told.report.feed.now) (g.F.Feed.failure_count after.report.feed.now)
-    (c.in_ok-summary.ensures.list its.reporting (g.E.Sink.shown c.args.err.now) _
-    (rw c.tell_named.ensures.kept.entries at c.remark.ensures))
+    (c.in_ok-summary.ensures.list its.reporting (g.E.Sink.shown c.args.err.now) _ c.remark.ensures)
     (graded-leaves (is_input its.lists.name.now) r _ _ c.in_ok-summary.ensures.gave) c.tell_named.ensures.kept.files
     c.tell_named.ensures.kept.out)
